@@ -1,0 +1,52 @@
+-- Lists in the order of a comparison. Equal by the comparison isn't identical.
+use Rattle.std.specs.Prelude.{◌≡◌, ℕ, ◌<◌, ◌≤◌, length, Bool, List, ◌∷◌, ◌++◌, if◌then◌else◌, filter, not, AllPairs, count_by}
+use Rattle.std.specs.declared.cmp.Ordering.{Ordering}
+use Rattle.std.specs.declared.cmp.Ordering.TheVariants.{Less, Equal, Greater}
+use Rattle.std.specs.Ordering.{is_lt, is_le, is_gt, is_eq}
+use Rattle.std.specs.List.{list_any, AllWithin, HoldsAt}
+
+-- each element is below every later one
+abbrev pub IsAscending : {T : Type 0} → (T → T → Ordering) → List T → Type 0
+IsAscending cmp l = AllPairs (λ x y. cmp x y ≡ Less) l
+
+-- the elements below v, not above v, above v
+abbrev pub below : {T : Type 0} → (T → T → Ordering) → List T → T → List T
+below cmp l v = filter (λ x. is_lt (cmp x v)) l
+
+abbrev pub up_to : {T : Type 0} → (T → T → Ordering) → List T → T → List T
+up_to cmp l v = filter (λ x. is_le (cmp x v)) l
+
+abbrev pub above : {T : Type 0} → (T → T → Ordering) → List T → T → List T
+above cmp l v = filter (λ x. is_gt (cmp x v)) l
+
+-- how many are below v
+abbrev pub rank : {T : Type 0} → (T → T → Ordering) → List T → T → ℕ
+rank cmp l v = count_by (λ x. is_lt (cmp x v)) l
+
+-- an equal element is there
+abbrev pub has_equal : {T : Type 0} → (T → T → Ordering) → List T → T → Bool
+has_equal cmp l v = list_any (λ x. is_eq (cmp x v)) l
+
+-- v in its place, for any equal element
+unfoldable pub put : {T : Type 0} → (T → T → Ordering) → List T → T → List T
+put cmp l v = below cmp l v ++ v ∷ above cmp l v
+
+-- the same, where no equal element is there
+unfoldable pub keep : {T : Type 0} → (T → T → Ordering) → List T → T → List T
+keep cmp l v = if has_equal cmp l v then l else put cmp l v
+
+-- the elements that don't equal v
+unfoldable pub without : {T : Type 0} → (T → T → Ordering) → List T → T → List T
+without cmp l v = filter (λ x. not (is_eq (cmp x v))) l
+
+-- an element equal to v stands at place i, and all before it are below v
+pub record IsFoundAt {T : Type 0} (cmp : T → T → Ordering) (l : List T) (v : T) (i : ℕ) : Type 0 where
+  pub inside : i < length l
+  pub equal : HoldsAt (λ x. cmp x v ≡ Equal) l i
+  pub below_before : AllWithin (λ x. cmp x v ≡ Less) l 0 i
+
+-- v would go at place i: all before it are below v, and all from it on are above v
+pub record IsGapFor {T : Type 0} (cmp : T → T → Ordering) (l : List T) (v : T) (i : ℕ) : Type 0 where
+  pub inside : i ≤ length l
+  pub below_before : AllWithin (λ x. cmp x v ≡ Less) l 0 i
+  pub above_after : AllWithin (λ x. cmp x v ≡ Greater) l i (length l)

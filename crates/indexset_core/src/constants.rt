@@ -1,0 +1,7 @@
+//! Sizes that a collection takes where none is named.
+
+/// The maximum node size of a collection whose maker names none, in items.
+pub const DEFAULT_INNER_SIZE: usize = 1024;
+
+/// Half the default node size: the length of each half of a full node that is cut, in items.
+pub const DEFAULT_CUTOFF: usize = 512;

@@ -1,0 +1,11 @@
+//! The lowest layer: probes that count their questions, searches that ask them, and nodes.
+#![tactic(auto)]
+
+pub mod constants;
+pub mod node;
+pub mod probe;
+pub mod refusal;
+pub mod search;
+pub mod steps;
+
+const _: () = prove!(size_of::<steps::Steps>() == 0);
