@@ -1,0 +1,52 @@
+//! The probes, the searches and the numbers of refusals, once each.
+
+use crate::probe::{ByItem, Counting, Probe};
+use crate::refusal::Refusal;
+use crate::steps::Steps;
+use crate::{laws, search};
+use std::cmp::Ordering;
+use std::test::Fail;
+
+#[test]
+fn refusals_have_their_numbers(rt: HostRuntime) {
+    let numbered = [
+        (Refusal::Memory, 1),
+        (Refusal::Numbers, 2),
+        (Refusal::Empty, 3),
+        (Refusal::TooLarge, 4),
+        (Refusal::Unsorted, 5),
+        (Refusal::Overlaps, 6),
+        (Refusal::PairNumber, 7),
+        (Refusal::Gap, 11),
+        (Refusal::NoSuchNode, 12),
+        (Refusal::IndexOutside, 13),
+        (Refusal::ValueDiffers, 14),
+        (Refusal::WouldBeEmpty, 15),
+        (Refusal::OutOfOrder, 16),
+        (Refusal::BadSplit, 17),
+    ];
+    for (refusal, number) in numbered {
+        assert_eq!(rt; refusal.number(), number, "{refusal:?}");
+    }
+}
+
+#[test]
+fn a_probe_is_counted(rt: HostRuntime) {
+    let mut probe = Counting::new(ByItem::new(&4));
+    assert_eq!(rt; probe.asked(), 0);
+    assert_eq!(rt; probe.place(&3), Ordering::Less);
+    assert_eq!(rt; probe.place(&4), Ordering::Equal);
+    assert_eq!(rt; probe.place(&5), Ordering::Greater);
+    assert_eq!(rt; probe.asked(), 3);
+    let mut steps = Steps::new();
+    steps.tick();
+    laws::digits_count_binary_digits();
+}
+
+#[test]
+fn searches_a_slice(rt: HostRuntime) -> Result<(), Fail> {
+    assert_eq!(rt; search::first_not_less(&[], &mut ByItem::new(&4)), 0);
+    assert_eq!(rt; search::first_greater(&[4], &mut ByItem::new(&4)), 1);
+    assert_eq!(rt; search::first_not_less(&[4], &mut ByItem::new(&5)), 1);
+    Ok(())
+}
