@@ -10,6 +10,3 @@ pub mod search;
 pub mod steps;
 
 const _: () = prove!(size_of::<steps::Steps>() == 0);
-
-#[cfg(test)]
-mod tests;

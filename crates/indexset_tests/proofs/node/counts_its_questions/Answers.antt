@@ -1,7 +1,7 @@
 use Rattle.std.proofs.lemmas.Cmp.{nat_cmp_total}
 use Rattle.std.specs.Ordering.{nat_cmp}
 use Rattle.indexset_core.proofs.OrderLemmas.{parted_by_item}
-use Rattle.indexset_core.proofs.node.tests.counts_its_questions.Goals as goal
+use Rattle.indexset_tests.proofs.node.counts_its_questions.Goals as goal
 
 pub first_not_less-requires : goal.first_not_less-requires
 first_not_less-requires g c = parted_by_item nat_cmp nat_cmp_total c.in_ok-node.node.items c.in_ok-node.ensures c.new-probe.result.0.0

@@ -3,8 +3,8 @@ ghost use Rattle.std.specs.Prelude.{IfOk};
 ghost use Rattle.std.specs.Ordering.{nat_cmp};
 ghost use Rattle.indexset_core.specs.Order.{IsAscending};
 
-use super::NodeLike;
-use crate::probe::{ByItem, Counting};
+use indexset_core::node::NodeLike;
+use indexset_core::probe::{ByItem, Counting};
 use std::alloc::Global;
 use std::ops::Bound;
 use std::test::Fail;

@@ -1,9 +1,9 @@
 //! The probes, the searches and the numbers of refusals, once each.
 
-use crate::probe::{ByItem, Counting, Probe};
-use crate::refusal::Refusal;
-use crate::steps::Steps;
-use crate::{laws, search};
+use indexset_core::probe::{ByItem, Counting, Probe};
+use indexset_core::refusal::Refusal;
+use indexset_core::steps::Steps;
+use indexset_core::{laws, search};
 use std::cmp::Ordering;
 use std::test::Fail;
 

@@ -1,0 +1,8 @@
+//! Worked examples of the library, as tests: the values are typed from its documents, and each
+//! public call runs once with ample memory.
+#![tactic(auto)]
+
+#[cfg(test)]
+mod node;
+#[cfg(test)]
+mod probe;
