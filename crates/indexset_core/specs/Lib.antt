@@ -1,5 +1,7 @@
+pub mod Cut
 pub mod Digits
 pub mod Order
 pub mod Parted
 pub mod Refusal
+pub mod SpineLends
 pub mod Tally

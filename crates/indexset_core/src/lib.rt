@@ -2,10 +2,13 @@
 #![tactic(auto)]
 
 pub mod constants;
+pub mod iter;
 pub mod node;
 pub mod probe;
 pub mod refusal;
 pub mod search;
+pub mod spine;
+pub mod spot;
 pub mod steps;
 
 const _: () = prove!(size_of::<steps::Steps>() == 0);
