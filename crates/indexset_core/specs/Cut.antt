@@ -1,5 +1,5 @@
 -- A list that is cut into nodes.
-use Rattle.std.specs.Prelude.{ℕ, ◌+◌, ◌-◌, ◌/◌, ◌<◌, ◌≤◌, ◌^◌, ◌==◌, ◌&&◌, Bool, true, false, not, min, List, [], ◌∷◌, ◌++◌, length, map, sum, take, drop, refl, get_or, slice_get, slice_set, insert, remove, if◌then◌else◌, nat_lt, Option}
+use Rattle.std.specs.Prelude.{◌≡◌, ℕ, ◌+◌, ◌-◌, ◌/◌, ◌<◌, ◌≤◌, ◌==◌, ◌&&◌, Bool, true, false, not, min, List, [], ◌∷◌, ◌++◌, length, map, sum, take, drop, refl, get_or, slice_get, slice_set, insert, remove, if◌then◌else◌, nat_lt, Option}
 use Rattle.std.specs.List.{All, splice, position_or_len}
 use Rattle.std.specs.Option.{option_map_or}
 use Rattle.std.specs.Coded.{Coded, code_by, coded×, coded_ℕ, coded_list}
@@ -19,7 +19,11 @@ pub record IsCut (lens : List ℕ) (size : ℕ) : Type 0 where
   pub some : 1 ≤ length lens
   pub bounded : All (λ n. n ≤ size) lens
   pub filled : 2 ≤ length lens → All (λ n. 1 ≤ n) lens
-  pub fits : sum lens < 2 ^ 64
+
+-- the same, with the sum of the lengths
+pub record IsSpine (lens : List ℕ) (size total : ℕ) : Type 0 where
+  pub is_cut : IsCut lens size
+  pub total_is : total ≡ sum lens
 
 -- the place before the first item
 abbrev pub first_spot : Spot

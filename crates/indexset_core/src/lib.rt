@@ -3,6 +3,7 @@
 
 pub mod constants;
 pub mod iter;
+mod lengths;
 pub mod node;
 pub mod probe;
 pub mod refusal;

@@ -20,16 +20,18 @@ use std::marker::Model;
 pub struct Spine<T> {
     nodes: Vec<Vec<T>>,
     size: usize,
+    // How many items there are, as the lengths of the nodes add up.
+    len: usize,
 }
 
 impl<T> Model for Spine<T> {
-    ghost use Rattle.indexset_core.specs.Cut.{Cut, cut, cut_code, lists, lens, IsCut};
+    ghost use Rattle.indexset_core.specs.Cut.{Cut, cut, cut_code, lists, lens, IsSpine};
 
     ghost Value = { Cut T };
 
     ghost view = { λ s. cut (lists s.nodes.items) s.size };
 
-    ghost invariant = { λ s. IsCut (lens (lists s.nodes.items)) s.size };
+    ghost invariant = { λ s. IsSpine (lens (lists s.nodes.items)) s.size s.len };
 }
 
 impl<T> Spine<T> {

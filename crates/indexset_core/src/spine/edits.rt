@@ -19,7 +19,11 @@ impl<T: Drop> Spine<T> {
     {
         let mut nodes = Vec::with_capacity(alloc, 1)?;
         match nodes.push(Vec::new(alloc)) {
-            Ok(()) => Ok(Spine { nodes, size }),
+            Ok(()) => Ok(Spine {
+                nodes,
+                size,
+                len: 0,
+            }),
             Err(_) => Err(Refusal::Memory),
         }
     }
