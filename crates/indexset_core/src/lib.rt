@@ -4,6 +4,7 @@
 pub mod constants;
 pub mod iter;
 mod lengths;
+mod locate;
 pub mod node;
 pub mod probe;
 pub mod refusal;

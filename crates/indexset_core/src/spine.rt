@@ -11,7 +11,10 @@ ghost use Rattle.indexset_core.specs.Cut.{items, node_at, IsSpot, IsItemSpot, po
 mod edits;
 
 use crate::iter::Iter;
+use crate::lengths;
+use crate::locate;
 use crate::probe::Probe;
+use crate::search;
 use crate::spot::Spot;
 use std::marker::Model;
 
@@ -35,7 +38,7 @@ impl<T> Model for Spine<T> {
 }
 
 impl<T> Spine<T> {
-    ghost use Rattle.indexset_core.specs.SpineLends.{lends_item};
+    ghost use Rattle.indexset_core.specs.SpineLends.{lends_item, lends_place};
 
     /// How many items a node holds at most.
     pub fn maximum_node_size(&self) -> usize
@@ -58,7 +61,7 @@ impl<T> Spine<T> {
     pub fn len(&self) -> usize
         ensures { result ≡ length (items self.now) }
     {
-        unreachable!()
+        self.len
     }
 
     /// Where the probe finds what it seeks, by two binary searches.
@@ -73,7 +76,15 @@ impl<T> Spine<T> {
         ensures fixed { P.answer probe.new ≡ P.answer probe.old }
         ensures few { P.asked probe.new ≤ P.asked probe.old + (digits (length self.now.nodes) + digits self.now.size + 1) }
     {
-        unreachable!()
+        let node = locate::node_by(self.nodes.as_slice(), probe);
+        let items = self.nodes[node].as_slice();
+        let offset = search::first_not_less(items, probe);
+        let found = offset < items.len() && probe.place(&items[offset]).is_eq();
+        Spot {
+            node,
+            offset,
+            found,
+        }
     }
 
     /// How many items stand before a place.
@@ -81,14 +92,19 @@ impl<T> Spine<T> {
         requires { IsSpot self.now.nodes spot.now }
         ensures { result ≡ position_of self.now.nodes spot.now }
     {
-        unreachable!()
+        lengths::prefix_in(self.nodes.as_slice(), spot.node) + spot.offset
     }
 
     /// The place of the item at a position.
     pub fn spot(&self, i: usize) -> Option<Spot>
         ensures { MatchOption result (length (items self.now) ≤ i) (λ s. IsItemSpot self.now.nodes s × (position_of self.now.nodes s ≡ i) × IsTrue s.found) }
     {
-        unreachable!()
+        let (node, offset) = lengths::find_in(self.nodes.as_slice(), i)?;
+        Some(Spot {
+            node,
+            offset,
+            found: true,
+        })
     }
 
     /// The item at a place.
@@ -96,14 +112,17 @@ impl<T> Spine<T> {
         requires { IsItemSpot self.now.nodes spot.now }
         ensures { slice_get (items self.now) (position_of self.now.nodes spot.now) ≡ Some result.now }
     {
-        unreachable!()
+        &self.nodes[spot.node][spot.offset]
     }
 
     /// The item at a position.
     pub fn get(&self, i: usize) -> Option<&T>
         ensures { option_copied result ≡ slice_get (items self.now) i }
     {
-        unreachable!()
+        match self.spot(i) {
+            Some(spot) => Some(self.item(&spot)),
+            None => None,
+        }
     }
 
     /// The item at a position, to write.
@@ -111,7 +130,10 @@ impl<T> Spine<T> {
         ensures* writes_back { sem 𝓛 (lends_item T.row self.entry i result) }
         ensures value { option_copied_mut result ≡ slice_get (items self.old) i }
     {
-        unreachable!()
+        match self.spot(i) {
+            Some(spot) => Some(self.item_mut(i, spot)),
+            None => None,
+        }
     }
 
     /// The items, in order.
@@ -132,5 +154,16 @@ impl<T> Spine<T> {
         ensures runs_back { ShowsInReverse (deref {X = T}) }
     {
         unreachable!()
+    }
+
+    // The item at a place, to write.
+    fn item_mut(&mut self, i: usize, spot: Spot) -> &mut T
+        requires place { IsItemSpot self.old.nodes spot }
+        requires position { position_of self.old.nodes spot ≡ i }
+        ensures* writes_back { sem 𝓛 (lends_place T.row self.entry i result) }
+        ensures value { slice_get (items self.old) i ≡ Some result.now }
+    {
+        let items = &mut self.nodes[spot.node];
+        &mut items[spot.offset]
     }
 }
