@@ -7,13 +7,8 @@ use Rattle.std.proofs.lemmas.Bool.Decides.{nat_tests}
 use Rattle.std.specs.List.{All}
 use Rattle.std.specs.declared.vec.Vec.{Vec}
 use Rattle.std.specs.Vec.{with_item}
-use Rattle.indexset_core.specs.Cut.{Cut, cut, with_item_at, IsCut, IsSpine, joined, lens, set_joined, lists}
-
--- the position i is at this offset of this node
-pub record IsPlace {X : Type 0} (ns : List (List X)) (i node offset : ℕ) : Type 0 where
-  pub node_in : node < length ns
-  pub offset_in : offset < length (get_or ns node [])
-  pub at : length (joined (take node ns)) + offset ≡ i
+use Rattle.indexset_core.specs.declared.spot.Spot.{Spot}
+use Rattle.indexset_core.specs.Cut.{Cut, cut, with_item_at, IsCut, IsSpine, joined, items, lens, set_joined, lists, IsItemSpot, position_of}
 
 -- n numbers above 0 add up to n at least
 sum-filled : (ls : List ℕ) → All (λ n. 1 ≤ n) ls → length ls ≤ sum ls
@@ -48,6 +43,28 @@ module _ {X : Type 0} where
   pub length-joined-more : (ns : List (List X)) (k : ℕ) → k < length ns → length (joined (take (k + 1) ns)) ≡ length (joined (take k ns)) + length (get_or ns k [])
   length-joined-more ns k h = rw add-one (more ns k h)
 
+  -- a place is not past the end
+  pub place-le : (ns : List (List X)) (k o : ℕ) → k < length ns → o ≤ length (get_or ns k []) → length (joined (take k ns)) + o ≤ length (joined ns)
+  place-le ns k o h le = omega (arith, length-joined-more ns k h, length-joined-take ns (k + 1))
+
+  pub slice_get-left : (xs ys : List X) (i : ℕ) → i < length xs → slice_get (xs ++ ys) i ≡ slice_get xs i
+  slice_get-left [] ys i h = absurd (omega arith)
+  slice_get-left (x ∷ xs) ys zero h = refl
+  slice_get-left (x ∷ xs) ys (suc i) h = slice_get-left xs ys i (omega arith)
+
+  pub slice_get-right : (xs ys : List X) (i j : ℕ) → i ≡ length xs + j → slice_get (xs ++ ys) i ≡ slice_get ys j
+  slice_get-right [] ys i j h = let e : i ≡ j = omega arith in ap (slice_get ys) e
+  slice_get-right (x ∷ xs) ys zero j h = absurd (omega arith)
+  slice_get-right (x ∷ xs) ys (suc i) j h = slice_get-right xs ys i j (omega arith)
+
+  -- the item at a place
+  pub get_place : (ns : List (List X)) (k o : ℕ) → k < length ns → o < length (get_or ns k []) → slice_get (joined ns) (length (joined (take k ns)) + o) ≡ slice_get (get_or ns k []) o
+  get_place [] k o h lt = absurd (omega arith)
+  get_place (n ∷ ns) zero o h lt = slice_get-right [] (n ++ joined ns) (0 + o) o refl ∙ slice_get-left n (joined ns) o lt
+  get_place (n ∷ ns) (suc k) o h lt =
+      let at : length (n ++ joined (take k ns)) + o ≡ length n + (length (joined (take k ns)) + o) = omega (arith, length-append n (joined (take k ns))) in
+      slice_get-right n (joined ns) _ _ at ∙ get_place ns k o (omega arith) lt
+
   -- the nodes as the code holds them
   module _ {Z : Type 0} where
     pub node_read : (vs : List (Vec X Z)) (k : ℕ) (v : Vec X Z) → k < length vs → v ≡ get_or vs k v → (d : List X) → get_or (lists vs) k d ≡ v.items
@@ -66,3 +83,17 @@ module _ {X : Type 0} where
     -- the same, read from the first j nodes
     pub turn_in : (vs : List (Vec X Z)) (j k : ℕ) (v : Vec X Z) → k < j → k < length vs → v ≡ get_or (take j vs) k v → length (joined (take (k + 1) (lists vs))) ≡ length (joined (take k (lists vs))) + length v.items
     turn_in vs j k v lt h e = turn vs k v h (e ∙ get_or-take j vs k v lt)
+
+    read : (vs : List (Vec X Z)) (p : Spot) (v : Vec X Z) (x : X) → IsItemSpot (lists vs) p → v ≡ get_or vs p.node v → x ≡ get_or v.items p.offset x → slice_get (joined (lists vs)) (position_of (lists vs) p) ≡ Some x
+    read vs p v x h at is =
+        let lt : p.node < length vs = omega (arith, h.node_in, length-lists vs) in
+        let m : get_or (lists vs) p.node [] ≡ v.items = node_read vs p.node v lt at [] in
+        let inside : p.offset < length v.items = subst (λ (l : List X). p.offset < length l) m h.offset_in in
+        get_place (lists vs) p.node p.offset h.node_in h.offset_in ∙ (ap (λ l. slice_get l p.offset) m ∙ slice_get_read v.items (length v.items) p.offset x refl inside is)
+
+    -- what the code reads at a place of the spine s
+    pub place_reads : (vs : List (Vec X Z)) (n : ℕ) (s : Cut X) (p : Spot) (v : Vec X Z) (x : X) → cut (lists vs) n ≡ s → IsItemSpot s.nodes p → v ≡ get_or vs p.node v → x ≡ get_or v.items p.offset x → slice_get (items s) (position_of s.nodes p) ≡ Some x
+    place_reads vs n s p v x e h at is = subst (λ (t : Cut X). slice_get (items t) (position_of t.nodes p) ≡ Some x) e (read vs p v x (subst (λ (t : Cut X). IsItemSpot t.nodes p) (sym e) h) at is)
+
+    pub spine_len : (vs : List (Vec X Z)) (n total : ℕ) (s : Cut X) → cut (lists vs) n ≡ s → IsSpine (lens (lists vs)) n total → total ≡ length (items s)
+    spine_len vs n total s e h = h.total_is ∙ (sym (length-joined (lists vs)) ∙ ap (λ (t : Cut X). length (items t)) e)

@@ -92,6 +92,8 @@ impl<T> Spine<T> {
         requires { IsSpot self.now.nodes spot.now }
         ensures { result ≡ position_of self.now.nodes spot.now }
     {
+        // The sum of all lengths fits, so each sum of some does.
+        let _len = self.len;
         lengths::prefix_in(self.nodes.as_slice(), spot.node) + spot.offset
     }
 
