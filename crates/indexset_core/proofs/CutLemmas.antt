@@ -1,7 +1,7 @@
 -- Places in a list that is cut into nodes.
-use Rattle.std.proofs.Common.{◌≡◌, ℕ, zero, suc, ◌+◌, ◌-◌, ◌^◌, ◌<◌, ◌≤◌, List, [], ◌∷◌, ◌++◌, length, map, sum, take, drop, get_or, slice_set, slice_get, Some, None, nat_lt, max, Bool, true, false, if◌then◌else◌, refl, sym, ap, ◌∙◌, arith, length-append, add-one, subst}
-use Rattle.std.proofs.lemmas.List.{append-nil, length-map, length-set, map-set, set-append_left, set-append_right, get_or-take}
-use Rattle.std.proofs.lemmas.Option.{slice_get_read, slice_get_past}
+use Rattle.std.proofs.Common.{◌≡◌, ℕ, zero, suc, ◌+◌, ◌-◌, ◌^◌, ◌<◌, ◌≤◌, List, [], ◌∷◌, ◌++◌, length, map, sum, take, drop, get_or, slice_set, slice_get, Option, Some, None, unwrap_or, nat_lt, max, Bool, true, false, if◌then◌else◌, refl, sym, ap, ◌∙◌, arith, length-append, add-one, subst}
+use Rattle.std.proofs.lemmas.List.{append-nil, length-map, length-set, map-set, set-append_left, set-append_right, get_or-take, take-take}
+use Rattle.std.proofs.lemmas.Option.{slice_get_read, slice_get_past, unwrap_or-slice_get}
 use Rattle.std.proofs.lemmas.List.Sums.{sum_by-cons}
 use Rattle.std.proofs.lemmas.Bool.Decides.{nat_tests}
 use Rattle.std.specs.List.{All}
@@ -64,6 +64,13 @@ module _ {X : Type 0} where
   get_place (n ∷ ns) (suc k) o h lt =
       let at : length (n ++ joined (take k ns)) + o ≡ length n + (length (joined (take k ns)) + o) = omega (arith, length-append n (joined (take k ns))) in
       slice_get-right n (joined ns) _ _ at ∙ get_place ns k o (omega arith) lt
+
+  -- the same, at a default
+  pub get_or_place : (ns : List (List X)) (k o : ℕ) (d : X) → k < length ns → o < length (get_or ns k []) → get_or (joined ns) (length (joined (take k ns)) + o) d ≡ get_or (get_or ns k []) o d
+  get_or_place ns k o d h lt = sym (unwrap_or-slice_get (joined ns) _ d) ∙ (ap (λ (x : Option X). unwrap_or x d) (get_place ns k o h lt) ∙ unwrap_or-slice_get (get_or ns k []) o d)
+
+  pub length-joined-mono : (ns : List (List X)) (j k : ℕ) → j ≤ k → length (joined (take j ns)) ≤ length (joined (take k ns))
+  length-joined-mono ns j k le = subst (λ (l : List (List X)). length (joined l) ≤ length (joined (take k ns))) (take-take j k ns le) (length-joined-take (take k ns) j)
 
   -- the nodes as the code holds them
   module _ {Z : Type 0} where
