@@ -91,16 +91,20 @@ module _ {X : Type 0} where
     pub turn_in : (vs : List (Vec X Z)) (j k : ℕ) (v : Vec X Z) → k < j → k < length vs → v ≡ get_or (take j vs) k v → length (joined (take (k + 1) (lists vs))) ≡ length (joined (take k (lists vs))) + length v.items
     turn_in vs j k v lt h e = turn vs k v h (e ∙ get_or-take j vs k v lt)
 
-    read : (vs : List (Vec X Z)) (p : Spot) (v : Vec X Z) (x : X) → IsItemSpot (lists vs) p → v ≡ get_or vs p.node v → x ≡ get_or v.items p.offset x → slice_get (joined (lists vs)) (position_of (lists vs) p) ≡ Some x
-    read vs p v x h at is =
-        let lt : p.node < length vs = omega (arith, h.node_in, length-lists vs) in
-        let m : get_or (lists vs) p.node [] ≡ v.items = node_read vs p.node v lt at [] in
-        let inside : p.offset < length v.items = subst (λ (l : List X). p.offset < length l) m h.offset_in in
-        get_place (lists vs) p.node p.offset h.node_in h.offset_in ∙ (ap (λ l. slice_get l p.offset) m ∙ slice_get_read v.items (length v.items) p.offset x refl inside is)
+    -- what the code reads at a place
+    pub read : (vs : List (Vec X Z)) (k o : ℕ) (v : Vec X Z) (x : X) → k < length vs → o < length v.items → v ≡ get_or vs k v → x ≡ get_or v.items o x → slice_get (joined (lists vs)) (length (joined (take k (lists vs))) + o) ≡ Some x
+    read vs k o v x lt inside at is =
+        let m : get_or (lists vs) k [] ≡ v.items = node_read vs k v lt at [] in
+        let within : o < length (get_or (lists vs) k []) = subst (λ (l : List X). o < length l) (sym m) inside in
+        get_place (lists vs) k o (omega (arith, length-lists vs)) within ∙ (ap (λ l. slice_get l o) m ∙ slice_get_read v.items (length v.items) o x refl inside is)
 
-    -- what the code reads at a place of the spine s
+    -- the same, at a place of the spine s
     pub place_reads : (vs : List (Vec X Z)) (n : ℕ) (s : Cut X) (p : Spot) (v : Vec X Z) (x : X) → cut (lists vs) n ≡ s → IsItemSpot s.nodes p → v ≡ get_or vs p.node v → x ≡ get_or v.items p.offset x → slice_get (items s) (position_of s.nodes p) ≡ Some x
-    place_reads vs n s p v x e h at is = subst (λ (t : Cut X). slice_get (items t) (position_of t.nodes p) ≡ Some x) e (read vs p v x (subst (λ (t : Cut X). IsItemSpot t.nodes p) (sym e) h) at is)
+    place_reads vs n s p v x e h at is =
+        let q = subst (λ (t : Cut X). IsItemSpot t.nodes p) (sym e) h in
+        let lt : p.node < length vs = omega (arith, q.node_in, length-lists vs) in
+        let inside : p.offset < length v.items = subst (λ (l : List X). p.offset < length l) (node_read vs p.node v lt at []) q.offset_in in
+        subst (λ (t : Cut X). slice_get (items t) (position_of t.nodes p) ≡ Some x) e (read vs p.node p.offset v x lt inside at is)
 
     pub spine_len : (vs : List (Vec X Z)) (n total : ℕ) (s : Cut X) → cut (lists vs) n ≡ s → IsSpine (lens (lists vs)) n total → total ≡ length (items s)
     spine_len vs n total s e h = h.total_is ∙ (sym (length-joined (lists vs)) ∙ ap (λ (t : Cut X). length (items t)) e)

@@ -1,17 +1,17 @@
 -- The node that the answers name, and the place in it.
-use Rattle.std.proofs.Common.{◌≡◌, ℕ, zero, suc, ◌+◌, ◌-◌, ◌<◌, ◌≤◌, min, Bool, true, false, not, cond, List, [], ◌∷◌, ◌++◌, length, get_or, take, map, slice_get, Some, Ordering, refl, sym, ap, ◌∙◌, arith, subst, add-one, length-append, inl, inr}
+use Rattle.std.proofs.Common.{◌≡◌, ℕ, zero, suc, ◌+◌, ◌-◌, ◌<◌, ◌≤◌, min, Bool, true, false, not, cond, List, [], ◌∷◌, ◌++◌, length, get_or, take, map, slice_get, Some, None, Ordering, refl, sym, ap, ◌∙◌, arith, subst, add-one, length-append, inl, inr}
 use Rattle.std.specs.List.{All, AllWithin, HoldsAt, count_by, position_or_len}
 use Rattle.std.specs.Option.{option_map_or}
-use Rattle.std.specs.Ordering.{ordering_index, is_lt}
+use Rattle.std.specs.Ordering.{ordering_index, is_lt, is_eq}
 use Rattle.std.proofs.lemmas.List.{get_or_append_left, get_or-append-add, get_or_default, get_or-map, length-map}
 use Rattle.std.proofs.lemmas.List.Sums.{sum_by-append, position_or_len_is, prefix_len_stops, prefix_len-le-length}
-use Rattle.std.proofs.lemmas.Option.{slice_get_read}
+use Rattle.std.proofs.lemmas.Option.{slice_get_read, slice_get_past}
 use Rattle.std.proofs.lemmas.Bool.{false≢true, cases_lt}
 use Rattle.std.specs.declared.vec.Vec.{Vec}
-use Rattle.indexset_core.specs.Cut.{joined, lens, lists, ends_less, node_for, node_at}
+use Rattle.indexset_core.specs.Cut.{Cut, cut, IsCut, joined, items, lens, lists, ends_less, equal_at, node_for, node_at}
 use Rattle.indexset_core.specs.Parted.{IsParted, less_count}
-use Rattle.indexset_core.proofs.CutLemmas.{get_or_place, length-joined-mono, length-joined-more, place-le, node_read, length-lists}
-use Rattle.indexset_core.proofs.PartedLemmas.{passes_below, fails_above, count_parted, front-is_lt}
+use Rattle.indexset_core.proofs.CutLemmas.{get_or_place, length-joined-mono, length-joined-more, place-le, node_read, length-lists, read}
+use Rattle.indexset_core.proofs.PartedLemmas.{passes_below, fails_above, count_parted, count_parts, front-is_lt}
 
 module _ {X : Type 0} (answer : X → Ordering) where
   pub parted-left : (xs ys : List X) → IsParted answer (xs ++ ys) → IsParted answer xs
@@ -112,6 +112,39 @@ module _ {X : Type 0} (answer : X → Ordering) where
       let p = position_or_len (λ n. not (ends_less answer n)) ns in
       false≢true (sym (prefix_len_stops (λ n. not (not (ends_less answer n))) ns [] (omega arith)) ∙ ap (λ b. not (not b)) (before p [] (omega arith) early))
 
+  -- a node that doesn't end Less has an item that isn't
+  less_some : (n : List X) → 0 < length n → IsParted answer n → ends_less answer n ≡ false → less_count answer n < length n
+  less_some n some h e =
+      let parts = count_parts is_lt front-is_lt answer n h in
+      elim (cases_lt (less_count answer n) (length n)) [
+        | inl lt ↦ lt
+        | inr ge ↦ absurd (false≢true (sym e ∙ first n some (λ d. parts.before (length n - 1) d (omega arith) (omega arith))))
+      ]
+
+  abbrev Ends : List (List X) → ℕ → Type 0
+  Ends ns k = length (node_at ns k) ≤ less_count answer (node_at ns k) → length (joined ns) ≤ length (joined (take k ns)) + less_count answer (node_at ns k)
+
+  ends_past : (n : List X) (ns : List (List X)) (k : ℕ) → Ends ns k → Ends (n ∷ ns) (suc k)
+  ends_past n ns k h le = omega (arith, h le, length-append n (joined ns), length-append n (joined (take k ns)))
+
+  -- a place behind its node's last item is behind the last item of all
+  pub ends_for : (ns : List (List X)) → 1 ≤ length ns → Filled ns → IsParted answer (joined ns) → Ends ns (node_for answer ns)
+  ends_for [] some filled h = absurd (omega arith)
+  ends_for (n ∷ []) some filled h = rw (node_for-one n) (λ le. omega (arith, le, length-append n []))
+  ends_for (n ∷ m ∷ ms) some filled h =
+      let all = filled (omega arith) in
+      let more : All (λ n. 1 ≤ n) (lens (m ∷ ms)) = λ k d lt. all (suc k) d (omega arith) in
+      elim (ends_less answer n) as (λ b. ends_less answer n ≡ b → Ends (n ∷ m ∷ ms) (node_for answer (n ∷ m ∷ ms))) [
+        | true ↦ λ e. rw (node_for-past n m ms e) (ends_past n (m ∷ ms) _ (ends_for (m ∷ ms) (omega arith) (λ _. more) (parted-right n (joined (m ∷ ms)) h)))
+        | false ↦ λ e. rw (node_for-here n (m ∷ ms) e) (λ le. absurd (omega (arith, le, less_some n (all 0 0 (omega arith)) (parted-left n (joined (m ∷ ms)) h) e)))
+      ] refl
+
+  -- a node's answers are in order
+  pub parted_node : (ns : List (List X)) (k : ℕ) → k < length ns → IsParted answer (joined ns) → IsParted answer (node_at ns k)
+  parted_node [] k lt h = absurd (omega arith)
+  parted_node (n ∷ ns) zero lt h = parted-left n (joined ns) h
+  parted_node (n ∷ ns) (suc k) lt h = parted_node ns k (omega arith) (parted-right n (joined ns) h)
+
   -- the search's end
   pub node_found : (ns : List (List X)) (k : ℕ) → 1 ≤ length ns → k ≤ length ns - 1 → AllWithin (λ n. ends_less answer n ≡ true) ns 0 k → (k < length ns - 1 → HoldsAt (λ n. ends_less answer n ≡ false) ns k) → k ≡ node_for answer ns
   node_found ns k some le before here =
@@ -140,3 +173,49 @@ module _ {X : Type 0} (answer : X → Ordering) where
 
     pub node_ends : (vs : List (Vec X Z)) (k : ℕ) (v : Vec X Z) (x : X) → k < length vs → v ≡ get_or vs k v → 1 ≤ length v.items → x ≡ get_or v.items (length v.items - 1) x → (d : List X) → ends_less answer (get_or (lists vs) k d) ≡ is_lt (answer x)
     node_ends vs k v x h e some is d = ap (λ n. ends_less answer n) (node_read vs k v h e d) ∙ (ends_last v.items x some ∙ ap (λ y. is_lt (answer y)) (sym is))
+
+-- what is read at a position tells whether the item there is answered Equal
+pub equal_read : {X : Type 0} (answer : X → Ordering) (l : List X) (i : ℕ) (x : X) → slice_get l i ≡ Some x → equal_at answer l i ≡ is_eq (answer x)
+equal_read answer l i x e = rw e refl
+
+pub equal_none : {X : Type 0} (answer : X → Ordering) (l : List X) (i : ℕ) → slice_get l i ≡ None → equal_at answer l i ≡ false
+equal_none answer l i e = rw e refl
+
+-- what the code reads of a spine
+module _ {X Z : Type 0} (vs : List (Vec X Z)) (size : ℕ) (s : Cut X) (view : cut (lists vs) size ≡ s) (is : IsCut (lens (lists vs)) size) where
+  pub spine_filled : 2 ≤ length s.nodes → All (λ n. 1 ≤ n) (lens s.nodes)
+  spine_filled two = rw (← view) (is.filled (omega (arith, length-map (lists vs) (λ n. length n), ap (λ (t : Cut X). length t.nodes) view)))
+
+  pub spine_some : 1 ≤ length s.nodes
+  spine_some = omega (arith, is.some, length-map (lists vs) (λ n. length n), ap (λ (t : Cut X). length t.nodes) view)
+
+  module _ (answer : X → Ordering) (k : ℕ) (found : k ≡ node_for answer (lists vs)) where
+    pub node_inside : k < length vs
+    node_inside = omega (arith, found, is.some, length-lists vs, length-map (lists vs) (λ n. length n))
+
+    pub node_named : k ≡ node_for answer s.nodes
+    node_named = found ∙ ap (λ (t : Cut X). node_for answer t.nodes) view
+
+    -- the offset that a search of the node answers
+    module _ (parted : IsParted answer (items s)) (o : ℕ) (at : o ≡ less_count answer (node_at s.nodes k)) where
+      pub located : length (joined (take k s.nodes)) + o ≡ less_count answer (items s)
+      located = rw (at, node_named) (place_for answer s.nodes spine_some spine_filled parted)
+
+      pub located_end : length (node_at s.nodes k) ≤ o → slice_get (items s) (length (joined (take k s.nodes)) + o) ≡ None
+      located_end le =
+          let ends : length (node_at s.nodes k) ≤ less_count answer (node_at s.nodes k) → length (joined s.nodes) ≤ length (joined (take k s.nodes)) + less_count answer (node_at s.nodes k) =
+              rw node_named (ends_for answer s.nodes spine_some spine_filled parted) in
+          slice_get_past (items s) _ (omega (arith, ends (omega arith)))
+
+  module _ (k : ℕ) (v : Vec X Z) (lt : k < length vs) (at : v ≡ get_or vs k v) where
+    pub node_is : node_at s.nodes k ≡ v.items
+    node_is = rw (← view) (node_read vs k v lt at [])
+
+    pub node_within : length v.items ≤ s.size
+    node_within =
+        let n = length-lists vs in
+        let here : get_or (lens (lists vs)) k 0 ≡ length v.items = get_or-map (λ n. length n) (lists vs) k [] 0 (omega arith) ∙ ap (λ l. length l) (node_read vs k v lt at []) in
+        omega (arith, here, is.bounded k 0 (omega (arith, length-map (lists vs) (λ n. length n))), ap (λ (t : Cut X). t.size) view)
+
+    pub spine_read : (o : ℕ) (x : X) → o < length v.items → x ≡ get_or v.items o x → slice_get (items s) (length (joined (take k s.nodes)) + o) ≡ Some x
+    spine_read o x inside e = subst (λ (t : Cut X). slice_get (items t) (length (joined (take k t.nodes)) + o) ≡ Some x) view (read vs k o v x lt inside at e)
