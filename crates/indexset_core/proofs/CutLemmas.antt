@@ -72,6 +72,39 @@ module _ {X : Type 0} where
   pub length-joined-mono : (ns : List (List X)) (j k : ℕ) → j ≤ k → length (joined (take j ns)) ≤ length (joined (take k ns))
   length-joined-mono ns j k le = subst (λ (l : List (List X)). length (joined l) ≤ length (joined (take k ns))) (take-take j k ns le) (length-joined-take (take k ns) j)
 
+  -- a write within a node keeps the lengths
+  pub lens-set : (ns : List (List X)) (k : ℕ) (m : List X) → length m ≡ length (get_or ns k []) → lens (slice_set ns k m) ≡ lens ns
+  lens-set [] k m h = refl
+  lens-set (n ∷ ns) zero m h = ap (λ l. l ∷ lens ns) h
+  lens-set (n ∷ ns) (suc k) m h = ap (λ ls. length n ∷ ls) (lens-set ns k m h)
+
+  -- a write at a place
+  pub set_place : (ns : List (List X)) (i k o : ℕ) (w : X) → i ≡ length (joined (take k ns)) + o → o < length (get_or ns k []) → k < length ns → set_joined ns i w ≡ slice_set ns k (slice_set (get_or ns k []) o w)
+  unfolding set_joined
+  set_place [] i k o w at inside lt = absurd (omega arith)
+  set_place (n ∷ ns) i zero o w at inside lt =
+      let e : i ≡ o = omega arith in let l : i < length n = omega arith in
+      let t : nat_lt i (length n) ≡ true = grind (arith, nat_tests) in
+      rw t (ap (λ j. slice_set n j w ∷ ns) e)
+  set_place (n ∷ ns) i (suc k) o w at inside lt =
+      let long = length-append n (joined (take k ns)) in
+      let l : length n ≤ i = omega arith in
+      let t : nat_lt i (length n) ≡ false = grind (arith, nat_tests) in
+      rw t (ap (λ l. n ∷ l) (set_place ns (i - length n) k o w (omega arith) inside (omega arith)))
+
+  abbrev Sets : Bool → List X → List (List X) → ℕ → X → Type 0
+  Sets b n ns i w = joined (if b then slice_set n i w ∷ ns else n ∷ set_joined ns (i - length n) w) ≡ slice_set (n ++ joined ns) i w
+
+  pub joined-set : (ns : List (List X)) (i : ℕ) (w : X) → joined (set_joined ns i w) ≡ slice_set (joined ns) i w
+  unfolding set_joined
+  joined-set [] i w = refl
+  joined-set (n ∷ ns) i w =
+      let on : (b : Bool) → nat_lt i (length n) ≡ b → Sets b n ns i w = elim [
+        true ↦ λ e. let h : i < length n = grind (arith, nat_tests) in sym (set-append_left n (joined ns) i w h)
+        | false ↦ λ e. let h : length n ≤ i = grind (arith, nat_tests) in
+          ap (λ l. n ++ l) (joined-set ns (i - length n) w) ∙ sym (set-append_right n (joined ns) (length n) i w refl h)
+      ] in on (nat_lt i (length n)) refl
+
   -- the nodes as the code holds them
   module _ {Z : Type 0} where
     pub node_read : (vs : List (Vec X Z)) (k : ℕ) (v : Vec X Z) → k < length vs → v ≡ get_or vs k v → (d : List X) → get_or (lists vs) k d ≡ v.items
@@ -108,3 +141,31 @@ module _ {X : Type 0} where
 
     pub spine_len : (vs : List (Vec X Z)) (n total : ℕ) (s : Cut X) → cut (lists vs) n ≡ s → IsSpine (lens (lists vs)) n total → total ≡ length (items s)
     spine_len vs n total s e h = h.total_is ∙ (sym (length-joined (lists vs)) ∙ ap (λ (t : Cut X). length (items t)) e)
+
+    pub lists-set : (vs : List (Vec X Z)) (k : ℕ) (v : Vec X Z) → lists (slice_set vs k v) ≡ slice_set (lists vs) k v.items
+    lists-set vs k v = map-set (λ (z : Vec X Z). z.items) vs k v
+
+    module _ (vs : List (Vec X Z)) (n : ℕ) (s : Cut X) (p : Spot) (v : Vec X Z) (w : X) (view : cut (lists vs) n ≡ s) (h : IsItemSpot s.nodes p) (at : v ≡ get_or vs p.node v) where
+      inside : IsItemSpot (lists vs) p
+      inside = subst (λ (t : Cut X). IsItemSpot t.nodes p) (sym view) h
+
+      node_in : p.node < length vs
+      node_in = omega (arith, inside.node_in, length-lists vs)
+
+      -- a write at a place of the spine s
+      pub place_writes : (i : ℕ) → position_of s.nodes p ≡ i → cut (lists (slice_set vs p.node (with_item v p.offset w))) n ≡ with_item_at s i w
+      place_writes i e =
+          let m : get_or (lists vs) p.node [] ≡ v.items = node_read vs p.node v node_in at [] in
+          let here : i ≡ position_of (lists vs) p = sym e ∙ ap (λ (t : Cut X). position_of t.nodes p) (sym view) in
+          let a : lists (slice_set vs p.node (with_item v p.offset w)) ≡ slice_set (lists vs) p.node (slice_set v.items p.offset w) = lists-set vs p.node (with_item v p.offset w) in
+          let b : slice_set (lists vs) p.node (slice_set v.items p.offset w) ≡ set_joined (lists vs) i w =
+              ap (λ l. slice_set (lists vs) p.node (slice_set l p.offset w)) (sym m) ∙ sym (set_place (lists vs) i p.node p.offset w here inside.offset_in inside.node_in) in
+          ap (λ ns. cut ns n) (a ∙ b) ∙ ap (λ (t : Cut X). with_item_at t i w) view
+
+      -- it keeps the spine's rule
+      pub place_keeps : (total : ℕ) → IsSpine (lens (lists vs)) n total → IsSpine (lens (lists (slice_set vs p.node (with_item v p.offset w)))) n total
+      place_keeps total is =
+          let same : lens (lists (slice_set vs p.node (with_item v p.offset w))) ≡ lens (lists vs) =
+              ap lens (lists-set vs p.node (with_item v p.offset w))
+              ∙ lens-set (lists vs) p.node (slice_set v.items p.offset w) (length-set v.items p.offset w ∙ ap (λ (l : List X). length l) (sym (node_read vs p.node v node_in at []))) in
+          subst (λ (ls : List ℕ). IsSpine ls n total) (sym same) is
