@@ -2,7 +2,7 @@
 ghost use Rattle.std.specs.Prelude.{◌≡◌, length, List};
 ghost use Rattle.std.specs.Iterator.{at_most};
 ghost use Rattle.std.specs.Map.Iter.{TakesFirst, TakesLast, ShowsInOrder, ShowsInReverse, deref};
-ghost use Rattle.indexset_core.specs.Cut.{items};
+ghost use Rattle.indexset_core.specs.Cut.{items, joined, lists};
 
 use crate::spine::Spine;
 use std::iter::FusedIterator;
@@ -11,10 +11,10 @@ use std::marker::Model;
 /// The items that are left: those of the front node, of the nodes between, and of the back node.
 #[derive(Drop)]
 pub struct Iter<'a, T> {
-    pub(crate) front: &'a [T],
-    pub(crate) middle: &'a [Vec<T>],
-    pub(crate) back: &'a [T],
-    pub(crate) left: usize,
+    front: &'a [T],
+    middle: &'a [Vec<T>],
+    back: &'a [T],
+    left: usize,
 }
 
 impl<'a, T> Model for Iter<'a, T> {
@@ -28,6 +28,21 @@ impl<'a, T> Model for Iter<'a, T> {
     ghost invariant = { λ a. a.left ≡ length (a.front.now ++ (joined (lists a.middle.now) ++ a.back.now)) };
 }
 
+impl<'a, T> Iter<'a, T> {
+    /// The items of all nodes.
+    pub(crate) fn over(nodes: &'a [Vec<T>], left: usize) -> Self
+        requires { left ≡ length (joined (lists nodes.now)) }
+        ensures { result ≡ joined (lists nodes.now) }
+    {
+        Iter {
+            front: &[],
+            middle: nodes,
+            back: &[],
+            left,
+        }
+    }
+}
+
 impl<'a, T> Iterator for Iter<'a, T> {
     type Item = &'a T;
 
@@ -36,26 +51,23 @@ impl<'a, T> Iterator for Iter<'a, T> {
     ghost remaining = { λ s. at_most (length s) };
 
     fn next(&mut self) -> Option<&'a T> {
-        while let None = self.front.first() {
-            match self.middle.split_first() {
-                Some((node, rest)) => {
-                    self.front = node.as_slice();
-                    self.middle = rest;
-                }
-                None => {
-                    let back = self.back;
-                    let (first, rest) = back.split_first()?;
-                    self.back = rest;
-                    self.left -= 1;
-                    return Some(first);
-                }
+        loop {
+            let front = self.front;
+            if let Some((first, rest)) = front.split_first() {
+                self.front = rest;
+                self.left -= 1;
+                return Some(first);
+            }
+            if let Some((node, rest)) = self.middle.split_first() {
+                self.front = node.as_slice();
+                self.middle = rest;
+            } else if self.back.is_empty() {
+                return None;
+            } else {
+                self.front = self.back;
+                self.back = &[];
             }
         }
-        let front = self.front;
-        let (first, rest) = front.split_first()?;
-        self.front = rest;
-        self.left -= 1;
-        Some(first)
     }
 
     fn size_hint(&self) -> (usize, Option<usize>) {
@@ -67,26 +79,23 @@ impl<'a, T> DoubleEndedIterator for Iter<'a, T> {
     ghost next_back_gives = { TakesLast deref };
 
     fn next_back(&mut self) -> Option<&'a T> {
-        while let None = self.back.last() {
-            match self.middle.split_last() {
-                Some((node, rest)) => {
-                    self.back = node.as_slice();
-                    self.middle = rest;
-                }
-                None => {
-                    let front = self.front;
-                    let (last, rest) = front.split_last()?;
-                    self.front = rest;
-                    self.left -= 1;
-                    return Some(last);
-                }
+        loop {
+            let back = self.back;
+            if let Some((last, rest)) = back.split_last() {
+                self.back = rest;
+                self.left -= 1;
+                return Some(last);
+            }
+            if let Some((node, rest)) = self.middle.split_last() {
+                self.back = node.as_slice();
+                self.middle = rest;
+            } else if self.front.is_empty() {
+                return None;
+            } else {
+                self.back = self.front;
+                self.front = &[];
             }
         }
-        let back = self.back;
-        let (last, rest) = back.split_last()?;
-        self.back = rest;
-        self.left -= 1;
-        Some(last)
     }
 }
 
