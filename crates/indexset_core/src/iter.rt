@@ -1,10 +1,12 @@
 //! A shared walk of a spine from both ends.
-ghost use Rattle.std.specs.Prelude.{◌≡◌, length, List};
+ghost use Rattle.std.specs.Prelude.{◌≡◌, ◌+◌, ◌≤◌, length, List};
+ghost use Rattle.std.specs.List.{between};
 ghost use Rattle.std.specs.Iterator.{at_most};
 ghost use Rattle.std.specs.Map.Iter.{TakesFirst, TakesLast, ShowsInOrder, ShowsInReverse, deref};
-ghost use Rattle.indexset_core.specs.Cut.{items, joined, lists};
+ghost use Rattle.indexset_core.specs.Cut.{items, joined, lists, IsItemSpot, position_of};
 
 use crate::spine::Spine;
+use crate::spot::Spot;
 use std::iter::FusedIterator;
 use std::marker::Model;
 
@@ -38,6 +40,32 @@ impl<'a, T> Iter<'a, T> {
             front: &[],
             middle: nodes,
             back: &[],
+            left,
+        }
+    }
+
+    /// The `left` items from the one at a place through the one at another.
+    pub(crate) fn through(nodes: &'a [Vec<T>], start: &Spot, end: &Spot, left: usize) -> Self
+        requires start { IsItemSpot (lists nodes.now) start.now }
+        requires end { IsItemSpot (lists nodes.now) end.now }
+        requires some { 1 ≤ left }
+        requires left { position_of (lists nodes.now) start.now + left ≡ position_of (lists nodes.now) end.now + 1 }
+        ensures { result ≡ between (position_of (lists nodes.now) start.now) (position_of (lists nodes.now) end.now + 1) (joined (lists nodes.now)) }
+    {
+        let first = nodes[start.node].as_slice();
+        if start.node == end.node {
+            return Iter {
+                front: &first[start.offset..end.offset + 1],
+                middle: &[],
+                back: &[],
+                left,
+            };
+        }
+        let last = nodes[end.node].as_slice();
+        Iter {
+            front: &first[start.offset..],
+            middle: &nodes[start.node + 1..end.node],
+            back: &last[..end.offset + 1],
             left,
         }
     }

@@ -144,7 +144,7 @@ impl<T> Spine<T> {
         ensures runs { ShowsInOrder (deref {X = T}) }
         ensures runs_back { ShowsInReverse (deref {X = T}) }
     {
-        unreachable!()
+        Iter::over(self.nodes.as_slice(), self.len)
     }
 
     /// The items from position `i` up to position `j`, in order.
@@ -155,7 +155,13 @@ impl<T> Spine<T> {
         ensures runs { ShowsInOrder (deref {X = T}) }
         ensures runs_back { ShowsInReverse (deref {X = T}) }
     {
-        unreachable!()
+        if i == j {
+            return Iter::over(&[], 0);
+        }
+        match (self.spot(i), self.spot(j - 1)) {
+            (Some(start), Some(end)) => Iter::through(self.nodes.as_slice(), &start, &end, j - i),
+            _ => unreachable!(),
+        }
     }
 
     // The item at a place, to write.
