@@ -1,6 +1,7 @@
 //! The lowest layer: probes that count their questions, searches that ask them, and nodes.
 #![tactic(auto)]
 
+pub mod bounds;
 pub mod constants;
 pub mod iter;
 mod lengths;
