@@ -3,6 +3,7 @@
 
 pub mod bounds;
 pub mod constants;
+pub mod into_iter;
 pub mod iter;
 mod lengths;
 mod locate;

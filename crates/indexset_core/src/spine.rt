@@ -3,13 +3,14 @@ ghost use Rattle.std.specs.Prelude.{◌≡◌, ◌+◌, ◌≤◌, IsTrue, Some,
 ghost use Rattle.std.specs.Option.{option_copied, option_copied_mut};
 ghost use Rattle.std.specs.Borrow.{sem};
 ghost use Rattle.std.specs.List.{between};
-ghost use Rattle.std.specs.Map.Iter.{ShowsInOrder, ShowsInReverse, deref};
+ghost use Rattle.std.specs.Map.Iter.{ShowsInOrder, ShowsInReverse, GivesInOrder, GivesInReverse, deref};
 ghost use Rattle.indexset_core.specs.Digits.{digits};
 ghost use Rattle.indexset_core.specs.Parted.{IsParted, less_count};
 ghost use Rattle.indexset_core.specs.Cut.{items, node_at, IsSpot, IsItemSpot, position_of, node_for, equal_at};
 
 mod edits;
 
+use crate::into_iter::IntoIter;
 use crate::iter::Iter;
 use crate::lengths;
 use crate::locate;
@@ -173,5 +174,22 @@ impl<T> Spine<T> {
     {
         let items = &mut self.nodes[spot.node];
         &mut items[spot.offset]
+    }
+}
+
+impl<T: Drop> IntoIterator for Spine<T> {
+    type Item = T;
+
+    type IntoIter = IntoIter<T>;
+
+    ghost into_iter_gives = { λ s r. (r ≡ items s) × GivesInOrder T × GivesInReverse T };
+
+    fn into_iter(self) -> IntoIter<T> {
+        let Spine {
+            nodes,
+            size: _,
+            len,
+        } = self;
+        IntoIter::over(nodes, len)
     }
 }
