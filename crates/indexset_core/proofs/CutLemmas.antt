@@ -100,9 +100,9 @@ module _ {X : Type 0} where
   joined-set [] i w = refl
   joined-set (n ∷ ns) i w =
       let on : (b : Bool) → nat_lt i (length n) ≡ b → Sets b n ns i w = elim [
-        true ↦ λ e. let h : i < length n = grind (arith, nat_tests) in sym (set-append_left n (joined ns) i w h)
+        | true ↦ λ e. let h : i < length n = grind (arith, nat_tests) in sym (set-append_left n (joined ns) i w h)
         | false ↦ λ e. let h : length n ≤ i = grind (arith, nat_tests) in
-          ap (λ l. n ++ l) (joined-set ns (i - length n) w) ∙ sym (set-append_right n (joined ns) (length n) i w refl h)
+            ap (λ l. n ++ l) (joined-set ns (i - length n) w) ∙ sym (set-append_right n (joined ns) (length n) i w refl h)
       ] in on (nat_lt i (length n)) refl
 
   -- the nodes as the code holds them
@@ -159,13 +159,13 @@ module _ {X : Type 0} where
           let here : i ≡ position_of (lists vs) p = sym e ∙ ap (λ (t : Cut X). position_of t.nodes p) (sym view) in
           let a : lists (slice_set vs p.node (with_item v p.offset w)) ≡ slice_set (lists vs) p.node (slice_set v.items p.offset w) = lists-set vs p.node (with_item v p.offset w) in
           let b : slice_set (lists vs) p.node (slice_set v.items p.offset w) ≡ set_joined (lists vs) i w =
-              ap (λ l. slice_set (lists vs) p.node (slice_set l p.offset w)) (sym m) ∙ sym (set_place (lists vs) i p.node p.offset w here inside.offset_in inside.node_in) in
+          ap (λ l. slice_set (lists vs) p.node (slice_set l p.offset w)) (sym m) ∙ sym (set_place (lists vs) i p.node p.offset w here inside.offset_in inside.node_in) in
           ap (λ ns. cut ns n) (a ∙ b) ∙ ap (λ (t : Cut X). with_item_at t i w) view
 
       -- it keeps the spine's rule
       pub place_keeps : (total : ℕ) → IsSpine (lens (lists vs)) n total → IsSpine (lens (lists (slice_set vs p.node (with_item v p.offset w)))) n total
       place_keeps total is =
           let same : lens (lists (slice_set vs p.node (with_item v p.offset w))) ≡ lens (lists vs) =
-              ap lens (lists-set vs p.node (with_item v p.offset w))
-              ∙ lens-set (lists vs) p.node (slice_set v.items p.offset w) (length-set v.items p.offset w ∙ ap (λ (l : List X). length l) (sym (node_read vs p.node v node_in at []))) in
+          ap lens (lists-set vs p.node (with_item v p.offset w))
+          ∙ lens-set (lists vs) p.node (slice_set v.items p.offset w) (length-set v.items p.offset w ∙ ap (λ (l : List X). length l) (sym (node_read vs p.node v node_in at []))) in
           subst (λ (ls : List ℕ). IsSpine ls n total) (sym same) is

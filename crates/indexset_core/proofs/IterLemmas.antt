@@ -19,7 +19,7 @@ module _ {X : Type 0} where
       let e : length (n ++ joined (take k ns)) + o ≡ length n + (length (joined (take k ns)) + o) = omega (arith, length-append n (joined (take k ns))) in
       ap (λ m. take m (n ++ joined ns)) e
       ∙ (take-append-add n (joined ns) (length (joined (take k ns)) + o)
-          ∙ (ap (λ l. n ++ l) (take_place ns k o (omega arith) le) ∙ sym (append_assoc n (joined (take k ns)) (take o (node_at ns k)))))
+      ∙ (ap (λ l. n ++ l) (take_place ns k o (omega arith) le) ∙ sym (append_assoc n (joined (take k ns)) (take o (node_at ns k)))))
 
   -- the items from a place on
   drop_place : (ns : List (List X)) (k o : ℕ) → k < length ns → o ≤ length (node_at ns k) → drop (length (joined (take k ns)) + o) (joined ns) ≡ drop o (node_at ns k) ++ joined (drop (suc k) ns)
@@ -35,8 +35,8 @@ module _ {X : Type 0} where
     between_in e =
         between_is (joined ns) _ _
         ∙ (ap (λ m. drop (length (joined (take k ns)) + o) m) (take_place ns l q lt to)
-          ∙ (ap (λ i. drop (length (joined (take i ns)) + o) (joined (take l ns) ++ take q (node_at ns l))) e
-            ∙ (drop-append-add (joined (take l ns)) (take q (node_at ns l)) o ∙ sym (between_is (node_at ns l) o q))))
+        ∙ (ap (λ i. drop (length (joined (take i ns)) + o) (joined (take l ns) ++ take q (node_at ns l))) e
+        ∙ (drop-append-add (joined (take l ns)) (take q (node_at ns l)) o ∙ sym (between_is (node_at ns l) o q))))
 
     -- and of two
     between_across : k < l → o ≤ length (node_at ns k) → between (length (joined (take k ns)) + o) (length (joined (take l ns)) + q) (joined ns) ≡ drop o (node_at ns k) ++ (joined (between (k + 1) l ns) ++ take q (node_at ns l))
@@ -49,9 +49,9 @@ module _ {X : Type 0} where
         let cut_up : drop (length (joined (take k ms)) + o) (joined ms) ≡ drop o (node_at ms k) ++ joined (drop (suc k) ms) = drop_place ms k o in_ms (rw node from) in
         between_is (joined ns) _ _
         ∙ (ap (λ m. drop (length (joined (take k ns)) + o) m) (take_place ns l q lt to)
-          ∙ (drop-append-le (length (joined (take k ns)) + o) (joined ms) (take q (node_at ns l)) before
-            ∙ (ap (λ m. m ++ take q (node_at ns l)) (rw (same, node, ← add-one, ← between_is) at cut_up)
-              ∙ append_assoc (drop o (node_at ns k)) (joined (between (k + 1) l ns)) (take q (node_at ns l)))))
+        ∙ (drop-append-le (length (joined (take k ns)) + o) (joined ms) (take q (node_at ns l)) before
+        ∙ (ap (λ m. m ++ take q (node_at ns l)) (rw (same, node, ← add-one, ← between_is) at cut_up)
+        ∙ append_assoc (drop o (node_at ns k)) (joined (between (k + 1) l ns)) (take q (node_at ns l)))))
 
   -- the earlier of two places stands in no later node
   pub places_order : (ns : List (List X)) (k o l q : ℕ) → l < length ns → q < length (node_at ns l) → length (joined (take k ns)) + o ≤ length (joined (take l ns)) + q → k ≤ l

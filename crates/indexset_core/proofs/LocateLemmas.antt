@@ -67,9 +67,9 @@ module _ {X : Type 0} (answer : X → Ordering) where
       let le : p ≤ q = omega (arith, length-joined-more ns j (omega arith), length-joined-mono ns (j + 1) k (omega arith)) in
       let low : q < length (joined ns) = omega (arith, place-le ns k (length b) inside (omega arith)) in
       first a some_a (λ d.
-          let at_a = get_or_place ns j (length a - 1) d (omega arith) (omega arith) in
-          let at_b = get_or_place ns k (length b - 1) d inside (omega arith) in
-          front-is_lt _ _ (rw (← at_a, ← at_b) (h p q d le low)) (sym (ends_last b d some_b) ∙ e))
+      let at_a = get_or_place ns j (length a - 1) d (omega arith) (omega arith) in
+      let at_b = get_or_place ns k (length b - 1) d inside (omega arith) in
+      front-is_lt _ _ (rw (← at_a, ← at_b) (h p q d le low)) (sym (ends_last b d some_b) ∙ e))
 
   abbrev Filled : List (List X) → Type 0
   Filled ns = 2 ≤ length ns → All (λ n. 1 ≤ n) (lens ns)
@@ -204,7 +204,7 @@ module _ {X Z : Type 0} (vs : List (Vec X Z)) (size : ℕ) (s : Cut X) (view : c
       pub located_end : length (node_at s.nodes k) ≤ o → slice_get (items s) (length (joined (take k s.nodes)) + o) ≡ None
       located_end le =
           let ends : length (node_at s.nodes k) ≤ less_count answer (node_at s.nodes k) → length (joined s.nodes) ≤ length (joined (take k s.nodes)) + less_count answer (node_at s.nodes k) =
-              rw node_named (ends_for answer s.nodes spine_some spine_filled parted) in
+          rw node_named (ends_for answer s.nodes spine_some spine_filled parted) in
           slice_get_past (items s) _ (omega (arith, ends (omega arith)))
 
   module _ (k : ℕ) (v : Vec X Z) (lt : k < length vs) (at : v ≡ get_or vs k v) where

@@ -9,14 +9,14 @@ ghost use Rattle.indexset_core.specs.Parted.{IsParted, less_count};
 ghost use Rattle.indexset_core.specs.Cut.{items, node_at, IsSpot, IsItemSpot, position_of, node_for, equal_at};
 
 mod edits;
+#[cfg(test)]
+mod tests;
 
 use crate::into_iter::IntoIter;
 use crate::iter::Iter;
-use crate::lengths;
-use crate::locate;
 use crate::probe::Probe;
-use crate::search;
 use crate::spot::Spot;
+use crate::{lengths, locate, search};
 use std::marker::Model;
 
 /// A list that is cut into nodes of at most a given number of items each.
@@ -122,10 +122,8 @@ impl<T> Spine<T> {
     pub fn get(&self, i: usize) -> Option<&T>
         ensures { option_copied result ≡ slice_get (items self.now) i }
     {
-        match self.spot(i) {
-            Some(spot) => Some(self.item(&spot)),
-            None => None,
-        }
+        let spot = self.spot(i)?;
+        Some(self.item(&spot))
     }
 
     /// The item at a position, to write.

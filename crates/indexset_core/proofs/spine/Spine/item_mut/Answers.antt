@@ -9,9 +9,9 @@ invariant_of-self-lent g c =
 
 pub returns : goal.returns
 returns g c = (
-      (refl, λ w. place_writes _ _ c.args.self.now c.args.spot _ w c.self.view_is c.requires.place c.index_mut-items.ensures.value _ c.requires.position),
-      record {
-        writes_back = tt;
-        value = ap (λ i. slice_get (items c.args.self.now) i) (sym c.requires.position) ∙ place_reads _ _ c.args.self.now c.args.spot _ _ c.self.view_is c.requires.place c.index_mut-items.ensures.value c.index_mut.ensures.value;
-      },
-    )
+  (refl, λ w. place_writes _ _ c.args.self.now c.args.spot _ w c.self.view_is c.requires.place c.index_mut-items.ensures.value _ c.requires.position),
+  record {
+    writes_back = tt;
+    value = ap (λ i. slice_get (items c.args.self.now) i) (sym c.requires.position) ∙ place_reads _ _ c.args.self.now c.args.spot _ _ c.self.view_is c.requires.place c.index_mut-items.ensures.value c.index_mut.ensures.value;
+  },
+)
