@@ -1,7 +1,7 @@
 -- Places in a list that is cut into nodes.
-use Rattle.std.proofs.Common.{◌≡◌, ℕ, zero, suc, ◌+◌, ◌-◌, ◌^◌, ◌<◌, ◌≤◌, List, [], ◌∷◌, ◌++◌, length, map, sum, take, drop, get_or, slice_set, slice_get, Option, Some, None, unwrap_or, nat_lt, max, Bool, true, false, if◌then◌else◌, refl, sym, ap, ◌∙◌, arith, length-append, add-one, subst}
-use Rattle.std.proofs.lemmas.List.{append-nil, length-map, length-set, map-set, set-append_left, set-append_right, get_or-take, take-take}
-use Rattle.std.proofs.lemmas.Option.{slice_get_read, slice_get_past, unwrap_or-slice_get}
+use Rattle.std.proofs.Common.{◌≡◌, ℕ, zero, suc, ◌+◌, ◌-◌, ◌<◌, ◌≤◌, List, [], ◌∷◌, ◌++◌, length, sum, take, get_or, slice_set, slice_get, Option, Some, unwrap_or, nat_lt, max, Bool, true, false, if◌then◌else◌, refl, sym, ap, ◌∙◌, arith, length-append, add-one, subst}
+use Rattle.std.proofs.lemmas.List.{length-map, length-set, map-set, set-append_left, set-append_right, get_or-take, take-take}
+use Rattle.std.proofs.lemmas.Option.{slice_get_read, unwrap_or-slice_get}
 use Rattle.std.proofs.lemmas.List.Sums.{sum_by-cons}
 use Rattle.std.proofs.lemmas.Bool.Decides.{nat_tests}
 use Rattle.std.specs.List.{All}

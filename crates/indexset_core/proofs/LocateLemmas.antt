@@ -1,10 +1,9 @@
 -- The node that the answers name, and the place in it.
-use Rattle.std.proofs.Common.{◌≡◌, ℕ, zero, suc, ◌+◌, ◌-◌, ◌<◌, ◌≤◌, min, Bool, true, false, not, cond, List, [], ◌∷◌, ◌++◌, length, get_or, take, map, slice_get, Some, None, Ordering, refl, sym, ap, ◌∙◌, arith, subst, add-one, length-append, inl, inr}
-use Rattle.std.specs.List.{All, AllWithin, HoldsAt, count_by, position_or_len}
-use Rattle.std.specs.Option.{option_map_or}
-use Rattle.std.specs.Ordering.{ordering_index, is_lt, is_eq}
+use Rattle.std.proofs.Common.{◌≡◌, ℕ, zero, suc, ◌+◌, ◌-◌, ◌<◌, ◌≤◌, true, false, not, cond, List, [], ◌∷◌, ◌++◌, length, get_or, take, slice_get, Some, None, Ordering, refl, sym, ap, ◌∙◌, arith, subst, length-append, inl, inr}
+use Rattle.std.specs.List.{All, AllWithin, HoldsAt, position_or_len}
+use Rattle.std.specs.Ordering.{is_lt, is_eq}
 use Rattle.std.proofs.lemmas.List.{get_or_append_left, get_or-append-add, get_or_default, get_or-map, length-map}
-use Rattle.std.proofs.lemmas.List.Sums.{sum_by-append, position_or_len_is, prefix_len_stops, prefix_len-le-length}
+use Rattle.std.proofs.lemmas.List.Sums.{sum_by-append, position_or_len_is, prefix_len_stops}
 use Rattle.std.proofs.lemmas.Option.{slice_get_read, slice_get_past}
 use Rattle.std.proofs.lemmas.Bool.{false≢true, cases_lt}
 use Rattle.std.specs.declared.vec.Vec.{Vec}

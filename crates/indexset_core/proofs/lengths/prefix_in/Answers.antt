@@ -1,4 +1,4 @@
-use Rattle.std.proofs.Common.{◌+◌, ◌<◌, length, arith}
+use Rattle.std.proofs.Common.{◌+◌, ◌<◌, arith}
 use Rattle.std.proofs.lemmas.List.{length-take-le}
 use Rattle.indexset_core.specs.Cut.{lists}
 use Rattle.indexset_core.proofs.CutLemmas.{turn_in, length-joined-take}

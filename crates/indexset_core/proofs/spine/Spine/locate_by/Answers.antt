@@ -1,9 +1,8 @@
-use Rattle.std.proofs.Common.{◌≡◌, ◌+◌, ◌<◌, ◌≤◌, length, true, false, nat_lt, None, arith, rules, sym, ap, ◌∙◌}
+use Rattle.std.proofs.Common.{◌≡◌, ◌≤◌, length, false, nat_lt, arith, sym, ap, ◌∙◌}
 use Rattle.std.specs.Ordering.{is_eq}
 use Rattle.std.proofs.lemmas.Bool.Decides.{nat_tests}
-use Rattle.indexset_core.specs.Cut.{items, node_at, equal_at, position_of}
-use Rattle.indexset_core.specs.Parted.{less_count}
-use Rattle.indexset_core.proofs.CutLemmas.{length-lists, place_reads}
+use Rattle.indexset_core.specs.Cut.{items, node_at}
+use Rattle.indexset_core.proofs.CutLemmas.{length-lists}
 use Rattle.indexset_core.proofs.DigitsLemmas.{digits-mono}
 use Rattle.indexset_core.proofs.LocateLemmas.{parted_node, node_is, node_within, node_inside, located, located_end, spine_read, equal_read, equal_none}
 use Rattle.indexset_core.proofs.spine.Spine.locate_by.Goals as goal

@@ -1,5 +1,5 @@
-use Rattle.std.proofs.Common.{arith, ap, length, sym}
-use Rattle.indexset_core.specs.Cut.{joined, lists, position_of, items}
+use Rattle.std.proofs.Common.{arith, ap, length}
+use Rattle.indexset_core.specs.Cut.{position_of, items}
 use Rattle.indexset_core.proofs.CutLemmas.{spine_len, place-le}
 use Rattle.indexset_core.proofs.spine.Spine.position.Goals as goal
 
