@@ -1,5 +1,8 @@
+pub mod Bounds
+pub mod Cut
 pub mod Digits
 pub mod Order
 pub mod Parted
 pub mod Refusal
+pub mod SpineLends
 pub mod Tally

@@ -1,0 +1,12 @@
+use Rattle.std.proofs.Common.{◌≡◌, ◌+◌, ◌++◌, length}
+use Rattle.indexset_core.specs.Cut.{joined, lists}
+use Rattle.indexset_core.proofs.iter.IterIterator.next.Given as goal
+
+abbrev pub invariant-loop-first : goal.invariant-loop-first
+invariant-loop-first g l = record {
+  rest : l.self-inside.front.now ++ (joined (lists l.self-inside.middle.now) ++ l.self-inside.back.now) ≡ l.fn.self;
+  left : l.self-inside.left ≡ length l.fn.self;
+}
+
+abbrev pub decreases-loop-first : goal.decreases-loop-first
+decreases-loop-first g l = length l.self-inside.middle.now + length l.self-inside.back.now
