@@ -1,5 +1,6 @@
 pub mod Cut
 pub mod Digits
+pub mod Edits
 pub mod Order
 pub mod Parted
 pub mod Refusal

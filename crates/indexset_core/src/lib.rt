@@ -2,6 +2,7 @@
 #![tactic(auto)]
 
 pub mod constants;
+mod cut;
 pub mod iter;
 mod lengths;
 pub mod node;
