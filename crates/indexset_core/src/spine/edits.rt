@@ -176,21 +176,36 @@ impl<T: Drop> Spine<T> {
 // Makes room for one more item at a place, and answers where it then goes: a full node is cut in half
 // first. A refused call changes nothing.
 fn make_room<T>(nodes: &mut Vec<Vec<T>>, size: usize, spot: Spot) -> Result<Spot, Refusal>
-    requires { IsSpot (lists nodes.old.items) spot }
+    requires spot { IsSpot (lists nodes.old.items) spot }
+    requires two { 2 ≤ size }
     ensures spot { IfOk result (λ place. IsSpot (lists nodes.new.items) place) }
     ensures room { IfOk result (λ place. HoldsAt (λ node. vec_len node < vec_capacity node) nodes.new.items place.node) }
     ensures nodes { IfOk result (λ place. (value : T) → with_put (lists nodes.new.items) place value ≡ with_inserted size (lists nodes.old.items) spot value) }
     ensures refusal { IfErr result (λ e. e ≡ Refusal.Memory) }
     ensures err { OnErr result (lists nodes.new.items ≡ lists nodes.old.items) }
 {
-    let node = &mut nodes[spot.node];
-    if node.len() < size {
-        node.reserve(1)?;
+    if nodes[spot.node].len() < size {
+        nodes[spot.node].reserve(1)?;
         return Ok(spot);
     }
-    let half = node.len() / 2;
+    halve_at(nodes, spot)
+}
+
+// Cuts the node of a place in half, and answers where the place then is. A refused call changes
+// nothing.
+fn halve_at<T>(nodes: &mut Vec<Vec<T>>, spot: Spot) -> Result<Spot, Refusal>
+    requires spot { IsSpot (lists nodes.old.items) spot }
+    requires two { 2 ≤ length (node_at (lists nodes.old.items) spot.node) }
+    ensures spot { IfOk result (λ place. IsSpot (lists nodes.new.items) place) }
+    ensures room { IfOk result (λ place. HoldsAt (λ node. vec_len node < vec_capacity node) nodes.new.items place.node) }
+    ensures nodes { IfOk result (λ place. (value : T) → with_put (lists nodes.new.items) place value ≡ with_inserted (length (node_at (lists nodes.old.items) spot.node)) (lists nodes.old.items) spot value) }
+    ensures refusal { IfErr result (λ e. e ≡ Refusal.Memory) }
+    ensures err { OnErr result (lists nodes.new.items ≡ lists nodes.old.items) }
+{
     nodes.reserve(1)?;
-    let right = halve_node(&mut nodes[spot.node])?;
+    let node = &mut nodes[spot.node];
+    let half = node.len() / 2;
+    let right = halve_node(node)?;
     match nodes.insert(spot.node + 1, right) {
         Ok(()) => {}
         Err(_) => unreachable!(),
