@@ -8,7 +8,7 @@ use Rattle.std.specs.Result.{OnErr}
 use Rattle.std.specs.Vec.{vec_len, vec_capacity}
 use Rattle.std.specs.declared.vec.Vec.{Vec}
 use Rattle.indexset_core.specs.declared.spot.Spot.{Spot}
-use Rattle.indexset_core.specs.Cut.{lists, node_at, IsSpot, with_inserted, parts_with}
+use Rattle.indexset_core.specs.Cut.{Cut, cut, lists, node_at, IsSpot, IsItemSpot, with_inserted, parts_with}
 use Rattle.indexset_core.specs.Edits.{with_put}
 use Rattle.indexset_core.proofs.CutBasics.{get_or-lists, lists-set, lists-splice}
 
@@ -161,3 +161,11 @@ module _ {X Z : Type 0} where
             get_or-insert_below (slice_set vs s.node w) (s.node + 1) r d s.node (omega arith) (omega (arith, length-lists vs)) ∙ get_or-set_same vs s.node w d (omega (arith, length-lists vs)) in
         let n : vec_len w ≡ length (take (length u.items / 2) u.items) = w.ok.0 ∙ ap (λ (l : List X). length l) left in
         subst (λ (v : Vec X Z). vec_len v < vec_capacity v) (sym e) (omega (arith, n, room, two_in two, u.ok, length-take (length u.items / 2) u.items))
+
+-- a place, in the nodes as the code holds them
+module _ {X : Type 0} where
+  pub spot_in : (ns : List (List X)) (n : ℕ) (t : Cut X) (s : Spot) → cut ns n ≡ t → IsSpot t.nodes s → IsSpot ns s
+  spot_in ns n t s e h = subst (λ (t : Cut X). IsSpot t.nodes s) (sym e) h
+
+  pub item_spot_in : (ns : List (List X)) (n : ℕ) (t : Cut X) (s : Spot) → cut ns n ≡ t → IsItemSpot t.nodes s → IsItemSpot ns s
+  item_spot_in ns n t s e h = subst (λ (t : Cut X). IsItemSpot t.nodes s) (sym e) h
