@@ -220,3 +220,36 @@ module _ {X : Type 0} where
             split ∙ (ap (λ l. fs ++ (l ++ bs)) (sym none) ∙ goes)
         | false ↦ λ e. joined_set ns s.node (remove n s.offset) h.node_in ∙ goes
       ] refl
+
+  pub cut_without : (size : ℕ) (ns : List (List X)) (s : Spot) → IsItemSpot ns s → IsCut (lens ns) size → IsCut (lens (without_item ns s)) size
+  unfolding without_item
+  cut_without size ns s h is =
+      let n = node_at ns s.node in let m = remove n s.offset in
+      let inside : s.node < length (lens ns) = omega (arith, h.node_in, length-lens ns) in
+      let bounded : length n ≤ size = node_bounded ns s.node size h.node_in is in
+      let less : length m + 1 ≡ length n = length-remove n s.offset h.offset_in in
+      let long : (ps : List ℕ) → length (splice (lens ns) s.node (s.node + 1) ps) ≡ s.node + (length ps + (length (lens ns) - (s.node + 1))) =
+          λ ps. omega (arith, inside, length-append (take s.node (lens ns)) (ps ++ drop (s.node + 1) (lens ns)), length-append ps (drop (s.node + 1) (lens ns)), length-take s.node (lens ns), length-drop (s.node + 1) (lens ns)) in
+      elim ((length n == 1) && nat_lt 1 (length ns)) as (λ b. (length n == 1) && nat_lt 1 (length ns) ≡ b → IsCut (lens (if b then remove ns s.node else slice_set ns s.node m)) size) [
+        | true ↦ λ e.
+            let more : 1 < length ns = grind (arith, nat_tests) in
+            let same : lens (remove ns s.node) ≡ splice (lens ns) s.node (s.node + 1) [] = rw (← add-one) (lens-splice ns [] s.node (s.node + 1)) in
+            rw same (cut_splice (lens ns) [] s.node size inside is (omega (arith, more, long [], length-lens ns)) (All-nil (λ i. i ≤ size)) (λ _. All-nil (λ i. 1 ≤ i)))
+        | false ↦ λ e.
+            let same : lens (slice_set ns s.node m) ≡ splice (lens ns) s.node (s.node + 1) (length m ∷ []) = ap lens (rw add-one (set_split ns s.node m h.node_in)) ∙ lens-splice ns (m ∷ []) s.node (s.node + 1) in
+            let left : 2 ≤ length (splice (lens ns) s.node (s.node + 1) (length m ∷ [])) → 1 ≤ length m = λ more.
+                let two : 1 < length ns = omega (arith, more, long (length m ∷ []), length-lens ns, inside) in grind (arith, nat_tests) in
+            rw same (cut_splice (lens ns) (length m ∷ []) s.node size inside is (omega (arith, long (length m ∷ []))) (all_one (λ i. i ≤ size) (length m) (omega arith)) (λ more. all_one (λ i. 1 ≤ i) (length m) (left more)))
+      ] refl
+
+  pub spine_without : (size total : ℕ) (ns : List (List X)) (s : Spot) → IsItemSpot ns s → IsSpine (lens ns) size total → IsSpine (lens (without_item ns s)) size (total - 1)
+  spine_without size total ns s h is =
+      let less : length (joined (without_item ns s)) ≡ length (remove (joined ns) (position_of ns s)) = ap (λ (l : List X). length l) (joined_without ns s h) in
+      spine_of (without_item ns s) size (total - 1) (cut_without size ns s h is.is_cut)
+      (omega (arith, is.total_is, length-joined ns, less, length-remove (joined ns) (position_of ns s) (position_inside ns s h)))
+
+  pub one_inside : (size total : ℕ) (ns : List (List X)) (s : Spot) → IsItemSpot ns s → IsSpine (lens ns) size total → 1 ≤ total
+  one_inside size total ns s h is = omega (arith, is.total_is, length-joined ns, position_inside ns s h)
+
+  pub spine_replaced : (size total : ℕ) (ns : List (List X)) (s : Spot) (v : X) → IsSpine (lens ns) size total → IsSpine (lens (with_replaced ns s v)) size total
+  spine_replaced size total ns s v is = rw (lens-replaced ns s v) is
