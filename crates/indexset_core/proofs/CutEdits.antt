@@ -6,7 +6,7 @@ use Rattle.std.proofs.lemmas.List.Edits.{length-insert, length-remove, insert-ap
 use Rattle.std.proofs.lemmas.List.Elements.{All-cons, All-nil, All-append, All-take, All-drop, All-get_or}
 use Rattle.std.specs.List.{All, splice, insert, remove}
 use Rattle.indexset_core.specs.declared.spot.Spot.{Spot}
-use Rattle.indexset_core.specs.Cut.{IsCut, IsSpine, joined, lens, node_at, IsSpot, IsItemSpot, position_of, parts_with, with_inserted, without_item, with_replaced}
+use Rattle.indexset_core.specs.Cut.{IsCut, IsSpine, joined, lens, node_at, IsSpot, IsItemSpot, position_of, parts_with, with_inserted, without_item, with_replaced, first_spot}
 use Rattle.indexset_core.proofs.CutBasics.{joined-append, length-joined, lens-set, around, joined_around, joined-splice, lens-splice, slice_get-left, slice_get-right}
 
 -- an edit within the middle of three lists
@@ -253,3 +253,9 @@ module _ {X : Type 0} where
 
   pub spine_replaced : (size total : ℕ) (ns : List (List X)) (s : Spot) (v : X) → IsSpine (lens ns) size total → IsSpine (lens (with_replaced ns s v)) size total
   spine_replaced size total ns s v is = rw (lens-replaced ns s v) is
+
+  -- the first item stands at the first place
+  pub first_in : (size : ℕ) (ns : List (List X)) → IsCut (lens ns) size → 0 < length (joined ns) → IsItemSpot ns first_spot
+  first_in size [] is some = absurd (omega arith)
+  first_in size (n ∷ []) is some = record { node_in = omega arith; offset_in = omega (arith, some, length-append n []) }
+  first_in size (n ∷ m ∷ ns) is some = record { node_in = omega arith; offset_in = node_filled (n ∷ m ∷ ns) 0 size (omega arith) (omega arith) is }

@@ -1,9 +1,10 @@
 -- The steps of an edit, on the nodes as the code holds them.
-use Rattle.std.proofs.Common.{◌≡◌, ℕ, zero, suc, ◌+◌, ◌-◌, ◌/◌, ◌<◌, ◌≤◌, List, [], ◌∷◌, ◌++◌, length, take, drop, get_or, slice_set, nat_lt, true, false, Result, Ok, Err, refl, sym, ap, ◌∙◌, subst, arith, add-one, append_assoc, length-take, length-drop}
+use Rattle.std.proofs.Common.{◌≡◌, ℕ, zero, suc, ◌+◌, ◌-◌, ◌/◌, ◌<◌, ◌≤◌, List, [], ◌∷◌, ◌++◌, length, take, drop, get_or, slice_set, nat_lt, true, false, Result, Ok, Err, Option, Some, None, refl, sym, ap, ◌∙◌, subst, arith, add-one, append_assoc, length-take, length-drop}
 use Rattle.std.proofs.lemmas.Bool.Decides.{nat_tests}
 use Rattle.std.proofs.lemmas.List.{length-map, get_or_default, length-set, length-append, set-get_or, set_split, set_at, get_or_at, get_or-set_same, take-append-le, drop_at, take_at, length-take-le}
 use Rattle.std.proofs.lemmas.List.Edits.{get_or-insert_at, get_or-insert_below, length-insert}
 use Rattle.std.specs.List.{insert, remove, splice, HoldsAt}
+use Rattle.std.specs.Option.{IfSome}
 use Rattle.std.specs.Result.{OnErr}
 use Rattle.std.specs.Vec.{vec_len, vec_capacity}
 use Rattle.std.specs.declared.vec.Vec.{Vec}
@@ -169,3 +170,7 @@ module _ {X : Type 0} where
 
   pub item_spot_in : (ns : List (List X)) (n : ℕ) (t : Cut X) (s : Spot) → cut ns n ≡ t → IsItemSpot t.nodes s → IsItemSpot ns s
   item_spot_in ns n t s e h = subst (λ (t : Cut X). IsItemSpot t.nodes s) (sym e) h
+
+pub some_is : {T : Type 0} (o : Option T) (x : T) (P : T → Type 0) → o ≡ Some x → P x → IfSome o P
+some_is (Some y) x P e p = let same : x ≡ y = cc in subst P same p
+some_is None x P e p = tt
