@@ -1,7 +1,7 @@
 -- The steps of an edit, on the nodes as the code holds them.
 use Rattle.std.proofs.Common.{◌≡◌, ℕ, zero, suc, ◌+◌, ◌-◌, ◌/◌, ◌<◌, ◌≤◌, List, [], ◌∷◌, ◌++◌, length, take, drop, get_or, slice_set, nat_lt, true, false, Result, Ok, Err, Option, Some, None, refl, sym, ap, ◌∙◌, subst, arith, add-one, append_assoc, length-take, length-drop}
 use Rattle.std.proofs.lemmas.Bool.Decides.{nat_tests}
-use Rattle.std.proofs.lemmas.List.{length-map, get_or_default, length-set, length-append, set-get_or, set_split, set_at, get_or_at, get_or-set_same, take-append-le, drop_at, take_at, length-take-le}
+use Rattle.std.proofs.lemmas.List.{length-map, map_push, take_more, length-set, length-append, set-get_or, set_split, set_at, get_or_at, get_or-set_same, take-append-le, drop_at, take_at, length-take-le}
 use Rattle.std.proofs.lemmas.List.Edits.{get_or-insert_at, get_or-insert_below, length-insert}
 use Rattle.std.specs.List.{insert, remove, splice, HoldsAt}
 use Rattle.std.specs.Option.{IfSome}
@@ -174,3 +174,10 @@ module _ {X : Type 0} where
 pub some_is : {T : Type 0} (o : Option T) (x : T) (P : T → Type 0) → o ≡ Some x → P x → IfSome o P
 some_is (Some y) x P e p = let same : x ≡ y = cc in subst P same p
 some_is None x P e p = tt
+
+-- a node more, equal to the next of vs
+pub copied_more : {X Z : Type 0} (ws vs : List (Vec X Z)) (i : ℕ) (u v : Vec X Z) → i < length vs → u ≡ get_or vs i u → v.items ≡ u.items → lists ws ≡ take i (lists vs) → lists (ws ++ v ∷ []) ≡ take (i + 1) (lists vs)
+copied_more ws vs i u v h at is same =
+    map_push (λ w. w.items) ws v
+    ∙ (ap (λ l. l ++ v.items ∷ []) same
+        ∙ (ap (λ n. take i (lists vs) ++ n ∷ []) (is ∙ sym (get_or-lists vs i u h at)) ∙ sym (take_more (lists vs) i [] (omega (arith, h, length-lists vs)))))

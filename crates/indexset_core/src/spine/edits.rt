@@ -100,7 +100,7 @@ impl<T: Drop> Spine<T> {
         ensures refusal { IfErr result (λ e. e ≡ Refusal.Memory) }
     {
         Ok(Spine {
-            nodes: clone_nodes(&self.nodes)?,
+            nodes: clone_nodes(*self.nodes.allocator(), self.nodes.as_slice())?,
             size: self.size,
             len: self.len,
         })
@@ -294,12 +294,11 @@ fn take_front<T>(node: &mut Vec<T>, offset: usize) -> Result<Vec<T>, Refusal>
 }
 
 // The same nodes, each item cloned.
-fn clone_nodes<T: Clone + Drop>(nodes: &Vec<Vec<T>>) -> Result<Vec<Vec<T>>, Refusal>
+fn clone_nodes<T: Clone + Drop>(alloc: Global, nodes: &[Vec<T>]) -> Result<Vec<Vec<T>>, Refusal>
     requires { (x y : T) → T.is_clone x y → y ≡ x }
-    ensures nodes { IfOk result (λ copies. lists copies.items ≡ lists nodes.now.items) }
+    ensures nodes { IfOk result (λ copies. lists copies.items ≡ lists nodes.now) }
     ensures refusal { IfErr result (λ e. e ≡ Refusal.Memory) }
 {
-    let alloc = *nodes.allocator();
     let mut copies = Vec::with_capacity(alloc, nodes.len())?;
     for node in nodes {
         copies.push_reserved(Vec::from_clones(alloc, node.as_slice())?);
