@@ -15,9 +15,7 @@ module _ {X : Type 0} where
 
   -- the nodes up to the place: the last is cut at the offset, and goes if nothing is left of it, unless it is the only one
   unfoldable pub left_nodes : List (List X) → Spot → List (List X)
-  left_nodes ns s =
-      if (s.offset == 0) && nat_lt 0 s.node then take s.node ns
-      else take s.node ns ++ take s.offset (node_at ns s.node) ∷ []
+  left_nodes ns s = without_emptied (take s.node ns ++ take s.offset (node_at ns s.node) ∷ []) s.node
 
   -- the nodes from the place on: the first is cut at the offset, and goes if nothing is left of it, unless it is the only one
   unfoldable pub right_nodes : List (List X) → Spot → List (List X)

@@ -264,16 +264,17 @@ fn split_nodes<T: Drop>(nodes: &mut Vec<Vec<T>>, spot: Spot) -> Result<Vec<Vec<T
     let mut right = nodes.split_off(spot.node)?;
     match take_front(&mut right[0], spot.offset) {
         Ok(front) => {
-            if spot.node == 0 || 0 < spot.offset {
-                nodes.push_reserved(front);
-            }
+            nodes.push_reserved(front);
+            drop_if_empty(nodes, spot.node);
             drop_if_empty(&mut right, 0);
             Ok(right)
         }
         Err(refusal) => {
             // The list has kept its room.
-            let _ = nodes.append(&mut right);
-            Err(refusal)
+            match nodes.append(&mut right) {
+                Ok(()) => Err(refusal),
+                Err(_) => unreachable!(),
+            }
         }
     }
 }
