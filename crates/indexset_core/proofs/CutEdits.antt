@@ -259,3 +259,6 @@ module _ {X : Type 0} where
   first_in size [] is some = absurd (omega arith)
   first_in size (n ∷ []) is some = record { node_in = omega arith; offset_in = omega (arith, some, length-append n []) }
   first_in size (n ∷ m ∷ ns) is some = record { node_in = omega arith; offset_in = node_filled (n ∷ m ∷ ns) 0 size (omega arith) (omega arith) is }
+
+  pub position_below : (size total : ℕ) (ns : List (List X)) (s : Spot) → IsSpot ns s → IsSpine (lens ns) size total → position_of ns s ≤ total
+  position_below size total ns s h is = omega (arith, is.total_is, length-joined ns, position_within ns s h)
