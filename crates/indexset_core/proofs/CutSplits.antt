@@ -1,14 +1,22 @@
 -- The nodes before a place and those from it on, joined, and that each is a cut.
-use Rattle.std.proofs.Common.{◌≡◌, ℕ, zero, suc, ◌+◌, ◌-◌, ◌<◌, ◌≤◌, ◌==◌, ◌&&◌, Bool, true, false, List, [], ◌∷◌, ◌++◌, length, take, drop, get_or, nat_lt, if◌then◌else◌, refl, sym, ap, ◌∙◌, subst, arith, length-append, length-take, length-drop, add-one}
+use Rattle.std.proofs.Common.{◌≡◌, ℕ, zero, suc, ◌+◌, ◌-◌, ◌<◌, ◌≤◌, ◌==◌, ◌&&◌, Bool, true, false, not, cond, filter, List, [], ◌∷◌, ◌++◌, length, take, drop, get_or, nat_lt, if◌then◌else◌, refl, sym, ap, ◌∙◌, subst, arith, length-append, length-take, length-drop, add-one}
 use Rattle.std.proofs.lemmas.Bool.Decides.{nat_tests}
 use Rattle.std.proofs.lemmas.List.{append-nil, length-map, get_or-map, get_or_at, take_at, drop_at, drop_all, take-append-le, drop-append-le, nil_from_length, length-take-le}
-use Rattle.std.proofs.lemmas.List.Elements.{All-cons, All-nil, All-append, All-take, All-drop, All-map, All-same}
+use Rattle.std.proofs.lemmas.List.Elements.{All-cons, All-nil, All-append, All-take, All-drop, All-map, All-same, All-filter, All-weaker, filter_passes}
+use Rattle.std.proofs.lemmas.Bool.{false≢true}
 use Rattle.std.specs.List.{All, remove}
 use Rattle.indexset_core.specs.declared.spot.Spot.{Spot}
 use Rattle.indexset_core.specs.Cut.{IsCut, IsSpine, joined, lens, node_at, IsSpot, position_of}
-use Rattle.indexset_core.specs.Edits.{without_emptied, left_nodes, right_nodes}
+use Rattle.indexset_core.specs.Edits.{without_emptied, without_all_emptied, or_one_empty, left_nodes, right_nodes}
 use Rattle.indexset_core.proofs.CutBasics.{joined-append, length-joined, around, joined_around}
 use Rattle.indexset_core.proofs.CutEdits.{spine_of, position_within}
+
+zero_from_test : (n : ℕ) → (n == 0) ≡ true → n ≡ 0
+zero_from_test n e = grind (arith, nat_tests)
+
+some_from_test : (n : ℕ) → not (n == 0) ≡ true → 1 ≤ n
+some_from_test zero e = absurd (false≢true e)
+some_from_test (suc n) e = omega arith
 
 module _ {X : Type 0} where
   take_mid : (fs n bs : List X) (i o : ℕ) → i ≡ length fs + o → o ≤ length n → take i (fs ++ (n ++ bs)) ≡ fs ++ take o n
@@ -141,3 +149,44 @@ module _ {X : Type 0} where
         let e : length (joined (right_nodes ns s)) ≡ length (drop (position_of ns s) (joined ns)) = ap (λ (l : List X). length l) joined_right in
         spine_of (right_nodes ns s) size (total - position_of ns s) (cut_right size is.is_cut)
         (omega (arith, e, is.total_is, length-joined ns, length-drop (position_of ns s) (joined ns)))
+
+-- the nodes without the empty ones
+module _ {X : Type 0} where
+  abbrev some_in : List X → Bool
+  some_in n = not (length n == 0)
+
+  joined-filter : (ns : List (List X)) → joined (filter some_in ns) ≡ joined ns
+  joined-filter [] = refl
+  joined-filter (n ∷ ns) =
+      elim (length n == 0) as (λ b. (length n == 0) ≡ b → joined (cond (not b) (n ∷ filter some_in ns) (filter some_in ns)) ≡ n ++ joined ns) [
+        | true ↦ λ e. let none : n ≡ [] = nil_from_length n (zero_from_test (length n) e) in joined-filter ns ∙ ap (λ l. l ++ joined ns) (sym none)
+        | false ↦ λ _. ap (λ l. n ++ l) (joined-filter ns)
+      ] refl
+
+  joined_or_one : (ns : List (List X)) → joined (or_one_empty ns) ≡ joined ns
+  joined_or_one [] = refl
+  joined_or_one (n ∷ ns) = refl
+
+  pub joined_all_emptied : (ns : List (List X)) → joined (without_all_emptied ns) ≡ joined ns
+  unfolding without_all_emptied
+  joined_all_emptied ns = joined_or_one (filter some_in ns) ∙ joined-filter ns
+
+  cut_or_one : (ns : List (List X)) (size : ℕ) → 2 ≤ size → All (Low size) ns → All Filled ns → IsCut (lens (or_one_empty ns)) size
+  cut_or_one [] size two low filled = record {
+    two = two;
+    some = omega arith;
+    bounded = All-cons (λ i. i ≤ size) 0 [] (omega arith) (All-nil (λ i. i ≤ size));
+    filled = λ more. absurd (omega arith);
+  }
+  cut_or_one (n ∷ ns) size two low filled = record {
+    two = two;
+    some = omega arith;
+    bounded = All-map (λ i. i ≤ size) (λ (n : List X). length n) (n ∷ ns) low;
+    filled = λ _. All-map (λ i. 1 ≤ i) (λ (n : List X). length n) (n ∷ ns) filled;
+  }
+
+  pub cut_all_emptied : (ns : List (List X)) (size : ℕ) → 2 ≤ size → All (λ i. i ≤ size) (lens ns) → IsCut (lens (without_all_emptied ns)) size
+  unfolding without_all_emptied
+  cut_all_emptied ns size two low =
+      cut_or_one (filter some_in ns) size two (All-filter some_in (Low size) ns (all_lens (λ i. i ≤ size) ns low))
+      (All-weaker (λ n. some_in n ≡ true) Filled (λ n e. some_from_test (length n) e) (filter some_in ns) (filter_passes some_in ns))
