@@ -15,6 +15,12 @@ module _ {X : Type 0} where
   length-joined [] = refl
   length-joined (n ∷ ns) = length-append n (joined ns) ∙ (ap (λ l. length n + l) (length-joined ns) ∙ sym (sum_by-cons (λ (x : ℕ). x) (length n) (lens ns)))
 
+  pub joined_take-le : (ns : List (List X)) (k : ℕ) → length (joined (take k ns)) ≤ length (joined ns)
+  joined_take-le [] zero = omega arith
+  joined_take-le [] (suc k) = omega arith
+  joined_take-le (n ∷ ns) zero = omega arith
+  joined_take-le (n ∷ ns) (suc k) = omega (arith, length-append n (joined (take k ns)), length-append n (joined ns), joined_take-le ns k)
+
   pub lens-set : (ns : List (List X)) (k : ℕ) (m : List X) → length m ≡ length (get_or ns k []) → lens (slice_set ns k m) ≡ lens ns
   lens-set [] k m h = refl
   lens-set (n ∷ ns) zero m h = ap (λ l. l ∷ lens ns) h

@@ -191,7 +191,7 @@ module _ {X : Type 0} where
       ∙ get_mid (joined (take s.node ns)) (node_at ns s.node) (joined (drop (s.node + 1) ns)) s.offset h.offset_in
 
   -- the node at k is another one
-  joined_set : (ns : List (List X)) (k : ℕ) (m : List X) → k < length ns → joined (slice_set ns k m) ≡ joined (take k ns) ++ (m ++ joined (drop (k + 1) ns))
+  pub joined_set : (ns : List (List X)) (k : ℕ) (m : List X) → k < length ns → joined (slice_set ns k m) ≡ joined (take k ns) ++ (m ++ joined (drop (k + 1) ns))
   joined_set ns k m h = rw add-one (ap joined (set_split ns k m h) ∙ joined-append (take k ns) (m ∷ drop (suc k) ns))
 
   pub joined_replaced : (ns : List (List X)) (s : Spot) (v : X) → IsItemSpot ns s → joined (with_replaced ns s v) ≡ slice_set (joined ns) (position_of ns s) v
