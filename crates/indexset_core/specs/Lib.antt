@@ -1,6 +1,7 @@
 pub mod Bounds
 pub mod Cut
 pub mod Digits
+pub mod Edits
 pub mod Order
 pub mod Parted
 pub mod Refusal

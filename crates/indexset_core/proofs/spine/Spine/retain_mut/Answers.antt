@@ -1,0 +1,34 @@
+use Rattle.std.proofs.Common.{◌≡◌, List, length, ◌∙◌, ap, sym, subst, arith}
+use Rattle.std.specs.Fn.{CalledAtMut}
+use Rattle.std.specs.List.Retain.{RetainsInTurn}
+use Rattle.std.proofs.lemmas.List.{with_items_is}
+use Rattle.indexset_core.specs.Cut.{Cut, items, joined, lists}
+use Rattle.indexset_core.specs.Edits.{without_all_emptied}
+use Rattle.indexset_core.proofs.CutBasics.{length-joined}
+use Rattle.indexset_core.proofs.CutEdits.{spine_of}
+use Rattle.indexset_core.proofs.CutSplits.{joined_all_emptied, cut_all_emptied}
+use Rattle.indexset_core.proofs.RetainSteps.{run_whole}
+use Rattle.indexset_core.proofs.spine.Spine.retain_mut.Goals as goal
+
+pub retain_items-self-inside-requires-clause-fits : goal.retain_items-self-inside-requires-clause-fits
+retain_items-self-inside-requires-clause-fits g c = rw c.as_mut_slice.ensures.value (omega (arith, c.self.invariant.total_is, length-joined (lists c.self.inside.nodes.items)))
+
+pub invariant_of-self : goal.invariant_of-self
+invariant_of-self g c =
+    let asked = c.retain_items-self-inside in
+    let left = lists asked.new.nodes in
+    let same = with_items_is c.self.inside.nodes asked.new.nodes (omega (arith, c.as_mut_slice.ensures.len)) in
+    let low = asked.ensures.low c.self.inside.size (rw c.as_mut_slice.ensures.value c.self.invariant.is_cut.bounded) in
+    rw (c.drop_emptied.ensures, same)
+    (spine_of (without_all_emptied left) c.self.inside.size asked.result (cut_all_emptied left c.self.inside.size c.self.invariant.is_cut.two low)
+        (asked.ensures.count ∙ ap (λ (l : List g.row.T.Denot). length l) (sym (joined_all_emptied left))))
+
+pub returns-clause-kept : goal.returns-clause-kept
+returns-clause-kept g c =
+    let asked = c.retain_items-self-inside in
+    let R = CalledAtMut g.F.FnMut in
+    let same = with_items_is c.self.inside.nodes asked.new.nodes (omega (arith, c.as_mut_slice.ensures.len)) in
+    let whole = run_whole R c.args.f asked.new.f (joined (lists c.as_mut_slice.result.now)) (joined (lists asked.new.nodes)) asked.ensures.kept in
+    let run = rw c.as_mut_slice.ensures.value at whole in
+    let after = ap joined c.drop_emptied.ensures ∙ (ap (λ vs. joined (without_all_emptied (lists vs))) same ∙ joined_all_emptied (lists asked.new.nodes)) in
+    rw (← c.self.view_is, after) run

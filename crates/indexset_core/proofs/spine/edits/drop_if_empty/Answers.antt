@@ -1,0 +1,20 @@
+use Rattle.std.proofs.Common.{◌∙◌, ap, sym, arith}
+use Rattle.std.proofs.lemmas.Bool.Decides.{nat_tests}
+use Rattle.indexset_core.specs.Cut.{lists}
+use Rattle.indexset_core.proofs.EditSteps.{length-lists, node_len}
+use Rattle.indexset_core.proofs.RemoveSteps.{lists-remove, emptied_goes, only_stays, filled_stays}
+use Rattle.indexset_core.proofs.spine.edits.drop_if_empty.Goals.{else-is_empty-via-then-is_empty+else-len-gt1, else-is_empty-via-else-is_empty}
+use Rattle.indexset_core.proofs.spine.edits.drop_if_empty.Goals as goal
+
+pub returns-then-len-gt1 : goal.returns-then-len-gt1
+returns-then-len-gt1 g c =
+    let long = node_len c.args.nodes.now.items c.args.k _ c.requires c.index.ensures in
+    ap lists c.remove.ensures.items ∙ (lists-remove c.args.nodes.now.items c.args.k ∙ sym (emptied_goes (lists c.args.nodes.now.items) c.args.k (grind (arith, nat_tests)) (omega (arith, length-lists c.args.nodes.now.items, c.len.ensures))))
+
+pub returns-else-is_empty : goal.returns-else-is_empty
+returns-else-is_empty g c =
+    let long = node_len c.args.nodes.now.items c.args.k _ c.requires c.index.ensures in
+    elim c.else-is_empty.branch [
+      | else-is_empty-via-then-is_empty+else-len-gt1 w ↦ sym (only_stays (lists c.args.nodes.now.items) c.args.k (omega (arith, length-lists c.args.nodes.now.items, w.len.ensures)))
+      | else-is_empty-via-else-is_empty w ↦ sym (filled_stays (lists c.args.nodes.now.items) c.args.k (grind (arith, nat_tests)))
+    ]
