@@ -1,7 +1,9 @@
 -- Lists in the order of a comparison. Equal by the comparison isn't identical.
-use Rattle.std.specs.Prelude.{◌≡◌, ℕ, ◌<◌, ◌≤◌, length, Bool, List, ◌∷◌, ◌++◌, if◌then◌else◌, filter, not, AllPairs, count_by}
+use Rattle.std.specs.Prelude.{◌≡◌, ℕ, ◌+◌, ◌-◌, ◌<◌, ◌≤◌, ◌==◌, length, Bool, true, false, List, ◌∷◌, ◌++◌, if◌then◌else◌, filter, not, AllPairs, count_by, Option, Some, None}
 use Rattle.std.specs.declared.cmp.Ordering.{Ordering}
 use Rattle.std.specs.declared.cmp.Ordering.TheVariants.{Less, Equal, Greater}
+use Rattle.std.specs.declared.ops.Bound.{Bound}
+use Rattle.std.specs.declared.ops.Bound.TheVariants.{Included, Excluded, Unbounded}
 use Rattle.std.specs.Ordering.{is_lt, is_le, is_gt, is_eq}
 use Rattle.std.specs.List.{list_any, AllWithin, HoldsAt}
 
@@ -27,6 +29,10 @@ rank cmp l v = count_by (λ x. is_lt (cmp x v)) l
 abbrev pub has_equal : {T : Type 0} → (T → T → Ordering) → List T → T → Bool
 has_equal cmp l v = list_any (λ x. is_eq (cmp x v)) l
 
+-- the place of the element equal to v, where there is one
+abbrev pub place_of : {T : Type 0} → (T → T → Ordering) → List T → T → Option ℕ
+place_of cmp l v = if has_equal cmp l v then Some (rank cmp l v) else None
+
 -- v in its place, for any equal element
 unfoldable pub put : {T : Type 0} → (T → T → Ordering) → List T → T → List T
 put cmp l v = below cmp l v ++ v ∷ above cmp l v
@@ -38,6 +44,18 @@ keep cmp l v = if has_equal cmp l v then l else put cmp l v
 -- the elements that don't equal v
 unfoldable pub without : {T : Type 0} → (T → T → Ordering) → List T → T → List T
 without cmp l v = filter (λ x. not (is_eq (cmp x v))) l
+
+-- how many elements stand strictly outside the bound, seen from the start of the list or from its end
+abbrev pub outside_count : {T : Type 0} → (T → T → Ordering) → List T → Bound T → Bool → ℕ
+outside_count cmp l (Included v) true = count_by (λ x. is_lt (cmp x v)) l
+outside_count cmp l (Excluded v) true = count_by (λ x. is_le (cmp x v)) l
+outside_count cmp l (Included v) false = count_by (λ x. is_gt (cmp x v)) l
+outside_count cmp l (Excluded v) false = count_by (λ x. not (is_lt (cmp x v))) l
+outside_count cmp l Unbounded from_start = 0
+
+-- the place of the last of n things, where there is one
+abbrev pub last_place : ℕ → Option ℕ
+last_place n = if n == 0 then None else Some (n - 1)
 
 -- an element equal to v stands at place i, and all before it are below v
 pub record IsFoundAt {T : Type 0} (cmp : T → T → Ordering) (l : List T) (v : T) (i : ℕ) : Type 0 where

@@ -2,6 +2,7 @@
 #![tactic(auto)]
 
 pub mod constants;
+pub mod laws;
 pub mod node;
 pub mod probe;
 pub mod refusal;
