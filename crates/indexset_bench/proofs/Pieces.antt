@@ -49,24 +49,12 @@ module _ (shown : List ℕ) (n : ℕ) (first : n ≡ position_or_len (λ b. b ==
     pub moves_on : Consumes old new (take n shown) → Moves old new before after []
     moves_on gone = record { piece = take n shown; no_end = before_first_end; line = line; read = subst (Consumes old new) (sym (append-nil (take n shown))) gone }
 
--- nothing was shown
-pub moves_none : (old new : Option (List ℕ)) (before after : List ℕ) → Keeps old new → after ≡ before → Moves old new before after []
-moves_none old new before after kept same = record {
-  piece = [];
-  no_end = All-nil (λ x. x ≢ 10);
-  line = same ∙ sym (append-nil before);
-  read = Consumes-kept old old new [] (Consumes-nil old) kept;
-}
-
 -- ---- pieces one after the other
 
 pub at_end-after : (r r1 r2 : Option (List ℕ)) (bs : List ℕ) → Consumes r r1 bs → OnSome r1 (IsAtEnd r2) → OnSome r (IsAtEnd r2)
 at_end-after None r1 r2 bs read end = tt
 at_end-after (Some x) None r2 bs read end = absurd read
 at_end-after (Some x) (Some y) r2 bs read end = end
-
-pub stops_at_start : (r : Option (List ℕ)) (line : List ℕ) → line ≡ [] → Stops r r line
-stops_at_start r line none = (subst HasNoEnd (sym none) (All-nil (λ x. x ≢ 10)), subst (Consumes r r) (sym none) (Consumes-nil r))
 
 module _ (r r1 r2 : Option (List ℕ)) (before after : List ℕ) (far : Stops r r1 before) where
   HasNoEnd-moved : (ending : List ℕ) → Moves r1 r2 before after ending → HasNoEnd after
@@ -76,12 +64,6 @@ module _ (r r1 r2 : Option (List ℕ)) (before after : List ℕ) (far : Stops r 
   Consumes-moved ending moves =
       subst (Consumes r r2) (sym (append_assoc before moves.piece ending) ∙ ap (λ l. l ++ ending) (sym moves.line))
       (Consumes-trans r r1 r2 before (moves.piece ++ ending) far.1 moves.read)
-
-  pub stops_later : TakesPiece r1 r2 before after None → Stops r r2 after
-  stops_later moves = (HasNoEnd-moved [] moves, subst (Consumes r r2) (append-nil after) (Consumes-moved [] moves))
-
-  pub stops_there : Keeps r1 r2 → after ≡ before → Stops r r2 after
-  stops_there kept same = stops_later (moves_none r1 r2 before after kept same)
 
   Consumes-ended : Ends r1 r2 before after → Consumes r r2 after
   Consumes-ended ends = subst (Consumes r r2) (append-nil before ∙ sym ends.line) (Consumes-trans r r1 r2 before [] far.1 ends.read)

@@ -73,28 +73,6 @@ module _ (r r1 r2 w w1 w2 : Option (List ℕ)) (set line : List ℕ) (far : SoFa
         written = subst (Appends w w2) (sym (text_of-more far.whole line line set far.is_whole (lines_of-last line read.0 read.2) far.held)) (Appends-trans w w1 w2 (text_of far.whole) (reply_line set line) far.written line_told);
       }
 
-  -- nothing was left
-  pub all_whole : (part : Part) → part ≡ End → Reads r1 r2 line part → AnswersAll r r2 w w1
-  all_whole part is reads =
-      let read = subst (Reads r1 r2 line) is reads in
-      record {
-        input = far.whole;
-        read = subst (Consumes r r2) (append-nil far.whole) (Consumes-trans r r1 r2 far.whole [] far.read read.1);
-        at_end = at_end-after r r1 r2 far.whole far.read read.2;
-        written = far.written;
-      }
-
-  -- less than a line was read
-  pub stopped_open : Stops r1 r2 line → AnswersWholeLines HasNoEnd r r2 w w1
-  stopped_open stops = record {
-    whole = far.whole;
-    rest = line;
-    is_whole = far.is_whole;
-    is_rest = stops.0;
-    read = Consumes-trans r r1 r2 far.whole line far.read stops.1;
-    written = far.written;
-  }
-
   -- a line was read, and not answered
   unanswered_rest : (rest : List ℕ) → StopsAt rest 10 → Consumes r1 r2 rest → Keeps w1 w2 → AnswersWholeLines (λ l. StopsAt l 10) r r2 w w2
   unanswered_rest rest stops read kept = record {
@@ -110,49 +88,3 @@ module _ (r r1 r2 w w1 w2 : Option (List ℕ)) (set line : List ℕ) (far : SoFa
   unanswered Whole other reads kept = unanswered_rest (line ++ 10 ∷ []) (StopsAt-append line (10 ∷ []) 10 reads.0 (All-nil (λ x. x ≢ 10))) reads.1 kept
   unanswered Last other reads kept = unanswered_rest line (StopsAt-of_All line 10 reads.0) reads.1 kept
   unanswered End other reads kept = absurd (other refl)
-
--- what has no end stops at none
-pub stops_open : (r r' w w' : Option (List ℕ)) → AnswersWholeLines HasNoEnd r r' w w' → AnswersWholeLines (λ l. StopsAt l 10) r r' w w'
-stops_open r r' w w' far = record { whole = far.whole; rest = far.rest; is_whole = far.is_whole; is_rest = StopsAt-of_All far.rest 10 far.is_rest; read = far.read; written = far.written }
-
--- ---- a look at what is left, and a flush
-
-module _ (r r1 r2 w w1 : Option (List ℕ)) (set : List ℕ) (far : SoFar r r1 w w1 set) (kept : Keeps r1 r2) where
-  pub looked : AnswersWholeLines HasNoEnd r r2 w w1
-  looked = record {
-    whole = far.whole;
-    rest = [];
-    is_whole = far.is_whole;
-    is_rest = All-nil (λ x. x ≢ 10);
-    read = subst (Consumes r r2) (sym (append-nil far.whole)) (Consumes-kept r r1 r2 far.whole far.read kept);
-    written = far.written;
-  }
-
-  pub looked_end : OnSome r1 (IsAtEnd r2) → AnswersAll r r2 w w1
-  looked_end end = record {
-    input = far.whole;
-    read = Consumes-kept r r1 r2 far.whole far.read kept;
-    at_end = at_end-after r r1 r2 far.whole far.read end;
-    written = far.written;
-  }
-
-module _ (r r' w w1 w2 : Option (List ℕ)) (same : Keeps w1 w2) where
-  pub flushed : AnswersAll r r' w w1 → AnswersAll r r' w w2
-  flushed all = record { input = all.input; read = all.read; at_end = all.at_end; written = Appends-kept w w1 w2 (text_of all.input) all.written same }
-
-  pub flushed_lines : (IsRest : List ℕ → Type 0) → AnswersWholeLines IsRest r r' w w1 → AnswersWholeLines IsRest r r' w w2
-  flushed_lines IsRest far = record { whole = far.whole; rest = far.rest; is_whole = far.is_whole; is_rest = far.is_rest; read = far.read; written = Appends-kept w w1 w2 (text_of far.whole) far.written same }
-
--- ---- where the bytes are known
-
-pub nothing_left : (r r' w w' : Option (List ℕ)) → AnswersAll r r' w w' → OnSome r (r' ≡ Some [])
-nothing_left None r' w w' all = tt
-nothing_left (Some x) None w w' all = absurd all.read
-nothing_left (Some x) (Some y) w w' all = ap Some all.at_end
-
-pub text_written : (r r' w w' : Option (List ℕ)) → AnswersAll r r' w w' → IfSome r (λ input. Appends w w' (text_of input))
-text_written None r' w w' all = tt
-text_written (Some x) None w w' all = absurd all.read
-text_written (Some x) (Some y) w w' all =
-    let whole : x ≡ all.input = all.read ∙ ap (λ l. all.input ++ l) all.at_end ∙ append-nil all.input in
-    subst (λ l. Appends w w' (text_of l)) (sym whole) all.written

@@ -33,6 +33,11 @@ contents_after s (Some (At i)) = s
 contents_after s (Some Len) = s
 contents_after s None = s
 
+-- the command puts a number in
+abbrev pub IsAdd : Option Command → Type 0
+IsAdd (Some (Add n)) = Unit {0}
+IsAdd other = ⊥
+
 -- how a reply is written
 abbrev pub reply_text : Reply → List ℕ
 reply_text New = codes "new"

@@ -1,6 +1,6 @@
 //! The set that the commands are about, kept in one node.
 
-ghost use Rattle.std.specs.Prelude.{◌≡◌, ℕ, List, [], length, not, slice_get, IfOk, OnOk, IfErr, OnErr};
+ghost use Rattle.std.specs.Prelude.{◌≡◌, ℕ, List, [], length, not, slice_get, true, ◌<◌, IfOk, OnOk, IfErr, OnErr, IsOk};
 ghost use Rattle.std.specs.Ordering.{nat_cmp};
 ghost use Rattle.indexset_core.specs.Order.{IsAscending, rank, has_equal, keep, without};
 
@@ -34,12 +34,14 @@ impl Keeper {
         }
     }
 
-    /// Puts `n` in, and answers whether it is new.
+    /// Puts `n` in, and answers whether it is new. Refused for want of memory, and where the length
+    /// is the greatest usize; nothing changes then.
     pub fn add(&mut self, n: u64) -> Result<bool, Refusal>
         ensures answer { IfOk result (λ is_new. is_new ≡ not (has_equal nat_cmp self.old n)) }
         ensures ok { OnOk result (self.new ≡ keep nat_cmp self.old n) }
         ensures refusal { IfErr result (λ e. e ≡ Refusal.Memory) }
         ensures err { OnErr result (self.new ≡ self.old) }
+        ensures no_memory { has_equal nat_cmp self.old n ≡ true → length self.old < usize.MAX → IsOk result }
     {
         if NodeLike::len(&self.node) == usize::MAX {
             return Err(Refusal::Memory);
@@ -55,7 +57,7 @@ impl Keeper {
         ensures answer { result ≡ has_equal nat_cmp self.old n }
         ensures left { self.new ≡ without nat_cmp self.old n }
     {
-        todo_delete(&mut self.node, n)
+        self.node.delete(&n).is_some()
     }
 
     /// Whether `n` is there.
@@ -85,12 +87,4 @@ impl Keeper {
     {
         NodeLike::len(&self.node)
     }
-}
-
-fn todo_delete(node: &mut Vec<u64>, n: u64) -> bool
-    requires { IsAscending nat_cmp node.old.items }
-    ensures answer { result ≡ has_equal nat_cmp node.old.items n }
-    ensures left { node.new.items ≡ without nat_cmp node.old.items n }
-{
-    NodeLike::contains(node, &n)
 }

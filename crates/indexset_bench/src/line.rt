@@ -1,6 +1,6 @@
 //! Lines of a reader.
 
-ghost use Rattle.std.specs.Prelude.{◌⊎◌, ◌≡◌, ◌==◌, IfOk, IfErr, OnErr, OnSome, IsTrue};
+ghost use Rattle.std.specs.Prelude.{◌⊎◌, ◌≡◌, ◌==◌, ◌+◌, ◌<◌, length, vec_len, vec_capacity, Err, IfOk, IfErr, IfSome, OnErr, OnSome, IsTrue};
 ghost use Rattle.std.specs.List.{position, position_or_len};
 ghost use Rattle.std.specs.Io.KnownBytes.{IsAtEnd, Keeps};
 ghost use Rattle.indexset_bench.specs.Lines.{HasNoEnd};
@@ -42,6 +42,10 @@ fn take_piece<R: BufRead>(reader: &mut R, line: &mut Vec<u8>) -> Result<Option<P
     ensures unread { OnErr result (Keeps (R.remaining reader.old) (R.remaining reader.new)) }
     ensures err { OnErr result (line.new.items ≡ line.old.items) }
     ensures fault { IfErr result (λ fault. (fault ≡ RunFault.Memory) ⊎ (fault ≡ RunFault.Read)) }
+
+    // Memory is not told where the line had room for all that the reader had left.
+    ensures no_room { result ≡ Err RunFault.Memory → IfSome (R.remaining reader.old)
+        (λ left. vec_capacity line.old < vec_len line.old + length left) }
 {
     let shown = match reader.fill_buf() {
         Ok(shown) => shown,
