@@ -1,5 +1,5 @@
 -- What a command does to the set, an ascending list, and the reply to it.
-use Rattle.std.specs.Prelude.{Option, ℕ, if◌then◌else◌, List, length, None, Some, codes, slice_get}
+use Rattle.std.specs.Prelude.{Option, ◌≡◌, false, ℕ, if◌then◌else◌, List, length, None, Some, codes, slice_get}
 use Rattle.std.specs.Ordering.{nat_cmp}
 use Rattle.std.specs.Fmt.{decimal}
 use Rattle.indexset_core.specs.Order.{rank, has_equal, keep, without}
@@ -33,10 +33,10 @@ contents_after s (Some (At i)) = s
 contents_after s (Some Len) = s
 contents_after s None = s
 
--- the command puts a number in
-abbrev pub IsAdd : Option Command → Type 0
-IsAdd (Some (Add n)) = Unit {0}
-IsAdd other = ⊥
+-- the command puts in a number that is not there
+abbrev pub AddsNew : List ℕ → Option Command → Type 0
+AddsNew s (Some (Add n)) = has_equal nat_cmp s n ≡ false
+AddsNew s other = ⊥
 
 -- how a reply is written
 abbrev pub reply_text : Reply → List ℕ

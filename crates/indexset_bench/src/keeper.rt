@@ -1,6 +1,6 @@
 //! The set that the commands are about, kept in one node.
 
-ghost use Rattle.std.specs.Prelude.{◌≡◌, ℕ, List, [], length, not, slice_get, true, ◌<◌, IfOk, OnOk, IfErr, OnErr, IsOk};
+ghost use Rattle.std.specs.Prelude.{◌≡◌, ℕ, List, [], length, not, slice_get, false, IfOk, OnOk, IfErr, OnErr};
 ghost use Rattle.std.specs.Ordering.{nat_cmp};
 ghost use Rattle.indexset_core.specs.Order.{IsAscending, rank, has_equal, keep, without};
 
@@ -34,18 +34,15 @@ impl Keeper {
         }
     }
 
-    /// Puts `n` in, and answers whether it is new. Refused for want of memory, and where the length
-    /// is the greatest usize; nothing changes then.
+    /// Puts `n` in, and answers whether it is new. Refused for want of memory alone, and only where
+    /// `n` is new; nothing changes then.
     pub fn add(&mut self, n: u64) -> Result<bool, Refusal>
         ensures answer { IfOk result (λ is_new. is_new ≡ not (has_equal nat_cmp self.old n)) }
         ensures ok { OnOk result (self.new ≡ keep nat_cmp self.old n) }
         ensures refusal { IfErr result (λ e. e ≡ Refusal.Memory) }
         ensures err { OnErr result (self.new ≡ self.old) }
-        ensures no_memory { has_equal nat_cmp self.old n ≡ true → length self.old < usize.MAX → IsOk result }
+        ensures only_new { OnErr result (has_equal nat_cmp self.old n ≡ false) }
     {
-        if NodeLike::len(&self.node) == usize::MAX {
-            return Err(Refusal::Memory);
-        }
         match NodeLike::insert(&mut self.node, n) {
             Ok((is_new, _)) => Ok(is_new),
             Err(refused) => Err(refused.cause),

@@ -5,7 +5,7 @@ ghost use Rattle.std.specs.Io.{StopsAt};
 ghost use Rattle.std.specs.Io.KnownBytes.{Appends, Keeps};
 ghost use Rattle.indexset_bench.specs.Command.{meaning};
 ghost use Rattle.indexset_bench.specs.Lines.{HasNoEnd};
-ghost use Rattle.indexset_bench.specs.Reply.{IsAdd, contents_after};
+ghost use Rattle.indexset_bench.specs.Reply.{AddsNew, contents_after};
 ghost use Rattle.indexset_bench.specs.Run.{AnswersAll, AnswersWholeLines};
 ghost use Rattle.indexset_bench.specs.Text.{reply_line, text_of};
 
@@ -92,7 +92,7 @@ fn answer_line<W: Write>(writer: &mut W, set: &mut Keeper, line: &[u8]) -> Resul
     ensures told { OnOk result (Appends (W.contents writer.old) (W.contents writer.new)
         (reply_line set.old line.now)) }
     ensures untold { result ≡ Err RunFault.Memory → Keeps (W.contents writer.old) (W.contents writer.new) }
-    ensures refused_add { result ≡ Err RunFault.Memory → IsAdd (meaning line.now) }
+    ensures only_new { result ≡ Err RunFault.Memory → AddsNew set.old (meaning line.now) }
     ensures fault { IfErr result (λ fault. (fault ≡ RunFault.Memory) ⊎ (fault ≡ RunFault.Write)) }
 {
     let reply = perform(set, parse(line)).map_err(|_| RunFault::Memory)?;

@@ -1,7 +1,7 @@
 //! The replies, and their texts.
 
 ghost use Rattle.std.specs.Prelude.{◌≡◌, Some, IfOk, OnOk, IfErr, OnErr};
-ghost use Rattle.indexset_bench.specs.Reply.{IsAdd, reply_to, contents_after, reply_text};
+ghost use Rattle.indexset_bench.specs.Reply.{AddsNew, reply_to, contents_after, reply_text};
 
 use crate::command::Command;
 use crate::keeper::Keeper;
@@ -45,7 +45,7 @@ pub fn perform(set: &mut Keeper, command: Option<Command>) -> Result<Reply, Refu
     ensures reply { IfOk result (λ reply. reply ≡ reply_to set.old command) }
     ensures ok { OnOk result (set.new ≡ contents_after set.old command) }
     ensures refusal { IfErr result (λ e. e ≡ Refusal.Memory) }
-    ensures only_add { OnErr result (IsAdd command) }
+    ensures only_new { OnErr result (AddsNew set.old command) }
     ensures err { OnErr result (set.new ≡ set.old) }
 {
     let reply = match command {
