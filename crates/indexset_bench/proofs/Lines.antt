@@ -1,5 +1,6 @@
 -- The lines of an input, and the replies to them, part by part.
-use Rattle.std.proofs.Common.{◌≡◌, ◌≢◌, ℕ, ◌<◌, Bool, true, false, cond, eqb, List, [], ◌∷◌, ◌++◌, length, refl, sym, ap, ◌∙◌, arith, append_assoc, eq-eqb, ne_eqb}
+use Rattle.std.proofs.Common.{◌≡◌, ◌≢◌, ℕ, suc, ◌-◌, ◌<◌, get_or, Bool, true, false, cond, eqb, List, [], ◌∷◌, ◌++◌, length, refl, sym, ap, ◌∙◌, arith, append_assoc, eq-eqb, ne_eqb}
+use Rattle.std.proofs.lemmas.List.{get_or_push, length_push}
 use Rattle.std.proofs.lemmas.List.Elements.{All-head, All-tail}
 use Rattle.indexset_bench.specs.Command.{meaning}
 use Rattle.indexset_bench.specs.Reply.{contents_after}
@@ -45,24 +46,30 @@ lines_of-some x xs = at (eqb x 10)
     at true = omega arith
     at false = onto_first-some x (lines_of xs)
 
+-- whole lines but the first byte, where there are more
+IsWhole-tail : (x y : ℕ) (ys : List ℕ) → IsWhole (x ∷ y ∷ ys) → IsWhole (y ∷ ys)
+unfolding IsWhole
+IsWhole-tail x y ys is_whole some =
+    let place : length (x ∷ y ∷ ys) - 1 ≡ suc (length (y ∷ ys) - 1) = omega arith in
+    ap (λ k. get_or (x ∷ y ∷ ys) k 0) (sym place) ∙ is_whole (omega arith)
+
+pub IsWhole-end : (xs : List ℕ) → IsWhole (xs ++ 10 ∷ [])
+unfolding IsWhole
+IsWhole-end xs some = get_or_push xs 10 0 (length (xs ++ 10 ∷ []) - 1) (omega (arith, length_push xs 10))
+
 -- what follows whole lines is cut by itself
 pub lines_of-append : (whole part : List ℕ) → IsWhole whole → lines_of (whole ++ part) ≡ lines_of whole ++ lines_of part
-unfolding lines_of
+unfolding lines_of IsWhole
 lines_of-append [] part is_whole = refl
 lines_of-append (x ∷ []) part is_whole =
-    let hit = eq-eqb x 10 is_whole in
+    let hit = eq-eqb x 10 (is_whole (omega arith)) in
     ap (λ b. cond b ([] ∷ lines_of part) (onto_first x (lines_of part))) hit ∙ sym (ap (λ b. cond b ([] ∷ []) (onto_first x []) ++ lines_of part) hit)
-lines_of-append (x ∷ y ∷ ys) part is_whole = at (eqb x 10) (lines_of-append (y ∷ ys) part is_whole)
+lines_of-append (x ∷ y ∷ ys) part is_whole = at (eqb x 10) (lines_of-append (y ∷ ys) part (IsWhole-tail x y ys is_whole))
   where
     at : (b : Bool) → lines_of ((y ∷ ys) ++ part) ≡ lines_of (y ∷ ys) ++ lines_of part
         → cond b ([] ∷ lines_of ((y ∷ ys) ++ part)) (onto_first x (lines_of ((y ∷ ys) ++ part))) ≡ cond b ([] ∷ lines_of (y ∷ ys)) (onto_first x (lines_of (y ∷ ys))) ++ lines_of part
     at true rest = ap (λ l. [] ∷ l) rest
     at false rest = ap (onto_first x) rest ∙ onto_first-append x (lines_of (y ∷ ys)) (lines_of part) (lines_of-some y ys)
-
-pub IsWhole-end : (xs : List ℕ) → IsWhole (xs ++ 10 ∷ [])
-IsWhole-end [] = refl
-IsWhole-end (x ∷ []) = refl
-IsWhole-end (x ∷ y ∷ ys) = IsWhole-end (y ∷ ys)
 
 pub replies_of-append : (s : List ℕ) (ls ms : List (List ℕ)) → replies_of s (ls ++ ms) ≡ replies_of s ls ++ replies_of (contents_of s ls) ms
 unfolding replies_of contents_of

@@ -1,13 +1,13 @@
 -- How a line is read, piece by piece.
 use Rattle.std.proofs.Common.{Option, true, false, cond, None, Some, OnSome, ◌≡◌, ◌≢◌, ℕ, ◌==◌, not, ◌+◌, ◌<◌, ◌≤◌, List, [], ◌∷◌, ◌++◌, length, take, get_or, refl, sym, ap, subst, ◌∙◌, arith, append_assoc, append-nil, eq-eqb, eqb-true, true≢false, length-take-le, get_or-take}
 use Rattle.std.proofs.lemmas.List.{take_more}
-use Rattle.std.proofs.lemmas.List.Elements.{All-nil, All-append, All-from_get_or}
+use Rattle.std.proofs.lemmas.List.Elements.{All-append, All-from_get_or}
 use Rattle.std.proofs.lemmas.List.Sums.{fails_before_first, passes_at_first, prefix_len-le-length}
-use Rattle.std.proofs.KnownBytes.{Consumes-nil, Consumes-trans, Consumes-kept}
+use Rattle.std.proofs.KnownBytes.{Consumes-trans}
 use borrow.Author.Tests.{ltb-false}
 use Rattle.std.specs.Prelude.{Bool, nat_lt, unwrap_or}
 use Rattle.std.specs.List.{position, position_or_len}
-use Rattle.std.specs.Io.KnownBytes.{Consumes, Keeps, IsAtEnd}
+use Rattle.std.specs.Io.KnownBytes.{Consumes, IsAtEnd}
 use Rattle.indexset_bench.specs.declared.line.Part.{Part}
 use Rattle.indexset_bench.specs.declared.line.Part.TheVariants.{Whole, Last, End}
 use Rattle.indexset_bench.specs.Lines.{HasNoEnd}

@@ -1,15 +1,14 @@
 -- How a run goes on, line by line.
-use Rattle.std.proofs.Common.{Option, None, Some, IfSome, OnSome, ◌≡◌, ◌≢◌, ℕ, List, [], ◌∷◌, ◌++◌, All, length, take, refl, sym, ap, subst, ◌∙◌, arith, append_assoc, append-nil}
-use Rattle.std.proofs.lemmas.List.Elements.{All-nil, All-append}
-use Rattle.std.specs.Io.{StopsAt}
-use Rattle.std.specs.Io.KnownBytes.{Appends, Consumes, IsAtEnd, Keeps}
-use Rattle.std.proofs.KnownBytes.{Consumes-nil, Appends-nil, Consumes-trans, Appends-trans, Consumes-kept, Appends-kept}
+use Rattle.std.proofs.Common.{Option, ◌≡◌, ◌≢◌, ℕ, List, [], ◌∷◌, ◌++◌, refl, sym, ap, subst, ◌∙◌, arith, append_assoc, append-nil}
+use Rattle.std.proofs.lemmas.List.Elements.{All-nil}
+use Rattle.std.specs.Io.KnownBytes.{Appends, Consumes, Keeps}
+use Rattle.std.proofs.KnownBytes.{Consumes-nil, Appends-nil, Consumes-trans, Appends-trans, Appends-kept}
 use Rattle.std.proofs.Transfers.{StopsAt-of_All, StopsAt-append}
 use Rattle.indexset_bench.specs.declared.line.Part.{Part}
 use Rattle.indexset_bench.specs.declared.line.Part.TheVariants.{Whole, Last, End}
 use Rattle.indexset_bench.specs.Command.{meaning}
-use Rattle.indexset_bench.specs.Lines.{HasNoEnd, IsWhole, lines_of}
-use Rattle.indexset_bench.specs.Reading.{Reads, Stops}
+use Rattle.indexset_bench.specs.Lines.{IsLinePart, IsWhole, lines_of}
+use Rattle.indexset_bench.specs.Reading.{Reads}
 use Rattle.indexset_bench.specs.Reply.{contents_after}
 use Rattle.indexset_bench.specs.Run.{AnswersAll, AnswersWholeLines}
 use Rattle.indexset_bench.specs.Text.{replies_of, contents_of, reply_line, text_of}
@@ -25,8 +24,8 @@ pub record SoFar (reader reader' writer writer' : Option (List ℕ)) (set : List
   pub held : set ≡ contents_of [] (lines_of whole)
 
 pub start : (r w : Option (List ℕ)) (set : List ℕ) → set ≡ [] → SoFar r r w w set
-unfolding lines_of replies_of contents_of
-start r w set none = record { whole = []; is_whole = tt; read = Consumes-nil r; written = Appends-nil w; held = none }
+unfolding IsWhole lines_of replies_of contents_of
+start r w set none = record { whole = []; is_whole = λ some. absurd (omega (arith, some)); read = Consumes-nil r; written = Appends-nil w; held = none }
 
 -- ---- whole lines and one more
 
@@ -74,7 +73,7 @@ module _ (r r1 r2 w w1 w2 : Option (List ℕ)) (set line : List ℕ) (far : SoFa
       }
 
   -- a line was read, and not answered
-  unanswered_rest : (rest : List ℕ) → StopsAt rest 10 → Consumes r1 r2 rest → Keeps w1 w2 → AnswersWholeLines (λ l. StopsAt l 10) r r2 w w2
+  unanswered_rest : (rest : List ℕ) → IsLinePart rest → Consumes r1 r2 rest → Keeps w1 w2 → AnswersWholeLines IsLinePart r r2 w w2
   unanswered_rest rest stops read kept = record {
     whole = far.whole;
     rest = rest;
@@ -84,7 +83,7 @@ module _ (r r1 r2 w w1 w2 : Option (List ℕ)) (set line : List ℕ) (far : SoFa
     written = Appends-kept w w1 w2 (text_of far.whole) far.written kept;
   }
 
-  pub unanswered : (part : Part) → part ≢ End → Reads r1 r2 line part → Keeps w1 w2 → AnswersWholeLines (λ l. StopsAt l 10) r r2 w w2
+  pub unanswered : (part : Part) → part ≢ End → Reads r1 r2 line part → Keeps w1 w2 → AnswersWholeLines IsLinePart r r2 w w2
   unanswered Whole other reads kept = unanswered_rest (line ++ 10 ∷ []) (StopsAt-append line (10 ∷ []) 10 reads.0 (All-nil (λ x. x ≢ 10))) reads.1 kept
   unanswered Last other reads kept = unanswered_rest line (StopsAt-of_All line 10 reads.0) reads.1 kept
   unanswered End other reads kept = absurd (other refl)

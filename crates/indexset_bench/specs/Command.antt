@@ -36,7 +36,9 @@ fits_u64 Len = true
 
 -- every command that the line may spell
 abbrev pub candidates : List ℕ → List Command
-candidates line = let n = digits_value 10 (after_first (λ x. x == 32) line) in Add n ∷ Del n ∷ Has n ∷ Rank n ∷ At n ∷ Len ∷ []
+candidates line =
+    let n = digits_value 10 (after_first (λ x. x == 32) line) in
+    Add n ∷ Del n ∷ Has n ∷ Rank n ∷ At n ∷ Len ∷ []
 
 -- the one of them that it does spell
 unfoldable pub meaning : List ℕ → Option Command

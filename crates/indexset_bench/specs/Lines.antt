@@ -1,15 +1,18 @@
 -- The lines of an input.
-use Rattle.std.specs.Prelude.{◌≡◌, ◌≢◌, ℕ, ◌==◌, if◌then◌else◌, List, [], ◌∷◌, All}
+use Rattle.std.specs.Prelude.{◌≢◌, ℕ, ◌==◌, if◌then◌else◌, List, [], ◌∷◌, All}
+use Rattle.std.specs.Io.{StopsAt, IsEmptyOrEndsWith}
 
 -- no byte ends a line
 abbrev pub HasNoEnd : List ℕ → Type 0
 HasNoEnd xs = All (λ x. x ≢ 10) xs
 
+-- a part of one line, or the line and its end: no byte but the last ends a line
+abbrev pub IsLinePart : List ℕ → Type 0
+IsLinePart xs = StopsAt xs 10
+
 -- the bytes are whole lines: there are none, or the last of them ends a line
-abbrev pub IsWhole : List ℕ → Type 0
-IsWhole [] = Unit {0}
-IsWhole (x ∷ []) = x ≡ 10
-IsWhole (x ∷ y ∷ ys) = IsWhole (y ∷ ys)
+unfoldable pub IsWhole : List ℕ → Type 0
+IsWhole xs = IsEmptyOrEndsWith xs 10
 
 -- the byte goes before the first line
 abbrev pub onto_first : ℕ → List (List ℕ) → List (List ℕ)

@@ -1,6 +1,6 @@
 //! Lines of a reader.
 
-ghost use Rattle.std.specs.Prelude.{◌⊎◌, ◌≡◌, ◌==◌, ◌+◌, ◌<◌, length, vec_len, vec_capacity, Err, IfOk, IfErr, IfSome, OnErr, OnSome, IsTrue};
+ghost use Rattle.std.specs.Prelude.{◌⊎◌, ◌≡◌, ◌==◌, ◌+◌, ◌<◌, length, vec_len, vec_capacity, false, Ok, Err, IfOk, IfErr, IfSome, OnErr, OnSome, IsTrue};
 ghost use Rattle.std.specs.List.{position, position_or_len};
 ghost use Rattle.std.specs.Io.KnownBytes.{IsAtEnd, Keeps};
 ghost use Rattle.indexset_bench.specs.Lines.{HasNoEnd};
@@ -22,8 +22,10 @@ pub enum Part {
 
 /// Reads the next line, without its end.
 pub fn next_line<R: BufRead>(reader: &mut R, line: &mut Vec<u8>) -> Result<Part, RunFault>
-    ensures ok { IfOk result (λ part. Reads (R.remaining reader.old) (R.remaining reader.new) line.new.items part) }
-    ensures err { OnErr result (Stops (R.remaining reader.old) (R.remaining reader.new) line.new.items) }
+    ensures ok { IfOk result (Reads (R.remaining reader.old) (R.remaining reader.new)
+        line.new.items) }
+    ensures err { OnErr result (Stops (R.remaining reader.old) (R.remaining reader.new)
+        line.new.items) }
     ensures fault { IfErr result (λ fault. (fault ≡ RunFault.Memory) ⊎ (fault ≡ RunFault.Read)) }
 {
     line.clear();
@@ -38,7 +40,8 @@ pub fn next_line<R: BufRead>(reader: &mut R, line: &mut Vec<u8>) -> Result<Part,
 /// Moves to the line what the reader shows of it. Answers nothing where more of the line may come.
 fn take_piece<R: BufRead>(reader: &mut R, line: &mut Vec<u8>) -> Result<Option<Part>, RunFault>
     requires { HasNoEnd line.old.items }
-    ensures ok { IfOk result (TakesPiece (R.remaining reader.old) (R.remaining reader.new) line.old.items line.new.items) }
+    ensures ok { IfOk result (TakesPiece (R.remaining reader.old) (R.remaining reader.new)
+        line.old.items line.new.items) }
     ensures unread { OnErr result (Keeps (R.remaining reader.old) (R.remaining reader.new)) }
     ensures err { OnErr result (line.new.items ≡ line.old.items) }
     ensures fault { IfErr result (λ fault. (fault ≡ RunFault.Memory) ⊎ (fault ≡ RunFault.Read)) }
@@ -95,7 +98,10 @@ fn line_end(bytes: &[u8]) -> Option<usize>
 /// Whether nothing is left to read.
 pub fn is_at_end<R: BufRead>(reader: &mut R) -> Result<bool, RunFault>
     ensures unread { Keeps (R.remaining reader.old) (R.remaining reader.new) }
-    ensures end { IfOk result (λ end. IsTrue end → OnSome (R.remaining reader.old) (IsAtEnd (R.remaining reader.new))) }
+    ensures end { IfOk result (λ end. IsTrue end
+        → OnSome (R.remaining reader.old) (IsAtEnd (R.remaining reader.new))) }
+    ensures more { result ≡ Ok false
+        → IfSome (R.remaining reader.old) (λ left. 0 < length left) }
     ensures err { IfErr result (λ fault. fault ≡ RunFault.Read) }
 {
     match reader.fill_buf() {

@@ -1,10 +1,9 @@
 //! The run over a reader and a writer.
 
 ghost use Rattle.std.specs.Prelude.{◌≡◌, ◌≢◌, ◌⊎◌, [], Some, Err, OnOk, IfErr, IfSome, OnSome};
-ghost use Rattle.std.specs.Io.{StopsAt};
 ghost use Rattle.std.specs.Io.KnownBytes.{Appends, Keeps};
 ghost use Rattle.indexset_bench.specs.Command.{meaning};
-ghost use Rattle.indexset_bench.specs.Lines.{HasNoEnd};
+ghost use Rattle.indexset_bench.specs.Lines.{HasNoEnd, IsLinePart};
 ghost use Rattle.indexset_bench.specs.Reply.{AddsNew, contents_after};
 ghost use Rattle.indexset_bench.specs.Run.{AnswersAll, AnswersWholeLines};
 ghost use Rattle.indexset_bench.specs.Text.{reply_line, text_of};
@@ -27,12 +26,14 @@ pub fn run<R: BufRead, W: Write>(
     writer: &mut W,
 ) -> Result<(), RunFault>
     // Of a reader whose bytes are known, all was read, and its text was written.
-    ensures all_read { OnOk result (OnSome (R.remaining reader.old) (R.remaining reader.new ≡ Some [])) }
+    ensures all_read { OnOk result (OnSome (R.remaining reader.old)
+        (R.remaining reader.new ≡ Some [])) }
     ensures all_answered { OnOk result (IfSome (R.remaining reader.old) (λ input.
         Appends (W.contents writer.old) (W.contents writer.new) (text_of input))) }
 
     // The same of any reader, for the bytes that it gave.
-    ensures given_answered { OnOk result (AnswersAll (R.remaining reader.old) (R.remaining reader.new)
+    ensures given_answered { OnOk result (AnswersAll
+        (R.remaining reader.old) (R.remaining reader.new)
         (W.contents writer.old) (W.contents writer.new)) }
 
     // The whole lines that the reader gave before it failed were answered.
@@ -41,7 +42,7 @@ pub fn run<R: BufRead, W: Write>(
         (W.contents writer.old) (W.contents writer.new) }
 
     // The lines before the refused one were answered, of which some or all was read.
-    ensures memory_refused { result ≡ Err RunFault.Memory → AnswersWholeLines (λ rest. StopsAt rest 10)
+    ensures memory_refused { result ≡ Err RunFault.Memory → AnswersWholeLines IsLinePart
         (R.remaining reader.old) (R.remaining reader.new)
         (W.contents writer.old) (W.contents writer.new) }
     ensures numbers_fit { result ≢ Err RunFault.Numbers }
@@ -59,12 +60,13 @@ fn answer_lines<R: BufRead, W: Write>(
     reader: &mut R,
     writer: &mut W,
 ) -> Result<(), RunFault>
-    ensures given_answered { OnOk result (AnswersAll (R.remaining reader.old) (R.remaining reader.new)
+    ensures given_answered { OnOk result (AnswersAll
+        (R.remaining reader.old) (R.remaining reader.new)
         (W.contents writer.old) (W.contents writer.new)) }
     ensures read_failed { result ≡ Err RunFault.Read → AnswersWholeLines HasNoEnd
         (R.remaining reader.old) (R.remaining reader.new)
         (W.contents writer.old) (W.contents writer.new) }
-    ensures memory_refused { result ≡ Err RunFault.Memory → AnswersWholeLines (λ rest. StopsAt rest 10)
+    ensures memory_refused { result ≡ Err RunFault.Memory → AnswersWholeLines IsLinePart
         (R.remaining reader.old) (R.remaining reader.new)
         (W.contents writer.old) (W.contents writer.new) }
     ensures numbers_fit { result ≢ Err RunFault.Numbers }
@@ -91,7 +93,8 @@ fn answer_line<W: Write>(writer: &mut W, set: &mut Keeper, line: &[u8]) -> Resul
     ensures set { OnOk result (set.new ≡ contents_after set.old (meaning line.now)) }
     ensures told { OnOk result (Appends (W.contents writer.old) (W.contents writer.new)
         (reply_line set.old line.now)) }
-    ensures untold { result ≡ Err RunFault.Memory → Keeps (W.contents writer.old) (W.contents writer.new) }
+    ensures untold { result ≡ Err RunFault.Memory
+        → Keeps (W.contents writer.old) (W.contents writer.new) }
     ensures only_new { result ≡ Err RunFault.Memory → AddsNew set.old (meaning line.now) }
     ensures fault { IfErr result (λ fault. (fault ≡ RunFault.Memory) ⊎ (fault ≡ RunFault.Write)) }
 {

@@ -1,4 +1,4 @@
-use Rattle.std.proofs.Common.{◌≡◌, ◌==◌, length, rules, sym, ◌∙◌, ap}
+use Rattle.std.proofs.Common.{◌≡◌, ◌==◌, length, rules, ◌∙◌, ap}
 use Rattle.std.specs.List.{position}
 use Rattle.std.specs.Prelude.{unwrap_or}
 use Rattle.indexset_bench.proofs.Pieces.{position-or_len}

@@ -1,7 +1,7 @@
-use Rattle.std.proofs.Common.{rules, ◌≡◌}
+use Rattle.std.proofs.Common.{rules}
 use Rattle.std.proofs.lemmas.Result.{on_ok_weaker}
 use Rattle.std.specs.Io.KnownBytes.{Keeps}
-use Rattle.indexset_bench.specs.declared.line.Part.TheVariants.{Whole, Last}
+use Rattle.indexset_bench.specs.declared.line.Part.TheVariants.{Whole}
 use Rattle.indexset_bench.proofs.Runs.{start, further, all_but_end, unanswered}
 use Rattle.indexset_bench.proofs.program.answer_lines.Goals as goal
 
