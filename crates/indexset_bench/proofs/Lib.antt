@@ -1,0 +1,5 @@
+pub mod Digits
+pub mod Lines
+pub mod Meanings
+pub mod Pieces
+pub mod Runs

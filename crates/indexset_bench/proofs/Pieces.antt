@@ -1,0 +1,79 @@
+-- How a line is read, piece by piece.
+use Rattle.std.proofs.Common.{Option, true, false, cond, None, Some, OnSome, ◌≡◌, ◌≢◌, ℕ, ◌==◌, not, ◌+◌, ◌<◌, ◌≤◌, List, [], ◌∷◌, ◌++◌, length, take, get_or, refl, sym, ap, subst, ◌∙◌, arith, append_assoc, append-nil, eq-eqb, eqb-true, true≢false, length-take-le, get_or-take}
+use Rattle.std.proofs.lemmas.List.{take_more}
+use Rattle.std.proofs.lemmas.List.Elements.{All-append, All-from_get_or}
+use Rattle.std.proofs.lemmas.List.Sums.{fails_before_first, passes_at_first, prefix_len-le-length}
+use Rattle.std.proofs.KnownBytes.{Consumes-trans}
+use borrow.Author.Tests.{ltb-false}
+use Rattle.std.specs.Prelude.{Bool, nat_lt, unwrap_or}
+use Rattle.std.specs.List.{position, position_or_len}
+use Rattle.std.specs.Io.KnownBytes.{Consumes, IsAtEnd}
+use Rattle.indexset_bench.specs.declared.line.Part.{Part}
+use Rattle.indexset_bench.specs.declared.line.Part.TheVariants.{Whole, Last, End}
+use Rattle.indexset_bench.specs.Lines.{HasNoEnd}
+use Rattle.indexset_bench.specs.Reading.{Reads, Stops, Moves, Ends, TakesPiece}
+
+-- ---- the first end among the bytes shown
+
+-- the place of the first that passes, or the length
+pub position-or_len : (p : ℕ → Bool) (xs : List ℕ) → unwrap_or (position p xs) (length xs) ≡ position_or_len p xs
+position-or_len p xs = at (nat_lt (position_or_len p xs) (length xs)) refl
+  where
+    at : (b : Bool) → nat_lt (position_or_len p xs) (length xs) ≡ b → unwrap_or (cond b (Some (position_or_len p xs)) None) (length xs) ≡ position_or_len p xs
+    at true e = refl
+    at false e =
+        let past = ltb-false (position_or_len p xs) (length xs) e in
+        let within = prefix_len-le-length (λ x. not (p x)) xs in
+        omega arith
+
+module _ (shown : List ℕ) (n : ℕ) (first : n ≡ position_or_len (λ b. b == 10) shown) where
+  pub first_end_within : n ≤ length shown
+  first_end_within = rw first (prefix_len-le-length (λ b. not (b == 10)) shown)
+
+  -- there is none before it
+  before_first_end : HasNoEnd (take n shown)
+  before_first_end = All-from_get_or (λ x. x ≢ 10) (take n shown) 0 (λ k inside ten.
+      let small : k < n = omega (arith, length-take-le n shown first_end_within) in
+      let fails = fails_before_first (λ b. b == 10) shown k 0 (omega arith) in
+      true≢false (sym (eq-eqb (get_or shown k 0) 10 (sym (get_or-take n shown k 0 small) ∙ ten)) ∙ fails))
+
+  through_first_end : n < length shown → take (n + 1) shown ≡ take n shown ++ 10 ∷ []
+  through_first_end some =
+      let passes = passes_at_first (λ b. b == 10) shown 0 (omega arith) in
+      take_more shown n 0 some ∙ ap (λ y. take n shown ++ y ∷ []) (ap (λ k. get_or shown k 0) first ∙ eqb-true _ _ passes)
+
+  module _ (old new : Option (List ℕ)) (before after : List ℕ) (line : after ≡ before ++ take n shown) where
+    pub moves_whole : n < length shown → Consumes old new (take (n + 1) shown) → Moves old new before after (10 ∷ [])
+    moves_whole some gone = record { piece = take n shown; no_end = before_first_end; line = line; read = subst (Consumes old new) (through_first_end some) gone }
+
+    pub moves_on : Consumes old new (take n shown) → Moves old new before after []
+    moves_on gone = record { piece = take n shown; no_end = before_first_end; line = line; read = subst (Consumes old new) (sym (append-nil (take n shown))) gone }
+
+-- ---- pieces one after the other
+
+pub at_end-after : (r r1 r2 : Option (List ℕ)) (bs : List ℕ) → Consumes r r1 bs → OnSome r1 (IsAtEnd r2) → OnSome r (IsAtEnd r2)
+at_end-after None r1 r2 bs read end = tt
+at_end-after (Some x) None r2 bs read end = absurd read
+at_end-after (Some x) (Some y) r2 bs read end = end
+
+module _ (r r1 r2 : Option (List ℕ)) (before after : List ℕ) (far : Stops r r1 before) where
+  HasNoEnd-moved : (ending : List ℕ) → Moves r1 r2 before after ending → HasNoEnd after
+  HasNoEnd-moved ending moves = subst HasNoEnd (sym moves.line) (All-append (λ x. x ≢ 10) before moves.piece far.0 moves.no_end)
+
+  Consumes-moved : (ending : List ℕ) → Moves r1 r2 before after ending → Consumes r r2 (after ++ ending)
+  Consumes-moved ending moves =
+      subst (Consumes r r2) (sym (append_assoc before moves.piece ending) ∙ ap (λ l. l ++ ending) (sym moves.line))
+      (Consumes-trans r r1 r2 before (moves.piece ++ ending) far.1 moves.read)
+
+  Consumes-ended : Ends r1 r2 before after → Consumes r r2 after
+  Consumes-ended ends = subst (Consumes r r2) (append-nil before ∙ sym ends.line) (Consumes-trans r r1 r2 before [] far.1 ends.read)
+
+  pub reads_part : (part : Part) → TakesPiece r1 r2 before after (Some part) → Reads r r2 after part
+  reads_part Whole moves = (HasNoEnd-moved (10 ∷ []) moves, Consumes-moved (10 ∷ []) moves)
+  reads_part Last taken =
+      let ends = taken.0 in
+      (subst HasNoEnd (sym ends.line) far.0, Consumes-ended ends, omega (arith, taken.1, ap length ends.line), at_end-after r r1 r2 before far.1 ends.at_end)
+  reads_part End taken =
+      let ends = taken.0 in
+      let none : after ≡ [] = ends.line ∙ taken.1 in
+      (none, subst (Consumes r r2) none (Consumes-ended ends), at_end-after r r1 r2 before far.1 ends.at_end)

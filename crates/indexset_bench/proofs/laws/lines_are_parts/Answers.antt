@@ -1,0 +1,14 @@
+use Rattle.std.proofs.Common.{refl}
+use Rattle.indexset_bench.specs.Lines.{lines_of}
+use Rattle.indexset_bench.proofs.Lines.{lines_of-line, lines_of-last}
+use Rattle.indexset_bench.proofs.laws.lines_are_parts.Goals as goal
+
+pub returns-clause-none : goal.returns-clause-none
+unfolding lines_of
+returns-clause-none c = refl
+
+pub returns-clause-ended : goal.returns-clause-ended
+returns-clause-ended c = lines_of-line
+
+pub returns-clause-last : goal.returns-clause-last
+returns-clause-last c = lines_of-last

@@ -1,0 +1,5 @@
+use Rattle.indexset_bench.specs.Reading.{Stops}
+use Rattle.indexset_bench.proofs.line.next_line.Given as goal
+
+abbrev pub invariant-loop : goal.invariant-loop
+invariant-loop g l = Stops (g.R.Read.remaining l.fn.reader) (g.R.Read.remaining l.reader) l.line.items

@@ -1,0 +1,26 @@
+use Rattle.std.proofs.Common.{rules}
+use Rattle.std.proofs.lemmas.Result.{on_ok_weaker}
+use Rattle.std.specs.Io.KnownBytes.{Keeps}
+use Rattle.indexset_bench.specs.declared.line.Part.TheVariants.{Whole}
+use Rattle.indexset_bench.proofs.Runs.{start, further, all_but_end, unanswered}
+use Rattle.indexset_bench.proofs.program.answer_lines.Goals as goal
+
+pub loop-init : goal.loop-init
+loop-init g c = start _ _ _ c.new-set.ensures
+
+pub returns-in_err-answer_line-in-Whole-clause-memory_refused : goal.returns-in_err-answer_line-in-Whole-clause-memory_refused
+returns-in_err-answer_line-in-Whole-clause-memory_refused g c refused =
+    let kept : Keeps (g.W.Write.contents c.loop.writer) (g.W.Write.contents c.answer_line.new.writer) = search rules in
+    unanswered _ _ (g.R.Read.remaining c.next_line.new.reader) _ _ _ _ c.next_line.new.line.items c.loop.invariant Whole (λ e. cc) (rw c.in-Whole.is at c.in_ok-next_line.ensures.ok) kept
+
+pub returns-in-Last-clause-given_answered : goal.returns-in-Last-clause-given_answered
+returns-in-Last-clause-given_answered g c =
+    on_ok_weaker c.answer_line-in-Last.result
+    (all_but_end _ _ (g.R.Read.remaining c.next_line.new.reader) _ _ (g.W.Write.contents c.answer_line-in-Last.new.writer) _ c.next_line.new.line.items c.loop.invariant
+    c.in_ok-next_line.field-0 c.deref-in-Last.result.now c.in-Last.is c.deref-in-Last.ensures.value c.in_ok-next_line.ensures.ok)
+    c.answer_line-in-Last.ensures.told
+
+pub loop-preserved : goal.loop-preserved
+loop-preserved g c =
+    further _ _ (g.R.Read.remaining c.next_line.new.reader) _ _ (g.W.Write.contents c.answer_line.new.writer) _ c.next_line.new.line.items c.loop.invariant c.in_ok-next_line.field-0 c.deref.result.now c.answer_line.new.set
+    c.in-Whole.is c.deref.ensures.value c.in_ok-next_line.ensures.ok c.in_ok-answer_line-in-Whole.ensures.told c.in_ok-answer_line-in-Whole.ensures.set

@@ -1,0 +1,69 @@
+//! The commands, and what a line says.
+
+ghost use Rattle.std.specs.Prelude.{◌≡◌, ◌≢◌, ℕ, ◌^◌, ◌<◌, MatchOption};
+ghost use Rattle.std.specs.Fmt.{decimal};
+ghost use Rattle.indexset_bench.specs.Command.{meaning};
+
+/// What a line asks of the set.
+#[derive(Clone, Copy, Debug, PartialEq, Eq)]
+pub enum Command {
+    /// Puts the number in.
+    Add(u64),
+    /// Takes the number out.
+    Del(u64),
+    /// Asks whether the number is there.
+    Has(u64),
+    /// Asks how many numbers are below this one.
+    Rank(u64),
+    /// Asks for the number at a position.
+    At(u64),
+    /// Asks how many numbers there are.
+    Len,
+}
+
+/// The number of which this is the plain decimal text.
+fn number(text: &[u8]) -> Option<u64>
+    ensures { MatchOption result
+        ((n : ℕ) → n < 2 ^ 64 → text.now ≢ decimal n)
+        (λ n. (text.now ≡ decimal n) × (n < 2 ^ 64)) }
+{
+    if text.is_empty() {
+        return None;
+    }
+    if text[0] == b'+' {
+        return None;
+    }
+    if text[0] == b'0' && text.len() > 1 {
+        return None;
+    }
+    match std::str::from_utf8(text) {
+        Ok(digits) => digits.parse().ok(),
+        Err(_) => None,
+    }
+}
+
+/// The command that the line spells, if it spells one.
+pub fn parse(line: &[u8]) -> Option<Command>
+    ensures { result ≡ meaning line.now }
+{
+    if let Some(digits) = line.strip_prefix(b"add ") {
+        return number(digits).map(Command::Add);
+    }
+    if let Some(digits) = line.strip_prefix(b"del ") {
+        return number(digits).map(Command::Del);
+    }
+    if let Some(digits) = line.strip_prefix(b"has ") {
+        return number(digits).map(Command::Has);
+    }
+    if let Some(digits) = line.strip_prefix(b"rank ") {
+        return number(digits).map(Command::Rank);
+    }
+    if let Some(digits) = line.strip_prefix(b"at ") {
+        return number(digits).map(Command::At);
+    }
+    if line == b"len".as_slice() {
+        Some(Command::Len)
+    } else {
+        None
+    }
+}

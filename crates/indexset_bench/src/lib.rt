@@ -1,0 +1,13 @@
+//! Lines of commands over a set of numbers, and the reply to each.
+#![tactic(auto)]
+
+mod command;
+pub mod fault;
+mod keeper;
+pub mod laws;
+mod line;
+mod program;
+mod reply;
+
+pub use fault::RunFault;
+pub use program::run;

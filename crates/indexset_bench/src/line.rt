@@ -1,0 +1,111 @@
+//! Lines of a reader.
+
+ghost use Rattle.std.specs.Prelude.{◌⊎◌, ◌≡◌, ◌==◌, ◌+◌, ◌<◌, length, vec_len, vec_capacity, false, Ok, Err, IfOk, IfErr, IfSome, OnErr, OnSome, IsTrue};
+ghost use Rattle.std.specs.List.{position, position_or_len};
+ghost use Rattle.std.specs.Io.KnownBytes.{IsAtEnd, Keeps};
+ghost use Rattle.indexset_bench.specs.Lines.{HasNoEnd};
+ghost use Rattle.indexset_bench.specs.Reading.{Reads, Stops, TakesPiece};
+
+use crate::fault::RunFault;
+use std::io::{BufRead, ErrorKind};
+
+/// What a read of a line found.
+#[derive(Clone, Copy, Debug, PartialEq, Eq)]
+pub enum Part {
+    /// A line and its end.
+    Whole,
+    /// A line without an end, the last.
+    Last,
+    /// Nothing is left.
+    End,
+}
+
+/// Reads the next line, without its end.
+pub fn next_line<R: BufRead>(reader: &mut R, line: &mut Vec<u8>) -> Result<Part, RunFault>
+    ensures ok { IfOk result (Reads (R.remaining reader.old) (R.remaining reader.new)
+        line.new.items) }
+    ensures err { OnErr result (Stops (R.remaining reader.old) (R.remaining reader.new)
+        line.new.items) }
+    ensures fault { IfErr result (λ fault. (fault ≡ RunFault.Memory) ⊎ (fault ≡ RunFault.Read)) }
+{
+    line.clear();
+    for _ in 0..u64::MAX {
+        if let Some(part) = take_piece(reader, line)? {
+            return Ok(part);
+        }
+    }
+    Err(RunFault::Read)
+}
+
+/// Moves to the line what the reader shows of it. Answers nothing where more of the line may come.
+fn take_piece<R: BufRead>(reader: &mut R, line: &mut Vec<u8>) -> Result<Option<Part>, RunFault>
+    requires { HasNoEnd line.old.items }
+    ensures ok { IfOk result (TakesPiece (R.remaining reader.old) (R.remaining reader.new)
+        line.old.items line.new.items) }
+    ensures unread { OnErr result (Keeps (R.remaining reader.old) (R.remaining reader.new)) }
+    ensures err { OnErr result (line.new.items ≡ line.old.items) }
+    ensures fault { IfErr result (λ fault. (fault ≡ RunFault.Memory) ⊎ (fault ≡ RunFault.Read)) }
+
+    // Memory is not told where the line had room for all that the reader had left.
+    ensures no_room { result ≡ Err RunFault.Memory → IfSome (R.remaining reader.old)
+        (λ left. vec_capacity line.old < vec_len line.old + length left) }
+{
+    let shown = match reader.fill_buf() {
+        Ok(shown) => shown,
+        Err(e) => {
+            return if e.kind() == ErrorKind::Interrupted {
+                Ok(None)
+            } else {
+                Err(RunFault::Read)
+            };
+        }
+    };
+    if shown.is_empty() {
+        return Ok(Some(if line.is_empty() {
+            Part::End
+        } else {
+            Part::Last
+        }));
+    }
+    let len = line_len(shown);
+    let is_whole = len < shown.len();
+    if line.extend_from_slice(&shown[..len]).is_err() {
+        return Err(RunFault::Memory);
+    }
+    if is_whole {
+        reader.consume(len + 1);
+        Ok(Some(Part::Whole))
+    } else {
+        reader.consume(len);
+        Ok(None)
+    }
+}
+
+/// How many bytes stand before the first line end.
+fn line_len(bytes: &[u8]) -> usize
+    ensures { result ≡ position_or_len (λ b. b == 10) bytes.now }
+{
+    line_end(bytes).unwrap_or(bytes.len())
+}
+
+/// Where the first line end is.
+fn line_end(bytes: &[u8]) -> Option<usize>
+    ensures { result ≡ position (λ b. b == 10) bytes.now }
+{
+    bytes.iter().position(|b| *b == b'\n')
+}
+
+/// Whether nothing is left to read.
+pub fn is_at_end<R: BufRead>(reader: &mut R) -> Result<bool, RunFault>
+    ensures unread { Keeps (R.remaining reader.old) (R.remaining reader.new) }
+    ensures end { IfOk result (λ end. IsTrue end
+        → OnSome (R.remaining reader.old) (IsAtEnd (R.remaining reader.new))) }
+    ensures more { result ≡ Ok false
+        → IfSome (R.remaining reader.old) (λ left. 0 < length left) }
+    ensures err { IfErr result (λ fault. fault ≡ RunFault.Read) }
+{
+    match reader.fill_buf() {
+        Ok(bytes) => Ok(bytes.is_empty()),
+        Err(_) => Err(RunFault::Read),
+    }
+}

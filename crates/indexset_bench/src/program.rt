@@ -1,0 +1,106 @@
+//! The run over a reader and a writer.
+
+ghost use Rattle.std.specs.Prelude.{◌≡◌, ◌≢◌, ◌⊎◌, [], Some, Err, OnOk, IfErr, IfSome, OnSome};
+ghost use Rattle.std.specs.Io.KnownBytes.{Appends, Keeps};
+ghost use Rattle.indexset_bench.specs.Command.{meaning};
+ghost use Rattle.indexset_bench.specs.Lines.{HasNoEnd, IsLinePart};
+ghost use Rattle.indexset_bench.specs.Reply.{AddsNew, contents_after};
+ghost use Rattle.indexset_bench.specs.Run.{AnswersAll, AnswersWholeLines};
+ghost use Rattle.indexset_bench.specs.Text.{reply_line, text_of};
+
+use crate::command::parse;
+use crate::fault::RunFault;
+use crate::keeper::Keeper;
+use crate::line::{Part, is_at_end, next_line};
+use crate::reply::perform;
+use std::alloc::Global;
+use std::io::{BufRead, Write};
+
+/// Answers each line of the reader on the writer, over a set that starts empty.
+///
+/// A fault ends the run at once, and the first fault is told. A line past the first 2^64 - 1 is a
+/// fault of the reader. After a failed write nothing is said of what was written.
+pub fn run<R: BufRead, W: Write>(
+    alloc: Global,
+    reader: &mut R,
+    writer: &mut W,
+) -> Result<(), RunFault>
+    // Of a reader whose bytes are known, all was read, and its text was written.
+    ensures all_read { OnOk result (OnSome (R.remaining reader.old)
+        (R.remaining reader.new ≡ Some [])) }
+    ensures all_answered { OnOk result (IfSome (R.remaining reader.old) (λ input.
+        Appends (W.contents writer.old) (W.contents writer.new) (text_of input))) }
+
+    // The same of any reader, for the bytes that it gave.
+    ensures given_answered { OnOk result (AnswersAll
+        (R.remaining reader.old) (R.remaining reader.new)
+        (W.contents writer.old) (W.contents writer.new)) }
+
+    // The whole lines that the reader gave before it failed were answered.
+    ensures read_failed { result ≡ Err RunFault.Read → AnswersWholeLines HasNoEnd
+        (R.remaining reader.old) (R.remaining reader.new)
+        (W.contents writer.old) (W.contents writer.new) }
+
+    // The lines before the refused one were answered, of which some or all was read.
+    ensures memory_refused { result ≡ Err RunFault.Memory → AnswersWholeLines IsLinePart
+        (R.remaining reader.old) (R.remaining reader.new)
+        (W.contents writer.old) (W.contents writer.new) }
+    ensures numbers_fit { result ≢ Err RunFault.Numbers }
+{
+    let answered = answer_lines(alloc, reader, writer);
+    match writer.flush() {
+        Ok(()) => answered,
+        Err(_) => answered.and(Err(RunFault::Write)),
+    }
+}
+
+/// Answers each line, and leaves the writer to be flushed.
+fn answer_lines<R: BufRead, W: Write>(
+    alloc: Global,
+    reader: &mut R,
+    writer: &mut W,
+) -> Result<(), RunFault>
+    ensures given_answered { OnOk result (AnswersAll
+        (R.remaining reader.old) (R.remaining reader.new)
+        (W.contents writer.old) (W.contents writer.new)) }
+    ensures read_failed { result ≡ Err RunFault.Read → AnswersWholeLines HasNoEnd
+        (R.remaining reader.old) (R.remaining reader.new)
+        (W.contents writer.old) (W.contents writer.new) }
+    ensures memory_refused { result ≡ Err RunFault.Memory → AnswersWholeLines IsLinePart
+        (R.remaining reader.old) (R.remaining reader.new)
+        (W.contents writer.old) (W.contents writer.new) }
+    ensures numbers_fit { result ≢ Err RunFault.Numbers }
+{
+    let mut set = Keeper::new(alloc);
+    let mut line = Vec::new(alloc);
+    for _ in 0..u64::MAX {
+        match next_line(reader, &mut line)? {
+            Part::Whole => answer_line(writer, &mut set, &line)?,
+            Part::Last => return answer_line(writer, &mut set, &line),
+            Part::End => return Ok(()),
+        }
+    }
+    // No line may follow.
+    if is_at_end(reader)? {
+        Ok(())
+    } else {
+        Err(RunFault::Read)
+    }
+}
+
+/// Answers one line. Where memory is refused, nothing is written.
+fn answer_line<W: Write>(writer: &mut W, set: &mut Keeper, line: &[u8]) -> Result<(), RunFault>
+    ensures set { OnOk result (set.new ≡ contents_after set.old (meaning line.now)) }
+    ensures told { OnOk result (Appends (W.contents writer.old) (W.contents writer.new)
+        (reply_line set.old line.now)) }
+    ensures untold { result ≡ Err RunFault.Memory
+        → Keeps (W.contents writer.old) (W.contents writer.new) }
+    ensures only_new { result ≡ Err RunFault.Memory → AddsNew set.old (meaning line.now) }
+    ensures fault { IfErr result (λ fault. (fault ≡ RunFault.Memory) ⊎ (fault ≡ RunFault.Write)) }
+{
+    let reply = perform(set, parse(line)).map_err(|_| RunFault::Memory)?;
+    writer.writeln(reply).map_err(|_| RunFault::Write)
+}
+
+#[cfg(test)]
+mod tests;

@@ -1,0 +1,169 @@
+//! Worked examples of whole runs, and faults in mid-stream.
+
+use super::*;
+use std::io::{self, BufReader, ErrorKind, Read};
+use std::test::Fail;
+
+/// The text that a run over memory writes.
+fn text(alloc: Global, input: &[u8]) -> Result<Vec<u8>, RunFault> {
+    let mut reader = input;
+    let mut written = Vec::new(alloc);
+    run(alloc, &mut reader, &mut written)?;
+    Ok(written)
+}
+
+/// Gives its bytes, and then fails.
+#[derive(Drop)]
+struct Failing<'a> {
+    bytes: &'a [u8],
+    kind: ErrorKind,
+}
+
+impl Read for Failing<'_> {
+    fn read(&mut self, buf: &mut [u8]) -> io::Result<usize> {
+        if self.bytes.is_empty() {
+            return Err(io::Error::from(self.kind));
+        }
+        self.bytes.read(buf)
+    }
+}
+
+/// Is interrupted before each byte that it gives.
+#[derive(Drop)]
+struct Interrupted<'a> {
+    bytes: &'a [u8],
+    was_interrupted: bool,
+}
+
+impl Read for Interrupted<'_> {
+    fn read(&mut self, buf: &mut [u8]) -> io::Result<usize> {
+        self.was_interrupted = !self.was_interrupted;
+        if self.was_interrupted {
+            return Err(io::Error::from(ErrorKind::Interrupted));
+        }
+        if buf.is_empty() {
+            return Ok(0);
+        }
+        self.bytes.read(&mut buf[..1])
+    }
+}
+
+/// Takes nothing.
+#[derive(Drop)]
+struct Full;
+
+impl Write for Full {
+    fn write(&mut self, _buf: &[u8]) -> io::Result<usize> {
+        Err(io::Error::from(ErrorKind::BrokenPipe))
+    }
+
+    fn flush(&mut self) -> io::Result<()> {
+        Ok(())
+    }
+}
+
+/// Takes what it is given, and can't pass it on.
+#[derive(Drop)]
+struct Stuck;
+
+impl Write for Stuck {
+    fn write(&mut self, buf: &[u8]) -> io::Result<usize> {
+        Ok(buf.len())
+    }
+
+    fn flush(&mut self) -> io::Result<()> {
+        Err(io::Error::from(ErrorKind::BrokenPipe))
+    }
+}
+
+#[test]
+fn answers_each_line(rt: HostRuntime) -> Result<(), Fail> {
+    let cases: [(&[u8], &[u8]); 5] = [
+        (
+            b"add 5\nadd 5\nrank 9\nat 1\n\nlen",
+            b"new\nold\n1\nnone\nbad\n1\n",
+        ),
+        (b"", b""),
+        (b"\n", b"bad\n"),
+        (
+            b"add 18446744073709551615\nadd 18446744073709551616\nadd 07\nadd  7\nadd 7\r\n\
+            has 18446744073709551615\nat 0\ndel 7\ndel 18446744073709551615\nlen",
+            b"new\nbad\nbad\nbad\nbad\nyes\n18446744073709551615\nnone\ngone\n0\n",
+        ),
+        (b"put 1 2\ncut 1\nnodes\n", b"bad\nbad\nbad\n"),
+    ];
+    for (input, output) in cases {
+        let written = text(rt.alloc(), input)?;
+        assert_eq!(rt; written.as_slice(), output);
+    }
+    Ok(())
+}
+
+#[test]
+fn tells_a_failed_read(rt: HostRuntime) -> Result<(), Fail> {
+    for kind in [ErrorKind::BrokenPipe, ErrorKind::OutOfMemory] {
+        let bytes = b"add 5\nlen\nad".as_slice();
+        let mut reader = BufReader::new(rt.alloc(), Failing { bytes, kind })?;
+        let mut written: Vec<u8> = Vec::new(rt.alloc());
+        let outcome = run(rt.alloc(), &mut reader, &mut written);
+        assert_eq!(rt; outcome, Err(RunFault::Read));
+        assert_eq!(rt; written.as_slice(), b"new\n1\n".as_slice());
+    }
+    Ok(())
+}
+
+#[test]
+fn reads_on_after_an_interruption(rt: HostRuntime) -> Result<(), Fail> {
+    let bytes = b"add 5\nlen".as_slice();
+    let source = Interrupted {
+        bytes,
+        was_interrupted: false,
+    };
+    let mut reader = BufReader::new(rt.alloc(), source)?;
+    let mut written: Vec<u8> = Vec::new(rt.alloc());
+    let outcome = run(rt.alloc(), &mut reader, &mut written);
+    assert_eq!(rt; outcome, Ok(()));
+    assert_eq!(rt; written.as_slice(), b"new\n1\n".as_slice());
+    Ok(())
+}
+
+#[test]
+fn tells_a_failed_write(rt: HostRuntime) -> Result<(), Fail> {
+    let mut reader: &[u8] = b"add 5\n";
+    assert_eq!(rt;
+        run(rt.alloc(), &mut reader, &mut Full),
+        Err(RunFault::Write)
+    );
+    let mut reader: &[u8] = b"add 5\n";
+    assert_eq!(rt;
+        run(rt.alloc(), &mut reader, &mut Stuck),
+        Err(RunFault::Write)
+    );
+    Ok(())
+}
+
+#[test]
+fn tells_the_first_fault(rt: HostRuntime) -> Result<(), Fail> {
+    let bytes = b"add 5\n".as_slice();
+    let kind = ErrorKind::BrokenPipe;
+    let mut reader = BufReader::new(rt.alloc(), Failing { bytes, kind })?;
+    assert_eq!(rt;
+        run(rt.alloc(), &mut reader, &mut Stuck),
+        Err(RunFault::Read)
+    );
+    Ok(())
+}
+
+#[test]
+fn tells_faults_by_status_and_word(rt: HostRuntime) {
+    let told = [
+        (RunFault::Memory, 1, "memory"),
+        (RunFault::Numbers, 2, "numbers"),
+        (RunFault::Read, 3, "read"),
+        (RunFault::Write, 4, "write"),
+    ];
+    for (fault, status, word) in told {
+        assert_eq!(rt; fault.status(), status);
+        assert_eq!(rt; fault.word(), word);
+    }
+}

@@ -1,0 +1,24 @@
+//! Keeps a set of numbers by the commands of its input, and writes the reply to each.
+#![tactic(auto)]
+
+use indexset_bench::{RunFault, run};
+use std::io::{self, BufReader, BufWriter};
+use std::process::ExitCode;
+
+/// Runs from standard input to standard output.
+fn serve(rt: &HostRuntime) -> Result<(), RunFault> {
+    let alloc = rt.alloc();
+    let mut reader = BufReader::new(alloc, rt.reader()).map_err(|_| RunFault::Memory)?;
+    let mut writer = BufWriter::new(alloc, io::writer(rt)).map_err(|_| RunFault::Memory)?;
+    run(alloc, &mut reader, &mut writer)
+}
+
+fn main(rt: HostRuntime) -> ExitCode {
+    match serve(&rt) {
+        Ok(()) => ExitCode::SUCCESS,
+        Err(fault) => {
+            let _ = eprintln!(&rt; "{}", fault.word());
+            ExitCode::from(fault.status())
+        }
+    }
+}
