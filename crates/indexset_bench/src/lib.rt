@@ -2,7 +2,7 @@
 #![tactic(auto)]
 
 mod command;
-pub mod fault;
+mod fault;
 mod keeper;
 pub mod laws;
 mod line;

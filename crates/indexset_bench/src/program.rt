@@ -101,6 +101,3 @@ fn answer_line<W: Write>(writer: &mut W, set: &mut Keeper, line: &[u8]) -> Resul
     let reply = perform(set, parse(line)).map_err(|_| RunFault::Memory)?;
     writer.writeln(reply).map_err(|_| RunFault::Write)
 }
-
-#[cfg(test)]
-mod tests;

@@ -6,3 +6,5 @@
 mod node;
 #[cfg(test)]
 mod probe;
+#[cfg(test)]
+mod program;

@@ -1,7 +1,8 @@
 //! Worked examples of whole runs, and faults in mid-stream.
 
-use super::*;
-use std::io::{self, BufReader, ErrorKind, Read};
+use indexset_bench::{RunFault, run};
+use std::alloc::Global;
+use std::io::{self, BufReader, ErrorKind, Read, Write};
 use std::test::Fail;
 
 /// The text that a run over memory writes.
