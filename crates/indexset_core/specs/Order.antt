@@ -1,5 +1,5 @@
 -- Lists in the order of a comparison. Equal by the comparison isn't identical.
-use Rattle.std.specs.Prelude.{◌≡◌, ℕ, ◌+◌, ◌-◌, ◌<◌, ◌≤◌, ◌==◌, length, Bool, true, false, List, ◌∷◌, ◌++◌, if◌then◌else◌, filter, not, AllPairs, count_by, Option, Some, None}
+use Rattle.std.specs.Prelude.{◌≡◌, ℕ, ◌+◌, ◌-◌, ◌<◌, ◌≤◌, ◌==◌, length, Bool, true, false, List, ◌∷◌, ◌++◌, if◌then◌else◌, filter, not, AllPairs, count_by, Option, Some, None, find}
 use Rattle.std.specs.declared.cmp.Ordering.{Ordering}
 use Rattle.std.specs.declared.cmp.Ordering.TheVariants.{Less, Equal, Greater}
 use Rattle.std.specs.declared.ops.Bound.{Bound}
@@ -32,6 +32,14 @@ has_equal cmp l v = list_any (λ x. is_eq (cmp x v)) l
 -- the place of the element equal to v, where there is one
 abbrev pub place_of : {T : Type 0} → (T → T → Ordering) → List T → T → Option ℕ
 place_of cmp l v = if has_equal cmp l v then Some (rank cmp l v) else None
+
+-- the element equal to v, where there is one
+abbrev pub equal_element : {T : Type 0} → (T → T → Ordering) → List T → T → Option T
+equal_element cmp l v = find (λ x. is_eq (cmp x v)) l
+
+-- the first element not below v, where there is one
+abbrev pub lower_element : {T : Type 0} → (T → T → Ordering) → List T → T → Option T
+lower_element cmp l v = find (λ x. not (is_lt (cmp x v))) l
 
 -- v in its place, for any equal element
 unfoldable pub put : {T : Type 0} → (T → T → Ordering) → List T → T → List T

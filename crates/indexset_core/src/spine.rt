@@ -9,8 +9,7 @@ ghost use Rattle.indexset_core.specs.Parted.{IsParted, less_count};
 ghost use Rattle.indexset_core.specs.Cut.{items, node_at, IsSpot, IsItemSpot, position_of, node_for, equal_at};
 
 mod edits;
-#[cfg(test)]
-mod tests;
+mod next;
 
 use crate::into_iter::IntoIter;
 use crate::iter::Iter;

@@ -1,0 +1,13 @@
+use Rattle.std.proofs.Common.{Some, sym, ap, ◌∙◌}
+use Rattle.indexset_core.proofs.AscendingLemmas.{position_found, position_absent}
+use Rattle.indexset_set.proofs.set.BTreeSet.locate_by.Goals as goal
+
+pub returns-then-spot-clause-found : goal.returns-then-spot-clause-found
+returns-then-spot-clause-found g c =
+    let spot = c.locate_by-spot.ensures in
+    rw (← c.self.view_is, c.position-position.ensures) (position_found _ _ _ (rw c.self.view_is c.requires) spot.position (sym spot.found ∙ c.if-spot.true))
+
+pub returns-else-spot-clause-absent : goal.returns-else-spot-clause-absent
+returns-else-spot-clause-absent g c =
+    let spot = c.locate_by-spot.ensures in
+    rw (← c.self.view_is) (position_absent _ _ _ (rw c.self.view_is c.requires) spot.position (sym spot.found ∙ c.if-spot.false))

@@ -1,0 +1,10 @@
+use Rattle.std.proofs.Common.{length, ◌<◌}
+use Rattle.indexset_core.specs.Cut.{items}
+use Rattle.indexset_core.proofs.AscendingLemmas.{remove_ascending}
+use Rattle.indexset_set.proofs.set.BTreeSet.pop_index.Goals as goal
+
+pub invariant_of-self : goal.invariant_of-self
+invariant_of-self g c =
+    let at = rw c.unwrap-spot.ensures at c.spot.ensures in
+    let inside : c.args.i < length (items c.self.inside.spine) = rw c.self.view_is c.requires in
+    rw (c.remove.ensures.items, at.1) (remove_ascending g.T.Ord.cmp _ _ inside c.self.invariant)

@@ -1,0 +1,15 @@
+use Rattle.std.proofs.Common.{ap}
+use Rattle.indexset_core.specs.Cut.{items}
+use Rattle.indexset_core.proofs.AscendingLemmas.{told_found, told_gap}
+use Rattle.indexset_core.proofs.OrderLemmas.{parted_by_item}
+use Rattle.indexset_set.proofs.set.lookup.locate.Goals as goal
+
+pub returns-clause-found : goal.returns-clause-found
+returns-clause-found g c =
+    let parted = parted_by_item g.T.Ord.cmp g.met.T.Ord.total (items c.args.spine.now) c.requires c.args.value.now in
+    told_found g.T.Ord.cmp _ _ _ _ (ap (λ p. p.0) c.new.ensures) parted _ c.locate_by.ensures.position c.locate_by.ensures.found
+
+pub returns-clause-gap : goal.returns-clause-gap
+returns-clause-gap g c =
+    let parted = parted_by_item g.T.Ord.cmp g.met.T.Ord.total (items c.args.spine.now) c.requires c.args.value.now in
+    told_gap g.T.Ord.cmp _ _ _ _ (ap (λ p. p.0) c.new.ensures) parted _ c.locate_by.ensures.position c.locate_by.ensures.found

@@ -1,0 +1,65 @@
+//! A set kept as an ascending list that is cut into nodes.
+ghost use Rattle.std.specs.Prelude.{◌≡◌, ◌≤◌, ◌↔◌, IsTrue, length, max};
+ghost use Rattle.indexset_core.specs.Cut.{items};
+ghost use Rattle.indexset_core.specs.Order.{IsAscending};
+
+mod compare;
+mod edits;
+pub mod laws;
+mod lookup;
+mod make;
+mod positions;
+
+use indexset_core::spine::Spine;
+use std::marker::Model;
+
+/// A set in ascending order, of no two equal elements.
+#[derive(Drop)]
+pub struct BTreeSet<T: Ord> {
+    spine: Spine<T>,
+}
+
+impl<T: Ord> Model for BTreeSet<T> {
+    ghost use Rattle.indexset_core.specs.Cut.{Cut, items};
+    ghost use Rattle.indexset_core.specs.Order.{IsAscending};
+
+    ghost Value = { Cut T };
+
+    ghost view = { λ s. s.spine };
+
+    ghost invariant = { λ s. IsAscending T.cmp (items s.spine) };
+}
+
+impl<T: Ord> BTreeSet<T> {
+    /// How many elements there are. The elements of every set ascend, which a caller learns here.
+    pub fn len(&self) -> usize
+        ensures value { result ≡ length (items self.now) }
+        ensures ascending { IsAscending T.cmp (items self.now) }
+    {
+        self.spine.len()
+    }
+
+    /// Whether there is no element.
+    pub fn is_empty(&self) -> bool
+        ensures { IsTrue result ↔ (length (items self.now) ≡ 0) }
+    {
+        self.len() == 0
+    }
+
+    /// How many nodes there are: an empty set has one.
+    pub fn node_count(&self) -> usize
+        ensures value { result ≡ length self.now.nodes }
+        ensures some { 1 ≤ result }
+        ensures few { result ≤ max 1 (length (items self.now)) }
+    {
+        self.spine.node_count()
+    }
+
+    /// How many elements a node holds at most.
+    pub fn maximum_node_size(&self) -> usize
+        ensures value { result ≡ self.now.size }
+        ensures two { 2 ≤ result }
+    {
+        self.spine.maximum_node_size()
+    }
+}

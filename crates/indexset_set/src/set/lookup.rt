@@ -1,0 +1,81 @@
+//! Calls that look for a value: whether an equal element is there, where, and what comes next.
+ghost use Rattle.std.specs.Prelude.{◌≡◌, ◌+◌, ◌≤◌, IsTrue, IfOk, IfErr, None, Some, length, position};
+ghost use Rattle.std.specs.Bool.{OnTrue, OnFalse};
+ghost use Rattle.std.specs.Option.{option_copied};
+ghost use Rattle.std.specs.Ordering.{is_eq};
+ghost use Rattle.indexset_core.specs.Cut.{items, IsSpot, IsItemSpot, position_of};
+ghost use Rattle.indexset_core.specs.Digits.{digits};
+ghost use Rattle.indexset_core.specs.Order.{IsAscending, IsFoundAt, IsGapFor, has_equal, rank};
+ghost use Rattle.indexset_core.specs.Parted.{IsParted, less_count};
+ghost use Rattle.indexset_core.specs.Order.{equal_element, lower_element};
+
+use super::BTreeSet;
+use indexset_core::probe::{ByItem, Probe};
+use indexset_core::spine::Spine;
+use indexset_core::spot::Spot;
+
+// Where the element equal to the value is, or where the value would go.
+pub(super) fn locate<T: Ord>(spine: &Spine<T>, value: &T) -> Spot
+    requires { IsAscending T.cmp (items spine.now) }
+    ensures spot { IsSpot spine.now.nodes result }
+    ensures item { IsTrue result.found → IsItemSpot spine.now.nodes result }
+    ensures position { position_of spine.now.nodes result ≡ rank T.cmp (items spine.now) value.now }
+    ensures found { OnTrue result.found (IsFoundAt T.cmp (items spine.now) value.now (position_of spine.now.nodes result)) }
+    ensures gap { OnFalse result.found (IsGapFor T.cmp (items spine.now) value.now (position_of spine.now.nodes result)) }
+{
+    spine.locate_by(&mut ByItem::new(value))
+}
+
+impl<T: Ord> BTreeSet<T> {
+    /// The element equal to the value.
+    pub fn get(&self, value: &T) -> Option<&T>
+        ensures { option_copied result ≡ equal_element T.cmp (items self.now) value.now }
+    {
+        let spot = locate(&self.spine, value);
+        if spot.found {
+            Some(self.spine.item(&spot))
+        } else {
+            None
+        }
+    }
+
+    /// Whether an element equal to the value is there.
+    pub fn contains(&self, value: &T) -> bool
+        ensures { result ≡ has_equal T.cmp (items self.now) value.now }
+    {
+        locate(&self.spine, value).found
+    }
+
+    /// How many elements are below the value.
+    pub fn rank(&self, value: &T) -> usize
+        ensures { result ≡ rank T.cmp (items self.now) value.now }
+    {
+        self.spine.position(&locate(&self.spine, value))
+    }
+
+    /// The first element that is not below the value.
+    pub fn lower_bound(&self, value: &T) -> Option<&T>
+        ensures { option_copied result ≡ lower_element T.cmp (items self.now) value.now }
+    {
+        self.spine.item_from(&locate(&self.spine, value))
+    }
+
+    /// The position of the first element that the probe answers Equal, or, where it answers none
+    /// so, how many it answers Less.
+    pub fn locate_by<P: Probe<T>>(&self, probe: &mut P) -> Result<usize, usize>
+        requires { IsParted (P.answer probe.old) (items self.now) }
+        ensures found { IfOk result (λ i. position (λ x. is_eq (P.answer probe.old x)) (items self.now) ≡ Some i) }
+        ensures absent { IfErr result (λ _. position (λ x. is_eq (P.answer probe.old x)) (items self.now) ≡ None) }
+        ensures gap { IfErr result (λ i. i ≡ less_count (P.answer probe.old) (items self.now)) }
+        ensures fixed { P.answer probe.new ≡ P.answer probe.old }
+        ensures few { P.asked probe.new ≤ P.asked probe.old + (digits (length self.now.nodes) + digits self.now.size + 1) }
+    {
+        let spot = self.spine.locate_by(probe);
+        let position = self.spine.position(&spot);
+        if spot.found {
+            Ok(position)
+        } else {
+            Err(position)
+        }
+    }
+}

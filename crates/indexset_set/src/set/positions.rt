@@ -1,0 +1,76 @@
+//! Calls that go by position: the element there, and the element there taken out.
+ghost use Rattle.std.specs.Prelude.{◌≡◌, ◌-◌, ◌<◌, Some, length, take, drop, remove, slice_get};
+ghost use Rattle.std.specs.Option.{option_copied};
+ghost use Rattle.indexset_core.specs.Cut.{items};
+
+use super::BTreeSet;
+use std::ops::Index;
+
+impl<T: Ord> BTreeSet<T> {
+    /// The element at a position.
+    pub fn get_index(&self, i: usize) -> Option<&T>
+        ensures { option_copied result ≡ slice_get (items self.now) i }
+    {
+        self.spine.get(i)
+    }
+
+    /// The least element.
+    pub fn first(&self) -> Option<&T>
+        ensures { option_copied result ≡ slice_get (items self.now) 0 }
+    {
+        self.spine.iter().next()
+    }
+
+    /// The greatest element.
+    pub fn last(&self) -> Option<&T>
+        ensures { option_copied result ≡ slice_get (items self.now) (length (items self.now) - 1) }
+    {
+        self.spine.iter().next_back()
+    }
+}
+
+impl<T: Ord + Drop> BTreeSet<T> {
+    /// Takes out the least element.
+    pub fn pop_first(&mut self) -> Option<T>
+        ensures value { result ≡ slice_get (items self.old) 0 }
+        ensures rest { items self.new ≡ drop 1 (items self.old) }
+        ensures size { self.new.size ≡ self.old.size }
+    {
+        let spot = self.spine.spot(0)?;
+        Some(self.spine.remove(spot))
+    }
+
+    /// Takes out the greatest element.
+    pub fn pop_last(&mut self) -> Option<T>
+        ensures value { result ≡ slice_get (items self.old) (length (items self.old) - 1) }
+        ensures rest { items self.new ≡ take (length (items self.old) - 1) (items self.old) }
+        ensures size { self.new.size ≡ self.old.size }
+    {
+        let last = self.spine.len().saturating_sub(1);
+        let spot = self.spine.spot(last)?;
+        Some(self.spine.remove(spot))
+    }
+
+    /// Takes out the element at a position.
+    pub fn pop_index(&mut self, i: usize) -> T
+        requires { i < length (items self.old) }
+        ensures value { slice_get (items self.old) i ≡ Some result }
+        ensures rest { items self.new ≡ remove (items self.old) i }
+        ensures size { self.new.size ≡ self.old.size }
+    {
+        let spot = self.spine.spot(i).unwrap();
+        self.spine.remove(spot)
+    }
+}
+
+impl<T: Ord> Index<usize> for BTreeSet<T> {
+    type Output = T;
+
+    ghost can_index = { λ s i. i < length (items s) };
+
+    ghost index_gives = { λ s i x. slice_get (items s) i ≡ Some x };
+
+    fn index(&self, index: usize) -> &T {
+        self.spine.get(index).unwrap()
+    }
+}
