@@ -8,3 +8,7 @@ mod node;
 mod probe;
 #[cfg(test)]
 mod program;
+#[cfg(test)]
+mod set;
+#[cfg(test)]
+mod tagged;

@@ -3,20 +3,12 @@ ghost use Rattle.std.specs.Prelude.{IfOk};
 ghost use Rattle.std.specs.Ordering.{nat_cmp};
 ghost use Rattle.indexset_core.specs.Order.{IsAscending};
 
+use crate::tagged::Tagged;
 use indexset_core::node::NodeLike;
 use indexset_core::probe::{ByItem, Counting};
 use std::alloc::Global;
 use std::ops::Bound;
 use std::test::Fail;
-
-/// An item with a tag that its order does not read.
-#[derive(Debug, Drop)]
-#[derive_where(PartialEq, Eq, PartialOrd, Ord)]
-struct Tagged {
-    key: u64,
-    #[derive_where(skip(EqHashOrd))]
-    tag: char,
-}
 
 /// A node of these values, put in one after another.
 fn node_of(alloc: Global, values: &[u64]) -> Result<Vec<u64>, Fail>
