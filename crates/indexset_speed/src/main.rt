@@ -1,0 +1,99 @@
+//! Times the calls of the plain set, for people: nanoseconds an operation.
+#![tactic(auto)]
+
+use indexset_core::refusal::Refusal;
+use indexset_set::BTreeSet;
+use std::alloc::Global;
+use std::env;
+use std::io::{self, ErrorKind};
+use std::time::Instant;
+
+/// The i-th of the distinct keys, in an order that looks random.
+fn key(i: u64) -> u64 {
+    i.wrapping_mul(0x9e37_79b9_7f4a_7c15)
+}
+
+fn failure(_refusal: Refusal) -> io::Error {
+    io::Error::from(ErrorKind::OutOfMemory)
+}
+
+/// One line: what was done, and how many nanoseconds each took.
+fn report(rt: &HostRuntime, what: &str, since: Instant, operations: u64) -> io::Result<()> {
+    let nanoseconds = since.elapsed(rt)?.as_nanos();
+    match nanoseconds.checked_div(u128::from(operations)) {
+        Some(each) => println!(rt; "{what} {each} ns"),
+        None => println!(rt; "{what} nothing"),
+    }
+}
+
+fn insert_all(alloc: Global, keys: u64) -> io::Result<BTreeSet<u64>> {
+    let mut set = BTreeSet::new(alloc).map_err(failure)?;
+    for i in 0..keys {
+        set.insert(key(i))
+            .map_err(|refused| failure(refused.cause))?;
+    }
+    Ok(set)
+}
+
+fn contained(set: &BTreeSet<u64>, keys: u64) -> u64 {
+    let mut found = 0u64;
+    for i in 0..keys {
+        found = found.wrapping_add(u64::from(set.contains(&key(i))));
+    }
+    found
+}
+
+fn by_position(set: &BTreeSet<u64>, keys: u64) -> u64 {
+    let mut sum = 0u64;
+    for i in 0..keys {
+        let place = key(i) % keys.max(1);
+        if let Some(element) = set.get_index(place as usize) {
+            sum = sum.wrapping_add(*element);
+        }
+    }
+    sum
+}
+
+fn ranks(set: &BTreeSet<u64>, keys: u64) -> u64 {
+    let mut sum = 0u64;
+    for i in 0..keys {
+        sum = sum.wrapping_add(set.rank(&key(i)) as u64);
+    }
+    sum
+}
+
+fn remove_all(set: &mut BTreeSet<u64>, keys: u64) -> u64 {
+    let mut removed = 0u64;
+    for i in 0..keys {
+        removed = removed.wrapping_add(u64::from(set.remove(&key(i))));
+    }
+    removed
+}
+
+fn measure(rt: &HostRuntime, keys: u64) -> io::Result<()> {
+    let start = Instant::now(rt)?;
+    let mut set = insert_all(rt.alloc(), keys)?;
+    report(rt, "insert, random order", start, keys)?;
+    let start = Instant::now(rt)?;
+    let found = contained(&set, keys);
+    report(rt, "contains", start, keys)?;
+    let start = Instant::now(rt)?;
+    let elements = by_position(&set, keys);
+    report(rt, "element at a position", start, keys)?;
+    let start = Instant::now(rt)?;
+    let positions = ranks(&set, keys);
+    report(rt, "rank", start, keys)?;
+    let start = Instant::now(rt)?;
+    let removed = remove_all(&mut set, keys);
+    report(rt, "remove, random order", start, keys)?;
+    // Each result is read, so that nothing above is left out.
+    println!(rt; "check {found} {elements} {positions} {removed}")
+}
+
+fn main(rt: HostRuntime) -> io::Result<()> {
+    let mut arguments = env::args(&rt)?;
+    match arguments.nth(1).and_then(|text| text.as_str().parse().ok()) {
+        Some(keys) => measure(&rt, keys),
+        None => println!(&rt; "usage: indexset_speed KEYS"),
+    }
+}
