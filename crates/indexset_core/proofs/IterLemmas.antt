@@ -1,5 +1,5 @@
 -- What a walk has left, and the parts of a joined list.
-use Rattle.std.proofs.Common.{◌≡◌, ℕ, zero, suc, ◌+◌, ◌-◌, ◌<◌, ◌≤◌, List, [], ◌∷◌, ◌++◌, length, take, drop, get_or, sym, ap, ◌∙◌, arith, append_assoc, add-one, length-append, subst, inl, inr}
+use Rattle.std.proofs.Common.{◌≡◌, ℕ, zero, suc, ◌+◌, ◌-◌, ◌<◌, ◌≤◌, List, [], ◌∷◌, ◌++◌, length, take, drop, get_or, sym, ap, ◌∙◌, arith, append_assoc, add-one, length-append, inl, inr}
 use Rattle.std.proofs.Math.Seq.{take-append-add, drop-append-add}
 use Rattle.std.proofs.lemmas.Bool.{cases_lt}
 use Rattle.std.proofs.lemmas.List.{append-nil, take-append-le, drop-append-le, take-map, drop-map, take-take, take_rest, get_or-take, length-take-le}
@@ -7,7 +7,8 @@ use Rattle.std.proofs.lemmas.List.Edits.{length-between}
 use Rattle.std.proofs.lemmas.Slice.{between_is}
 use Rattle.std.specs.List.{between}
 use Rattle.std.specs.declared.vec.Vec.{Vec}
-use Rattle.indexset_core.specs.Cut.{joined, lists, node_at}
+use Rattle.indexset_core.specs.declared.spot.Spot.{Spot}
+use Rattle.indexset_core.specs.Cut.{joined, lists, node_at, IsItemSpot, position_of}
 use Rattle.indexset_core.proofs.CutLemmas.{length-joined-more, length-joined-mono, length-lists, node_read, place-le}
 
 module _ {X : Type 0} where
@@ -54,7 +55,7 @@ module _ {X : Type 0} where
         ∙ append_assoc (drop o (node_at ns k)) (joined (between (k + 1) l ns)) (take q (node_at ns l)))))
 
   -- the earlier of two places stands in no later node
-  pub places_order : (ns : List (List X)) (k o l q : ℕ) → l < length ns → q < length (node_at ns l) → length (joined (take k ns)) + o ≤ length (joined (take l ns)) + q → k ≤ l
+  places_order : (ns : List (List X)) (k o l q : ℕ) → l < length ns → q < length (node_at ns l) → length (joined (take k ns)) + o ≤ length (joined (take l ns)) + q → k ≤ l
   places_order ns k o l q lt inside le = elim (cases_lt l k) [
     | inl below ↦ absurd (omega (arith, length-joined-more ns l lt, length-joined-mono ns (l + 1) k (omega arith)))
     | inr above ↦ above
@@ -72,26 +73,36 @@ module _ {X Z : Type 0} where
   between-lists : (vs : List (Vec X Z)) (i j : ℕ) → lists (between i j vs) ≡ between i j (lists vs)
   between-lists vs i j = sym (ap (λ l. take (j - i) l) (drop-map (λ (z : Vec X Z). z.items) i vs) ∙ take-map (λ (z : Vec X Z). z.items) (j - i) (drop i vs))
 
-  -- the parts of a walk from one place up to the position j, which is another place
-  module _ (vs : List (Vec X Z)) (k o l q j : ℕ) (v : Vec X Z) (stop : length (joined (take l (lists vs))) + q ≡ j) (lt : l < length vs) (at : v ≡ get_or vs l v) (to : q ≤ length v.items) where
-    last : node_at (lists vs) l ≡ v.items
-    last = node_read vs l v lt at []
+  -- the parts of a walk from the item at the place p through the one at q, which stands in the node v
+  module _ (vs : List (Vec X Z)) (p q : Spot) (v : Vec X Z) (start : IsItemSpot (lists vs) p) (stop : IsItemSpot (lists vs) q) (at : v ≡ get_or vs q.node v) where
+    in_vs : q.node < length vs
+    in_vs = omega (arith, stop.node_in, length-lists vs)
 
-    last_in : q ≤ length (node_at (lists vs) l)
-    last_in = subst (λ (m : List X). q ≤ length m) (sym last) to
+    past : length (joined (take q.node (lists vs))) + (q.offset + 1) ≡ position_of (lists vs) q + 1
+    past = omega arith
 
-    in_lists : l < length (lists vs)
-    in_lists = omega (arith, length-lists vs)
+    to : q.offset + 1 ≤ length (node_at (lists vs) q.node)
+    to = omega (arith, stop.offset_in)
 
-    pub walk_in : k ≡ l → between o q v.items ++ (joined (lists {Z = Z} []) ++ []) ≡ between (length (joined (take k (lists vs))) + o) j (joined (lists vs))
-    walk_in e = append-nil (between o q v.items) ∙ sym (rw (← stop) (between_in (lists vs) k o l q in_lists last_in e ∙ ap (between o q) last))
+    last : node_at (lists vs) q.node ≡ v.items
+    last = node_read vs q.node v in_vs at []
 
-    pub walk_across : (u : Vec X Z) → k < l → u ≡ get_or vs k u → o ≤ length u.items → between o (length u.items) u.items ++ (joined (lists (between (k + 1) l vs)) ++ take q v.items) ≡ between (length (joined (take k (lists vs))) + o) j (joined (lists vs))
-    walk_across u below here from =
-        let first : node_at (lists vs) k ≡ u.items = node_read vs k u (omega arith) here [] in
-        let whole = between_across (lists vs) k o l q in_lists last_in below (subst (λ (m : List X). o ≤ length m) (sym first) from) in
-        rw (take_rest u.items o, between-lists vs (k + 1) l, ← first, ← last, ← stop) (sym whole)
+    pub walk_in : p.node ≡ q.node → between p.offset (q.offset + 1) v.items ++ (joined (lists {Z = Z} []) ++ []) ≡ between (position_of (lists vs) p) (position_of (lists vs) q + 1) (joined (lists vs))
+    walk_in e =
+        append-nil (between p.offset (q.offset + 1) v.items)
+        ∙ sym (rw (← past) (between_in (lists vs) p.node p.offset q.node (q.offset + 1) stop.node_in to e ∙ ap (between p.offset (q.offset + 1)) last))
+
+    pub walk_across : (u : Vec X Z) → u ≡ get_or vs p.node u → p.node < q.node → between p.offset (length u.items) u.items ++ (joined (lists (between (p.node + 1) q.node vs)) ++ take (q.offset + 1) v.items) ≡ between (position_of (lists vs) p) (position_of (lists vs) q + 1) (joined (lists vs))
+    walk_across u here below =
+        let first : node_at (lists vs) p.node ≡ u.items = node_read vs p.node u (omega (arith, in_vs)) here [] in
+        let from : p.offset ≤ length (node_at (lists vs) p.node) = omega (arith, start.offset_in) in
+        let whole = between_across (lists vs) p.node p.offset q.node (q.offset + 1) stop.node_in to below from in
+        rw (take_rest u.items p.offset, between-lists vs (p.node + 1) q.node, ← first, ← last, ← past) (sym whole)
 
     -- how many items they hold
-    pub walk_length : (left : ℕ) → length (joined (take k (lists vs))) + o + left ≡ j → left ≡ length (between (length (joined (take k (lists vs))) + o) j (joined (lists vs)))
-    walk_length left e = omega (arith, length-between (joined (lists vs)) (length (joined (take k (lists vs))) + o) j (omega (arith, place-le (lists vs) l q in_lists last_in)))
+    pub walk_length : (left : ℕ) → position_of (lists vs) p + left ≡ position_of (lists vs) q + 1 → left ≡ length (between (position_of (lists vs) p) (position_of (lists vs) q + 1) (joined (lists vs)))
+    walk_length left e = omega (arith, length-between (joined (lists vs)) (position_of (lists vs) p) (position_of (lists vs) q + 1) (omega (arith, past, place-le (lists vs) q.node (q.offset + 1) stop.node_in to)))
+
+    -- where p isn't behind q
+    pub nodes_order : position_of (lists vs) p ≤ position_of (lists vs) q → (p.node ≡ q.node → ⊥) → p.node < q.node
+    nodes_order le other = omega (arith, other, places_order (lists vs) p.node p.offset q.node q.offset stop.node_in stop.offset_in le)
