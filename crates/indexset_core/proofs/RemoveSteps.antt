@@ -69,7 +69,7 @@ module _ {X Z : Type 0} where
       let here = item_spot_in (lists vs) size t s e h in
       lists-set vs s.node (with_item u s.offset w)
       ∙ (ap (λ n. slice_set (lists vs) s.node (slice_set n s.offset w)) (sym (node_is vs s.node u here.node_in at))
-          ∙ ap (λ (t : Cut X). slice_set t.nodes s.node (slice_set (node_at t.nodes s.node) s.offset w)) e)
+      ∙ ap (λ (t : Cut X). slice_set t.nodes s.node (slice_set (node_at t.nodes s.node) s.offset w)) e)
 
   pub item_read : (vs : List (Vec X Z)) (size : ℕ) (t : Cut X) (s : Spot) (u : Vec X Z) (x : X) → cut (lists vs) size ≡ t → IsItemSpot t.nodes s → u ≡ get_or vs s.node u → x ≡ get_or u.items s.offset x
       → slice_get (joined t.nodes) (position_of t.nodes s) ≡ Some x
@@ -78,4 +78,4 @@ module _ {X Z : Type 0} where
       let node = node_is vs s.node u here.node_in at in
       item_at_spot t.nodes s h
       ∙ (ap (λ (t : Cut X). slice_get (node_at t.nodes s.node) s.offset) (sym e)
-          ∙ (ap (λ n. slice_get n s.offset) node ∙ slice_get_read u.items (length u.items) s.offset x refl (subst (λ (n : List X). s.offset < length n) node here.offset_in) is))
+      ∙ (ap (λ n. slice_get n s.offset) node ∙ slice_get_read u.items (length u.items) s.offset x refl (subst (λ (n : List X). s.offset < length n) node here.offset_in) is))

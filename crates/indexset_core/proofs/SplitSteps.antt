@@ -21,14 +21,14 @@ module _ {X Z : Type 0} where
     right_lists w is =
         ap (λ l. lists (slice_set l 0 w)) (tail ∙ drop_more vs k u inside)
         ∙ (ap (λ l. l ∷ lists (drop (k + 1) vs)) (is ∙ ap (drop o) (sym (node_is vs k u h u_is)))
-            ∙ ap (λ l. drop o (node_at (lists vs) k) ∷ l) (sym (drop-map held (k + 1) vs)))
+        ∙ ap (λ l. drop o (node_at (lists vs) k) ∷ l) (sym (drop-map held (k + 1) vs)))
 
     pub left_lists : (ls : List (Vec X Z)) (w : Vec X Z) → ls ≡ take k vs → w.items ≡ take o u.items → lists (ls ++ w ∷ []) ≡ take k (lists vs) ++ take o (node_at (lists vs) k) ∷ []
     left_lists ls w front is =
         map_push held ls w
         ∙ (ap (λ l. lists l ++ w.items ∷ []) front
-            ∙ (ap (λ l. l ++ w.items ∷ []) (sym (take-map held k vs))
-                ∙ ap (λ l. take k (lists vs) ++ l ∷ []) (is ∙ ap (take o) (sym (node_is vs k u h u_is)))))
+        ∙ (ap (λ l. l ++ w.items ∷ []) (sym (take-map held k vs))
+        ∙ ap (λ l. take k (lists vs) ++ l ∷ []) (is ∙ ap (take o) (sym (node_is vs k u h u_is)))))
 
     -- the two lists, appended again
     pub whole_again : (ls : List (Vec X Z)) (w : Vec X Z) → ls ≡ take k vs → w.items ≡ u.items → lists (ls ++ slice_set ws 0 w) ≡ lists vs
@@ -36,5 +36,5 @@ module _ {X Z : Type 0} where
         let some : 0 < length (lists ws) = omega (arith, length-lists ws, ap (λ (l : List (Vec X Z)). length l) tail, length-drop k vs, inside) in
         map-append held ls (slice_set ws 0 w)
         ∙ (ap (λ l. lists ls ++ l) (lists_kept ws 0 u w some at is)
-            ∙ (sym (map-append held ls ws)
-                ∙ (ap (λ l. lists (l ++ ws)) front ∙ (ap (λ l. lists (take k vs ++ l)) tail ∙ ap lists (take-append-drop k vs)))))
+        ∙ (sym (map-append held ls ws)
+        ∙ (ap (λ l. lists (l ++ ws)) front ∙ (ap (λ l. lists (take k vs ++ l)) tail ∙ ap lists (take-append-drop k vs)))))

@@ -14,6 +14,9 @@ use crate::spot::Spot;
 use std::alloc::Global;
 use std::mem;
 
+#[cfg(test)]
+mod tests;
+
 impl<T: Drop> Spine<T> {
     /// One empty node, of at most `size` items.
     pub fn new(alloc: Global, size: usize) -> Result<Self, Refusal>
@@ -134,6 +137,8 @@ impl<T: Drop> Spine<T> {
     /// nothing.
     pub fn split_off(&mut self, spot: Spot) -> Result<Spine<T>, Refusal>
         requires { IsSpot self.old.nodes spot }
+        ensures nodes { OnOk result (self.new.nodes ≡ left_nodes self.old.nodes spot) }
+        ensures rest_nodes { IfOk result (λ s. s.nodes ≡ right_nodes self.old.nodes spot) }
         ensures left { OnOk result (items self.new ≡ take (position_of self.old.nodes spot) (items self.old)) }
         ensures right { IfOk result (λ s. items s ≡ drop (position_of self.old.nodes spot) (items self.old)) }
         ensures size { self.new.size ≡ self.old.size }

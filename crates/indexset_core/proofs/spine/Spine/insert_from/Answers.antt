@@ -40,7 +40,7 @@ returns-clause-items g c =
     let value : slice_get (items c.args.other.now) 0 ≡ Some c.take_out-value.result = rw (← c.other.view_is) (item_at_spot _ first_spot first ∙ c.take_out-value.ensures.value) in
     some_is _ c.take_out-value.result _ value
     (ap joined (c.put.ensures ∙ c.in_ok-place.ensures.nodes c.take_out-value.result)
-        ∙ (joined_inserted _ _ c.args.spot c.take_out-value.result spot ∙ ap (λ (t : Cut g.row.T.Denot). insert (items t) (position_of t.nodes c.args.spot) c.take_out-value.result) c.self.view_is))
+    ∙ (joined_inserted _ _ c.args.spot c.take_out-value.result spot ∙ ap (λ (t : Cut g.row.T.Denot). insert (items t) (position_of t.nodes c.args.spot) c.take_out-value.result) c.self.view_is))
 
 pub returns-clause-rest : goal.returns-clause-rest
 returns-clause-rest g c =

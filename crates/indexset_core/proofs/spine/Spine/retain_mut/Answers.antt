@@ -21,7 +21,7 @@ invariant_of-self g c =
     let low = asked.ensures.low c.self.inside.size (rw c.as_mut_slice.ensures.value c.self.invariant.is_cut.bounded) in
     rw (c.drop_emptied.ensures, same)
     (spine_of (without_all_emptied left) c.self.inside.size asked.result (cut_all_emptied left c.self.inside.size c.self.invariant.is_cut.two low)
-        (asked.ensures.count ∙ ap (λ (l : List g.row.T.Denot). length l) (sym (joined_all_emptied left))))
+    (asked.ensures.count ∙ ap (λ (l : List g.row.T.Denot). length l) (sym (joined_all_emptied left))))
 
 pub returns-clause-kept : goal.returns-clause-kept
 returns-clause-kept g c =
