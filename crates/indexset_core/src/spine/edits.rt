@@ -10,6 +10,7 @@ use super::Spine;
 use crate::cut::halve_node;
 use crate::lengths::prefix_in;
 use crate::refusal::{Refusal, Refused};
+use crate::shift::{put_item, take_item};
 use crate::spot::Spot;
 use std::alloc::Global;
 use std::mem;
@@ -212,10 +213,7 @@ fn halve_at<T>(nodes: &mut Vec<Vec<T>>, spot: Spot) -> Result<Spot, Refusal>
     let node = &mut nodes[spot.node];
     let half = node.len() / 2;
     let right = halve_node(node)?;
-    match nodes.insert(spot.node + 1, right) {
-        Ok(()) => {}
-        Err(_) => unreachable!(),
-    }
+    put_item(nodes, spot.node + 1, right);
     if half < spot.offset {
         return Ok(Spot {
             node: spot.node + 1,
@@ -227,15 +225,12 @@ fn halve_at<T>(nodes: &mut Vec<Vec<T>>, spot: Spot) -> Result<Spot, Refusal>
 }
 
 // Puts an item into a node that has room.
-fn put<T: Drop>(nodes: &mut Vec<Vec<T>>, place: Spot, value: T)
+fn put<T>(nodes: &mut Vec<Vec<T>>, place: Spot, value: T)
     requires spot { IsSpot (lists nodes.old.items) place }
     requires room { HoldsAt (λ node. vec_len node < vec_capacity node) nodes.old.items place.node }
     ensures { lists nodes.new.items ≡ with_put (lists nodes.old.items) place value }
 {
-    match nodes[place.node].insert(place.offset, value) {
-        Ok(()) => {}
-        Err(_) => unreachable!(),
-    }
+    put_item(&mut nodes[place.node], place.offset, value);
 }
 
 // Takes out the item at a place, and an emptied node with it, unless it is the only one.
@@ -244,7 +239,7 @@ fn take_out<T: Drop>(nodes: &mut Vec<Vec<T>>, spot: Spot) -> T
     ensures value { slice_get (node_at (lists nodes.old.items) spot.node) spot.offset ≡ Some result }
     ensures nodes { lists nodes.new.items ≡ without_item (lists nodes.old.items) spot }
 {
-    let value = nodes[spot.node].remove(spot.offset);
+    let value = take_item(&mut nodes[spot.node], spot.offset);
     drop_if_empty(nodes, spot.node);
     value
 }
@@ -255,7 +250,7 @@ fn drop_if_empty<T: Drop>(nodes: &mut Vec<Vec<T>>, k: usize)
     ensures { lists nodes.new.items ≡ without_emptied (lists nodes.old.items) k }
 {
     if nodes[k].is_empty() && 1 < nodes.len() {
-        drop(nodes.remove(k));
+        drop(take_item(nodes, k));
     }
 }
 

@@ -12,23 +12,23 @@ returns-in_err-right-clause-err g c =
 pub returns-then-half-spot-clause-room : goal.returns-then-half-spot-clause-room
 returns-then-half-spot-clause-room g c =
     let e = c.reserve.ensures.items in let ok = c.in_ok-right.ensures {u = tt} in
-    rw c.in-Ok.ensures.items
+    rw c.put_item.ensures.items
     (right_room (lists c.args.nodes.now.items) _ (ap lists e) c.args.spot _ _ c.in_ok-right.right (rw e c.requires.spot.node_in) c.index_mut-node.ensures.value ok.left ok.right _ (ap (λ n. n / 2) c.len-half.ensures) c.requires.two ok.right_room)
 
 pub returns-then-half-spot-clause-nodes : goal.returns-then-half-spot-clause-nodes
 returns-then-half-spot-clause-nodes g c =
     let e = c.reserve.ensures.items in let ok = c.in_ok-right.ensures {u = tt} in
-    λ value. rw c.in-Ok.ensures.items
+    λ value. rw c.put_item.ensures.items
     (right_puts _ _ (ap lists e) c.args.spot _ _ c.in_ok-right.right (rw e c.requires.spot.node_in) c.index_mut-node.ensures.value ok.left ok.right _ (ap (λ n. n / 2) c.len-half.ensures) value c.if-half-spot.true)
 
 pub returns-clause-room : goal.returns-clause-room
 returns-clause-room g c =
     let e = c.reserve.ensures.items in let ok = c.in_ok-right.ensures {u = tt} in
-    rw c.in-Ok.ensures.items
+    rw c.put_item.ensures.items
     (left_room (lists c.args.nodes.now.items) _ (ap lists e) c.args.spot _ _ c.in_ok-right.right (rw e c.requires.spot.node_in) c.index_mut-node.ensures.value ok.left ok.right _ (ap (λ n. n / 2) c.len-half.ensures) c.requires.two ok.left_room)
 
 pub returns-clause-nodes : goal.returns-clause-nodes
 returns-clause-nodes g c =
     let e = c.reserve.ensures.items in let ok = c.in_ok-right.ensures {u = tt} in
-    λ value. rw c.in-Ok.ensures.items
+    λ value. rw c.put_item.ensures.items
     (left_puts _ _ (ap lists e) c.args.spot _ _ c.in_ok-right.right (rw e c.requires.spot.node_in) c.index_mut-node.ensures.value ok.left ok.right _ (ap (λ n. n / 2) c.len-half.ensures) value c.if-half-spot.false)
