@@ -1,5 +1,5 @@
 -- Lists of nodes, joined and measured.
-use Rattle.std.proofs.Common.{◌≡◌, ℕ, zero, suc, ◌+◌, ◌-◌, ◌<◌, ◌≤◌, List, [], ◌∷◌, ◌++◌, length, map, sum, take, drop, get_or, slice_set, slice_get, refl, sym, ap, ◌∙◌, arith, length-append, append_assoc, add-one}
+use Rattle.std.proofs.Common.{◌≡◌, ℕ, zero, suc, ◌+◌, ◌<◌, ◌≤◌, List, [], ◌∷◌, ◌++◌, length, sum, take, drop, get_or, slice_set, slice_get, refl, sym, ap, ◌∙◌, arith, length-append, append_assoc, add-one}
 use Rattle.std.proofs.lemmas.List.{map-set, map-append, take-map, drop-map, set_split, set-get_or}
 use Rattle.std.proofs.lemmas.List.Sums.{sum_by-cons}
 use Rattle.std.specs.List.{splice}

@@ -1,13 +1,13 @@
 -- What an edit at a place does to the joined list, and that the nodes stay a cut.
-use Rattle.std.proofs.Common.{◌≡◌, ℕ, zero, suc, ◌+◌, ◌-◌, ◌/◌, ◌<◌, ◌≤◌, ◌==◌, Bool, true, false, List, [], ◌∷◌, ◌++◌, length, sum, take, drop, get_or, slice_set, slice_get, if◌then◌else◌, nat_lt, ◌&&◌, refl, sym, ap, ◌∙◌, subst, arith, length-append, add-one, length-take, length-drop}
+use Rattle.std.proofs.Common.{◌≡◌, ℕ, suc, ◌+◌, ◌-◌, ◌/◌, ◌<◌, ◌≤◌, ◌==◌, true, false, List, [], ◌∷◌, ◌++◌, length, take, drop, slice_set, slice_get, if◌then◌else◌, nat_lt, ◌&&◌, refl, sym, ap, ◌∙◌, subst, arith, length-append, add-one, length-take, length-drop}
 use Rattle.std.proofs.lemmas.Bool.Decides.{nat_tests}
 use Rattle.std.proofs.lemmas.List.{append-nil, length-map, get_or-map, length-set, set-append_left, set-append_right, take-append-drop, length-take-le, set_split, nil_from_length}
 use Rattle.std.proofs.lemmas.List.Edits.{length-insert, length-remove, insert-append_left, insert-append_right, remove-append_left, remove-append_right}
-use Rattle.std.proofs.lemmas.List.Elements.{All-cons, All-nil, All-append, All-take, All-drop, All-get_or}
+use Rattle.std.proofs.lemmas.List.Elements.{All-cons, All-nil, All-append, All-take, All-drop}
 use Rattle.std.specs.List.{All, splice, insert, remove}
 use Rattle.indexset_core.specs.declared.spot.Spot.{Spot}
 use Rattle.indexset_core.specs.Cut.{IsCut, IsSpine, joined, lens, node_at, IsSpot, IsItemSpot, position_of, parts_with, with_inserted, without_item, with_replaced, first_spot}
-use Rattle.indexset_core.proofs.CutBasics.{joined-append, length-joined, lens-set, around, joined_around, joined-splice, lens-splice, slice_get-left, slice_get-right}
+use Rattle.indexset_core.proofs.CutBasics.{joined-append, length-joined, lens-set, joined_around, joined-splice, lens-splice, slice_get-left, slice_get-right}
 
 -- an edit within the middle of three lists
 module _ {X : Type 0} (fs n bs : List X) (o : ℕ) where

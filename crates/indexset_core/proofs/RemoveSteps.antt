@@ -1,18 +1,18 @@
 -- What is taken out of the nodes, as the code holds them.
-use Rattle.std.proofs.Common.{◌≡◌, ℕ, zero, suc, ◌+◌, ◌-◌, ◌<◌, ◌≤◌, ◌==◌, ◌&&◌, Bool, true, false, List, [], ◌∷◌, ◌++◌, length, take, drop, get_or, slice_set, slice_get, Some, nat_lt, if◌then◌else◌, refl, sym, ap, ◌∙◌, subst, arith}
+use Rattle.std.proofs.Common.{◌≡◌, ℕ, suc, ◌+◌, ◌<◌, ◌≤◌, ◌==◌, ◌&&◌, true, false, List, [], ◌++◌, length, take, drop, get_or, slice_set, slice_get, Some, nat_lt, if◌then◌else◌, refl, sym, ap, ◌∙◌, subst, arith}
 use Rattle.std.proofs.lemmas.Bool.Decides.{nat_tests}
 use Rattle.std.proofs.lemmas.List.{length-set, get_or-set_same, take-set, drop-set-lt, take-map, drop-map, map-append}
 use Rattle.std.proofs.lemmas.List.Edits.{length-remove}
 use Rattle.std.proofs.lemmas.Option.{slice_get_read}
 use Rattle.std.specs.List.{remove}
-use Rattle.std.specs.Vec.{vec_len, with_item}
+use Rattle.std.specs.Vec.{with_item}
 use Rattle.std.specs.declared.vec.Vec.{Vec}
 use Rattle.indexset_core.specs.declared.spot.Spot.{Spot}
 use Rattle.indexset_core.specs.Cut.{Cut, cut, lists, node_at, IsItemSpot, without_item, with_replaced, joined, position_of}
 use Rattle.indexset_core.specs.Edits.{without_emptied}
 use Rattle.indexset_core.proofs.CutBasics.{lists-set}
 use Rattle.indexset_core.proofs.CutEdits.{item_at_spot}
-use Rattle.indexset_core.proofs.EditSteps.{length-lists, node_is, node_len, item_spot_in}
+use Rattle.indexset_core.proofs.EditSteps.{node_is, item_spot_in}
 
 zero_or_one : (a b : ℕ) → a + 1 ≡ b → (a == 0) ≡ (b == 1)
 zero_or_one a b e = grind (arith, nat_tests)

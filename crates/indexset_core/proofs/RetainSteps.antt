@@ -1,5 +1,5 @@
 -- A closure that is asked at each item in turn, over lists that stand one after another.
-use Rattle.std.proofs.Common.{◌≡◌, ℕ, zero, suc, ◌+◌, ◌-◌, ◌<◌, ◌≤◌, Bool, true, false, not, cond, filter, ◌==◌, vec_len, List, [], ◌∷◌, ◌++◌, length, take, drop, get_or, set, inl, inr, swap, refl, sym, ap, ◌∙◌, subst, arith, append_assoc, append-nil}
+use Rattle.std.proofs.Common.{◌≡◌, ℕ, ◌+◌, ◌<◌, ◌≤◌, Bool, true, false, not, cond, filter, ◌==◌, vec_len, List, [], ◌∷◌, ◌++◌, length, take, drop, get_or, set, inl, inr, swap, refl, sym, ap, ◌∙◌, subst, arith, append_assoc, append-nil}
 use Rattle.std.proofs.lemmas.List.{length-set, get_or-set_same, take-set, take-set-le, take_more_set, drop-set-lt, drop_more, drop_all}
 use Rattle.std.proofs.lemmas.Grind.{drop_more_same}
 use Rattle.std.proofs.lemmas.List.Edits.{swap_is}

@@ -1,5 +1,5 @@
 -- The nodes cut in two lists at a place, as the code holds them.
-use Rattle.std.proofs.Common.{◌≡◌, ℕ, zero, suc, ◌+◌, ◌-◌, ◌<◌, ◌≤◌, List, [], ◌∷◌, ◌++◌, length, take, drop, get_or, slice_set, refl, sym, ap, ◌∙◌, subst, arith, length-drop}
+use Rattle.std.proofs.Common.{◌≡◌, ℕ, ◌+◌, ◌<◌, List, [], ◌∷◌, ◌++◌, length, take, drop, get_or, slice_set, sym, ap, ◌∙◌, arith, length-drop}
 use Rattle.std.proofs.lemmas.List.{drop_more, get_or-drop, take-map, drop-map, map-append, map_push, take-append-drop}
 use Rattle.std.specs.declared.vec.Vec.{Vec}
 use Rattle.indexset_core.specs.Cut.{lists, node_at}

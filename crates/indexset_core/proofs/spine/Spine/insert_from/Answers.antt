@@ -1,5 +1,5 @@
-use Rattle.std.proofs.Common.{◌≡◌, ◌∙◌, ◌<◌, Some, ap, sym, subst, insert, drop, length, slice_get}
-use Rattle.indexset_core.specs.Cut.{Cut, items, joined, lists, position_of, with_inserted, IsItemSpot, first_spot}
+use Rattle.std.proofs.Common.{◌≡◌, ◌∙◌, Some, ap, insert, drop, slice_get}
+use Rattle.indexset_core.specs.Cut.{Cut, items, joined, position_of, with_inserted, first_spot}
 use Rattle.indexset_core.proofs.EditSteps.{spot_in, some_is}
 use Rattle.indexset_core.proofs.CutEdits.{spine_inserted, joined_inserted, spine_without, joined_without, one_inside, item_at_spot, first_in}
 use Rattle.indexset_core.proofs.spine.Spine.insert_from.Goals as goal

@@ -1,5 +1,5 @@
-use Rattle.std.proofs.Common.{◌∙◌, ap, sym, slice_set}
-use Rattle.indexset_core.specs.Cut.{Cut, joined, position_of, with_replaced}
+use Rattle.std.proofs.Common.{◌∙◌, ap, slice_set}
+use Rattle.indexset_core.specs.Cut.{joined, position_of, with_replaced}
 use Rattle.indexset_core.proofs.CutEdits.{joined_replaced, spine_replaced}
 use Rattle.indexset_core.proofs.RemoveSteps.{replace_writes, item_read}
 use Rattle.indexset_core.proofs.spine.Spine.replace.Goals as goal

@@ -1,8 +1,7 @@
-use Rattle.std.proofs.Common.{◌≡◌, List, length, ◌∙◌, ap, sym, subst, arith}
+use Rattle.std.proofs.Common.{List, length, ◌∙◌, ap, sym, arith}
 use Rattle.std.specs.Fn.{CalledAtMut}
-use Rattle.std.specs.List.Retain.{RetainsInTurn}
 use Rattle.std.proofs.lemmas.List.{with_items_is}
-use Rattle.indexset_core.specs.Cut.{Cut, items, joined, lists}
+use Rattle.indexset_core.specs.Cut.{joined, lists}
 use Rattle.indexset_core.specs.Edits.{without_all_emptied}
 use Rattle.indexset_core.proofs.CutBasics.{length-joined}
 use Rattle.indexset_core.proofs.CutEdits.{spine_of}

@@ -1,4 +1,4 @@
-use Rattle.std.proofs.Common.{◌≡◌, ◌+◌, ◌∙◌, ap, arith, take, drop, length}
+use Rattle.std.proofs.Common.{◌∙◌, ap, arith, take, drop}
 use Rattle.indexset_core.specs.Cut.{Cut, items, joined, lists, position_of}
 use Rattle.indexset_core.proofs.CutBasics.{length-joined}
 use Rattle.indexset_core.proofs.CutEdits.{position_below}

@@ -2,7 +2,7 @@ use Rattle.std.proofs.Common.{◌<◌, length, arith, of_calls}
 use Rattle.std.specs.Fn.{CalledAtMut}
 use Rattle.std.proofs.lemmas.List.{get_or_default}
 use Rattle.std.proofs.RetainMut.{Called-Mut}
-use Rattle.indexset_core.proofs.RetainSteps.{kept_none, kept_more, left_more, kept_all}
+use Rattle.indexset_core.proofs.RetainSteps.{kept_more, left_more, kept_all}
 use Rattle.indexset_core.proofs.spine.edits.retain_in_front.Goals.{then-f, else-f}
 use Rattle.indexset_core.proofs.spine.edits.retain_in_front.Goals as goal
 
