@@ -115,6 +115,12 @@ module _ {X Z : Type 0} where
   room_puts vs s u w size v h at is short =
       ap (λ ns. with_put ns s v) (lists_kept vs s.node u w h at is) ∙ put_short size (lists vs) s v h short
 
+  -- the left half is as long as half the node
+  pub half_len : (u w : Vec X Z) → w.items ≡ take (length u.items / 2) u.items → vec_len w ≡ vec_len u / 2
+  half_len u w left =
+      w.ok.0
+      ∙ (ap (λ (l : List X). length l) left ∙ (length-take-le (length u.items / 2) u.items (omega arith) ∙ ap (λ n. n / 2) (sym u.ok.0)))
+
   -- the nodes are vs, u among them, and are then cut into w and r
   module _ (ns : List (List X)) (vs : List (Vec X Z)) (same : lists vs ≡ ns) (s : Spot) (u w r : Vec X Z) (h : s.node < length (lists vs)) (at : u ≡ get_or vs s.node u)
       (left : w.items ≡ take (length u.items / 2) u.items) (right : r.items ≡ drop (length u.items / 2) u.items) (half : ℕ) (is_half : half ≡ vec_len u / 2) where

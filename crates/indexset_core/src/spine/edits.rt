@@ -8,7 +8,6 @@ ghost use Rattle.indexset_core.specs.Edits.{with_put, without_emptied, without_a
 
 use super::Spine;
 use crate::cut::halve_node;
-use crate::lengths::prefix_in;
 use crate::refusal::{Refusal, Refused};
 use crate::shift::{put_item, take_item};
 use crate::spot::Spot;
@@ -147,7 +146,7 @@ impl<T: Drop> Spine<T> {
         ensures refusal { IfErr result (λ e. e ≡ Refusal.Memory) }
         ensures err { OnErr result (self.new ≡ self.old) }
     {
-        let left = prefix_in(self.nodes.as_slice(), spot.node) + spot.offset;
+        let left = self.position(&spot);
         let nodes = split_nodes(&mut self.nodes, spot)?;
         let right = Spine {
             nodes,
@@ -211,8 +210,8 @@ fn halve_at<T>(nodes: &mut Vec<Vec<T>>, spot: Spot) -> Result<Spot, Refusal>
 {
     nodes.reserve(1)?;
     let node = &mut nodes[spot.node];
-    let half = node.len() / 2;
     let right = halve_node(node)?;
+    let half = node.len();
     put_item(nodes, spot.node + 1, right);
     if half < spot.offset {
         return Ok(Spot {
