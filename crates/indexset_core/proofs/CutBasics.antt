@@ -1,5 +1,5 @@
 -- Lists of nodes, joined and measured.
-use Rattle.std.proofs.Common.{◌≡◌, ℕ, zero, suc, ◌+◌, ◌-◌, ◌<◌, ◌≤◌, List, [], ◌∷◌, ◌++◌, length, map, sum, take, drop, get_or, slice_set, slice_get, refl, sym, ap, ◌∙◌, arith, length-append, append_assoc, add-one}
+use Rattle.std.proofs.Common.{◌≡◌, ℕ, zero, suc, ◌+◌, ◌<◌, ◌≤◌, List, [], ◌∷◌, ◌++◌, length, sum, take, drop, get_or, slice_set, slice_get, refl, sym, ap, ◌∙◌, arith, length-append, append_assoc, add-one}
 use Rattle.std.proofs.lemmas.List.{map-set, map-append, take-map, drop-map, set_split, set-get_or}
 use Rattle.std.proofs.lemmas.List.Sums.{sum_by-cons}
 use Rattle.std.specs.List.{splice}
@@ -41,7 +41,7 @@ module _ {X : Type 0} where
       let len : List X → ℕ = λ n. length n in
       map-append len (take i ns) (ps ++ drop j ns)
       ∙ (ap (λ l. l ++ lens (ps ++ drop j ns)) (sym (take-map len i ns))
-          ∙ ap (λ l. take i (lens ns) ++ l) (map-append len ps (drop j ns) ∙ ap (λ l. lens ps ++ l) (sym (drop-map len j ns))))
+      ∙ ap (λ l. take i (lens ns) ++ l) (map-append len ps (drop j ns) ∙ ap (λ l. lens ps ++ l) (sym (drop-map len j ns))))
 
   pub slice_get-left : (xs ys : List X) (i : ℕ) → i < length xs → slice_get (xs ++ ys) i ≡ slice_get xs i
   slice_get-left [] ys i h = absurd (omega arith)
@@ -68,4 +68,4 @@ module _ {X : Type 0} where
         let held : Vec X Z → List X = λ v. v.items in
         map-append held (take i vs) (ws ++ drop j vs)
         ∙ (ap (λ l. l ++ lists (ws ++ drop j vs)) (sym (take-map held i vs))
-            ∙ ap (λ l. take i (lists vs) ++ l) (map-append held ws (drop j vs) ∙ ap (λ l. lists ws ++ l) (sym (drop-map held j vs))))
+        ∙ ap (λ l. take i (lists vs) ++ l) (map-append held ws (drop j vs) ∙ ap (λ l. lists ws ++ l) (sym (drop-map held j vs))))

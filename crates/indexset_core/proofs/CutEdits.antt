@@ -1,13 +1,13 @@
 -- What an edit at a place does to the joined list, and that the nodes stay a cut.
-use Rattle.std.proofs.Common.{◌≡◌, ℕ, zero, suc, ◌+◌, ◌-◌, ◌/◌, ◌<◌, ◌≤◌, ◌==◌, Bool, true, false, List, [], ◌∷◌, ◌++◌, length, sum, take, drop, get_or, slice_set, slice_get, if◌then◌else◌, nat_lt, ◌&&◌, refl, sym, ap, ◌∙◌, subst, arith, length-append, add-one, length-take, length-drop}
+use Rattle.std.proofs.Common.{◌≡◌, ℕ, suc, ◌+◌, ◌-◌, ◌/◌, ◌<◌, ◌≤◌, ◌==◌, true, false, List, [], ◌∷◌, ◌++◌, length, take, drop, slice_set, slice_get, if◌then◌else◌, nat_lt, ◌&&◌, refl, sym, ap, ◌∙◌, subst, arith, length-append, add-one, length-take, length-drop}
 use Rattle.std.proofs.lemmas.Bool.Decides.{nat_tests}
 use Rattle.std.proofs.lemmas.List.{append-nil, length-map, get_or-map, length-set, set-append_left, set-append_right, take-append-drop, length-take-le, set_split, nil_from_length}
 use Rattle.std.proofs.lemmas.List.Edits.{length-insert, length-remove, insert-append_left, insert-append_right, remove-append_left, remove-append_right}
-use Rattle.std.proofs.lemmas.List.Elements.{All-cons, All-nil, All-append, All-take, All-drop, All-get_or}
+use Rattle.std.proofs.lemmas.List.Elements.{All-cons, All-nil, All-append, All-take, All-drop}
 use Rattle.std.specs.List.{All, splice, insert, remove}
 use Rattle.indexset_core.specs.declared.spot.Spot.{Spot}
 use Rattle.indexset_core.specs.Cut.{IsCut, IsSpine, joined, lens, node_at, IsSpot, IsItemSpot, position_of, parts_with, with_inserted, without_item, with_replaced, first_spot}
-use Rattle.indexset_core.proofs.CutBasics.{joined-append, length-joined, lens-set, around, joined_around, joined-splice, lens-splice, slice_get-left, slice_get-right}
+use Rattle.indexset_core.proofs.CutBasics.{joined-append, length-joined, lens-set, joined_around, joined-splice, lens-splice, slice_get-left, slice_get-right}
 
 -- an edit within the middle of three lists
 module _ {X : Type 0} (fs n bs : List X) (o : ℕ) where
@@ -79,17 +79,17 @@ module _ {X : Type 0} where
       elim (nat_lt (length n) size) as (λ b. nat_lt (length n) size ≡ b → joined (if b then insert n o v ∷ [] else if nat_lt half o then take half n ∷ insert (drop half n) (o - half) v ∷ [] else insert (take half n) o v ∷ drop half n ∷ []) ≡ insert n o v) [
         | true ↦ λ _. append-nil (insert n o v)
         | false ↦ λ _. elim (nat_lt half o) as (λ b. nat_lt half o ≡ b → joined (if b then take half n ∷ insert (drop half n) (o - half) v ∷ [] else insert (take half n) o v ∷ drop half n ∷ []) ≡ insert n o v) [
-            | true ↦ λ e.
-                let above : half < o = grind (arith, nat_tests) in
-                ap (λ l. take half n ++ l) (append-nil (insert (drop half n) (o - half) v))
-                ∙ (sym (insert-append_right (take half n) (drop half n) half o v long (omega arith))
-                    ∙ ap (λ l. insert l o v) (take-append-drop half n))
-            | false ↦ λ e.
-                let upto : o ≤ half = grind (arith, nat_tests) in
-                ap (λ l. insert (take half n) o v ++ l) (append-nil (drop half n))
-                ∙ (sym (insert-append_left (take half n) (drop half n) o v (omega arith))
-                    ∙ ap (λ l. insert l o v) (take-append-drop half n))
-          ] refl
+          | true ↦ λ e.
+              let above : half < o = grind (arith, nat_tests) in
+              ap (λ l. take half n ++ l) (append-nil (insert (drop half n) (o - half) v))
+              ∙ (sym (insert-append_right (take half n) (drop half n) half o v long (omega arith))
+              ∙ ap (λ l. insert l o v) (take-append-drop half n))
+          | false ↦ λ e.
+              let upto : o ≤ half = grind (arith, nat_tests) in
+              ap (λ l. insert (take half n) o v ++ l) (append-nil (drop half n))
+              ∙ (sym (insert-append_left (take half n) (drop half n) o v (omega arith))
+              ∙ ap (λ l. insert l o v) (take-append-drop half n))
+        ] refl
       ] refl
 
   pub joined_inserted : (size : ℕ) (ns : List (List X)) (s : Spot) (v : X) → IsSpot ns s → joined (with_inserted size ns s v) ≡ insert (joined ns) (position_of ns s) v
@@ -98,8 +98,8 @@ module _ {X : Type 0} where
       let fs = joined (take s.node ns) in let bs = joined (drop (s.node + 1) ns) in let n = node_at ns s.node in
       joined-splice ns (parts_with size n s.offset v) s.node (s.node + 1)
       ∙ (ap (λ l. fs ++ (l ++ bs)) (joined_parts size n s.offset v h.offset_in)
-          ∙ (sym (insert_mid fs n bs s.offset v h.offset_in)
-              ∙ ap (λ l. insert l (position_of ns s) v) (sym (joined_around ns s.node h.node_in))))
+      ∙ (sym (insert_mid fs n bs s.offset v h.offset_in)
+      ∙ ap (λ l. insert l (position_of ns s) v) (sym (joined_around ns s.node h.node_in))))
 
   parts_bounded : (size : ℕ) (n : List X) (o : ℕ) (v : X) → 2 ≤ size → length n ≤ size → o ≤ length n → All (λ m. m ≤ size) (lens (parts_with size n o v))
   unfolding parts_with
@@ -160,7 +160,7 @@ module _ {X : Type 0} where
       let bounded : length n ≤ size = node_bounded ns s.node size h.node_in is in
       let inside : s.node < length (lens ns) = omega (arith, h.node_in, length-lens ns) in
       let some : 1 ≤ length (splice (lens ns) s.node (s.node + 1) (lens ps)) =
-          omega (arith, parts_some size n s.offset v, length-lens ps, length-append (take s.node (lens ns)) (lens ps ++ drop (s.node + 1) (lens ns)), length-append (lens ps) (drop (s.node + 1) (lens ns))) in
+      omega (arith, parts_some size n s.offset v, length-lens ps, length-append (take s.node (lens ns)) (lens ps ++ drop (s.node + 1) (lens ns)), length-append (lens ps) (drop (s.node + 1) (lens ns))) in
       rw (lens-splice ns ps s.node (s.node + 1)) (cut_splice (lens ns) (lens ps) s.node size inside is some (parts_bounded size n s.offset v is.two bounded h.offset_in) (λ more. parts_filled size n s.offset v is.two bounded h.offset_in))
 
   pub spine_of : (ns : List (List X)) (size total : ℕ) → IsCut (lens ns) size → total ≡ length (joined ns) → IsSpine (lens ns) size total
@@ -200,7 +200,7 @@ module _ {X : Type 0} where
       let fs = joined (take s.node ns) in let bs = joined (drop (s.node + 1) ns) in let n = node_at ns s.node in
       joined_set ns s.node (slice_set n s.offset v) h.node_in
       ∙ (sym (set_mid fs n bs s.offset v h.offset_in)
-          ∙ ap (λ l. slice_set l (position_of ns s) v) (sym (joined_around ns s.node h.node_in)))
+      ∙ ap (λ l. slice_set l (position_of ns s) v) (sym (joined_around ns s.node h.node_in)))
 
   pub lens-replaced : (ns : List (List X)) (s : Spot) (v : X) → lens (with_replaced ns s v) ≡ lens ns
   unfolding with_replaced
@@ -211,7 +211,7 @@ module _ {X : Type 0} where
   joined_without ns s h =
       let fs = joined (take s.node ns) in let bs = joined (drop (s.node + 1) ns) in let n = node_at ns s.node in
       let goes : fs ++ (remove n s.offset ++ bs) ≡ remove (joined ns) (position_of ns s) =
-          sym (remove_mid fs n bs s.offset h.offset_in) ∙ ap (λ l. remove l (position_of ns s)) (sym (joined_around ns s.node h.node_in)) in
+      sym (remove_mid fs n bs s.offset h.offset_in) ∙ ap (λ l. remove l (position_of ns s)) (sym (joined_around ns s.node h.node_in)) in
       elim ((length n == 1) && nat_lt 1 (length ns)) as (λ b. (length n == 1) && nat_lt 1 (length ns) ≡ b → joined (if b then remove ns s.node else slice_set ns s.node (remove n s.offset)) ≡ remove (joined ns) (position_of ns s)) [
         | true ↦ λ e.
             let one : length n ≡ 1 = grind (arith, nat_tests) in
@@ -229,7 +229,7 @@ module _ {X : Type 0} where
       let bounded : length n ≤ size = node_bounded ns s.node size h.node_in is in
       let less : length m + 1 ≡ length n = length-remove n s.offset h.offset_in in
       let long : (ps : List ℕ) → length (splice (lens ns) s.node (s.node + 1) ps) ≡ s.node + (length ps + (length (lens ns) - (s.node + 1))) =
-          λ ps. omega (arith, inside, length-append (take s.node (lens ns)) (ps ++ drop (s.node + 1) (lens ns)), length-append ps (drop (s.node + 1) (lens ns)), length-take s.node (lens ns), length-drop (s.node + 1) (lens ns)) in
+      λ ps. omega (arith, inside, length-append (take s.node (lens ns)) (ps ++ drop (s.node + 1) (lens ns)), length-append ps (drop (s.node + 1) (lens ns)), length-take s.node (lens ns), length-drop (s.node + 1) (lens ns)) in
       elim ((length n == 1) && nat_lt 1 (length ns)) as (λ b. (length n == 1) && nat_lt 1 (length ns) ≡ b → IsCut (lens (if b then remove ns s.node else slice_set ns s.node m)) size) [
         | true ↦ λ e.
             let more : 1 < length ns = grind (arith, nat_tests) in
@@ -238,7 +238,7 @@ module _ {X : Type 0} where
         | false ↦ λ e.
             let same : lens (slice_set ns s.node m) ≡ splice (lens ns) s.node (s.node + 1) (length m ∷ []) = ap lens (rw add-one (set_split ns s.node m h.node_in)) ∙ lens-splice ns (m ∷ []) s.node (s.node + 1) in
             let left : 2 ≤ length (splice (lens ns) s.node (s.node + 1) (length m ∷ [])) → 1 ≤ length m = λ more.
-                let two : 1 < length ns = omega (arith, more, long (length m ∷ []), length-lens ns, inside) in grind (arith, nat_tests) in
+            let two : 1 < length ns = omega (arith, more, long (length m ∷ []), length-lens ns, inside) in grind (arith, nat_tests) in
             rw same (cut_splice (lens ns) (length m ∷ []) s.node size inside is (omega (arith, long (length m ∷ []))) (all_one (λ i. i ≤ size) (length m) (omega arith)) (λ more. all_one (λ i. 1 ≤ i) (length m) (left more)))
       ] refl
 

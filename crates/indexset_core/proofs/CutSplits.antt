@@ -1,7 +1,7 @@
 -- The nodes before a place and those from it on, joined, and that each is a cut.
-use Rattle.std.proofs.Common.{◌≡◌, ℕ, zero, suc, ◌+◌, ◌-◌, ◌<◌, ◌≤◌, ◌==◌, ◌&&◌, Bool, true, false, not, cond, filter, List, [], ◌∷◌, ◌++◌, length, take, drop, get_or, nat_lt, if◌then◌else◌, refl, sym, ap, ◌∙◌, subst, arith, length-append, length-take, length-drop, add-one}
+use Rattle.std.proofs.Common.{◌≡◌, ℕ, zero, suc, ◌+◌, ◌-◌, ◌<◌, ◌≤◌, ◌==◌, ◌&&◌, Bool, true, false, not, cond, filter, List, [], ◌∷◌, ◌++◌, length, take, drop, nat_lt, if◌then◌else◌, refl, sym, ap, ◌∙◌, subst, arith, length-append, length-take, length-drop, add-one}
 use Rattle.std.proofs.lemmas.Bool.Decides.{nat_tests}
-use Rattle.std.proofs.lemmas.List.{append-nil, length-map, get_or-map, get_or_at, take_at, drop_at, drop_all, take-append-le, drop-append-le, nil_from_length, length-take-le}
+use Rattle.std.proofs.lemmas.List.{append-nil, length-map, get_or-map, take_at, drop_all, take-append-le, drop-append-le, nil_from_length, length-take-le}
 use Rattle.std.proofs.lemmas.List.Elements.{All-cons, All-nil, All-append, All-take, All-drop, All-map, All-same, All-filter, All-weaker, filter_passes}
 use Rattle.std.proofs.lemmas.Bool.{false≢true}
 use Rattle.std.specs.List.{All, remove}
@@ -62,14 +62,14 @@ module _ {X : Type 0} where
               filled = λ _. All-map (λ i. 1 ≤ i) len (take k ns ++ drop (k + 1) ns) (All-append Filled (take k ns) (drop (k + 1) ns) before after);
             })
         | false ↦ λ e. record {
-            two = two;
-            some = omega (arith, length-map ns len, h);
-            bounded = All-map (λ i. i ≤ size) len ns low;
-            filled = λ more.
-                let two_nodes : 1 < length ns = omega (arith, length-map ns len, more) in
-                let some : 1 ≤ length (node_at ns k) = grind (arith, nat_tests) in
-                All-map (λ i. 1 ≤ i) len ns (All-same Filled ns (take k ns ++ node_at ns k ∷ drop (k + 1) ns) (around ns k h) (All-append Filled (take k ns) (node_at ns k ∷ drop (k + 1) ns) before (All-cons Filled (node_at ns k) (drop (k + 1) ns) some after)));
-          }
+          two = two;
+          some = omega (arith, length-map ns len, h);
+          bounded = All-map (λ i. i ≤ size) len ns low;
+          filled = λ more.
+              let two_nodes : 1 < length ns = omega (arith, length-map ns len, more) in
+              let some : 1 ≤ length (node_at ns k) = grind (arith, nat_tests) in
+              All-map (λ i. 1 ≤ i) len ns (All-same Filled ns (take k ns ++ node_at ns k ∷ drop (k + 1) ns) (around ns k h) (All-append Filled (take k ns) (node_at ns k ∷ drop (k + 1) ns) before (All-cons Filled (node_at ns k) (drop (k + 1) ns) some after)));
+        }
       ] refl
 
   all_lens : (P : ℕ → Type 0) (ns : List (List X)) → All P (lens ns) → All (λ n. P (length n)) ns
@@ -107,8 +107,8 @@ module _ {X : Type 0} where
         let fs = joined (take s.node ns) in let bs = joined (drop (s.node + 1) ns) in let n = node_at ns s.node in
         joined_emptied front s.node last_in
         ∙ (joined-append (take s.node ns) (take s.offset n ∷ [])
-            ∙ (ap (λ l. fs ++ l) (append-nil (take s.offset n))
-                ∙ (sym (take_mid fs n bs (position_of ns s) s.offset refl h.offset_in) ∙ ap (take (position_of ns s)) (sym (joined_around ns s.node h.node_in)))))
+        ∙ (ap (λ l. fs ++ l) (append-nil (take s.offset n))
+        ∙ (sym (take_mid fs n bs (position_of ns s) s.offset refl h.offset_in) ∙ ap (take (position_of ns s)) (sym (joined_around ns s.node h.node_in)))))
 
     pub joined_right : joined (right_nodes ns s) ≡ drop (position_of ns s) (joined ns)
     unfolding right_nodes

@@ -1,9 +1,9 @@
 -- The steps of an edit, on the nodes as the code holds them.
-use Rattle.std.proofs.Common.{◌≡◌, ℕ, zero, suc, ◌+◌, ◌-◌, ◌/◌, ◌<◌, ◌≤◌, List, [], ◌∷◌, ◌++◌, length, take, drop, get_or, slice_set, nat_lt, true, false, Result, Ok, Err, Option, Some, None, refl, sym, ap, ◌∙◌, subst, arith, add-one, append_assoc, length-take, length-drop}
+use Rattle.std.proofs.Common.{◌≡◌, ℕ, suc, ◌+◌, ◌-◌, ◌/◌, ◌<◌, ◌≤◌, List, [], ◌∷◌, ◌++◌, length, take, drop, get_or, slice_set, nat_lt, true, false, Result, Ok, Err, Option, Some, None, refl, sym, ap, ◌∙◌, subst, arith, add-one, append_assoc, length-take, length-drop}
 use Rattle.std.proofs.lemmas.Bool.Decides.{nat_tests}
-use Rattle.std.proofs.lemmas.List.{length-map, map_push, take_more, length-set, length-append, set-get_or, set_split, set_at, get_or_at, get_or-set_same, take-append-le, drop_at, take_at, length-take-le}
-use Rattle.std.proofs.lemmas.List.Edits.{get_or-insert_at, get_or-insert_below, length-insert}
-use Rattle.std.specs.List.{insert, remove, splice, HoldsAt}
+use Rattle.std.proofs.lemmas.List.{length-map, map_push, take_more, length-set, length-append, set-get_or, set_split, set_at, get_or_at, get_or-set_same, drop_at, take_at, length-take-le}
+use Rattle.std.proofs.lemmas.List.Edits.{get_or-insert_at, get_or-insert_below}
+use Rattle.std.specs.List.{insert, splice, HoldsAt}
 use Rattle.std.specs.Option.{IfSome}
 use Rattle.std.specs.Result.{OnErr}
 use Rattle.std.specs.Vec.{vec_len, vec_capacity}
@@ -26,12 +26,12 @@ module _ {A : Type 0} (ns : List A) (k : ℕ) (l r : A) (h : k < length ns) wher
   pub insert_after : insert (slice_set ns k l) (k + 1) r ≡ splice ns k (k + 1) (l ∷ r ∷ [])
   insert_after =
       let split : slice_set ns k l ≡ (take k ns ++ l ∷ []) ++ drop (k + 1) ns =
-          rw add-one (set_split ns k l h ∙ sym (append_assoc (take k ns) (l ∷ []) (drop (suc k) ns))) in
+      rw add-one (set_split ns k l h ∙ sym (append_assoc (take k ns) (l ∷ []) (drop (suc k) ns))) in
       let long : length (take k ns ++ l ∷ []) ≡ k + 1 = omega (arith, before, length-append (take k ns) (l ∷ [])) in
       ap (λ ms. take (k + 1) ms ++ r ∷ drop (k + 1) ms) split
       ∙ (ap (λ t. t ++ r ∷ drop (k + 1) ((take k ns ++ l ∷ []) ++ drop (k + 1) ns)) (take_at (take k ns ++ l ∷ []) (drop (k + 1) ns) (k + 1) long)
-          ∙ (ap (λ t. (take k ns ++ l ∷ []) ++ r ∷ t) (drop_at (take k ns ++ l ∷ []) (drop (k + 1) ns) (k + 1) long)
-              ∙ append_assoc (take k ns) (l ∷ []) (r ∷ drop (k + 1) ns)))
+      ∙ (ap (λ t. (take k ns ++ l ∷ []) ++ r ∷ t) (drop_at (take k ns ++ l ∷ []) (drop (k + 1) ns) (k + 1) long)
+      ∙ append_assoc (take k ns) (l ∷ []) (r ∷ drop (k + 1) ns)))
 
   get_left : (d : A) → get_or (splice ns k (k + 1) (l ∷ r ∷ [])) k d ≡ l
   get_left d = get_or_at (take k ns) l (r ∷ drop (k + 1) ns) d k before
@@ -48,7 +48,7 @@ module _ {A : Type 0} (ns : List A) (k : ℕ) (l r : A) (h : k < length ns) wher
   set_right m =
       ap (λ ms. slice_set ms (k + 1) m) (sym (append_assoc (take k ns) (l ∷ []) (r ∷ drop (k + 1) ns)))
       ∙ (set_at (take k ns ++ l ∷ []) r (drop (k + 1) ns) m (k + 1) (omega (arith, before, length-append (take k ns) (l ∷ [])))
-          ∙ append_assoc (take k ns) (l ∷ []) (m ∷ drop (k + 1) ns))
+      ∙ append_assoc (take k ns) (l ∷ []) (m ∷ drop (k + 1) ns))
 
 module _ {X : Type 0} where
   put_short : (size : ℕ) (ns : List (List X)) (s : Spot) (v : X) → s.node < length ns → length (node_at ns s.node) < size → with_put ns s v ≡ with_inserted size ns s v
@@ -66,7 +66,7 @@ module _ {X : Type 0} where
       let t' : nat_lt (length n / 2) s.offset ≡ true = grind (arith, nat_tests) in
       rw (t, t', ← is)
       (ap (λ m. slice_set (splice ns s.node (s.node + 1) (take half n ∷ drop half n ∷ [])) (s.node + 1) (insert m (s.offset - half) v)) (get_right ns s.node (take half n) (drop half n) h [])
-          ∙ set_right ns s.node (take half n) (drop half n) h (insert (drop half n) (s.offset - half) v))
+      ∙ set_right ns s.node (take half n) (drop half n) h (insert (drop half n) (s.offset - half) v))
 
   put_left : (ns : List (List X)) (s : Spot) (half : ℕ) (v : X) → s.node < length ns → half ≡ length (node_at ns s.node) / 2 → s.offset ≤ half
       → with_put (splice ns s.node (s.node + 1) (take half (node_at ns s.node) ∷ drop half (node_at ns s.node) ∷ [])) s v ≡ with_inserted (length (node_at ns s.node)) ns s v
@@ -77,7 +77,7 @@ module _ {X : Type 0} where
       let t' : nat_lt (length n / 2) s.offset ≡ false = grind (arith, nat_tests) in
       rw (t, t', ← is)
       (ap (λ m. slice_set (splice ns s.node (s.node + 1) (take half n ∷ drop half n ∷ [])) s.node (insert m s.offset v)) (get_left ns s.node (take half n) (drop half n) h [])
-          ∙ set_left ns s.node (take half n) (drop half n) h (insert (take half n) s.offset v))
+      ∙ set_left ns s.node (take half n) (drop half n) h (insert (take half n) s.offset v))
 
   -- a node that is longer than the size is cut as a full one is
   pub inserted_full : (size : ℕ) (ns : List (List X)) (s : Spot) (v : X) → size ≤ length (node_at ns s.node) → with_inserted (length (node_at ns s.node)) ns s v ≡ with_inserted size ns s v
@@ -115,6 +115,12 @@ module _ {X Z : Type 0} where
   room_puts vs s u w size v h at is short =
       ap (λ ns. with_put ns s v) (lists_kept vs s.node u w h at is) ∙ put_short size (lists vs) s v h short
 
+  -- the left half is as long as half the node
+  pub half_len : (u w : Vec X Z) → w.items ≡ take (length u.items / 2) u.items → vec_len w ≡ vec_len u / 2
+  half_len u w left =
+      w.ok.0
+      ∙ (ap (λ (l : List X). length l) left ∙ (length-take-le (length u.items / 2) u.items (omega arith) ∙ ap (λ n. n / 2) (sym u.ok.0)))
+
   -- the nodes are vs, u among them, and are then cut into w and r
   module _ (ns : List (List X)) (vs : List (Vec X Z)) (same : lists vs ≡ ns) (s : Spot) (u w r : Vec X Z) (h : s.node < length (lists vs)) (at : u ≡ get_or vs s.node u)
       (left : w.items ≡ take (length u.items / 2) u.items) (right : r.items ≡ drop (length u.items / 2) u.items) (half : ℕ) (is_half : half ≡ vec_len u / 2) where
@@ -131,11 +137,11 @@ module _ {X Z : Type 0} where
     cut_lists =
         ap lists (insert_after vs s.node w r (omega (arith, length-lists vs)))
         ∙ (lists-splice vs (w ∷ r ∷ []) s.node (s.node + 1)
-            ∙ (ap (λ l. splice (lists vs) s.node (s.node + 1) (l ∷ r.items ∷ [])) left
-                ∙ (ap (λ l. splice (lists vs) s.node (s.node + 1) (take (length u.items / 2) u.items ∷ l ∷ [])) right
-                    ∙ (ap (λ i. splice (lists vs) s.node (s.node + 1) (take i u.items ∷ drop i u.items ∷ [])) (sym half_is)
-                        ∙ (ap (λ n. splice (lists vs) s.node (s.node + 1) (take half n ∷ drop half n ∷ [])) (sym (node_is vs s.node u h at))
-                            ∙ ap (λ ms. splice ms s.node (s.node + 1) (take half (node_at ms s.node) ∷ drop half (node_at ms s.node) ∷ [])) same)))))
+        ∙ (ap (λ l. splice (lists vs) s.node (s.node + 1) (l ∷ r.items ∷ [])) left
+        ∙ (ap (λ l. splice (lists vs) s.node (s.node + 1) (take (length u.items / 2) u.items ∷ l ∷ [])) right
+        ∙ (ap (λ i. splice (lists vs) s.node (s.node + 1) (take i u.items ∷ drop i u.items ∷ [])) (sym half_is)
+        ∙ (ap (λ n. splice (lists vs) s.node (s.node + 1) (take half n ∷ drop half n ∷ [])) (sym (node_is vs s.node u h at))
+        ∙ ap (λ ms. splice ms s.node (s.node + 1) (take half (node_at ms s.node) ∷ drop half (node_at ms s.node) ∷ [])) same)))))
 
     pub right_puts : (v : X) → half < s.offset → with_put (lists (insert (slice_set vs s.node w) (s.node + 1) r)) record { node = s.node + 1; offset = s.offset - half; found = s.found } v ≡ with_inserted (length (node_at ns s.node)) ns s v
     right_puts v above =
@@ -159,7 +165,7 @@ module _ {X Z : Type 0} where
     left_room two room d =
         let long = length-set vs s.node w in
         let e : get_or (insert (slice_set vs s.node w) (s.node + 1) r) s.node d ≡ w =
-            get_or-insert_below (slice_set vs s.node w) (s.node + 1) r d s.node (omega arith) (omega (arith, length-lists vs)) ∙ get_or-set_same vs s.node w d (omega (arith, length-lists vs)) in
+        get_or-insert_below (slice_set vs s.node w) (s.node + 1) r d s.node (omega arith) (omega (arith, length-lists vs)) ∙ get_or-set_same vs s.node w d (omega (arith, length-lists vs)) in
         let n : vec_len w ≡ length (take (length u.items / 2) u.items) = w.ok.0 ∙ ap (λ (l : List X). length l) left in
         subst (λ (v : Vec X Z). vec_len v < vec_capacity v) (sym e) (omega (arith, n, room, two_in two, u.ok, length-take (length u.items / 2) u.items))
 
@@ -180,4 +186,4 @@ pub copied_more : {X Z : Type 0} (ws vs : List (Vec X Z)) (i : ℕ) (u v : Vec X
 copied_more ws vs i u v h at is same =
     map_push (λ w. w.items) ws v
     ∙ (ap (λ l. l ++ v.items ∷ []) same
-        ∙ (ap (λ n. take i (lists vs) ++ n ∷ []) (is ∙ sym (get_or-lists vs i u h at)) ∙ sym (take_more (lists vs) i [] (omega (arith, h, length-lists vs)))))
+    ∙ (ap (λ n. take i (lists vs) ++ n ∷ []) (is ∙ sym (get_or-lists vs i u h at)) ∙ sym (take_more (lists vs) i [] (omega (arith, h, length-lists vs)))))

@@ -1,18 +1,18 @@
 -- What is taken out of the nodes, as the code holds them.
-use Rattle.std.proofs.Common.{◌≡◌, ℕ, zero, suc, ◌+◌, ◌-◌, ◌<◌, ◌≤◌, ◌==◌, ◌&&◌, Bool, true, false, List, [], ◌∷◌, ◌++◌, length, take, drop, get_or, slice_set, slice_get, Some, nat_lt, if◌then◌else◌, refl, sym, ap, ◌∙◌, subst, arith}
+use Rattle.std.proofs.Common.{◌≡◌, ℕ, suc, ◌+◌, ◌<◌, ◌≤◌, ◌==◌, ◌&&◌, true, false, List, [], ◌++◌, length, take, drop, get_or, slice_set, slice_get, Some, nat_lt, if◌then◌else◌, refl, sym, ap, ◌∙◌, subst, arith}
 use Rattle.std.proofs.lemmas.Bool.Decides.{nat_tests}
 use Rattle.std.proofs.lemmas.List.{length-set, get_or-set_same, take-set, drop-set-lt, take-map, drop-map, map-append}
 use Rattle.std.proofs.lemmas.List.Edits.{length-remove}
 use Rattle.std.proofs.lemmas.Option.{slice_get_read}
 use Rattle.std.specs.List.{remove}
-use Rattle.std.specs.Vec.{vec_len, with_item}
+use Rattle.std.specs.Vec.{with_item}
 use Rattle.std.specs.declared.vec.Vec.{Vec}
 use Rattle.indexset_core.specs.declared.spot.Spot.{Spot}
 use Rattle.indexset_core.specs.Cut.{Cut, cut, lists, node_at, IsItemSpot, without_item, with_replaced, joined, position_of}
 use Rattle.indexset_core.specs.Edits.{without_emptied}
 use Rattle.indexset_core.proofs.CutBasics.{lists-set}
 use Rattle.indexset_core.proofs.CutEdits.{item_at_spot}
-use Rattle.indexset_core.proofs.EditSteps.{length-lists, node_is, node_len, item_spot_in}
+use Rattle.indexset_core.proofs.EditSteps.{node_is, item_spot_in}
 
 zero_or_one : (a b : ℕ) → a + 1 ≡ b → (a == 0) ≡ (b == 1)
 zero_or_one a b e = grind (arith, nat_tests)
@@ -69,7 +69,7 @@ module _ {X Z : Type 0} where
       let here = item_spot_in (lists vs) size t s e h in
       lists-set vs s.node (with_item u s.offset w)
       ∙ (ap (λ n. slice_set (lists vs) s.node (slice_set n s.offset w)) (sym (node_is vs s.node u here.node_in at))
-          ∙ ap (λ (t : Cut X). slice_set t.nodes s.node (slice_set (node_at t.nodes s.node) s.offset w)) e)
+      ∙ ap (λ (t : Cut X). slice_set t.nodes s.node (slice_set (node_at t.nodes s.node) s.offset w)) e)
 
   pub item_read : (vs : List (Vec X Z)) (size : ℕ) (t : Cut X) (s : Spot) (u : Vec X Z) (x : X) → cut (lists vs) size ≡ t → IsItemSpot t.nodes s → u ≡ get_or vs s.node u → x ≡ get_or u.items s.offset x
       → slice_get (joined t.nodes) (position_of t.nodes s) ≡ Some x
@@ -78,4 +78,4 @@ module _ {X Z : Type 0} where
       let node = node_is vs s.node u here.node_in at in
       item_at_spot t.nodes s h
       ∙ (ap (λ (t : Cut X). slice_get (node_at t.nodes s.node) s.offset) (sym e)
-          ∙ (ap (λ n. slice_get n s.offset) node ∙ slice_get_read u.items (length u.items) s.offset x refl (subst (λ (n : List X). s.offset < length n) node here.offset_in) is))
+      ∙ (ap (λ n. slice_get n s.offset) node ∙ slice_get_read u.items (length u.items) s.offset x refl (subst (λ (n : List X). s.offset < length n) node here.offset_in) is))

@@ -1,5 +1,5 @@
 -- A closure that is asked at each item in turn, over lists that stand one after another.
-use Rattle.std.proofs.Common.{◌≡◌, ℕ, zero, suc, ◌+◌, ◌-◌, ◌<◌, ◌≤◌, Bool, true, false, not, cond, filter, ◌==◌, vec_len, List, [], ◌∷◌, ◌++◌, length, take, drop, get_or, set, inl, inr, swap, refl, sym, ap, ◌∙◌, subst, arith, append_assoc, append-nil}
+use Rattle.std.proofs.Common.{◌≡◌, ℕ, ◌+◌, ◌<◌, ◌≤◌, Bool, true, false, not, cond, filter, ◌==◌, vec_len, List, [], ◌∷◌, ◌++◌, length, take, drop, get_or, set, inl, inr, swap, refl, sym, ap, ◌∙◌, subst, arith, append_assoc, append-nil}
 use Rattle.std.proofs.lemmas.List.{length-set, get_or-set_same, take-set, take-set-le, take_more_set, drop-set-lt, drop_more, drop_all}
 use Rattle.std.proofs.lemmas.Grind.{drop_more_same}
 use Rattle.std.proofs.lemmas.List.Edits.{swap_is}
@@ -27,20 +27,20 @@ module _ {X : Type 0} (ys : List X) (k i : ℕ) (y : X) (le : k ≤ i) (lt : i <
         | inl below ↦
             take-set-le (k + 1) (set zs k (get_or zs i y)) i (get_or zs k y) (omega arith)
             ∙ (take_more_set zs k (get_or zs i y) (omega (arith, long))
-                ∙ (ap (λ l. l ++ get_or zs i y ∷ []) (take-set-le k ys i y le) ∙ ap (λ x. take k ys ++ x ∷ []) there))
+            ∙ (ap (λ l. l ++ get_or zs i y ∷ []) (take-set-le k ys i y le) ∙ ap (λ x. take k ys ++ x ∷ []) there))
         | inr above ↦
             let same : i ≡ k = omega arith in
             subst (λ j. take (k + 1) (set (set zs k (get_or zs i y)) j (get_or zs k y)) ≡ take k ys ++ y ∷ []) (sym same)
             (take_more_set (set zs k (get_or zs i y)) k (get_or zs k y) (omega (arith, long, length-set zs k (get_or zs i y)))
-                ∙ (ap (λ l. l ++ get_or zs k y ∷ []) (take-set zs k (get_or zs i y) ∙ take-set-le k ys i y le)
-                    ∙ ap (λ x. take k ys ++ x ∷ []) (ap (λ j. get_or zs j y) (sym same) ∙ there)))
+            ∙ (ap (λ l. l ++ get_or zs k y ∷ []) (take-set zs k (get_or zs i y) ∙ take-set-le k ys i y le)
+            ∙ ap (λ x. take k ys ++ x ∷ []) (ap (λ j. get_or zs j y) (sym same) ∙ there)))
       ])
 
   drop-swapped : drop (i + 1) (swap zs k i) ≡ drop (i + 1) ys
   drop-swapped =
       rw (← swapped)
       (drop-set-lt (i + 1) (set zs k (get_or zs i y)) i (get_or zs k y) (omega arith)
-          ∙ (drop-set-lt (i + 1) zs k (get_or zs i y) (omega arith) ∙ drop-set-lt (i + 1) ys i y (omega arith)))
+      ∙ (drop-set-lt (i + 1) zs k (get_or zs i y) (omega arith) ∙ drop-set-lt (i + 1) ys i y (omega arith)))
 
 module _ {S X : Type 0} (R : S → X → Bool → S → X → Type 0) where
   -- k items have stayed of the first i of xs, ys is xs from i on, and the calls go on at s
@@ -99,7 +99,7 @@ module _ {X Z : Type 0} where
   lists-filter [] = refl
   lists-filter (v ∷ vs) =
       let both : (b : Bool) → lists (cond (not b) (v ∷ filter filled vs) (filter filled vs)) ≡ cond (not b) (v.items ∷ filter (λ n. not (length n == 0)) (lists vs)) (filter (λ n. not (length n == 0)) (lists vs)) =
-          elim [ true ↦ lists-filter vs | false ↦ ap (λ l. v.items ∷ l) (lists-filter vs) ] in
+      elim [ true ↦ lists-filter vs | false ↦ ap (λ l. v.items ∷ l) (lists-filter vs) ] in
       subst (λ (n : ℕ). lists (cond (not (n == 0)) (v ∷ filter filled vs) (filter filled vs)) ≡ cond (not (length v.items == 0)) (v.items ∷ filter (λ n. not (length n == 0)) (lists vs)) (filter (λ n. not (length n == 0)) (lists vs)))
       (sym v.ok.0) (both (length v.items == 0))
 

@@ -1,5 +1,5 @@
 -- The nodes cut in two lists at a place, as the code holds them.
-use Rattle.std.proofs.Common.{◌≡◌, ℕ, zero, suc, ◌+◌, ◌-◌, ◌<◌, ◌≤◌, List, [], ◌∷◌, ◌++◌, length, take, drop, get_or, slice_set, refl, sym, ap, ◌∙◌, subst, arith, length-drop}
+use Rattle.std.proofs.Common.{◌≡◌, ℕ, ◌+◌, ◌<◌, List, [], ◌∷◌, ◌++◌, length, take, drop, get_or, slice_set, sym, ap, ◌∙◌, arith, length-drop}
 use Rattle.std.proofs.lemmas.List.{drop_more, get_or-drop, take-map, drop-map, map-append, map_push, take-append-drop}
 use Rattle.std.specs.declared.vec.Vec.{Vec}
 use Rattle.indexset_core.specs.Cut.{lists, node_at}
@@ -21,14 +21,14 @@ module _ {X Z : Type 0} where
     right_lists w is =
         ap (λ l. lists (slice_set l 0 w)) (tail ∙ drop_more vs k u inside)
         ∙ (ap (λ l. l ∷ lists (drop (k + 1) vs)) (is ∙ ap (drop o) (sym (node_is vs k u h u_is)))
-            ∙ ap (λ l. drop o (node_at (lists vs) k) ∷ l) (sym (drop-map held (k + 1) vs)))
+        ∙ ap (λ l. drop o (node_at (lists vs) k) ∷ l) (sym (drop-map held (k + 1) vs)))
 
     pub left_lists : (ls : List (Vec X Z)) (w : Vec X Z) → ls ≡ take k vs → w.items ≡ take o u.items → lists (ls ++ w ∷ []) ≡ take k (lists vs) ++ take o (node_at (lists vs) k) ∷ []
     left_lists ls w front is =
         map_push held ls w
         ∙ (ap (λ l. lists l ++ w.items ∷ []) front
-            ∙ (ap (λ l. l ++ w.items ∷ []) (sym (take-map held k vs))
-                ∙ ap (λ l. take k (lists vs) ++ l ∷ []) (is ∙ ap (take o) (sym (node_is vs k u h u_is)))))
+        ∙ (ap (λ l. l ++ w.items ∷ []) (sym (take-map held k vs))
+        ∙ ap (λ l. take k (lists vs) ++ l ∷ []) (is ∙ ap (take o) (sym (node_is vs k u h u_is)))))
 
     -- the two lists, appended again
     pub whole_again : (ls : List (Vec X Z)) (w : Vec X Z) → ls ≡ take k vs → w.items ≡ u.items → lists (ls ++ slice_set ws 0 w) ≡ lists vs
@@ -36,5 +36,5 @@ module _ {X Z : Type 0} where
         let some : 0 < length (lists ws) = omega (arith, length-lists ws, ap (λ (l : List (Vec X Z)). length l) tail, length-drop k vs, inside) in
         map-append held ls (slice_set ws 0 w)
         ∙ (ap (λ l. lists ls ++ l) (lists_kept ws 0 u w some at is)
-            ∙ (sym (map-append held ls ws)
-                ∙ (ap (λ l. lists (l ++ ws)) front ∙ (ap (λ l. lists (take k vs ++ l)) tail ∙ ap lists (take-append-drop k vs)))))
+        ∙ (sym (map-append held ls ws)
+        ∙ (ap (λ l. lists (l ++ ws)) front ∙ (ap (λ l. lists (take k vs ++ l)) tail ∙ ap lists (take-append-drop k vs)))))

@@ -14,6 +14,7 @@ pub mod node;
 pub mod probe;
 pub mod refusal;
 pub mod search;
+mod shift;
 pub mod spine;
 pub mod spot;
 pub mod steps;

@@ -8,11 +8,14 @@ ghost use Rattle.indexset_core.specs.Edits.{with_put, without_emptied, without_a
 
 use super::Spine;
 use crate::cut::halve_node;
-use crate::lengths::prefix_in;
 use crate::refusal::{Refusal, Refused};
+use crate::shift::{put_item, take_item};
 use crate::spot::Spot;
 use std::alloc::Global;
 use std::mem;
+
+#[cfg(test)]
+mod tests;
 
 impl<T: Drop> Spine<T> {
     /// One empty node, of at most `size` items.
@@ -134,6 +137,8 @@ impl<T: Drop> Spine<T> {
     /// nothing.
     pub fn split_off(&mut self, spot: Spot) -> Result<Spine<T>, Refusal>
         requires { IsSpot self.old.nodes spot }
+        ensures nodes { OnOk result (self.new.nodes ≡ left_nodes self.old.nodes spot) }
+        ensures rest_nodes { IfOk result (λ s. s.nodes ≡ right_nodes self.old.nodes spot) }
         ensures left { OnOk result (items self.new ≡ take (position_of self.old.nodes spot) (items self.old)) }
         ensures right { IfOk result (λ s. items s ≡ drop (position_of self.old.nodes spot) (items self.old)) }
         ensures size { self.new.size ≡ self.old.size }
@@ -141,7 +146,7 @@ impl<T: Drop> Spine<T> {
         ensures refusal { IfErr result (λ e. e ≡ Refusal.Memory) }
         ensures err { OnErr result (self.new ≡ self.old) }
     {
-        let left = prefix_in(self.nodes.as_slice(), spot.node) + spot.offset;
+        let left = self.position(&spot);
         let nodes = split_nodes(&mut self.nodes, spot)?;
         let right = Spine {
             nodes,
@@ -205,12 +210,9 @@ fn halve_at<T>(nodes: &mut Vec<Vec<T>>, spot: Spot) -> Result<Spot, Refusal>
 {
     nodes.reserve(1)?;
     let node = &mut nodes[spot.node];
-    let half = node.len() / 2;
     let right = halve_node(node)?;
-    match nodes.insert(spot.node + 1, right) {
-        Ok(()) => {}
-        Err(_) => unreachable!(),
-    }
+    let half = node.len();
+    put_item(nodes, spot.node + 1, right);
     if half < spot.offset {
         return Ok(Spot {
             node: spot.node + 1,
@@ -222,15 +224,12 @@ fn halve_at<T>(nodes: &mut Vec<Vec<T>>, spot: Spot) -> Result<Spot, Refusal>
 }
 
 // Puts an item into a node that has room.
-fn put<T: Drop>(nodes: &mut Vec<Vec<T>>, place: Spot, value: T)
+fn put<T>(nodes: &mut Vec<Vec<T>>, place: Spot, value: T)
     requires spot { IsSpot (lists nodes.old.items) place }
     requires room { HoldsAt (λ node. vec_len node < vec_capacity node) nodes.old.items place.node }
     ensures { lists nodes.new.items ≡ with_put (lists nodes.old.items) place value }
 {
-    match nodes[place.node].insert(place.offset, value) {
-        Ok(()) => {}
-        Err(_) => unreachable!(),
-    }
+    put_item(&mut nodes[place.node], place.offset, value);
 }
 
 // Takes out the item at a place, and an emptied node with it, unless it is the only one.
@@ -239,7 +238,7 @@ fn take_out<T: Drop>(nodes: &mut Vec<Vec<T>>, spot: Spot) -> T
     ensures value { slice_get (node_at (lists nodes.old.items) spot.node) spot.offset ≡ Some result }
     ensures nodes { lists nodes.new.items ≡ without_item (lists nodes.old.items) spot }
 {
-    let value = nodes[spot.node].remove(spot.offset);
+    let value = take_item(&mut nodes[spot.node], spot.offset);
     drop_if_empty(nodes, spot.node);
     value
 }
@@ -250,7 +249,7 @@ fn drop_if_empty<T: Drop>(nodes: &mut Vec<Vec<T>>, k: usize)
     ensures { lists nodes.new.items ≡ without_emptied (lists nodes.old.items) k }
 {
     if nodes[k].is_empty() && 1 < nodes.len() {
-        drop(nodes.remove(k));
+        drop(take_item(nodes, k));
     }
 }
 

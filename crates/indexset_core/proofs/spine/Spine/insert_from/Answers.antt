@@ -1,5 +1,5 @@
-use Rattle.std.proofs.Common.{◌≡◌, ◌∙◌, ◌<◌, Some, ap, sym, subst, insert, drop, length, slice_get}
-use Rattle.indexset_core.specs.Cut.{Cut, items, joined, lists, position_of, with_inserted, IsItemSpot, first_spot}
+use Rattle.std.proofs.Common.{◌≡◌, ◌∙◌, Some, ap, insert, drop, slice_get}
+use Rattle.indexset_core.specs.Cut.{Cut, items, joined, position_of, with_inserted, first_spot}
 use Rattle.indexset_core.proofs.EditSteps.{spot_in, some_is}
 use Rattle.indexset_core.proofs.CutEdits.{spine_inserted, joined_inserted, spine_without, joined_without, one_inside, item_at_spot, first_in}
 use Rattle.indexset_core.proofs.spine.Spine.insert_from.Goals as goal
@@ -40,7 +40,7 @@ returns-clause-items g c =
     let value : slice_get (items c.args.other.now) 0 ≡ Some c.take_out-value.result = rw (← c.other.view_is) (item_at_spot _ first_spot first ∙ c.take_out-value.ensures.value) in
     some_is _ c.take_out-value.result _ value
     (ap joined (c.put.ensures ∙ c.in_ok-place.ensures.nodes c.take_out-value.result)
-        ∙ (joined_inserted _ _ c.args.spot c.take_out-value.result spot ∙ ap (λ (t : Cut g.row.T.Denot). insert (items t) (position_of t.nodes c.args.spot) c.take_out-value.result) c.self.view_is))
+    ∙ (joined_inserted _ _ c.args.spot c.take_out-value.result spot ∙ ap (λ (t : Cut g.row.T.Denot). insert (items t) (position_of t.nodes c.args.spot) c.take_out-value.result) c.self.view_is))
 
 pub returns-clause-rest : goal.returns-clause-rest
 returns-clause-rest g c =

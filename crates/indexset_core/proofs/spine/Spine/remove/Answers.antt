@@ -1,5 +1,5 @@
-use Rattle.std.proofs.Common.{◌∙◌, ap, slice_get, remove}
-use Rattle.indexset_core.specs.Cut.{Cut, items, joined, node_at, position_of}
+use Rattle.std.proofs.Common.{◌∙◌, ap, remove}
+use Rattle.indexset_core.specs.Cut.{Cut, items, joined, position_of}
 use Rattle.indexset_core.proofs.EditSteps.{item_spot_in}
 use Rattle.indexset_core.proofs.CutEdits.{spine_without, joined_without, one_inside, item_at_spot}
 use Rattle.indexset_core.proofs.spine.Spine.remove.Goals as goal

@@ -1,5 +1,5 @@
-use Rattle.std.proofs.Common.{◌∙◌, ap, sym, slice_set}
-use Rattle.indexset_core.specs.Cut.{Cut, joined, position_of, with_replaced}
+use Rattle.std.proofs.Common.{◌∙◌, ap, slice_set}
+use Rattle.indexset_core.specs.Cut.{joined, position_of, with_replaced}
 use Rattle.indexset_core.proofs.CutEdits.{joined_replaced, spine_replaced}
 use Rattle.indexset_core.proofs.RemoveSteps.{replace_writes, item_read}
 use Rattle.indexset_core.proofs.spine.Spine.replace.Goals as goal
@@ -21,4 +21,4 @@ pub returns-clause-items : goal.returns-clause-items
 returns-clause-items g c =
     ap joined (replace_writes _ _ c.args.self.now c.args.spot _ c.replace.new.dest c.self.view_is c.requires c.index_mut-node.ensures.value)
     ∙ (joined_replaced c.args.self.now.nodes c.args.spot c.replace.new.dest c.requires
-        ∙ ap (slice_set (joined c.args.self.now.nodes) (position_of c.args.self.now.nodes c.args.spot)) c.replace.ensures.after)
+    ∙ ap (slice_set (joined c.args.self.now.nodes) (position_of c.args.self.now.nodes c.args.spot)) c.replace.ensures.after)

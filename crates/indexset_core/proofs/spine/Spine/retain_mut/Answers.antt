@@ -1,8 +1,7 @@
-use Rattle.std.proofs.Common.{◌≡◌, List, length, ◌∙◌, ap, sym, subst, arith}
+use Rattle.std.proofs.Common.{List, length, ◌∙◌, ap, sym, arith}
 use Rattle.std.specs.Fn.{CalledAtMut}
-use Rattle.std.specs.List.Retain.{RetainsInTurn}
 use Rattle.std.proofs.lemmas.List.{with_items_is}
-use Rattle.indexset_core.specs.Cut.{Cut, items, joined, lists}
+use Rattle.indexset_core.specs.Cut.{joined, lists}
 use Rattle.indexset_core.specs.Edits.{without_all_emptied}
 use Rattle.indexset_core.proofs.CutBasics.{length-joined}
 use Rattle.indexset_core.proofs.CutEdits.{spine_of}
@@ -21,7 +20,7 @@ invariant_of-self g c =
     let low = asked.ensures.low c.self.inside.size (rw c.as_mut_slice.ensures.value c.self.invariant.is_cut.bounded) in
     rw (c.drop_emptied.ensures, same)
     (spine_of (without_all_emptied left) c.self.inside.size asked.result (cut_all_emptied left c.self.inside.size c.self.invariant.is_cut.two low)
-        (asked.ensures.count ∙ ap (λ (l : List g.row.T.Denot). length l) (sym (joined_all_emptied left))))
+    (asked.ensures.count ∙ ap (λ (l : List g.row.T.Denot). length l) (sym (joined_all_emptied left))))
 
 pub returns-clause-kept : goal.returns-clause-kept
 returns-clause-kept g c =

@@ -1,37 +1,27 @@
-use Rattle.std.proofs.Common.{◌≡◌, ◌+◌, ◌∙◌, ap, arith, take, drop, length}
+use Rattle.std.proofs.Common.{◌≡◌, ◌∙◌, ap, sym, take, drop}
 use Rattle.indexset_core.specs.Cut.{Cut, items, joined, lists, position_of}
-use Rattle.indexset_core.proofs.CutBasics.{length-joined}
 use Rattle.indexset_core.proofs.CutEdits.{position_below}
 use Rattle.indexset_core.proofs.CutSplits.{joined_left, joined_right, spine_left, spine_right}
 use Rattle.indexset_core.proofs.EditSteps.{spot_in}
 use Rattle.indexset_core.proofs.spine.Spine.split_off.Goals as goal
 
-pub prefix_in-requires-clause-fits : goal.prefix_in-requires-clause-fits
-prefix_in-requires-clause-fits g c = rw c.as_slice.ensures.value (omega (arith, c.self.invariant.total_is, length-joined (lists c.self.inside.nodes.items)))
-
-pub overflow_add-left : goal.overflow_add-left
-overflow_add-left g c =
-    let spot = spot_in _ _ c.args.self.now c.args.spot c.self.view_is c.requires in
-    let before = rw c.as_slice.ensures.value at c.prefix_in.ensures in
-    record { fits = omega (arith, before, position_below _ _ _ c.args.spot spot c.self.invariant) }
-
 pub overflow_sub-right : goal.overflow_sub-right
 overflow_sub-right g c =
     let spot = spot_in _ _ c.args.self.now c.args.spot c.self.view_is c.requires in
-    let before = rw c.as_slice.ensures.value at c.prefix_in.ensures in
-    omega (arith, before, position_below _ _ _ c.args.spot spot c.self.invariant)
+    let left = rw (← c.self.view_is) at c.position-left.ensures in
+    rw left (position_below _ _ _ c.args.spot spot c.self.invariant)
 
 pub invariant_of-right : goal.invariant_of-right
 invariant_of-right g c =
     let spot = spot_in _ _ c.args.self.now c.args.spot c.self.view_is c.requires in
-    let before = rw c.as_slice.ensures.value at c.prefix_in.ensures in
-    rw (c.in_ok-nodes.ensures.right, before) (spine_right _ c.args.spot spot _ _ c.self.invariant)
+    let left = rw (← c.self.view_is) at c.position-left.ensures in
+    rw (c.in_ok-nodes.ensures.right, left) (spine_right _ c.args.spot spot _ _ c.self.invariant)
 
 pub invariant_of-self-2 : goal.invariant_of-self-2
 invariant_of-self-2 g c =
     let spot = spot_in _ _ c.args.self.now c.args.spot c.self.view_is c.requires in
-    let before = rw c.as_slice.ensures.value at c.prefix_in.ensures in
-    rw (c.in_ok-nodes.ensures.left, before) (spine_left _ c.args.spot spot _ _ c.self.invariant)
+    let left = rw (← c.self.view_is) at c.position-left.ensures in
+    rw (c.in_ok-nodes.ensures.left, left) (spine_left _ c.args.spot spot _ _ c.self.invariant)
 
 pub returns-clause-left : goal.returns-clause-left
 returns-clause-left g c =

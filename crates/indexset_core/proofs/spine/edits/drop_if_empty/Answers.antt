@@ -9,7 +9,7 @@ use Rattle.indexset_core.proofs.spine.edits.drop_if_empty.Goals as goal
 pub returns-then-len-gt1 : goal.returns-then-len-gt1
 returns-then-len-gt1 g c =
     let long = node_len c.args.nodes.now.items c.args.k _ c.requires c.index.ensures in
-    ap lists c.remove.ensures.items ∙ (lists-remove c.args.nodes.now.items c.args.k ∙ sym (emptied_goes (lists c.args.nodes.now.items) c.args.k (grind (arith, nat_tests)) (omega (arith, length-lists c.args.nodes.now.items, c.len.ensures))))
+    ap lists c.take_item.ensures.items ∙ (lists-remove c.args.nodes.now.items c.args.k ∙ sym (emptied_goes (lists c.args.nodes.now.items) c.args.k (grind (arith, nat_tests)) (omega (arith, length-lists c.args.nodes.now.items, c.len.ensures))))
 
 pub returns-else-is_empty : goal.returns-else-is_empty
 returns-else-is_empty g c =

@@ -1,6 +1,6 @@
-use Rattle.std.proofs.Common.{◌∙◌, ◌/◌, ap}
+use Rattle.std.proofs.Common.{◌∙◌, ap}
 use Rattle.indexset_core.specs.Cut.{lists}
-use Rattle.indexset_core.proofs.EditSteps.{on_err, lists_kept, right_puts, left_puts, right_room, left_room}
+use Rattle.indexset_core.proofs.EditSteps.{on_err, lists_kept, right_puts, left_puts, right_room, left_room, half_len}
 use Rattle.indexset_core.proofs.spine.edits.halve_at.Goals as goal
 
 pub returns-in_err-right-clause-err : goal.returns-in_err-right-clause-err
@@ -12,23 +12,23 @@ returns-in_err-right-clause-err g c =
 pub returns-then-half-spot-clause-room : goal.returns-then-half-spot-clause-room
 returns-then-half-spot-clause-room g c =
     let e = c.reserve.ensures.items in let ok = c.in_ok-right.ensures {u = tt} in
-    rw c.in-Ok.ensures.items
-    (right_room (lists c.args.nodes.now.items) _ (ap lists e) c.args.spot _ _ c.in_ok-right.right (rw e c.requires.spot.node_in) c.index_mut-node.ensures.value ok.left ok.right _ (ap (λ n. n / 2) c.len-half.ensures) c.requires.two ok.right_room)
+    rw c.put_item.ensures.items
+    (right_room (lists c.args.nodes.now.items) _ (ap lists e) c.args.spot _ _ c.in_ok-right.right (rw e c.requires.spot.node_in) c.index_mut-node.ensures.value ok.left ok.right _ (c.len-half.ensures ∙ half_len c.index_mut-node.result.now c.halve_node.new.node ok.left) c.requires.two ok.right_room)
 
 pub returns-then-half-spot-clause-nodes : goal.returns-then-half-spot-clause-nodes
 returns-then-half-spot-clause-nodes g c =
     let e = c.reserve.ensures.items in let ok = c.in_ok-right.ensures {u = tt} in
-    λ value. rw c.in-Ok.ensures.items
-    (right_puts _ _ (ap lists e) c.args.spot _ _ c.in_ok-right.right (rw e c.requires.spot.node_in) c.index_mut-node.ensures.value ok.left ok.right _ (ap (λ n. n / 2) c.len-half.ensures) value c.if-half-spot.true)
+    λ value. rw c.put_item.ensures.items
+    (right_puts _ _ (ap lists e) c.args.spot _ _ c.in_ok-right.right (rw e c.requires.spot.node_in) c.index_mut-node.ensures.value ok.left ok.right _ (c.len-half.ensures ∙ half_len c.index_mut-node.result.now c.halve_node.new.node ok.left) value c.if-half-spot.true)
 
 pub returns-clause-room : goal.returns-clause-room
 returns-clause-room g c =
     let e = c.reserve.ensures.items in let ok = c.in_ok-right.ensures {u = tt} in
-    rw c.in-Ok.ensures.items
-    (left_room (lists c.args.nodes.now.items) _ (ap lists e) c.args.spot _ _ c.in_ok-right.right (rw e c.requires.spot.node_in) c.index_mut-node.ensures.value ok.left ok.right _ (ap (λ n. n / 2) c.len-half.ensures) c.requires.two ok.left_room)
+    rw c.put_item.ensures.items
+    (left_room (lists c.args.nodes.now.items) _ (ap lists e) c.args.spot _ _ c.in_ok-right.right (rw e c.requires.spot.node_in) c.index_mut-node.ensures.value ok.left ok.right _ (c.len-half.ensures ∙ half_len c.index_mut-node.result.now c.halve_node.new.node ok.left) c.requires.two ok.left_room)
 
 pub returns-clause-nodes : goal.returns-clause-nodes
 returns-clause-nodes g c =
     let e = c.reserve.ensures.items in let ok = c.in_ok-right.ensures {u = tt} in
-    λ value. rw c.in-Ok.ensures.items
-    (left_puts _ _ (ap lists e) c.args.spot _ _ c.in_ok-right.right (rw e c.requires.spot.node_in) c.index_mut-node.ensures.value ok.left ok.right _ (ap (λ n. n / 2) c.len-half.ensures) value c.if-half-spot.false)
+    λ value. rw c.put_item.ensures.items
+    (left_puts _ _ (ap lists e) c.args.spot _ _ c.in_ok-right.right (rw e c.requires.spot.node_in) c.index_mut-node.ensures.value ok.left ok.right _ (c.len-half.ensures ∙ half_len c.index_mut-node.result.now c.halve_node.new.node ok.left) value c.if-half-spot.false)

@@ -1,4 +1,4 @@
-use Rattle.std.proofs.Common.{◌∙◌, ap, arith, sym, subst}
+use Rattle.std.proofs.Common.{◌∙◌, arith}
 use Rattle.std.proofs.lemmas.Result.{IfOk-weaker}
 use Rattle.indexset_core.specs.Cut.{lists}
 use Rattle.indexset_core.proofs.EditSteps.{on_err, lists_kept, room_puts, node_len, inserted_full}

@@ -1,7 +1,7 @@
-use Rattle.std.proofs.Common.{◌≡◌, ◌+◌, ◌<◌, ◌≤◌, length, take, get_or, slice_set, arith}
+use Rattle.std.proofs.Common.{◌+◌, ◌<◌, length, get_or, slice_set, arith}
 use Rattle.std.proofs.lemmas.List.{get_or_default}
 use Rattle.std.specs.Fn.{CalledAtMut}
-use Rattle.indexset_core.specs.Cut.{joined, lists}
+use Rattle.indexset_core.specs.Cut.{lists}
 use Rattle.indexset_core.proofs.CutBasics.{joined_take-le}
 use Rattle.indexset_core.proofs.RetainNodes.{node_rest, node_run, node_count, node_few, node_low}
 use Rattle.indexset_core.proofs.spine.edits.retain_items.Goals as goal

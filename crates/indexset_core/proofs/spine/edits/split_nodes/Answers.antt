@@ -10,8 +10,8 @@ returns-in-Ok-clause-left g c =
     let cut = c.in_ok-right.ensures {u = tt} in
     c.drop_if_empty.ensures
     ∙ (ap (λ vs. without_emptied (lists vs) c.args.spot.node) c.push_reserved.ensures.items
-        ∙ ap (λ ns. without_emptied ns c.args.spot.node)
-        (left_lists c.args.nodes.now.items c.in_ok-right.right.items c.args.spot.node c.args.spot.offset _ c.requires.node_in cut.tail c.index_mut.ensures.value _ c.in-Ok.front cut.items c.in-Ok.ensures.front))
+    ∙ ap (λ ns. without_emptied ns c.args.spot.node)
+    (left_lists c.args.nodes.now.items c.in_ok-right.right.items c.args.spot.node c.args.spot.offset _ c.requires.node_in cut.tail c.index_mut.ensures.value _ c.in-Ok.front cut.items c.in-Ok.ensures.front))
 
 pub returns-in-Ok-clause-right : goal.returns-in-Ok-clause-right
 unfolding right_nodes
