@@ -1,5 +1,5 @@
 -- What stands where in an ascending list, and what an edit leaves of one.
-use Rattle.std.proofs.Common.{◌≡◌, ℕ, zero, suc, ◌+◌, ◌-◌, ◌<◌, ◌≤◌, ◌≢◌, Bool, true, false, cond, ◌||◌, List, [], ◌∷◌, length, get_or, set, Ordering, Option, Some, None, is_some, slice_get, nat_lt, not, refl, ap, sym, inl, inr, ◌∙◌, subst, arith, length-set, get_or-set_same, get_or-set_other}
+use Rattle.std.proofs.Common.{◌≡◌, ℕ, zero, suc, ◌<◌, ◌≤◌, ◌≢◌, Bool, true, false, cond, ◌||◌, List, [], ◌∷◌, length, get_or, set, Ordering, Some, None, is_some, slice_get, nat_lt, not, refl, ap, sym, inl, inr, ◌∙◌, subst, arith, length-set, get_or-set_same, get_or-set_other}
 use Rattle.std.specs.declared.cmp.Ordering.TheVariants.{Less, Equal, Greater}
 use Rattle.std.specs.Bool.{OnTrue, OnFalse}
 use Rattle.std.specs.List.{AllWithin, HoldsAt, find, list_any, position, position_or_len, remove}
@@ -16,7 +16,7 @@ use Rattle.indexset_core.specs.Cut.{equal_at}
 use Rattle.indexset_core.specs.Parted.{IsParted, less_count}
 use Rattle.indexset_core.specs.Order.{IsAscending, rank, has_equal, IsFoundAt, IsGapFor}
 use Rattle.indexset_core.specs.Order.{equal_element, lower_element}
-use Rattle.indexset_core.proofs.OrderLemmas.{parted_by_item, less_from, equal_from, greater_from, found_at, gap_at, found_rank, found_after, found_has_equal, gap_has_equal}
+use Rattle.indexset_core.proofs.OrderLemmas.{parted_by_item, less_from, greater_from, found_at, gap_at, found_rank, found_after, found_has_equal, gap_has_equal}
 use Rattle.indexset_core.proofs.PartedLemmas.{front-is_lt, front-is_le, count_parts, Parts, fails_above}
 
 -- an item less keeps the order

@@ -1,5 +1,5 @@
 -- A list that is cut into nodes.
-use Rattle.std.specs.Prelude.{◌≡◌, ℕ, ◌+◌, ◌-◌, ◌/◌, ◌<◌, ◌≤◌, ◌==◌, ◌&&◌, Bool, true, false, not, min, List, [], ◌∷◌, ◌++◌, length, map, sum, take, drop, refl, get_or, slice_get, slice_set, insert, remove, if◌then◌else◌, nat_lt, Option}
+use Rattle.std.specs.Prelude.{◌≡◌, ℕ, ◌+◌, ◌-◌, ◌/◌, ◌<◌, ◌≤◌, ◌==◌, ◌&&◌, Bool, true, false, not, min, List, [], ◌∷◌, ◌++◌, length, map, sum, take, drop, refl, get_or, slice_get, slice_set, insert, remove, if◌then◌else◌, nat_lt}
 use Rattle.std.specs.List.{All, splice, position_or_len}
 use Rattle.std.specs.Option.{option_map_or}
 use Rattle.std.specs.Coded.{Coded, code_by, coded×, coded_ℕ, coded_list}

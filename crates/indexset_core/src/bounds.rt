@@ -17,18 +17,3 @@ pub fn bounds_are_ordered<T: Ord>(start: Bound<&T>, end: Bound<&T>) -> bool
         _ => true,
     }
 }
-
-#[cfg(test)]
-mod tests {
-    use super::*;
-
-    #[test]
-    fn order_of_bounds(rt: HostRuntime) {
-        assert!(rt; bounds_are_ordered(Bound::Included(&3), Bound::Included(&3)));
-        assert!(rt; bounds_are_ordered(Bound::Excluded(&3), Bound::Included(&3)));
-        assert!(rt; !bounds_are_ordered(Bound::Excluded(&3), Bound::Excluded(&3)));
-        assert!(rt; !bounds_are_ordered(Bound::Included(&4), Bound::Excluded(&3)));
-        assert!(rt; bounds_are_ordered(Bound::Excluded(&4), Bound::Unbounded));
-        assert!(rt; bounds_are_ordered(Bound::Unbounded, Bound::Excluded(&0)));
-    }
-}

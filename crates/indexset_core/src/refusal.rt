@@ -63,7 +63,7 @@ impl Refusal {
 }
 
 /// What a refused call was given, handed back, and why it was refused.
-#[derive(Drop)]
+#[derive(Debug, Drop)]
 pub struct Refused<X> {
     /// What was given, as it was.
     pub value: X,
@@ -79,5 +79,15 @@ impl From<AllocError> for Refusal {
 
     fn from(_error: AllocError) -> Refusal {
         Refusal::Memory
+    }
+}
+
+impl<X: Drop> From<Refused<X>> for Refusal {
+    ghost use Rattle.std.specs.Prelude.{◌≡◌};
+
+    ghost from_gives = { λ refused refusal. refusal ≡ refused.cause };
+
+    fn from(refused: Refused<X>) -> Refusal {
+        refused.cause
     }
 }

@@ -11,4 +11,6 @@ mod program;
 #[cfg(test)]
 mod set;
 #[cfg(test)]
+mod spine;
+#[cfg(test)]
 mod tagged;

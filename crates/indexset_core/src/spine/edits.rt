@@ -14,9 +14,6 @@ use crate::spot::Spot;
 use std::alloc::Global;
 use std::mem;
 
-#[cfg(test)]
-mod tests;
-
 impl<T: Drop> Spine<T> {
     /// One empty node, of at most `size` items.
     pub fn new(alloc: Global, size: usize) -> Result<Self, Refusal>

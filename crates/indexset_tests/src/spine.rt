@@ -1,0 +1,174 @@
+//! Worked examples of a list cut into nodes: each call, with the nodes that it leaves.
+ghost use Rattle.std.specs.Prelude.{IfSome};
+ghost use Rattle.indexset_core.specs.Cut.{IsSpot};
+
+use indexset_core::refusal::Refusal;
+use indexset_core::spine::Spine;
+use indexset_core::spot::Spot;
+use std::alloc::Global;
+use std::test::Fail;
+
+mod reads;
+
+/// The place behind the last item.
+fn end_place(spine: &Spine<u64>) -> Spot
+    ensures { IsSpot spine.now.nodes result }
+{
+    let _nodes = spine.node_count();
+    match spine.len().checked_sub(1).and_then(|last| spine.spot(last)) {
+        Some(last) => Spot {
+            node: last.node,
+            offset: last.offset + 1,
+            found: false,
+        },
+        None => Spot {
+            node: 0,
+            offset: 0,
+            found: false,
+        },
+    }
+}
+
+/// Whether the nodes are these.
+fn shows(spine: &Spine<u64>, expected: &[&[u64]]) -> bool {
+    let mut position = 0usize;
+    for node in 0..expected.len() {
+        for offset in 0..expected[node].len() {
+            let place = Spot {
+                node,
+                offset,
+                found: true,
+            };
+            if spine.spot(position) != Some(place) {
+                return false;
+            }
+            if spine.get(position) != Some(&expected[node][offset]) {
+                return false;
+            }
+            position = position.saturating_add(1);
+        }
+    }
+    spine.len() == position && spine.node_count() == expected.len()
+}
+
+/// The numbers from 1 to 7, each put behind the last, in nodes of two.
+fn ascending(alloc: Global) -> Result<Spine<u64>, Refusal> {
+    let mut spine = Spine::new(alloc, 2)?;
+    for x in 1..8 {
+        spine.insert(end_place(&spine), x)?;
+    }
+    Ok(spine)
+}
+
+#[test]
+fn ascending_items_fill_the_last_node(rt: HostRuntime) -> Result<(), Fail> {
+    let spine = ascending(rt.alloc())?;
+    assert!(rt; shows(&spine, &[&[1], &[2], &[3], &[4], &[5], &[6, 7]]));
+    assert_eq!(rt; spine.maximum_node_size(), 2);
+    Ok(())
+}
+
+#[test]
+fn descending_items_fill_the_first_node(rt: HostRuntime) -> Result<(), Fail> {
+    let mut spine = Spine::new(rt.alloc(), 2)?;
+    spine.insert(end_place(&spine), 7)?;
+    for x in [6, 5, 4, 3, 2, 1] {
+        let first = spine.spot(0).ok_or("an item")?;
+        spine.insert(first, x)?;
+    }
+    assert!(rt; shows(&spine, &[&[1, 2], &[3], &[4], &[5], &[6], &[7]]));
+    Ok(())
+}
+
+#[test]
+fn an_emptied_node_goes(rt: HostRuntime) -> Result<(), Fail> {
+    let mut spine = ascending(rt.alloc())?;
+    let six = spine.spot(5).ok_or("an item")?;
+    assert_eq!(rt; spine.remove(six), 6);
+    let two = spine.spot(1).ok_or("an item")?;
+    assert_eq!(rt; spine.remove(two), 2);
+    assert!(rt; shows(&spine, &[&[1], &[3], &[4], &[5], &[7]]));
+    Ok(())
+}
+
+#[test]
+fn the_only_node_stays(rt: HostRuntime) -> Result<(), Fail> {
+    let mut spine = Spine::new(rt.alloc(), 2)?;
+    spine.insert(end_place(&spine), 9)?;
+    let only = spine.spot(0).ok_or("an item")?;
+    assert_eq!(rt; spine.replace(only, 8), 9);
+    let only = spine.spot(0).ok_or("an item")?;
+    assert_eq!(rt; spine.remove(only), 8);
+    assert!(rt; shows(&spine, &[&[]]));
+    Ok(())
+}
+
+#[test]
+fn splits_at_every_place(rt: HostRuntime) -> Result<(), Fail> {
+    for position in 0..8usize {
+        let mut spine = ascending(rt.alloc())?;
+        let rest = match spine.spot(position) {
+            Some(place) => spine.split_off(place)?,
+            None => spine.split_off(end_place(&spine))?,
+        };
+        assert_eq!(rt; spine.len(), position);
+        assert_eq!(rt; rest.len().checked_add(position), Some(7));
+        assert_eq!(rt; rest.maximum_node_size(), 2);
+        for i in 0..7usize {
+            let item = spine.get(i).or(rest.get(i.saturating_sub(position)));
+            assert_eq!(rt; item, Some(&(i as u64 + 1)), "{i} of {position}");
+        }
+        assert!(rt; spine.len() == 0 || spine.node_count() <= spine.len());
+        assert!(rt; rest.len() == 0 || rest.node_count() <= rest.len());
+    }
+    Ok(())
+}
+
+#[test]
+fn splits_within_a_node(rt: HostRuntime) -> Result<(), Fail> {
+    let mut spine = ascending(rt.alloc())?;
+    let seven = spine.spot(6).ok_or("an item")?;
+    let rest = spine.split_off(seven)?;
+    assert!(rt; shows(&rest, &[&[7]]));
+    assert!(rt; shows(&spine, &[&[1], &[2], &[3], &[4], &[5], &[6]]));
+    Ok(())
+}
+
+#[test]
+fn retains_every_other_item(rt: HostRuntime) -> Result<(), Fail> {
+    let mut spine = ascending(rt.alloc())?;
+    let mut keeps = false;
+    spine.retain_mut(|x| {
+        keeps = !keeps;
+        *x = x.wrapping_add(10);
+        keeps
+    });
+    assert!(rt; shows(&spine, &[&[11], &[13], &[15], &[17]]));
+    spine.retain_mut(|_| false);
+    assert!(rt; shows(&spine, &[&[]]));
+    Ok(())
+}
+
+#[test]
+fn moves_the_first_items_of_another(rt: HostRuntime) -> Result<(), Fail> {
+    let mut spine = Spine::new(rt.alloc(), 3)?;
+    let mut other = ascending(rt.alloc())?;
+    for _ in 0..7 {
+        if 0 < other.len() {
+            spine.insert_from(end_place(&spine), &mut other)?;
+        }
+    }
+    assert!(rt; shows(&spine, &[&[1], &[2], &[3], &[4], &[5, 6, 7]]));
+    assert!(rt; shows(&other, &[&[]]));
+    Ok(())
+}
+
+#[test]
+fn clones_and_clears(rt: HostRuntime) -> Result<(), Fail> {
+    let mut spine = ascending(rt.alloc())?;
+    let same = spine.clone()?;
+    spine.clear();
+    assert!(rt; shows(&spine, &[&[]]));
+    assert!(rt; shows(&same, &[&[1], &[2], &[3], &[4], &[5], &[6, 7]]));
+    Ok(())
+}
