@@ -3,5 +3,4 @@
 
 mod set;
 
-pub use set::BTreeSet;
-pub use set::laws;
+pub use set::{BTreeSet, laws};

@@ -29,24 +29,34 @@ fn end_place(spine: &Spine<u64>) -> Spot
     }
 }
 
+/// Whether the node holds these items, of which the first stands at the position.
+fn holds(spine: &Spine<u64>, node: usize, position: usize, items: &[u64]) -> bool {
+    let mut offset = 0usize;
+    for item in items {
+        let place = Spot {
+            node,
+            offset,
+            found: true,
+        };
+        let position = position.saturating_add(offset);
+        if spine.spot(position) != Some(place) || spine.get(position) != Some(item) {
+            return false;
+        }
+        offset = offset.saturating_add(1);
+    }
+    true
+}
+
 /// Whether the nodes are these.
 fn shows(spine: &Spine<u64>, expected: &[&[u64]]) -> bool {
     let mut position = 0usize;
-    for node in 0..expected.len() {
-        for offset in 0..expected[node].len() {
-            let place = Spot {
-                node,
-                offset,
-                found: true,
-            };
-            if spine.spot(position) != Some(place) {
-                return false;
-            }
-            if spine.get(position) != Some(&expected[node][offset]) {
-                return false;
-            }
-            position = position.saturating_add(1);
+    let mut node = 0usize;
+    for items in expected {
+        if !holds(spine, node, position, items) {
+            return false;
         }
+        node = node.saturating_add(1);
+        position = position.saturating_add(items.len());
     }
     spine.len() == position && spine.node_count() == expected.len()
 }

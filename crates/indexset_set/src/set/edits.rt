@@ -9,8 +9,8 @@ use super::lookup::locate;
 use indexset_core::refusal::{Refusal, Refused};
 
 impl<T: Ord + Drop> BTreeSet<T> {
-    /// Adds a value: true, or false where an equal element is there, which then stays. A refused call
-    /// hands the value back and changes nothing.
+    /// Adds a value: true, or false where an equal element is there. That one stays, the value is let
+    /// go, and no memory is taken. A refused call hands the value back and changes nothing.
     pub fn insert(&mut self, value: T) -> Result<bool, Refused<T>>
         ensures added { IfOk result (λ b. b ≡ not (has_equal T.cmp (items self.old) value)) }
         ensures ok { OnOk result (items self.new ≡ keep T.cmp (items self.old) value) }
@@ -28,8 +28,8 @@ impl<T: Ord + Drop> BTreeSet<T> {
         Ok(true)
     }
 
-    /// Puts a value in place of the element equal to it, which is answered, or adds it where there is
-    /// none. A refused call hands the value back and changes nothing.
+    /// Puts a value in place of the element equal to it, answers that one, and takes no memory; or adds
+    /// the value where there is none. A refused call hands the value back and changes nothing.
     pub fn replace(&mut self, value: T) -> Result<Option<T>, Refused<T>>
         ensures old { IfOk result (λ o. o ≡ equal_element T.cmp (items self.old) value) }
         ensures ok { OnOk result (items self.new ≡ put T.cmp (items self.old) value) }
@@ -46,7 +46,7 @@ impl<T: Ord + Drop> BTreeSet<T> {
         Ok(None)
     }
 
-    /// Takes out the element equal to the value.
+    /// Takes out the element equal to the value, where there is one. It takes no memory.
     pub fn take(&mut self, value: &T) -> Option<T>
         ensures value { result ≡ equal_element T.cmp (items self.old) value.now }
         ensures rest { items self.new ≡ without T.cmp (items self.old) value.now }
@@ -60,7 +60,8 @@ impl<T: Ord + Drop> BTreeSet<T> {
         }
     }
 
-    /// Takes out the element equal to the value: true, or false where there is none.
+    /// Takes out the element equal to the value: true, or false where there is none. It takes no
+    /// memory.
     pub fn remove(&mut self, value: &T) -> bool
         ensures removed { result ≡ has_equal T.cmp (items self.old) value.now }
         ensures rest { items self.new ≡ without T.cmp (items self.old) value.now }
@@ -69,10 +70,9 @@ impl<T: Ord + Drop> BTreeSet<T> {
         self.take(value).is_some()
     }
 
-    /// Takes out all elements.
+    /// Takes out all elements, and keeps one empty node. It takes no memory.
     pub fn clear(&mut self)
-        ensures empty { items self.new ≡ [] }
-        ensures nodes { self.new.nodes ≡ [] ∷ [] }
+        ensures empty { self.new.nodes ≡ [] ∷ [] }
         ensures size { self.new.size ≡ self.old.size }
     {
         self.spine.clear();

@@ -8,10 +8,12 @@ ghost use Rattle.indexset_core.specs.Order.{equal_element};
 
 /// The rank of the element at a position is that position.
 pub fn rank_of_the_element_at_a_position<T>()
-    ensures { (cmp : T → T → Ordering) (l : List T) → IsTotalOrder cmp → IsAscending cmp l → (i : ℕ) (x : T) → slice_get l i ≡ Some x → rank cmp l x ≡ i }
+    ensures { (cmp : T → T → Ordering) (l : List T) → IsTotalOrder cmp → IsAscending cmp l →
+        (i : ℕ) (x : T) → slice_get l i ≡ Some x → rank cmp l x ≡ i }
 {}
 
 /// The element at the rank of a member is that member.
 pub fn element_at_the_rank_of_a_member<T>()
-    ensures { (cmp : T → T → Ordering) (l : List T) → IsTotalOrder cmp → IsAscending cmp l → (v : T) → has_equal cmp l v ≡ true → slice_get l (rank cmp l v) ≡ equal_element cmp l v }
+    ensures { (cmp : T → T → Ordering) (l : List T) → IsTotalOrder cmp → IsAscending cmp l →
+        (v : T) → has_equal cmp l v ≡ true → slice_get l (rank cmp l v) ≡ equal_element cmp l v }
 {}

@@ -27,7 +27,7 @@ pub(super) fn locate<T: Ord>(spine: &Spine<T>, value: &T) -> Spot
 }
 
 impl<T: Ord> BTreeSet<T> {
-    /// The element equal to the value.
+    /// The element equal to the value, where there is one.
     pub fn get(&self, value: &T) -> Option<&T>
         ensures { option_copied result ≡ equal_element T.cmp (items self.now) value.now }
     {
@@ -53,15 +53,15 @@ impl<T: Ord> BTreeSet<T> {
         self.spine.position(&locate(&self.spine, value))
     }
 
-    /// The first element that is not below the value.
+    /// The first element that is not below the value, where there is one.
     pub fn lower_bound(&self, value: &T) -> Option<&T>
         ensures { option_copied result ≡ lower_element T.cmp (items self.now) value.now }
     {
         self.spine.item_from(&locate(&self.spine, value))
     }
 
-    /// The position of the first element that the probe answers Equal, or, where it answers none
-    /// so, how many it answers Less.
+    /// The position of the first element that the probe answers Equal, or where it answers none so,
+    /// how many it answers Less. It asks of one element a step of two binary searches.
     pub fn locate_by<P: Probe<T>>(&self, probe: &mut P) -> Result<usize, usize>
         requires { IsParted (P.answer probe.old) (items self.now) }
         ensures found { IfOk result (λ i. position (λ x. is_eq (P.answer probe.old x)) (items self.now) ≡ Some i) }

@@ -41,10 +41,12 @@ impl<T: Ord + Drop> BTreeSet<T> {
         Ok(BTreeSet { spine })
     }
 
-    /// The set of what an iterator gives, of the default node size. Of equal ones the first stays.
+    /// The set of what an iterator gives, of the default node size. Of equal ones the first stays. A
+    /// refused call lets all go.
     pub fn from_iter<I: IntoIterator<Item = T>>(alloc: Global, iter: I) -> Result<Self, Refusal>
         requires { IsFiniteIterable I.into_iter_gives I.IntoIter.can_next I.IntoIter.remaining iter }
-        ensures kept { IfOk result (λ s. (it : I.IntoIter) × I.into_iter_gives iter it × WholeRun I.IntoIter.next_gives it (λ run. items s ≡ fold (keep T.cmp) [] run.items)) }
+        ensures kept { IfOk result (λ s. (it : I.IntoIter) × I.into_iter_gives iter it
+            × WholeRun I.IntoIter.next_gives it (λ run. items s ≡ fold (keep T.cmp) [] run.items)) }
         ensures size { IfOk result (λ s. s.size ≡ DEFAULT_INNER_SIZE) }
         ensures refusal { IfErr result (λ e. e ≡ Refusal.Memory) }
     {
@@ -65,7 +67,7 @@ impl<T: Ord + Drop> BTreeSet<T> {
         Self::from_iter(alloc, values)
     }
 
-    /// The same elements in the same nodes, each element cloned.
+    /// The same elements in the same nodes, each element cloned. A refused call changes nothing.
     pub fn clone(&self) -> Result<Self, Refusal>
     where
         T: Clone,

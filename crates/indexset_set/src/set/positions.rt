@@ -7,21 +7,21 @@ use super::BTreeSet;
 use std::ops::Index;
 
 impl<T: Ord> BTreeSet<T> {
-    /// The element at a position.
+    /// The element at a position, counted from 0, where there is one.
     pub fn get_index(&self, i: usize) -> Option<&T>
         ensures { option_copied result ≡ slice_get (items self.now) i }
     {
         self.spine.get(i)
     }
 
-    /// The least element.
+    /// The least element, where there is one.
     pub fn first(&self) -> Option<&T>
         ensures { option_copied result ≡ slice_get (items self.now) 0 }
     {
         self.spine.iter().next()
     }
 
-    /// The greatest element.
+    /// The greatest element, where there is one.
     pub fn last(&self) -> Option<&T>
         ensures { option_copied result ≡ slice_get (items self.now) (length (items self.now) - 1) }
     {
@@ -30,7 +30,7 @@ impl<T: Ord> BTreeSet<T> {
 }
 
 impl<T: Ord + Drop> BTreeSet<T> {
-    /// Takes out the least element.
+    /// Takes out the least element, where there is one. It takes no memory.
     pub fn pop_first(&mut self) -> Option<T>
         ensures value { result ≡ slice_get (items self.old) 0 }
         ensures rest { items self.new ≡ drop 1 (items self.old) }
@@ -40,7 +40,7 @@ impl<T: Ord + Drop> BTreeSet<T> {
         Some(self.spine.remove(spot))
     }
 
-    /// Takes out the greatest element.
+    /// Takes out the greatest element, where there is one. It takes no memory.
     pub fn pop_last(&mut self) -> Option<T>
         ensures value { result ≡ slice_get (items self.old) (length (items self.old) - 1) }
         ensures rest { items self.new ≡ take (length (items self.old) - 1) (items self.old) }
@@ -51,7 +51,7 @@ impl<T: Ord + Drop> BTreeSet<T> {
         Some(self.spine.remove(spot))
     }
 
-    /// Takes out the element at a position.
+    /// Takes out the element at a position. It takes no memory.
     pub fn pop_index(&mut self, i: usize) -> T
         requires { i < length (items self.old) }
         ensures value { slice_get (items self.old) i ≡ Some result }
