@@ -1,5 +1,5 @@
-use Rattle.std.proofs.Common.{◌≡◌, ◌∙◌, ap, sym, take, drop}
-use Rattle.indexset_core.specs.Cut.{Cut, items, joined, lists, position_of}
+use Rattle.std.proofs.Common.{◌∙◌, ap, take, drop}
+use Rattle.indexset_core.specs.Cut.{Cut, items, joined, position_of}
 use Rattle.indexset_core.proofs.CutEdits.{position_below}
 use Rattle.indexset_core.proofs.CutSplits.{joined_left, joined_right, spine_left, spine_right}
 use Rattle.indexset_core.proofs.EditSteps.{spot_in}
