@@ -1,6 +1,6 @@
 //! An ordered set with look-ups by key and by position.
 #![tactic(auto)]
 
-mod set;
+pub mod set;
 
-pub use set::{BTreeSet, laws};
+pub use set::BTreeSet;

@@ -3,12 +3,17 @@ ghost use Rattle.std.specs.Prelude.{◌≡◌, ◌≤◌, ◌↔◌, IsTrue, len
 ghost use Rattle.indexset_core.specs.Cut.{items};
 ghost use Rattle.indexset_core.specs.Order.{IsAscending};
 
+pub mod algebra;
+mod bulk;
 mod compare;
 mod edits;
+pub mod iter;
 pub mod laws;
 mod lookup;
 mod make;
 mod positions;
+mod range;
+pub mod walk_laws;
 
 use indexset_core::spine::Spine;
 use std::marker::Model;

@@ -1,0 +1,5 @@
+pub mod SetAlgebraLaws
+pub mod SetAlgebraLemmas
+pub mod SetBulkLemmas
+pub mod SetRangeLemmas
+pub mod SetWalkLemmas

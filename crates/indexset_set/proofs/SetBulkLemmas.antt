@@ -1,0 +1,126 @@
+-- What a call that changes many elements leaves of an ascending list.
+use Rattle.std.proofs.Common.{◌≡◌, ℕ, zero, suc, ◌+◌, ◌<◌, ◌≤◌, Bool, true, false, not, cond, List, [], ◌∷◌, ◌++◌, length, get_or, take, drop, filter, Ordering, IfSome, Some, slice_get, refl, ap, sym, ◌∙◌, subst, arith, add-one}
+use Rattle.std.specs.declared.cmp.Ordering.TheVariants.{Less}
+use Rattle.std.specs.Cmp.{IsTotalOrder}
+use Rattle.std.specs.List.{All, AllPairs, fold, items_where_true}
+use Rattle.std.specs.List.Retain.{RetainsInTurn, IsFiltered}
+use Rattle.std.specs.Ordering.{is_lt}
+use Rattle.std.proofs.lemmas.List.{take-append-drop}
+use Rattle.std.proofs.lemmas.List.Kept.{AllPairs-cons}
+use Rattle.std.proofs.lemmas.List.Sums.{fold-append}
+use Rattle.indexset_core.specs.Order.{IsAscending, below, rank, put}
+use Rattle.indexset_set.specs.SetAlgebra.{put_all, MovesSome}
+use Rattle.indexset_set.specs.SetRanges.{not_below}
+use Rattle.indexset_core.proofs.OrderLemmas.{parted_by_item}
+use Rattle.indexset_core.proofs.PartedLemmas.{Parts, count_parts, front-is_lt, filter_front, filter_back}
+
+-- an ascending list, cut where v would go
+module _ {T : Type 0} (cmp : T → T → Ordering) (o : IsTotalOrder cmp) (l : List T) (up : IsAscending cmp l) (v : T) (i : ℕ) (place : i ≡ rank cmp l v) where
+  parts : Parts (λ x. is_lt (cmp x v)) l i
+  parts = rw place (count_parts is_lt front-is_lt (λ x. cmp x v) l (parted_by_item cmp o l up v))
+
+  pub take_below : take i l ≡ below cmp l v
+  take_below = sym (filter_front (λ x. is_lt (cmp x v)) l i parts.inside parts.before parts.after)
+
+  pub drop_not_below : drop i l ≡ not_below cmp l v
+  drop_not_below = sym (filter_back (λ x. not (is_lt (cmp x v))) l i parts.inside (λ k d low high. ap not (parts.before k d low high)) (λ k d low high. ap not (parts.after k d low high)))
+
+-- some elements of an ascending list
+module _ {T : Type 0} where
+  picked_all : (P : T → Type 0) (bs : List Bool) (xs : List T) → All P xs → All P (items_where_true bs xs)
+  picked_all P [] xs h k d lt = absurd (omega arith)
+  picked_all P (b ∷ bs) [] h k d lt = absurd (omega arith)
+  picked_all P (true ∷ bs) (x ∷ xs) h zero d lt = h 0 d (omega arith)
+  picked_all P (true ∷ bs) (x ∷ xs) h (suc k) d lt = picked_all P bs xs (λ j e le. h (suc j) e (omega arith)) k d (omega arith)
+  picked_all P (false ∷ bs) (x ∷ xs) h k d lt = picked_all P bs xs (λ j e le. h (suc j) e (omega arith)) k d lt
+
+  picked_pairs : (R : T → T → Type 0) (bs : List Bool) (xs : List T) → AllPairs R xs → AllPairs R (items_where_true bs xs)
+  picked_pairs R [] xs h = λ i j d lt inside. absurd (omega arith)
+  picked_pairs R (b ∷ bs) [] h = λ i j d lt inside. absurd (omega arith)
+  picked_pairs R (true ∷ bs) (x ∷ xs) h =
+      AllPairs-cons R x (items_where_true bs xs) (picked_all (R x) bs xs (λ k d lt. h 0 (suc k) d (omega arith) (omega arith))) (picked_pairs R bs xs (λ i j d lt inside. h (suc i) (suc j) d (omega arith) (omega arith)))
+  picked_pairs R (false ∷ bs) (x ∷ xs) h = picked_pairs R bs xs (λ i j d lt inside. h (suc i) (suc j) d (omega arith) (omega arith))
+
+  module _ {F : Type 0} (Q : F → T → Bool → F → Type 0) where
+    pub filtered_ascending : (cmp : T → T → Ordering) (f : F) (xs ys : List T) → IsFiltered Q f xs ys → IsAscending cmp xs → IsAscending cmp ys
+    filtered_ascending cmp f xs ys h up = subst (IsAscending cmp) (sym h.4) (picked_pairs (λ x y. cmp x y ≡ Less) h.0 xs up)
+
+    -- a closure that was asked in turn through another, which wrote nothing
+    module _ {S : Type 0} (now : S → F) (R : S → T → Bool → S → T → Type 0) (says : (s : S) (x : T) (b : Bool) (t : S) (y : T) → R s x b t y → Q (now s) x b (now t) × (y ≡ x)) where
+      picked : (b : Bool) (x y : T) (bs : List Bool) (xs zs ys : List T) → y ≡ x → zs ≡ items_where_true bs xs → ys ≡ cond b (y ∷ zs) zs → ys ≡ items_where_true (b ∷ bs) (x ∷ xs)
+      picked true x y bs xs zs ys same rest is = is ∙ (ap (λ z. z ∷ zs) same ∙ ap (λ l. x ∷ l) rest)
+      picked false x y bs xs zs ys same rest is = is ∙ rest
+
+      pub filtered_through : (s : S) (xs ys : List T) → RetainsInTurn R s xs ys → IsFiltered Q (now s) xs ys
+      filtered_through s [] ys h = ([], now s, refl, refl, h)
+      filtered_through s (x ∷ xs) ys h =
+          let told = says s x h.0 h.1 h.2 h.3 in
+          let rest = filtered_through h.1 xs h.4 h.5 in
+          (h.0 ∷ rest.0, rest.1, ap suc rest.2, (now h.1, told.0, rest.3), picked h.0 x h.2 rest.0 xs h.4 ys told.1 rest.4 h.6)
+
+-- all but the first
+pub rest_ascending : {T : Type 0} (cmp : T → T → Ordering) (l : List T) → IsAscending cmp l → IsAscending cmp (drop 1 l)
+rest_ascending cmp [] up i j d lt inside = absurd (omega arith)
+rest_ascending cmp (x ∷ xs) up i j d lt inside = up (suc i) (suc j) d (omega arith) (omega arith)
+
+-- elements put in one after another
+module _ {T : Type 0} (cmp : T → T → Ordering) where
+  pub moved_none : (l xs : List T) → MovesSome cmp l xs l xs
+  unfolding put_all
+  moved_none l xs = (0, refl, refl)
+
+  next_of : (k : ℕ) (xs : List T) (y : T) (ys : List T) → drop k xs ≡ y ∷ ys → (take (suc k) xs ≡ take k xs ++ y ∷ []) × (drop (suc k) xs ≡ ys)
+  next_of zero [] y ys e = absurd (cc)
+  next_of zero (x ∷ xs) y ys e = let same : x ≡ y = cc in let rest : xs ≡ ys = cc in (ap (λ z. z ∷ []) same, rest)
+  next_of (suc k) [] y ys e = absurd (cc)
+  next_of (suc k) (x ∷ xs) y ys e = let h = next_of k xs y ys e in (ap (λ l. x ∷ l) h.0, h.1)
+
+  pub moved_more : (l xs m rest m' rest' : List T) → MovesSome cmp l xs m rest → 0 < length rest → IfSome (slice_get rest 0) (λ x. m' ≡ put cmp m x) → rest' ≡ drop 1 rest → MovesSome cmp l xs m' rest'
+  unfolding put_all
+  moved_more l xs m [] m' rest' h some ok is = absurd (omega arith)
+  moved_more l xs m (y ∷ ys) m' rest' h some ok is =
+      let next = next_of h.0 xs y ys (sym h.2) in
+      (suc h.0, ok ∙ (ap (λ z. put cmp z y) h.1 ∙ (sym (fold-append (put cmp) l (take h.0 xs) (y ∷ [])) ∙ ap (λ z. fold (put cmp) l z) (sym next.0))), is ∙ sym next.1)
+
+  taken : (k : ℕ) (xs : List T) → length (drop k xs) ≡ 0 → take k xs ≡ xs
+  taken zero [] e = refl
+  taken zero (x ∷ xs) e = absurd (omega arith)
+  taken (suc k) [] e = refl
+  taken (suc k) (x ∷ xs) e = ap (λ l. x ∷ l) (taken k xs e)
+
+  pub moved_all : (l xs m rest : List T) → MovesSome cmp l xs m rest → length rest ≡ 0 → m ≡ put_all cmp l xs
+  moved_all l xs m rest h none = h.1 ∙ ap (put_all cmp l) (taken h.0 xs (ap (λ z. length z) (sym h.2) ∙ none))
+
+pub nothing_left : {T : Type 0} (l : List T) → length l ≡ 0 → l ≡ []
+nothing_left [] e = refl
+nothing_left (x ∷ xs) e = absurd (omega arith)
+
+-- one read twice
+pub item_is : {T : Type 0} (l : List T) (i : ℕ) (x y : T) → slice_get l i ≡ Some x → slice_get l i ≡ Some y → x ≡ y
+item_is l i x y a b = cc
+
+-- a cut loses nothing
+module _ {T : Type 0} (cmp : T → T → Ordering) where
+  pub cut_parts : IsTotalOrder cmp → (l : List T) → IsAscending cmp l → (v : T) → below cmp l v ++ not_below cmp l v ≡ l
+  cut_parts o l up v =
+      let i = rank cmp l v in
+      rw (sym (take_below cmp o l up v i refl), sym (drop_not_below cmp o l up v i refl)) (take-append-drop i l)
+
+  kept : (p : T → Bool) (b : Bool) (x : T) (l : List T) → p x ≡ b → All (λ y. p y ≡ true) l → All (λ y. p y ≡ true) (cond b (x ∷ l) l)
+  kept p true x l e h zero d lt = e
+  kept p true x l e h (suc k) d lt = h k d (omega arith)
+  kept p false x l e h k d lt = h k d lt
+
+  filter_passes : (p : T → Bool) (l : List T) → All (λ x. p x ≡ true) (filter p l)
+  filter_passes p [] = λ k d lt. absurd (omega arith)
+  filter_passes p (x ∷ xs) = kept p (p x) x (filter p xs) refl (filter_passes p xs)
+
+  pub below_all : (l : List T) (v : T) → All (λ x. is_lt (cmp x v) ≡ true) (below cmp l v)
+  below_all l v = filter_passes (λ x. is_lt (cmp x v)) l
+
+  not_true : (b : Bool) → not b ≡ true → b ≡ false
+  not_true true h = sym h
+  not_true false h = refl
+
+  pub not_below_all : (l : List T) (v : T) → All (λ x. is_lt (cmp x v) ≡ false) (not_below cmp l v)
+  not_below_all l v = λ k d lt. not_true _ (filter_passes (λ x. not (is_lt (cmp x v))) l k d lt)

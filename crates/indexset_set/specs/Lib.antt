@@ -1,0 +1,3 @@
+pub mod SetAlgebra
+pub mod SetRanges
+pub mod SetWalks

@@ -1,0 +1,28 @@
+-- Turns of a walk from both ends.
+use Rattle.std.specs.Prelude.{◌≡◌, Bool, true, false, List, [], ◌∷◌, ◌++◌, Option, Some, None}
+use Rattle.std.specs.Map.Iter.{TakesFirst, TakesLast}
+
+module _ {A X : Type 0} (shows : A → X) where
+  -- turns from the front, at true, or from the back, at false, gave the answers rs, and took s to t
+  abbrev pub Turns : List Bool → List X → List (Option A) → List X → Type 0
+  Turns [] s [] t = s ≡ t
+  Turns [] s (r ∷ rs) t = ⊥
+  Turns (end ∷ ends) s [] t = ⊥
+  Turns (true ∷ ends) s (r ∷ rs) t = (u : List X) × TakesFirst shows s r u × Turns ends u rs t
+  Turns (false ∷ ends) s (r ∷ rs) t = (u : List X) × TakesLast shows s r u × Turns ends u rs t
+
+  -- what the turns from the front gave, in order
+  abbrev pub given_in_front : List Bool → List (Option A) → List X
+  given_in_front [] rs = []
+  given_in_front (end ∷ ends) [] = []
+  given_in_front (end ∷ ends) (None ∷ rs) = given_in_front ends rs
+  given_in_front (true ∷ ends) (Some x ∷ rs) = shows x ∷ given_in_front ends rs
+  given_in_front (false ∷ ends) (Some x ∷ rs) = given_in_front ends rs
+
+  -- what the turns from the back gave, the last given first
+  abbrev pub given_at_back : List Bool → List (Option A) → List X
+  given_at_back [] rs = []
+  given_at_back (end ∷ ends) [] = []
+  given_at_back (end ∷ ends) (None ∷ rs) = given_at_back ends rs
+  given_at_back (true ∷ ends) (Some x ∷ rs) = given_at_back ends rs
+  given_at_back (false ∷ ends) (Some x ∷ rs) = given_at_back ends rs ++ shows x ∷ []

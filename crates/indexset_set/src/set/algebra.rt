@@ -1,0 +1,101 @@
+//! Two sets as sets: what both have, either has, or one has alone, as walks, and subset tests.
+ghost use Rattle.std.specs.Prelude.{◌≡◌, not};
+ghost use Rattle.std.specs.List.{list_all};
+ghost use Rattle.std.specs.Map.Iter.{ShowsInOrder, deref};
+ghost use Rattle.indexset_core.specs.Cut.{items};
+ghost use Rattle.indexset_core.specs.Order.{IsAscending, has_equal};
+ghost use Rattle.indexset_set.specs.SetAlgebra.{difference, intersection, symmetric_difference, union};
+
+mod filtered;
+mod merged;
+mod peeked;
+
+use super::BTreeSet;
+pub use filtered::{Difference, Intersection};
+pub use merged::{SymmetricDifference, Union};
+use peeked::{Peeked, Sides};
+
+impl<T: Ord> BTreeSet<T> {
+    /// The elements of either set, ascending. Of two equal ones it gives this set's.
+    pub fn union<'a>(&'a self, other: &'a BTreeSet<T>) -> Union<'a, T>
+        ensures rest { result ≡ union T.cmp (items self.now) (items other.now) }
+        ensures runs { ShowsInOrder (deref {X = T}) }
+    {
+        Union {
+            sides: self.beside(other),
+        }
+    }
+
+    /// The elements of this set that have an equal one in the other, ascending.
+    pub fn intersection<'a>(&'a self, other: &'a BTreeSet<T>) -> Intersection<'a, T>
+        ensures rest { result ≡ intersection T.cmp (items self.now) (items other.now) }
+        ensures runs { ShowsInOrder (deref {X = T}) }
+    {
+        Intersection {
+            sides: self.beside(other),
+        }
+    }
+
+    /// The elements of this set that have no equal one in the other, ascending.
+    pub fn difference<'a>(&'a self, other: &'a BTreeSet<T>) -> Difference<'a, T>
+        ensures rest { result ≡ difference T.cmp (items self.now) (items other.now) }
+        ensures runs { ShowsInOrder (deref {X = T}) }
+    {
+        Difference {
+            sides: self.beside(other),
+        }
+    }
+
+    /// The elements of either set that have no equal one in the other, ascending.
+    pub fn symmetric_difference<'a>(&'a self, other: &'a BTreeSet<T>) -> SymmetricDifference<'a, T>
+        ensures rest { result ≡ symmetric_difference T.cmp (items self.now) (items other.now) }
+        ensures runs { ShowsInOrder (deref {X = T}) }
+    {
+        SymmetricDifference {
+            sides: self.beside(other),
+        }
+    }
+
+    /// Whether each element has an equal one in the other set.
+    pub fn is_subset(&self, other: &BTreeSet<T>) -> bool
+        ensures { result ≡ list_all (has_equal T.cmp (items other.now)) (items self.now) }
+    {
+        self.difference(other).next().is_none()
+    }
+
+    /// Whether each element of the other set has an equal one here.
+    pub fn is_superset(&self, other: &BTreeSet<T>) -> bool
+        ensures { result ≡ list_all (has_equal T.cmp (items self.now)) (items other.now) }
+    {
+        other.is_subset(self)
+    }
+
+    /// Whether no element has an equal one in the other set.
+    pub fn is_disjoint(&self, other: &BTreeSet<T>) -> bool
+        ensures { result ≡ list_all (λ x. not (has_equal T.cmp (items other.now) x)) (items self.now) }
+    {
+        self.intersection(other).next().is_none()
+    }
+
+    // Both sets, to be walked side by side.
+    fn beside<'a>(&'a self, other: &'a BTreeSet<T>) -> Sides<'a, T>
+        ensures left { result.left ≡ items self.now }
+        ensures right { result.right ≡ items other.now }
+        ensures left_ascending { IsAscending T.cmp result.left }
+        ensures right_ascending { IsAscending T.cmp result.right }
+        ensures runs { ShowsInOrder (deref {X = T}) }
+    {
+        Sides {
+            left: self.peeked(),
+            right: other.peeked(),
+        }
+    }
+
+    fn peeked(&self) -> Peeked<'_, T>
+        ensures rest { result ≡ items self.now }
+        ensures ascending { IsAscending T.cmp result }
+        ensures runs { ShowsInOrder (deref {X = T}) }
+    {
+        Peeked::new(self.spine.iter())
+    }
+}

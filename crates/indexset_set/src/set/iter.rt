@@ -1,0 +1,115 @@
+//! Walks of a set from both ends.
+ghost use Rattle.std.specs.Prelude.{◌≡◌, length, List};
+ghost use Rattle.std.specs.Iterator.{at_most};
+ghost use Rattle.std.specs.Map.Iter.{TakesFirst, TakesLast, ShowsInOrder, ShowsInReverse, GivesInOrder, GivesInReverse, deref};
+ghost use Rattle.indexset_core.specs.Cut.{items};
+
+use super::BTreeSet;
+pub use indexset_core::into_iter::IntoIter;
+use indexset_core::iter;
+use std::iter::FusedIterator;
+use std::marker::Model;
+
+/// The elements of a set that are left, from both ends.
+#[derive(Drop)]
+pub struct Iter<'a, T> {
+    rest: iter::Iter<'a, T>,
+}
+
+impl<'a, T> Model for Iter<'a, T> {
+    ghost use Rattle.std.specs.Prelude.{List};
+
+    ghost Value = { List T };
+
+    ghost view = { λ a. a.rest };
+}
+
+impl<'a, T: Ord> Iter<'a, T> {
+    /// All elements, in order.
+    pub fn new(set: &'a BTreeSet<T>) -> Self
+        ensures rest { result ≡ items set.now }
+        ensures runs { ShowsInOrder (deref {X = T}) }
+        ensures runs_back { ShowsInReverse (deref {X = T}) }
+    {
+        Iter {
+            rest: set.spine.iter(),
+        }
+    }
+}
+
+impl<'a, T> Iter<'a, T> {
+    // What a walk of a spine has left.
+    pub(super) fn of(rest: iter::Iter<'a, T>) -> Self
+        ensures { result ≡ rest.entry }
+    {
+        Iter { rest }
+    }
+}
+
+impl<'a, T> Iterator for Iter<'a, T> {
+    type Item = &'a T;
+
+    ghost next_gives = { TakesFirst deref };
+
+    ghost remaining = { λ s. at_most (length s) };
+
+    fn next(&mut self) -> Option<&'a T> {
+        self.rest.next()
+    }
+
+    fn size_hint(&self) -> (usize, Option<usize>) {
+        self.rest.size_hint()
+    }
+}
+
+impl<'a, T> DoubleEndedIterator for Iter<'a, T> {
+    ghost next_back_gives = { TakesLast deref };
+
+    fn next_back(&mut self) -> Option<&'a T> {
+        self.rest.next_back()
+    }
+}
+
+impl<'a, T> ExactSizeIterator for Iter<'a, T> {
+    fn len(&self) -> usize {
+        self.rest.len()
+    }
+}
+
+impl<'a, T> FusedIterator for Iter<'a, T> {}
+
+impl<T: Ord> BTreeSet<T> {
+    /// The elements, in order.
+    pub fn iter(&self) -> Iter<'_, T>
+        ensures rest { result ≡ items self.now }
+        ensures runs { ShowsInOrder (deref {X = T}) }
+        ensures runs_back { ShowsInReverse (deref {X = T}) }
+    {
+        Iter::new(self)
+    }
+}
+
+impl<'a, T: Ord> IntoIterator for &'a BTreeSet<T> {
+    type Item = &'a T;
+
+    type IntoIter = Iter<'a, T>;
+
+    ghost into_iter_gives = { λ b r. (r ≡ items b.now) × ShowsInOrder (deref {X = T}) × ShowsInReverse (deref {X = T}) };
+
+    fn into_iter(self) -> Iter<'a, T> {
+        self.iter()
+    }
+}
+
+impl<T: Ord + Drop> IntoIterator for BTreeSet<T> {
+    type Item = T;
+
+    type IntoIter = IntoIter<T>;
+
+    ghost into_iter_gives = { λ s r. (r ≡ items s) × GivesInOrder T × GivesInReverse T };
+
+    fn into_iter(self) -> IntoIter<T> {
+        let BTreeSet { spine } = self;
+        spine.into_iter()
+    }
+}

@@ -1,0 +1,97 @@
+//! The elements between two bounds, or between two positions.
+ghost use Rattle.std.specs.Prelude.{◌≡◌, IsTrue, min};
+ghost use Rattle.std.specs.List.{count_by};
+ghost use Rattle.std.specs.Map.Iter.{ShowsInOrder, ShowsInReverse, deref};
+ghost use Rattle.std.specs.Ordering.{is_le};
+ghost use Rattle.std.specs.Range.Bound.{bound_map, start_index, end_index};
+ghost use Rattle.indexset_core.specs.Bounds.{are_ordered, in_range, in_positions, is_up_to_end};
+ghost use Rattle.indexset_core.specs.Cut.{items};
+ghost use Rattle.indexset_set.specs.SetRanges.{is_before};
+
+use super::BTreeSet;
+use super::iter::Iter;
+use super::lookup::locate;
+use std::ops::Bound;
+
+impl<T: Ord> BTreeSet<T> {
+    /// The elements that satisfy both bounds, in order. The start must not be past the end, nor at it
+    /// where both are excluded.
+    pub fn range(&self, range: (Bound<&T>, Bound<&T>)) -> Iter<'_, T>
+        requires { IsTrue (are_ordered T.cmp (bound_map (λ v. v.now) range.0) (bound_map (λ v. v.now) range.1)) }
+        ensures rest { result ≡ in_range T.cmp (items self.now) (bound_map (λ v. v.now) range.entry.0) (bound_map (λ v. v.now) range.entry.1) }
+        ensures runs { ShowsInOrder (deref {X = T}) }
+        ensures runs_back { ShowsInReverse (deref {X = T}) }
+    {
+        let from = self.count_before(range.0);
+        let to = self.count_up_to(range.1);
+        Iter::of(self.spine.iter_between(from, to))
+    }
+
+    /// The elements at the positions that satisfy both bounds, in order. There is none where the
+    /// bounds are the wrong way round, and positions past the end have none.
+    pub fn range_idx(&self, range: (Bound<usize>, Bound<usize>)) -> Iter<'_, T>
+        ensures rest { result ≡ in_positions (items self.now) range.0 range.1 }
+        ensures runs { ShowsInOrder (deref {X = T}) }
+        ensures runs_back { ShowsInReverse (deref {X = T}) }
+    {
+        let len = self.len();
+        let to = end_position(range.1, len);
+        let from = first_position(range.0, len).min(to);
+        Iter::of(self.spine.iter_between(from, to))
+    }
+
+    // How many elements stand before the start.
+    fn count_before(&self, start: Bound<&T>) -> usize
+        ensures { result ≡ count_by (is_before T.cmp (bound_map (λ v. v.now) start.entry)) (items self.now) }
+    {
+        match start {
+            Bound::Included(v) => self.rank(v),
+            Bound::Excluded(v) => self.count_not_above(v),
+            Bound::Unbounded => 0,
+        }
+    }
+
+    // How many elements don't stand past the end.
+    fn count_up_to(&self, end: Bound<&T>) -> usize
+        ensures { result ≡ count_by (is_up_to_end T.cmp (bound_map (λ v. v.now) end.entry)) (items self.now) }
+    {
+        match end {
+            Bound::Included(v) => self.count_not_above(v),
+            Bound::Excluded(v) => self.rank(v),
+            Bound::Unbounded => self.len(),
+        }
+    }
+
+    // How many elements are below the value or equal to it.
+    fn count_not_above(&self, value: &T) -> usize
+        ensures { result ≡ count_by (λ x. is_le (T.cmp x value.now)) (items self.now) }
+    {
+        // The length fits, and so does one more than a position.
+        let _len = self.len();
+        let spot = locate(&self.spine, value);
+        let below = self.spine.position(&spot);
+        if spot.found { below + 1 } else { below }
+    }
+}
+
+// The first position that is not before the start, or the length where there is none.
+fn first_position(start: Bound<usize>, len: usize) -> usize
+    ensures { result ≡ min (start_index start) len }
+{
+    match start {
+        Bound::Included(i) => i.min(len),
+        Bound::Excluded(i) => i.saturating_add(1).min(len),
+        Bound::Unbounded => 0,
+    }
+}
+
+// The first position past the end, or the length where there is none.
+fn end_position(end: Bound<usize>, len: usize) -> usize
+    ensures { result ≡ min (end_index end len) len }
+{
+    match end {
+        Bound::Included(i) => i.saturating_add(1).min(len),
+        Bound::Excluded(i) => i.min(len),
+        Bound::Unbounded => len,
+    }
+}
