@@ -9,8 +9,12 @@ use std::alloc::Global;
 use std::hash::{BuildHasher, BuildHasherDefault, FoldHasher};
 use std::test::Fail;
 
+mod algebra;
+mod bulk;
 mod counted;
+mod ranges;
 mod tagged;
+mod walks;
 
 // Adds a value, and lets it go where memory is refused.
 fn add<T: Ord + Drop>(set: &mut BTreeSet<T>, value: T) -> Result<bool, Refusal> {
