@@ -3,7 +3,6 @@
 
 mod command;
 mod fault;
-mod keeper;
 pub mod laws;
 mod line;
 mod program;
