@@ -7,6 +7,7 @@ pub mod laws;
 mod line;
 mod program;
 mod reply;
+pub mod set_run;
 
 pub use fault::RunFault;
 pub use program::run;
