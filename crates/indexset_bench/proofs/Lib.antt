@@ -3,3 +3,4 @@ pub mod Lines
 pub mod Meanings
 pub mod Pieces
 pub mod Runs
+pub mod SetRuns

@@ -27,6 +27,18 @@ pub start : (r w : Option (List ℕ)) (set : List ℕ) → set ≡ [] → SoFar 
 unfolding IsWhole lines_of replies_of contents_of
 start r w set none = record { whole = []; is_whole = λ some. absurd (omega (arith, some)); read = Consumes-nil r; written = Appends-nil w; held = none }
 
+-- nothing was read, and nothing answered
+pub nothing_read : (r w : Option (List ℕ)) → AnswersWholeLines IsLinePart r r w w
+unfolding IsWhole lines_of replies_of
+nothing_read r w = record {
+  whole = [];
+  rest = [];
+  is_whole = λ some. absurd (omega (arith, some));
+  is_rest = StopsAt-of_All [] 10 (All-nil (λ x. x ≢ 10));
+  read = Consumes-nil r;
+  written = Appends-nil w;
+}
+
 -- ---- whole lines and one more
 
 module _ (whole part line set : List ℕ) (is_whole : IsWhole whole) (one : lines_of part ≡ line ∷ []) (held : set ≡ contents_of [] (lines_of whole)) where

@@ -4,4 +4,5 @@ pub mod Lines
 pub mod Reading
 pub mod Reply
 pub mod Run
+pub mod SetRun
 pub mod Text

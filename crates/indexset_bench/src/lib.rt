@@ -3,11 +3,11 @@
 
 mod command;
 mod fault;
-mod keeper;
 pub mod laws;
 mod line;
 mod program;
 mod reply;
+pub mod set_run;
 
 pub use fault::RunFault;
 pub use program::run;

@@ -2,6 +2,7 @@
 
 ghost use Rattle.std.specs.Prelude.{◌≡◌, ◌≢◌, ◌⊎◌, [], Some, Err, OnOk, IfErr, IfSome, OnSome};
 ghost use Rattle.std.specs.Io.KnownBytes.{Appends, Keeps};
+ghost use Rattle.indexset_core.specs.Cut.{items};
 ghost use Rattle.indexset_bench.specs.Command.{meaning};
 ghost use Rattle.indexset_bench.specs.Lines.{HasNoEnd, IsLinePart};
 ghost use Rattle.indexset_bench.specs.Reply.{AddsNew, contents_after};
@@ -10,9 +11,9 @@ ghost use Rattle.indexset_bench.specs.Text.{reply_line, text_of};
 
 use crate::command::parse;
 use crate::fault::RunFault;
-use crate::keeper::Keeper;
 use crate::line::{Part, is_at_end, next_line};
 use crate::reply::perform;
+use indexset_set::BTreeSet;
 use std::alloc::Global;
 use std::io::{BufRead, Write};
 
@@ -71,7 +72,7 @@ fn answer_lines<R: BufRead, W: Write>(
         (W.contents writer.old) (W.contents writer.new) }
     ensures numbers_fit { result ≢ Err RunFault.Numbers }
 {
-    let mut set = Keeper::new(alloc);
+    let mut set = BTreeSet::new(alloc).map_err(|_| RunFault::Memory)?;
     let mut line = Vec::new(alloc);
     for _ in 0..u64::MAX {
         match next_line(reader, &mut line)? {
@@ -89,13 +90,17 @@ fn answer_lines<R: BufRead, W: Write>(
 }
 
 /// Answers one line. Where memory is refused, nothing is written.
-fn answer_line<W: Write>(writer: &mut W, set: &mut Keeper, line: &[u8]) -> Result<(), RunFault>
-    ensures set { OnOk result (set.new ≡ contents_after set.old (meaning line.now)) }
+fn answer_line<W: Write>(
+    writer: &mut W,
+    set: &mut BTreeSet<u64>,
+    line: &[u8],
+) -> Result<(), RunFault>
+    ensures set { OnOk result (items set.new ≡ contents_after (items set.old) (meaning line.now)) }
     ensures told { OnOk result (Appends (W.contents writer.old) (W.contents writer.new)
-        (reply_line set.old line.now)) }
+        (reply_line (items set.old) line.now)) }
     ensures untold { result ≡ Err RunFault.Memory
         → Keeps (W.contents writer.old) (W.contents writer.new) }
-    ensures only_new { result ≡ Err RunFault.Memory → AddsNew set.old (meaning line.now) }
+    ensures only_new { result ≡ Err RunFault.Memory → AddsNew (items set.old) (meaning line.now) }
     ensures fault { IfErr result (λ fault. (fault ≡ RunFault.Memory) ⊎ (fault ≡ RunFault.Write)) }
 {
     let reply = perform(set, parse(line)).map_err(|_| RunFault::Memory)?;

@@ -1,12 +1,17 @@
-use Rattle.std.proofs.Common.{rules}
+use Rattle.std.proofs.Common.{◌≡◌, [], arith, rules}
+use Rattle.std.proofs.lemmas.Grind.{common_steps}
 use Rattle.std.proofs.lemmas.Result.{on_ok_weaker}
 use Rattle.std.specs.Io.KnownBytes.{Keeps}
+use Rattle.indexset_core.specs.Cut.{items}
 use Rattle.indexset_bench.specs.declared.line.Part.TheVariants.{Whole}
-use Rattle.indexset_bench.proofs.Runs.{start, further, all_but_end, unanswered}
+use Rattle.indexset_bench.proofs.Runs.{start, nothing_read, further, all_but_end, unanswered}
 use Rattle.indexset_bench.proofs.program.answer_lines.Goals as goal
 
 pub loop-init : goal.loop-init
-loop-init g c = start _ _ _ c.new-set.ensures
+loop-init g c = let empty : items c.in_ok-set.set ≡ [] = grind (arith, common_steps) in start _ _ _ empty
+
+pub returns-in_err-set-clause-memory_refused : goal.returns-in_err-set-clause-memory_refused
+returns-in_err-set-clause-memory_refused g c refused = nothing_read _ _
 
 pub returns-in_err-answer_line-in-Whole-clause-memory_refused : goal.returns-in_err-answer_line-in-Whole-clause-memory_refused
 returns-in_err-answer_line-in-Whole-clause-memory_refused g c refused =
@@ -22,5 +27,5 @@ returns-in-Last-clause-given_answered g c =
 
 pub loop-preserved : goal.loop-preserved
 loop-preserved g c =
-    further _ _ (g.R.Read.remaining c.next_line.new.reader) _ _ (g.W.Write.contents c.answer_line.new.writer) _ c.next_line.new.line.items c.loop.invariant c.in_ok-next_line.field-0 c.deref.result.now c.answer_line.new.set
+    further _ _ (g.R.Read.remaining c.next_line.new.reader) _ _ (g.W.Write.contents c.answer_line.new.writer) (items c.loop.set) c.next_line.new.line.items c.loop.invariant c.in_ok-next_line.field-0 c.deref.result.now (items c.answer_line.new.set)
     c.in-Whole.is c.deref.ensures.value c.in_ok-next_line.ensures.ok c.in_ok-answer_line-in-Whole.ensures.told c.in_ok-answer_line-in-Whole.ensures.set

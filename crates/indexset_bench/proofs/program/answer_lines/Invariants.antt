@@ -1,6 +1,7 @@
+use Rattle.indexset_core.specs.Cut.{items}
 use Rattle.indexset_bench.proofs.Runs.{SoFar}
 use Rattle.indexset_bench.proofs.program.answer_lines.Given as goal
 
 abbrev pub invariant-loop : goal.invariant-loop
 invariant-loop g l =
-    SoFar (g.R.Read.remaining l.fn.reader) (g.R.Read.remaining l.reader) (g.W.Write.contents l.fn.writer) (g.W.Write.contents l.writer) l.set
+    SoFar (g.R.Read.remaining l.fn.reader) (g.R.Read.remaining l.reader) (g.W.Write.contents l.fn.writer) (g.W.Write.contents l.writer) (items l.set)

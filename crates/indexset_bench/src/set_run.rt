@@ -1,0 +1,167 @@
+//! Lists of commands to a set, and the reply to each.
+
+ghost use Rattle.std.specs.Prelude.{◌≡◌, ◌<◌, ◌++◌, [], ◌∷◌, IfOk, OnOk, IfErr, OnErr, IfSome, OnSome, IfNone, length, take};
+ghost use Rattle.indexset_core.specs.Cut.{items};
+ghost use Rattle.indexset_bench.specs.SetRun.{set_reply, set_after, set_replies, set_after_all};
+
+use indexset_core::refusal::Refusal;
+use indexset_set::BTreeSet;
+use std::alloc::Global;
+
+/// What is asked of a set. The reply is a `Flag`, an `Item`, a `Count` or `Done`, as it is said here.
+#[derive(Debug, Drop)]
+pub enum SetCommand<T> {
+    /// Adds the value, unless an equal element is there: a `Flag`, whether it was added.
+    Insert(T),
+    /// Takes the element equal to the value out: a `Flag`, whether it was there.
+    Remove(T),
+    /// Asks whether an element equal to the value is there: a `Flag`.
+    Contains(T),
+    /// Puts the value in place of the element equal to it, or adds it: an `Item`, the old element.
+    Replace(T),
+    /// Takes the element equal to the value out: an `Item`, that element.
+    Take(T),
+    /// Asks for the element equal to the value: an `Item`.
+    Get(T),
+    /// Asks for the first element that is not below the value: an `Item`.
+    LowerBound(T),
+    /// Asks for the element at the position: an `Item`.
+    GetIndex(usize),
+    /// Asks for the least element: an `Item`.
+    First,
+    /// Asks for the greatest element: an `Item`.
+    Last,
+    /// Takes the least element out: an `Item`, that element.
+    PopFirst,
+    /// Takes the greatest element out: an `Item`, that element.
+    PopLast,
+    /// Asks how many elements are below the value: a `Count`.
+    Rank(T),
+    /// Asks how many elements there are: a `Count`.
+    Len,
+    /// Takes all elements out: `Done`.
+    Clear,
+}
+
+/// The reply to a command.
+#[derive(Debug, PartialEq, Drop)]
+pub enum SetReply<T> {
+    /// Whether it is so.
+    Flag(bool),
+    /// The element, where there is one; a clone of it where it stays in the set.
+    Item(Option<T>),
+    /// How many there are.
+    Count(usize),
+    /// It was done.
+    Done,
+}
+
+/// What a list of commands was answered.
+#[derive(Debug, Drop)]
+pub struct Run<R> {
+    /// The replies, in turn, to the commands before the refused one, or to all of them.
+    pub replies: Vec<R>,
+    /// Why the run ended before its commands did, if it did.
+    pub refused: Option<Refusal>,
+}
+
+/// Carries out the commands in turn, and ends at the first that is refused: then the replies are
+/// those to the commands before it, and the set is as they left it.
+///
+/// Room for a reply is asked for before its command acts. Elements that stay in the set are cloned
+/// into their replies, which is why a clone has to be identical to its source.
+pub fn run_set<T: Ord + Clone + Drop>(
+    alloc: Global,
+    set: &mut BTreeSet<T>,
+    commands: Vec<SetCommand<T>>,
+) -> Run<SetReply<T>>
+    requires { (x y : T) → T.is_clone x y → y ≡ x }
+
+    // The commands that were answered are the first ones, as many as there are replies.
+    ensures replies { result.replies.items ≡ set_replies T.cmp (items set.old)
+        (take (length result.replies.items) commands.items) }
+    ensures contents { items set.new ≡ set_after_all T.cmp (items set.old)
+        (take (length result.replies.items) commands.items) }
+    ensures all { IfNone result.refused
+        (length result.replies.items ≡ length commands.items) }
+    ensures fewer { OnSome result.refused
+        (length result.replies.items < length commands.items) }
+    ensures refused { IfSome result.refused (λ e. e ≡ Refusal.Memory) }
+    ensures size { set.new.size ≡ set.old.size }
+{
+    let mut replies = Vec::new(alloc);
+    for command in commands {
+        if let Err(refusal) = answer(set, &mut replies, command) {
+            return Run {
+                replies,
+                refused: Some(refusal),
+            };
+        }
+    }
+    Run {
+        replies,
+        refused: None,
+    }
+}
+
+/// Carries out a command and adds the reply to those before it. A refused one changes nothing.
+fn answer<T: Ord + Clone + Drop>(
+    set: &mut BTreeSet<T>,
+    replies: &mut Vec<SetReply<T>>,
+    command: SetCommand<T>,
+) -> Result<(), Refusal>
+    requires { (x y : T) → T.is_clone x y → y ≡ x }
+    ensures told { OnOk result (replies.new.items
+        ≡ replies.old.items ++ set_reply T.cmp (items set.old) command ∷ []) }
+    ensures ok { OnOk result (items set.new ≡ set_after T.cmp (items set.old) command) }
+    ensures size { set.new.size ≡ set.old.size }
+    ensures refusal { IfErr result (λ e. e ≡ Refusal.Memory) }
+    ensures untold { OnErr result (replies.new.items ≡ replies.old.items) }
+    ensures err { OnErr result (items set.new ≡ items set.old) }
+{
+    replies.reserve(1)?;
+    let reply = act(set, command)?;
+    replies.push_reserved(reply);
+    Ok(())
+}
+
+/// Carries out a command, and answers the reply to it. A refused one changes nothing.
+fn act<T: Ord + Clone + Drop>(
+    set: &mut BTreeSet<T>,
+    command: SetCommand<T>,
+) -> Result<SetReply<T>, Refusal>
+    requires { (x y : T) → T.is_clone x y → y ≡ x }
+    ensures reply { IfOk result (λ reply. reply ≡ set_reply T.cmp (items set.old) command) }
+    ensures ok { OnOk result (items set.new ≡ set_after T.cmp (items set.old) command) }
+    ensures size { set.new.size ≡ set.old.size }
+    ensures refusal { IfErr result (λ e. e ≡ Refusal.Memory) }
+    ensures err { OnErr result (items set.new ≡ items set.old) }
+{
+    let reply = match command {
+        SetCommand::Insert(v) => match set.insert(v) {
+            Ok(added) => SetReply::Flag(added),
+            Err(refused) => return Err(refused.cause),
+        },
+        SetCommand::Remove(v) => SetReply::Flag(set.remove(&v)),
+        SetCommand::Contains(v) => SetReply::Flag(set.contains(&v)),
+        SetCommand::Replace(v) => match set.replace(v) {
+            Ok(old) => SetReply::Item(old),
+            Err(refused) => return Err(refused.cause),
+        },
+        SetCommand::Take(v) => SetReply::Item(set.take(&v)),
+        SetCommand::Get(v) => SetReply::Item(set.get(&v).cloned()?),
+        SetCommand::LowerBound(v) => SetReply::Item(set.lower_bound(&v).cloned()?),
+        SetCommand::GetIndex(i) => SetReply::Item(set.get_index(i).cloned()?),
+        SetCommand::First => SetReply::Item(set.first().cloned()?),
+        SetCommand::Last => SetReply::Item(set.last().cloned()?),
+        SetCommand::PopFirst => SetReply::Item(set.pop_first()),
+        SetCommand::PopLast => SetReply::Item(set.pop_last()),
+        SetCommand::Rank(v) => SetReply::Count(set.rank(&v)),
+        SetCommand::Len => SetReply::Count(set.len()),
+        SetCommand::Clear => {
+            set.clear();
+            SetReply::Done
+        }
+    };
+    Ok(reply)
+}
