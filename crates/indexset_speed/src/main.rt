@@ -6,6 +6,7 @@ use indexset_set::BTreeSet;
 use std::alloc::Global;
 use std::env;
 use std::io::{self, ErrorKind};
+use std::ops::Bound;
 use std::time::Instant;
 
 /// The i-th of the distinct keys, in an order that looks random.
@@ -62,6 +63,72 @@ fn ranks(set: &BTreeSet<u64>, keys: u64) -> u64 {
     sum
 }
 
+fn walked(set: &BTreeSet<u64>) -> u64 {
+    let mut sum = 0u64;
+    for element in set.iter() {
+        sum = sum.wrapping_add(*element);
+    }
+    sum
+}
+
+/// A walk that takes from both ends in turn.
+fn walked_from_both_ends(set: &BTreeSet<u64>) -> u64 {
+    let mut sum = 0u64;
+    let mut walk = set.iter();
+    for _ in 0..set.len() {
+        let Some(first) = walk.next() else {
+            return sum;
+        };
+        let last = walk.next_back().unwrap_or(&0);
+        sum = sum.wrapping_add(*first).wrapping_add(*last);
+    }
+    sum
+}
+
+/// Ranges of about a hundred elements, each from a key on.
+fn ranges(set: &BTreeSet<u64>, keys: u64, times: u64) -> u64 {
+    let width = u64::MAX / keys.max(1) * 100.min(keys.max(1));
+    let mut sum = 0u64;
+    for i in 0..times {
+        let start = key(i);
+        let end = start.saturating_add(width);
+        for element in set.range((Bound::Included(&start), Bound::Included(&end))) {
+            sum = sum.wrapping_add(*element);
+        }
+    }
+    sum
+}
+
+fn united(set: &BTreeSet<u64>, other: &BTreeSet<u64>) -> u64 {
+    let mut sum = 0u64;
+    for element in set.union(other) {
+        sum = sum.wrapping_add(*element);
+    }
+    sum
+}
+
+fn measure_walks(rt: &HostRuntime, set: &mut BTreeSet<u64>, keys: u64) -> io::Result<()> {
+    let start = Instant::now(rt)?;
+    let all = walked(set);
+    report(rt, "full walk", start, keys)?;
+    let start = Instant::now(rt)?;
+    let both = walked_from_both_ends(set);
+    report(rt, "full walk from both ends", start, keys)?;
+    let start = Instant::now(rt)?;
+    let some = ranges(set, keys, 100_000);
+    report(rt, "range of about 100", start, 100_000)?;
+    let start = Instant::now(rt)?;
+    let mut upper = set.split_off(&(u64::MAX / 2)).map_err(failure)?;
+    report(rt, "split in the middle", start, 1)?;
+    let start = Instant::now(rt)?;
+    let joined = united(set, &upper);
+    report(rt, "union of two halves", start, keys)?;
+    let start = Instant::now(rt)?;
+    set.append(&mut upper).map_err(failure)?;
+    report(rt, "append of the upper half", start, keys / 2)?;
+    println!(rt; "check {all} {both} {some} {joined}")
+}
+
 fn remove_all(set: &mut BTreeSet<u64>, keys: u64) -> u64 {
     let mut removed = 0u64;
     for i in 0..keys {
@@ -83,6 +150,7 @@ fn measure(rt: &HostRuntime, keys: u64) -> io::Result<()> {
     let start = Instant::now(rt)?;
     let positions = ranks(&set, keys);
     report(rt, "rank", start, keys)?;
+    measure_walks(rt, &mut set, keys)?;
     let start = Instant::now(rt)?;
     let removed = remove_all(&mut set, keys);
     report(rt, "remove, random order", start, keys)?;
