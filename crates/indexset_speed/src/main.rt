@@ -18,11 +18,11 @@ fn failure(_refusal: Refusal) -> io::Error {
     io::Error::from(ErrorKind::OutOfMemory)
 }
 
-/// One line: what was done, and how many nanoseconds each took.
+/// One line: what was done, and how many nanoseconds each took, to a tenth.
 fn report(rt: &HostRuntime, what: &str, since: Instant, operations: u64) -> io::Result<()> {
-    let nanoseconds = since.elapsed(rt)?.as_nanos();
-    match nanoseconds.checked_div(u128::from(operations)) {
-        Some(each) => println!(rt; "{what} {each} ns"),
+    let tenths = since.elapsed(rt)?.as_nanos().saturating_mul(10);
+    match tenths.checked_div(u128::from(operations)) {
+        Some(each) => println!(rt; "{what} {}.{} ns", each / 10, each % 10),
         None => println!(rt; "{what} nothing"),
     }
 }

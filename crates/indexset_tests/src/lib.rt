@@ -9,6 +9,8 @@ mod probe;
 #[cfg(test)]
 mod program;
 #[cfg(test)]
+mod readme;
+#[cfg(test)]
 mod run_set;
 #[cfg(test)]
 mod set;
