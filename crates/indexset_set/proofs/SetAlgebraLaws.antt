@@ -1,8 +1,8 @@
 -- What the algebra of two ascending lists gives, by its elements.
-use Rattle.std.proofs.Common.{◌≡◌, ℕ, zero, suc, ◌+◌, ◌<◌, ◌≤◌, ◌⊎◌, inl, inr, Bool, true, false, not, cond, ◌&&◌, ◌||◌, if◌then◌else◌, List, [], ◌∷◌, ◌++◌, length, get_or, take, drop, filter, Ordering, refl, ap, sym, ◌∙◌, subst, arith}
+use Rattle.std.proofs.Common.{◌≡◌, zero, suc, ◌+◌, ◌⊎◌, inl, inr, Bool, true, false, not, cond, ◌&&◌, ◌||◌, if◌then◌else◌, List, [], ◌∷◌, ◌++◌, length, take, drop, filter, Ordering, refl, ap, sym, ◌∙◌, subst, arith}
 use Rattle.std.specs.declared.cmp.Ordering.TheVariants.{Less, Equal, Greater}
 use Rattle.std.specs.Cmp.{IsTotalOrder}
-use Rattle.std.specs.List.{All, AllPass, Contains, HoldsAt, fold, insert, list_any}
+use Rattle.std.specs.List.{All, Contains, insert, list_any}
 use Rattle.std.specs.Ordering.{is_lt, is_gt, is_eq}
 use Rattle.std.proofs.lemmas.Cmp.{alike_right}
 use Rattle.std.proofs.lemmas.List.{take-append-drop}
@@ -12,7 +12,7 @@ use Rattle.std.proofs.lemmas.Bool.{false≢true}
 use Rattle.indexset_core.specs.Order.{IsAscending, IsGapFor, below, above, rank, has_equal, keep, put}
 use Rattle.indexset_set.specs.SetAlgebra.{union, intersection, difference, symmetric_difference}
 use Rattle.indexset_core.proofs.OrderLemmas.{parted_by_item, gap_at, gap_put, gap_ascending}
-use Rattle.indexset_set.proofs.SetAlgebraLemmas.{Up, up_from, ascending_from, union_none, union_alone, union_at_Less, union_at_Equal, union_at_Greater, intersection_none, intersection_at_Less, intersection_at_Equal, intersection_at_Greater}
+use Rattle.indexset_set.proofs.SetAlgebraLemmas.{up_from, ascending_from, union_none, union_alone, union_at_Less, union_at_Equal, union_at_Greater, intersection_none, intersection_at_Less, intersection_at_Equal, intersection_at_Greater}
 
 or_left : (a b : Bool) → (a || b) ≡ false → a ≡ false
 or_left true b h = h

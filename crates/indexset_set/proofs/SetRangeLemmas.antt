@@ -1,5 +1,5 @@
 -- The part of a list that two bounds cut out.
-use Rattle.std.proofs.Common.{◌≡◌, ℕ, zero, suc, ◌+◌, ◌-◌, ◌<◌, ◌≤◌, min, Bool, true, false, not, ◌&&◌, cond, List, [], ◌∷◌, length, get_or, take, drop, filter, map, Ordering, refl, ap, sym, inl, inr, ◌∙◌, subst, arith, add-one}
+use Rattle.std.proofs.Common.{◌≡◌, ℕ, zero, suc, ◌+◌, ◌-◌, ◌<◌, ◌≤◌, min, Bool, true, false, not, ◌&&◌, List, [], ◌∷◌, length, get_or, take, drop, filter, map, Ordering, refl, ap, sym, inl, inr, ◌∙◌, subst, arith}
 use Rattle.std.specs.declared.cmp.Ordering.TheVariants.{Less, Equal, Greater}
 use Rattle.std.specs.declared.ops.Bound.{Bound}
 use Rattle.std.specs.declared.ops.Bound.TheVariants.{Included, Excluded, Unbounded}
@@ -12,7 +12,7 @@ use Rattle.std.proofs.lemmas.List.{take_all}
 use Rattle.std.proofs.lemmas.Cmp.{alike_right}
 use Rattle.std.proofs.lemmas.Bool.{false≢true, cases_lt}
 use Rattle.std.proofs.lemmas.Bool.Decides.{nat_tests}
-use Rattle.indexset_core.specs.Bounds.{is_from_start, is_up_to_end, is_within, is_at_position, are_ordered, in_range, in_positions}
+use Rattle.indexset_core.specs.Bounds.{is_from_start, is_up_to_end, is_at_position, are_ordered, in_range, in_positions}
 use Rattle.indexset_set.specs.SetRanges.{is_before}
 use Rattle.indexset_core.specs.Order.{IsAscending, IsFoundAt, IsGapFor}
 use Rattle.indexset_core.proofs.OrderLemmas.{parted_by_item, found_after}

@@ -1,5 +1,5 @@
 -- Two ascending lists as sets.
-use Rattle.std.specs.Prelude.{◌≡◌, ℕ, ◌≤◌, List, length, take, drop, filter, not}
+use Rattle.std.specs.Prelude.{◌≡◌, ℕ, List, take, drop, filter, not}
 use Rattle.std.specs.declared.cmp.Ordering.{Ordering}
 use Rattle.std.specs.List.{fold}
 use Rattle.indexset_core.specs.Order.{has_equal, keep, put}

@@ -6,14 +6,18 @@ ghost use Rattle.indexset_core.specs.Cut.{items};
 ghost use Rattle.indexset_core.specs.Order.{IsAscending, has_equal};
 ghost use Rattle.indexset_set.specs.SetAlgebra.{difference, intersection, symmetric_difference, union};
 
-mod filtered;
-mod merged;
+mod difference_walk;
+mod intersection_walk;
 mod peeked;
+mod symmetric_walk;
+mod union_walk;
 
 use super::BTreeSet;
-pub use filtered::{Difference, Intersection};
-pub use merged::{SymmetricDifference, Union};
+pub use difference_walk::Difference;
+pub use intersection_walk::Intersection;
 use peeked::{Peeked, Sides};
+pub use symmetric_walk::SymmetricDifference;
+pub use union_walk::Union;
 
 impl<T: Ord> BTreeSet<T> {
     /// The elements of either set, ascending. Of two equal ones it gives this set's.

@@ -1,4 +1,4 @@
-use Rattle.std.proofs.Common.{Some, sym, ap, ◌∙◌}
+use Rattle.std.proofs.Common.{sym, ◌∙◌}
 use Rattle.indexset_core.proofs.AscendingLemmas.{position_found, position_absent}
 use Rattle.indexset_set.proofs.set.BTreeSet.locate_by.Goals as goal
 

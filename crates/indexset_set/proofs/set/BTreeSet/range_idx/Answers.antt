@@ -1,4 +1,4 @@
-use Rattle.std.proofs.Common.{◌∙◌, ◌≡◌, length, ap, min}
+use Rattle.std.proofs.Common.{◌∙◌, length, ap, min}
 use Rattle.std.specs.Range.Bound.{start_index, end_index}
 use Rattle.indexset_core.specs.Cut.{items}
 use Rattle.indexset_set.proofs.SetRangeLemmas.{clipped}

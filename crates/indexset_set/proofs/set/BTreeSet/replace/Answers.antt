@@ -1,4 +1,4 @@
-use Rattle.std.proofs.Common.{sym, ap, ◌∙◌}
+use Rattle.std.proofs.Common.{sym, ◌∙◌}
 use Rattle.std.proofs.lemmas.Bool.{false≢true}
 use Rattle.indexset_core.proofs.AscendingLemmas.{found_equal, found_ascending, gap_equal}
 use Rattle.indexset_core.proofs.OrderLemmas.{found_put, gap_has_equal, gap_put, gap_ascending}

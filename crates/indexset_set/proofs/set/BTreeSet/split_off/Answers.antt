@@ -1,4 +1,4 @@
-use Rattle.std.proofs.Common.{◌∙◌, ap, take, drop}
+use Rattle.std.proofs.Common.{◌∙◌}
 use Rattle.indexset_set.proofs.SetBulkLemmas.{take_below, drop_not_below}
 use Rattle.indexset_set.proofs.set.BTreeSet.split_off.Goals as goal
 

@@ -1,9 +1,9 @@
-use Rattle.std.proofs.Common.{◌≡◌, ◌∙◌, ◌∷◌, [], length, sym, ap, drop}
+use Rattle.std.proofs.Common.{◌∙◌, ◌∷◌, sym, ap, drop}
 use Rattle.std.specs.Map.Iter.{deref}
 use Rattle.indexset_set.specs.SetAlgebra.{union}
 use Rattle.indexset_set.proofs.SetBulkLemmas.{rest_ascending}
 use Rattle.indexset_set.proofs.SetAlgebraLemmas.{takes_along, takes_ascending, union_left, union_right, union_at_Less, union_at_Equal, union_at_Greater}
-use Rattle.indexset_set.proofs.set.algebra.merged.next_of_either.Goals as goal
+use Rattle.indexset_set.proofs.set.algebra.union_walk.next_of_either.Goals as goal
 
 pub returns-in_default-clause-right : goal.returns-in_default-clause-right
 returns-in_default-clause-right g c = takes_ascending g.T.Ord.cmp deref _ _ c.next.result c.next.ensures c.requires.right

@@ -1,9 +1,8 @@
-use Rattle.std.proofs.Common.{◌≡◌, ◌∙◌, ◌∷◌, [], length, sym, ap, drop}
-use Rattle.std.specs.Map.Iter.{deref}
+use Rattle.std.proofs.Common.{◌∙◌, ◌∷◌, sym, ap, drop}
 use Rattle.indexset_set.specs.SetAlgebra.{difference}
 use Rattle.indexset_set.proofs.SetBulkLemmas.{rest_ascending}
 use Rattle.indexset_set.proofs.SetAlgebraLemmas.{difference_left, difference_right, difference_at_Less, difference_at_Equal, difference_at_Greater}
-use Rattle.indexset_set.proofs.set.algebra.filtered.next_in_left.Goals as goal
+use Rattle.indexset_set.proofs.set.algebra.difference_walk.next_in_left.Goals as goal
 
 pub returns-in_err-x-clause-takes : goal.returns-in_err-x-clause-takes
 returns-in_err-x-clause-takes g c =

@@ -1,9 +1,7 @@
-use Rattle.std.proofs.Common.{◌≡◌, ◌∙◌, ◌∷◌, [], length, sym, ap, drop}
-use Rattle.std.specs.Map.Iter.{deref}
-use Rattle.indexset_set.specs.SetAlgebra.{intersection}
+use Rattle.std.proofs.Common.{◌∙◌, sym, drop}
 use Rattle.indexset_set.proofs.SetBulkLemmas.{rest_ascending}
 use Rattle.indexset_set.proofs.SetAlgebraLemmas.{intersection_left, intersection_right, intersection_at_Less, intersection_at_Equal, intersection_at_Greater}
-use Rattle.indexset_set.proofs.set.algebra.filtered.next_in_both.Goals as goal
+use Rattle.indexset_set.proofs.set.algebra.intersection_walk.next_in_both.Goals as goal
 
 pub returns-in_err-x-clause-takes : goal.returns-in_err-x-clause-takes
 returns-in_err-x-clause-takes g c =

@@ -1,9 +1,9 @@
-use Rattle.std.proofs.Common.{◌≡◌, ◌∙◌, ◌∷◌, [], length, sym, ap, drop}
+use Rattle.std.proofs.Common.{◌∙◌, ◌∷◌, sym, ap, drop}
 use Rattle.std.specs.Map.Iter.{deref}
 use Rattle.indexset_set.specs.SetAlgebra.{symmetric_difference}
 use Rattle.indexset_set.proofs.SetBulkLemmas.{rest_ascending}
 use Rattle.indexset_set.proofs.SetAlgebraLemmas.{takes_along, takes_ascending, apart_left, apart_right, apart_at_Less, apart_at_Equal, apart_at_Greater}
-use Rattle.indexset_set.proofs.set.algebra.merged.next_of_one.Goals as goal
+use Rattle.indexset_set.proofs.set.algebra.symmetric_walk.next_of_one.Goals as goal
 
 pub returns-in_default-clause-right : goal.returns-in_default-clause-right
 returns-in_default-clause-right g c = takes_ascending g.T.Ord.cmp deref _ _ c.next.result c.next.ensures c.loop-x.invariant.right
