@@ -4,3 +4,6 @@
 pub mod set;
 
 pub use set::BTreeSet;
+pub use set::algebra::{Difference, Intersection, SymmetricDifference, Union};
+pub use set::iter::{IntoIter, Iter};
+pub use set::range::Range;

@@ -12,7 +12,7 @@ pub mod laws;
 mod lookup;
 mod make;
 mod positions;
-mod range;
+pub mod range;
 pub mod walk_laws;
 
 use indexset_core::spine::Spine;

@@ -13,10 +13,13 @@ use super::iter::Iter;
 use super::lookup::locate;
 use std::ops::Bound;
 
+/// The elements of a part of a set that are left, from both ends.
+pub type Range<'a, T> = Iter<'a, T>;
+
 impl<T: Ord> BTreeSet<T> {
     /// The elements that satisfy both bounds, in order. The start must not be past the end, nor at it
     /// where both are excluded.
-    pub fn range(&self, range: (Bound<&T>, Bound<&T>)) -> Iter<'_, T>
+    pub fn range(&self, range: (Bound<&T>, Bound<&T>)) -> Range<'_, T>
         requires { IsTrue (are_ordered T.cmp (bound_map (λ v. v.now) range.0) (bound_map (λ v. v.now) range.1)) }
         ensures rest { result ≡ in_range T.cmp (items self.now) (bound_map (λ v. v.now) range.entry.0) (bound_map (λ v. v.now) range.entry.1) }
         ensures runs { ShowsInOrder (deref {X = T}) }
@@ -29,7 +32,7 @@ impl<T: Ord> BTreeSet<T> {
 
     /// The elements at the positions that satisfy both bounds, in order. There is none where the
     /// bounds are the wrong way round, and positions past the end have none.
-    pub fn range_idx(&self, range: (Bound<usize>, Bound<usize>)) -> Iter<'_, T>
+    pub fn range_idx(&self, range: (Bound<usize>, Bound<usize>)) -> Range<'_, T>
         ensures rest { result ≡ in_positions (items self.now) range.0 range.1 }
         ensures runs { ShowsInOrder (deref {X = T}) }
         ensures runs_back { ShowsInReverse (deref {X = T}) }

@@ -1,7 +1,7 @@
 //! Walks from either end.
 use super::descending;
 use indexset_set::BTreeSet;
-use indexset_set::set::iter::Iter;
+use indexset_set::Iter;
 use std::test::Fail;
 
 #[test]
