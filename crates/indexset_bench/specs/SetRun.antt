@@ -1,5 +1,5 @@
 -- Lists of commands to a set, by its elements in order.
-use Rattle.std.specs.Prelude.{ℕ, ◌-◌, List, [], length, take, drop, slice_get, not}
+use Rattle.std.specs.Prelude.{◌-◌, List, [], length, take, drop, slice_get, not}
 use Rattle.std.specs.List.{fold, scan}
 use Rattle.std.specs.declared.cmp.Ordering.{Ordering}
 use Rattle.indexset_core.specs.Order.{rank, has_equal, equal_element, lower_element, put, keep, without}
