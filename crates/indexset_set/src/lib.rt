@@ -3,7 +3,7 @@
 
 pub mod set;
 
-pub use set::BTreeSet;
 pub use set::algebra::{Difference, Intersection, SymmetricDifference, Union};
 pub use set::iter::{IntoIter, Iter};
 pub use set::range::Range;
+pub use set::{BTreeSet, laws};

@@ -13,7 +13,6 @@ mod lookup;
 mod make;
 mod positions;
 pub mod range;
-pub mod walk_laws;
 
 use indexset_core::spine::Spine;
 use std::marker::Model;

@@ -96,6 +96,20 @@ fn two_to_a_node(rt: HostRuntime) -> Result<(), Fail> {
 }
 
 #[test]
+fn few_questions_in_few_nodes(rt: HostRuntime) -> Result<(), Fail> {
+    // Six nodes of at most two elements: 3 + 2 + 1 questions at most.
+    let set = ascending(rt.alloc(), 2, 7)?;
+    assert_eq!(rt; set.node_count(), 6);
+    for key in 0..7u64 {
+        let (place, asked) = questions(&set, key);
+        assert!(rt; place.is_ok_and(|i| i as u64 == key), "at {key}");
+        assert!(rt; asked <= 6, "at {key}");
+    }
+    assert_eq!(rt; questions(&set, 7).0, Err(7));
+    Ok(())
+}
+
+#[test]
 fn equal_whatever_the_nodes(rt: HostRuntime) -> Result<(), Fail> {
     let small = descending(rt.alloc(), 2, 6)?;
     let large = ascending(rt.alloc(), 1024, 6)?;

@@ -1,8 +1,7 @@
 //! Calls that add an element or take one out.
 ghost use Rattle.std.specs.Prelude.{◌≡◌, [], ◌∷◌, true, not, IfOk, OnOk, IfErr, OnErr, IsOk};
 ghost use Rattle.indexset_core.specs.Cut.{items};
-ghost use Rattle.indexset_core.specs.Order.{has_equal, keep, put, without};
-ghost use Rattle.indexset_core.specs.Order.{equal_element};
+ghost use Rattle.indexset_core.specs.Order.{has_equal, keep, put, without, equal_element};
 
 use super::BTreeSet;
 use super::lookup::locate;

@@ -3,8 +3,9 @@
 ghost use Rattle.std.specs.Prelude.{◌≡◌, ℕ, List, Some, true, slice_get};
 ghost use Rattle.std.specs.declared.cmp.Ordering.{Ordering};
 ghost use Rattle.std.specs.Cmp.{IsTotalOrder};
-ghost use Rattle.indexset_core.specs.Order.{IsAscending, has_equal, rank};
-ghost use Rattle.indexset_core.specs.Order.{equal_element};
+ghost use Rattle.indexset_core.specs.Order.{IsAscending, has_equal, rank, equal_element};
+
+pub mod walks;
 
 /// The rank of the element at a position is that position.
 pub fn rank_of_the_element_at_a_position<T>()

@@ -5,9 +5,8 @@ ghost use Rattle.std.specs.Option.{option_copied};
 ghost use Rattle.std.specs.Ordering.{is_eq};
 ghost use Rattle.indexset_core.specs.Cut.{items, IsSpot, IsItemSpot, position_of};
 ghost use Rattle.indexset_core.specs.Digits.{digits};
-ghost use Rattle.indexset_core.specs.Order.{IsAscending, IsFoundAt, IsGapFor, has_equal, rank};
+ghost use Rattle.indexset_core.specs.Order.{IsAscending, IsFoundAt, IsGapFor, has_equal, rank, equal_element, lower_element};
 ghost use Rattle.indexset_core.specs.Parted.{IsParted, less_count};
-ghost use Rattle.indexset_core.specs.Order.{equal_element, lower_element};
 
 use super::BTreeSet;
 use indexset_core::probe::{ByItem, Probe};

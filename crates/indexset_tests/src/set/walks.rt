@@ -1,7 +1,6 @@
 //! Walks from either end.
 use super::descending;
-use indexset_set::BTreeSet;
-use indexset_set::Iter;
+use indexset_set::{BTreeSet, Iter};
 use std::test::Fail;
 
 #[test]

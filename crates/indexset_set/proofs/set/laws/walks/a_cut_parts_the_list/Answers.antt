@@ -1,5 +1,5 @@
 use Rattle.indexset_set.proofs.SetBulkLemmas.{cut_parts, below_all, not_below_all}
-use Rattle.indexset_set.proofs.set.walk_laws.a_cut_parts_the_list.Goals as goal
+use Rattle.indexset_set.proofs.set.laws.walks.a_cut_parts_the_list.Goals as goal
 
 pub returns-clause-parts : goal.returns-clause-parts
 returns-clause-parts g c = λ cmp l total up v. cut_parts cmp total l up v

@@ -1,5 +1,5 @@
 use Rattle.indexset_set.proofs.SetAlgebraLaws.{union_ascending, union_members, union_from_either}
-use Rattle.indexset_set.proofs.set.walk_laws.a_union_has_the_elements_of_either.Goals as goal
+use Rattle.indexset_set.proofs.set.laws.walks.a_union_has_the_elements_of_either.Goals as goal
 
 pub returns-clause-ascending : goal.returns-clause-ascending
 returns-clause-ascending g c = λ cmp l r total up. union_ascending cmp total l r up

@@ -1,5 +1,5 @@
 use Rattle.indexset_set.proofs.SetAlgebraLaws.{difference_ascending, difference_members}
-use Rattle.indexset_set.proofs.set.walk_laws.a_difference_has_what_the_first_has_alone.Goals as goal
+use Rattle.indexset_set.proofs.set.laws.walks.a_difference_has_what_the_first_has_alone.Goals as goal
 
 pub returns-clause-ascending : goal.returns-clause-ascending
 returns-clause-ascending g c = λ cmp l r up. difference_ascending cmp l r up

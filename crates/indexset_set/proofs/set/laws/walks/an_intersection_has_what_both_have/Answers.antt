@@ -1,5 +1,5 @@
 use Rattle.indexset_set.proofs.SetAlgebraLaws.{intersection_ascending, intersection_members}
-use Rattle.indexset_set.proofs.set.walk_laws.an_intersection_has_what_both_have.Goals as goal
+use Rattle.indexset_set.proofs.set.laws.walks.an_intersection_has_what_both_have.Goals as goal
 
 pub returns-clause-ascending : goal.returns-clause-ascending
 returns-clause-ascending g c = λ cmp l r up. intersection_ascending cmp l r up

@@ -1,5 +1,5 @@
 use Rattle.indexset_set.proofs.SetAlgebraLaws.{apart_ascending, apart_members}
-use Rattle.indexset_set.proofs.set.walk_laws.a_symmetric_difference_has_what_either_has_alone.Goals as goal
+use Rattle.indexset_set.proofs.set.laws.walks.a_symmetric_difference_has_what_either_has_alone.Goals as goal
 
 pub returns-clause-ascending : goal.returns-clause-ascending
 returns-clause-ascending g c = λ cmp l r total up. apart_ascending cmp total l r up
