@@ -1,6 +1,6 @@
 -- Lists of nodes, joined and measured.
 use Rattle.std.proofs.Common.{◌≡◌, ℕ, zero, suc, ◌+◌, ◌<◌, ◌≤◌, List, [], ◌∷◌, ◌++◌, length, sum, take, drop, get_or, slice_set, slice_get, refl, sym, ap, ◌∙◌, arith, length-append, append_assoc, add-one}
-use Rattle.std.proofs.lemmas.List.{map-set, map-append, take-map, drop-map, set_split, set-get_or}
+use Rattle.std.proofs.lemmas.List.{length-map, map-set, map-append, take-map, drop-map, set_split, set-get_or}
 use Rattle.std.proofs.lemmas.List.Sums.{sum_by-cons}
 use Rattle.std.specs.List.{splice}
 use Rattle.std.specs.declared.vec.Vec.{Vec}
@@ -53,12 +53,15 @@ module _ {X : Type 0} where
   slice_get-right (x ∷ xs) ys zero j h = absurd (omega arith)
   slice_get-right (x ∷ xs) ys (suc i) j h = slice_get-right xs ys i j (omega arith)
 
-  -- the nodes fs the code holds them
+  -- the nodes as the code holds them
   module _ {Z : Type 0} where
     pub get_or-lists : (vs : List (Vec X Z)) (k : ℕ) (v : Vec X Z) → k < length vs → v ≡ get_or vs k v → get_or (lists vs) k [] ≡ v.items
     get_or-lists [] k v h e = absurd (omega arith)
     get_or-lists (u ∷ vs) zero v h e = ap (λ z. z.items) (sym e)
     get_or-lists (u ∷ vs) (suc k) v h e = get_or-lists vs k v (omega arith) e
+
+    pub length-lists : (vs : List (Vec X Z)) → length (lists vs) ≡ length vs
+    length-lists vs = length-map vs (λ (z : Vec X Z). z.items)
 
     pub lists-set : (vs : List (Vec X Z)) (k : ℕ) (v : Vec X Z) → lists (slice_set vs k v) ≡ slice_set (lists vs) k v.items
     lists-set vs k v = map-set (λ (z : Vec X Z). z.items) vs k v

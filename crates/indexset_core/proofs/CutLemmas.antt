@@ -1,6 +1,6 @@
 -- Places in a list that is cut into nodes.
 use Rattle.std.proofs.Common.{◌≡◌, ℕ, zero, suc, ◌+◌, ◌-◌, ◌<◌, ◌≤◌, List, [], ◌∷◌, ◌++◌, length, sum, take, get_or, slice_set, slice_get, Option, Some, unwrap_or, nat_lt, max, Bool, true, false, if◌then◌else◌, refl, sym, ap, ◌∙◌, arith, length-append, add-one, subst}
-use Rattle.std.proofs.lemmas.List.{length-map, length-set, map-set, set-append_left, set-append_right, get_or-take, take-take}
+use Rattle.std.proofs.lemmas.List.{length-set, set-append_left, set-append_right, get_or-take, take-take}
 use Rattle.std.proofs.lemmas.Option.{slice_get_read, unwrap_or-slice_get}
 use Rattle.std.proofs.lemmas.List.Sums.{sum_by-cons}
 use Rattle.std.proofs.lemmas.Bool.Decides.{nat_tests}
@@ -8,6 +8,7 @@ use Rattle.std.specs.List.{All}
 use Rattle.std.specs.declared.vec.Vec.{Vec}
 use Rattle.std.specs.Vec.{with_item}
 use Rattle.indexset_core.specs.declared.spot.Spot.{Spot}
+use Rattle.indexset_core.proofs.CutBasics.{length-joined, length-lists, lens-set, lists-set, slice_get-left, slice_get-right}
 use Rattle.indexset_core.specs.Cut.{Cut, cut, with_item_at, IsCut, IsSpine, joined, items, lens, set_joined, lists, IsItemSpot, position_of}
 
 -- n numbers above 0 add up to n at least
@@ -24,10 +25,6 @@ few_nodes (n ∷ []) size h = omega arith
 few_nodes (n ∷ m ∷ ls) size h = let all = sum-filled (n ∷ m ∷ ls) (h.filled (omega arith)) in omega arith
 
 module _ {X : Type 0} where
-  pub length-joined : (ns : List (List X)) → length (joined ns) ≡ sum (lens ns)
-  length-joined [] = refl
-  length-joined (n ∷ ns) = length-append n (joined ns) ∙ (ap (λ l. length n + l) (length-joined ns) ∙ sym (sum_by-cons (λ (x : ℕ). x) (length n) (lens ns)))
-
   pub length-joined-take : (ns : List (List X)) (k : ℕ) → length (joined (take k ns)) ≤ length (joined ns)
   length-joined-take [] zero = omega arith
   length-joined-take [] (suc k) = omega arith
@@ -47,16 +44,6 @@ module _ {X : Type 0} where
   pub place-le : (ns : List (List X)) (k o : ℕ) → k < length ns → o ≤ length (get_or ns k []) → length (joined (take k ns)) + o ≤ length (joined ns)
   place-le ns k o h le = omega (arith, length-joined-more ns k h, length-joined-take ns (k + 1))
 
-  pub slice_get-left : (xs ys : List X) (i : ℕ) → i < length xs → slice_get (xs ++ ys) i ≡ slice_get xs i
-  slice_get-left [] ys i h = absurd (omega arith)
-  slice_get-left (x ∷ xs) ys zero h = refl
-  slice_get-left (x ∷ xs) ys (suc i) h = slice_get-left xs ys i (omega arith)
-
-  pub slice_get-right : (xs ys : List X) (i j : ℕ) → i ≡ length xs + j → slice_get (xs ++ ys) i ≡ slice_get ys j
-  slice_get-right [] ys i j h = let e : i ≡ j = omega arith in ap (slice_get ys) e
-  slice_get-right (x ∷ xs) ys zero j h = absurd (omega arith)
-  slice_get-right (x ∷ xs) ys (suc i) j h = slice_get-right xs ys i j (omega arith)
-
   -- the item at a place
   pub get_place : (ns : List (List X)) (k o : ℕ) → k < length ns → o < length (get_or ns k []) → slice_get (joined ns) (length (joined (take k ns)) + o) ≡ slice_get (get_or ns k []) o
   get_place [] k o h lt = absurd (omega arith)
@@ -71,12 +58,6 @@ module _ {X : Type 0} where
 
   pub length-joined-mono : (ns : List (List X)) (j k : ℕ) → j ≤ k → length (joined (take j ns)) ≤ length (joined (take k ns))
   length-joined-mono ns j k le = subst (λ (l : List (List X)). length (joined l) ≤ length (joined (take k ns))) (take-take j k ns le) (length-joined-take (take k ns) j)
-
-  -- a write within a node keeps the lengths
-  pub lens-set : (ns : List (List X)) (k : ℕ) (m : List X) → length m ≡ length (get_or ns k []) → lens (slice_set ns k m) ≡ lens ns
-  lens-set [] k m h = refl
-  lens-set (n ∷ ns) zero m h = ap (λ l. l ∷ lens ns) h
-  lens-set (n ∷ ns) (suc k) m h = ap (λ ls. length n ∷ ls) (lens-set ns k m h)
 
   -- a write at a place
   pub set_place : (ns : List (List X)) (i k o : ℕ) (w : X) → i ≡ length (joined (take k ns)) + o → o < length (get_or ns k []) → k < length ns → set_joined ns i w ≡ slice_set ns k (slice_set (get_or ns k []) o w)
@@ -112,9 +93,6 @@ module _ {X : Type 0} where
     node_read (u ∷ vs) zero v h e d = ap (λ z. z.items) (sym e)
     node_read (u ∷ vs) (suc k) v h e d = node_read vs k v (omega arith) e d
 
-    pub length-lists : (vs : List (Vec X Z)) → length (lists vs) ≡ length vs
-    length-lists vs = length-map vs (λ (z : Vec X Z). z.items)
-
     pub turn : (vs : List (Vec X Z)) (k : ℕ) (v : Vec X Z) → k < length vs → v ≡ get_or vs k v → length (joined (take (k + 1) (lists vs))) ≡ length (joined (take k (lists vs))) + length v.items
     turn vs k v h e =
         let m : get_or (lists vs) k [] ≡ v.items = node_read vs k v h e [] in
@@ -141,9 +119,6 @@ module _ {X : Type 0} where
 
     pub spine_len : (vs : List (Vec X Z)) (n total : ℕ) (s : Cut X) → cut (lists vs) n ≡ s → IsSpine (lens (lists vs)) n total → total ≡ length (items s)
     spine_len vs n total s e h = h.total_is ∙ (sym (length-joined (lists vs)) ∙ ap (λ (t : Cut X). length (items t)) e)
-
-    pub lists-set : (vs : List (Vec X Z)) (k : ℕ) (v : Vec X Z) → lists (slice_set vs k v) ≡ slice_set (lists vs) k v.items
-    lists-set vs k v = map-set (λ (z : Vec X Z). z.items) vs k v
 
     module _ (vs : List (Vec X Z)) (n : ℕ) (s : Cut X) (p : Spot) (v : Vec X Z) (w : X) (view : cut (lists vs) n ≡ s) (h : IsItemSpot s.nodes p) (at : v ≡ get_or vs p.node v) where
       inside : IsItemSpot (lists vs) p

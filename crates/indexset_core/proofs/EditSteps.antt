@@ -1,7 +1,7 @@
 -- The steps of an edit, on the nodes as the code holds them.
 use Rattle.std.proofs.Common.{◌≡◌, ℕ, suc, ◌+◌, ◌-◌, ◌/◌, ◌<◌, ◌≤◌, List, [], ◌∷◌, ◌++◌, length, take, drop, get_or, slice_set, nat_lt, true, false, Result, Ok, Err, Option, Some, None, refl, sym, ap, ◌∙◌, subst, arith, add-one, append_assoc, length-take, length-drop}
 use Rattle.std.proofs.lemmas.Bool.Decides.{nat_tests}
-use Rattle.std.proofs.lemmas.List.{length-map, map_push, take_more, length-set, length-append, set-get_or, set_split, set_at, get_or_at, get_or-set_same, drop_at, take_at, length-take-le}
+use Rattle.std.proofs.lemmas.List.{map_push, take_more, length-set, length-append, set-get_or, set_split, set_at, get_or_at, get_or-set_same, drop_at, take_at, length-take-le}
 use Rattle.std.proofs.lemmas.List.Edits.{get_or-insert_at, get_or-insert_below}
 use Rattle.std.specs.List.{insert, splice, HoldsAt}
 use Rattle.std.specs.Option.{IfSome}
@@ -11,7 +11,7 @@ use Rattle.std.specs.declared.vec.Vec.{Vec}
 use Rattle.indexset_core.specs.declared.spot.Spot.{Spot}
 use Rattle.indexset_core.specs.Cut.{Cut, cut, lists, node_at, IsSpot, IsItemSpot, with_inserted, parts_with}
 use Rattle.indexset_core.specs.Edits.{with_put}
-use Rattle.indexset_core.proofs.CutBasics.{get_or-lists, lists-set, lists-splice}
+use Rattle.indexset_core.proofs.CutBasics.{get_or-lists, length-lists, lists-set, lists-splice}
 
 -- what holds in any case
 pub on_err : {T E P : Type 0} (r : Result T E) → P → OnErr r P
@@ -88,9 +88,6 @@ module _ {X : Type 0} where
       rw (t, t') refl
 
 module _ {X Z : Type 0} where
-  pub length-lists : (vs : List (Vec X Z)) → length (lists vs) ≡ length vs
-  length-lists vs = length-map vs (λ v. v.items)
-
   pub put_writes : (vs : List (Vec X Z)) (s : Spot) (u w : Vec X Z) (v : X) → s.node < length (lists vs) → u ≡ get_or vs s.node u → w.items ≡ insert u.items s.offset v → lists (slice_set vs s.node w) ≡ with_put (lists vs) s v
   unfolding with_put
   put_writes vs s u w v h at is =

@@ -9,7 +9,8 @@ use Rattle.std.specs.List.{between}
 use Rattle.std.specs.declared.vec.Vec.{Vec}
 use Rattle.indexset_core.specs.declared.spot.Spot.{Spot}
 use Rattle.indexset_core.specs.Cut.{joined, lists, node_at, IsItemSpot, position_of}
-use Rattle.indexset_core.proofs.CutLemmas.{length-joined-more, length-joined-mono, length-lists, node_read, place-le}
+use Rattle.indexset_core.proofs.CutBasics.{length-lists}
+use Rattle.indexset_core.proofs.CutLemmas.{length-joined-more, length-joined-mono, node_read, place-le}
 
 module _ {X : Type 0} where
   -- the items up to a place

@@ -9,7 +9,8 @@ use Rattle.std.proofs.lemmas.Bool.{false≢true, cases_lt}
 use Rattle.std.specs.declared.vec.Vec.{Vec}
 use Rattle.indexset_core.specs.Cut.{Cut, cut, IsCut, joined, items, lens, lists, ends_less, equal_at, node_for, node_at}
 use Rattle.indexset_core.specs.Parted.{IsParted, less_count}
-use Rattle.indexset_core.proofs.CutLemmas.{get_or_place, length-joined-mono, length-joined-more, place-le, node_read, length-lists, read}
+use Rattle.indexset_core.proofs.CutBasics.{length-lists}
+use Rattle.indexset_core.proofs.CutLemmas.{get_or_place, length-joined-mono, length-joined-more, place-le, node_read, read}
 use Rattle.indexset_core.proofs.PartedLemmas.{passes_below, fails_above, count_parted, count_parts, front-is_lt}
 
 module _ {X : Type 0} (answer : X → Ordering) where

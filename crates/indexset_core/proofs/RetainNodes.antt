@@ -7,9 +7,9 @@ use Rattle.std.specs.List.{All}
 use Rattle.std.specs.declared.vec.Vec.{Vec}
 use Rattle.indexset_core.specs.Cut.{joined, lists, lens, node_at}
 use Rattle.indexset_core.specs.Edits.{RetainsUpTo}
-use Rattle.indexset_core.proofs.CutBasics.{joined-append, joined_around, lists-set}
+use Rattle.indexset_core.proofs.CutBasics.{joined-append, joined_around, length-lists, lists-set}
 use Rattle.indexset_core.proofs.CutEdits.{joined_set}
-use Rattle.indexset_core.proofs.EditSteps.{length-lists, node_is}
+use Rattle.indexset_core.proofs.EditSteps.{node_is}
 use Rattle.indexset_core.proofs.RetainSteps.{runs_joined}
 
 -- the nodes were ns, are ms from the i-th on, and the i-th becomes m

@@ -3,7 +3,8 @@ use Rattle.std.proofs.Common.{◌≡◌, ℕ, ◌+◌, ◌<◌, List, [], ◌∷
 use Rattle.std.proofs.lemmas.List.{drop_more, get_or-drop, take-map, drop-map, map-append, map_push, take-append-drop}
 use Rattle.std.specs.declared.vec.Vec.{Vec}
 use Rattle.indexset_core.specs.Cut.{lists, node_at}
-use Rattle.indexset_core.proofs.EditSteps.{length-lists, node_is, lists_kept}
+use Rattle.indexset_core.proofs.CutBasics.{length-lists}
+use Rattle.indexset_core.proofs.EditSteps.{node_is, lists_kept}
 
 module _ {X Z : Type 0} where
   abbrev held : Vec X Z → List X

@@ -3,28 +3,19 @@ use Rattle.std.proofs.Common.{◌≡◌, ℕ, zero, suc, ◌+◌, ◌<◌, ◌�
 use Rattle.std.specs.List.{All}
 use Rattle.std.proofs.lemmas.List.{length-map}
 use Rattle.std.proofs.lemmas.Option.{slice_get_within, none-some}
+use Rattle.indexset_core.proofs.CutBasics.{slice_get-left, slice_get-right}
 use Rattle.indexset_core.specs.Cut.{IsCut, joined, lens, node_at}
 
 module _ {X : Type 0} where
-  get-left : (xs ys : List X) (i : ℕ) → i < length xs → slice_get (xs ++ ys) i ≡ slice_get xs i
-  get-left [] ys i h = absurd (omega arith)
-  get-left (x ∷ xs) ys zero h = refl
-  get-left (x ∷ xs) ys (suc i) h = get-left xs ys i (omega arith)
-
-  get-right : (xs ys : List X) (i j : ℕ) → i ≡ length xs + j → slice_get (xs ++ ys) i ≡ slice_get ys j
-  get-right [] ys i j h = let e : i ≡ j = omega arith in ap (slice_get ys) e
-  get-right (x ∷ xs) ys zero j h = absurd (omega arith)
-  get-right (x ∷ xs) ys (suc i) j h = get-right xs ys i j (omega arith)
-
   -- an item of a node, in the whole list
   pub joined_at : (ns : List (List X)) (k o : ℕ) (x : X) → slice_get (node_at ns k) o ≡ Some x → slice_get (joined ns) (length (joined (take k ns)) + o) ≡ Some x
   joined_at [] k o x h = absurd (none-some x h)
   joined_at (n ∷ ns) zero o x h =
       let at : 0 + o ≡ o = omega arith in let lt : o < length n = slice_get_within n o x h in
-      ap (slice_get (n ++ joined ns)) at ∙ get-left n (joined ns) o lt ∙ h
+      ap (slice_get (n ++ joined ns)) at ∙ slice_get-left n (joined ns) o lt ∙ h
   joined_at (n ∷ ns) (suc k) o x h =
       let at : length (n ++ joined (take k ns)) + o ≡ length n + (length (joined (take k ns)) + o) = omega (arith, length-append n (joined (take k ns))) in
-      get-right n (joined ns) _ _ at ∙ joined_at ns k o x h
+      slice_get-right n (joined ns) _ _ at ∙ joined_at ns k o x h
 
   none_end : (n : List X) (o : ℕ) → o ≤ length n → slice_get n o ≡ None → o ≡ length n
   none_end [] o le h = omega arith
@@ -41,10 +32,10 @@ module _ {X : Type 0} where
   joined_next [] k o lt le filled h = absurd (omega arith)
   joined_next (n ∷ ns) zero o lt le filled h =
       let at : 0 + o ≡ length n + 0 = omega (arith, none_end n o le h) in
-      get-right n (joined ns) _ _ at ∙ first_of ns (λ more. filled (omega arith))
+      slice_get-right n (joined ns) _ _ at ∙ first_of ns (λ more. filled (omega arith))
   joined_next (n ∷ ns) (suc k) o lt le filled h =
       let at : length (n ++ joined (take k ns)) + o ≡ length n + (length (joined (take k ns)) + o) = omega (arith, length-append n (joined (take k ns))) in
-      get-right n (joined ns) _ _ at ∙ joined_next ns k o (omega arith) le (λ more. filled (omega arith)) h
+      slice_get-right n (joined ns) _ _ at ∙ joined_next ns k o (omega arith) le (λ more. filled (omega arith)) h
 
   node_filled : (ns : List (List X)) (k : ℕ) → k < length ns → All (λ n. 1 ≤ n) (lens ns) → 1 ≤ length (node_at ns k)
   node_filled [] k lt all = absurd (omega arith)

@@ -1,7 +1,7 @@
 use Rattle.std.proofs.Common.{◌≡◌, ◌+◌, ◌-◌, ◌/◌, length, [], true, false, arith, ◌∙◌}
 use Rattle.std.specs.Ordering.{is_lt}
 use Rattle.indexset_core.specs.Cut.{lists}
-use Rattle.indexset_core.proofs.CutLemmas.{length-lists}
+use Rattle.indexset_core.proofs.CutBasics.{length-lists}
 use Rattle.indexset_core.proofs.DigitsLemmas.{digits-half, digits-above, digits-mono}
 use Rattle.indexset_core.proofs.LocateLemmas.{node_some, node_ends, node_found, ends_until}
 use Rattle.indexset_core.proofs.locate.node_by.Goals as goal

@@ -1,8 +1,6 @@
-use Rattle.std.proofs.Common.{ap}
 use Rattle.std.specs.Ordering.{nat_cmp}
 use Rattle.std.proofs.lemmas.Cmp.{nat_cmp_total}
 use Rattle.indexset_core.specs.Cut.{items}
-use Rattle.indexset_core.specs.Parted.{IsParted}
 use Rattle.indexset_core.proofs.OrderLemmas.{parted_by_item}
 use Rattle.indexset_tests.proofs.set.questions.Goals as goal
 

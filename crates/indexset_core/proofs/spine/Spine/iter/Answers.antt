@@ -2,7 +2,7 @@ use Rattle.std.proofs.Common.{sym, ◌∙◌}
 use Rattle.std.specs.Map.Iter.{deref}
 use Rattle.std_collections.proofs.IterRuns.{shows_in_order, shows_in_reverse}
 use Rattle.indexset_core.specs.Cut.{lists}
-use Rattle.indexset_core.proofs.CutLemmas.{length-joined}
+use Rattle.indexset_core.proofs.CutBasics.{length-joined}
 use Rattle.indexset_core.proofs.spine.Spine.iter.Goals as goal
 
 pub returns-clause-runs : goal.returns-clause-runs

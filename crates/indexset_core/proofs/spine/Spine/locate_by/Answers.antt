@@ -2,7 +2,7 @@ use Rattle.std.proofs.Common.{◌≡◌, ◌≤◌, length, false, nat_lt, arith
 use Rattle.std.specs.Ordering.{is_eq}
 use Rattle.std.proofs.lemmas.Bool.Decides.{nat_tests}
 use Rattle.indexset_core.specs.Cut.{items, node_at}
-use Rattle.indexset_core.proofs.CutLemmas.{length-lists}
+use Rattle.indexset_core.proofs.CutBasics.{length-lists}
 use Rattle.indexset_core.proofs.DigitsLemmas.{digits-mono}
 use Rattle.indexset_core.proofs.LocateLemmas.{parted_node, node_is, node_within, node_inside, located, located_end, spine_read, equal_read, equal_none}
 use Rattle.indexset_core.proofs.spine.Spine.locate_by.Goals as goal

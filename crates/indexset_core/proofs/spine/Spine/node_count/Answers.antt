@@ -1,7 +1,8 @@
 use Rattle.std.proofs.Common.{length, arith}
 use Rattle.indexset_core.specs.Cut.{lists}
 use Rattle.std.proofs.lemmas.List.{length-map}
-use Rattle.indexset_core.proofs.CutLemmas.{few_nodes, spine_len, length-lists}
+use Rattle.indexset_core.proofs.CutBasics.{length-lists}
+use Rattle.indexset_core.proofs.CutLemmas.{few_nodes, spine_len}
 use Rattle.indexset_core.proofs.spine.Spine.node_count.Goals as goal
 
 pub returns-clause-few : goal.returns-clause-few

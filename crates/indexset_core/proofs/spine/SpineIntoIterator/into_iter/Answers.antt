@@ -1,7 +1,7 @@
 use Rattle.std.proofs.Common.{sym, ◌∙◌, ap}
 use Rattle.std_collections.proofs.IterRuns.{gives_in_order, gives_in_reverse}
 use Rattle.indexset_core.specs.Cut.{lists, items}
-use Rattle.indexset_core.proofs.CutLemmas.{length-joined}
+use Rattle.indexset_core.proofs.CutBasics.{length-joined}
 use Rattle.indexset_core.proofs.spine.SpineIntoIterator.into_iter.Goals as goal
 
 pub over-requires : goal.over-requires

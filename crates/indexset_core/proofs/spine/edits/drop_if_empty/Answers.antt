@@ -1,7 +1,8 @@
 use Rattle.std.proofs.Common.{◌∙◌, ap, sym, arith}
 use Rattle.std.proofs.lemmas.Bool.Decides.{nat_tests}
 use Rattle.indexset_core.specs.Cut.{lists}
-use Rattle.indexset_core.proofs.EditSteps.{length-lists, node_len}
+use Rattle.indexset_core.proofs.CutBasics.{length-lists}
+use Rattle.indexset_core.proofs.EditSteps.{node_len}
 use Rattle.indexset_core.proofs.RemoveSteps.{lists-remove, emptied_goes, only_stays, filled_stays}
 use Rattle.indexset_core.proofs.spine.edits.drop_if_empty.Goals.{else-is_empty-via-then-is_empty+else-len-gt1, else-is_empty-via-else-is_empty}
 use Rattle.indexset_core.proofs.spine.edits.drop_if_empty.Goals as goal
