@@ -18,6 +18,19 @@ use indexset_core::spine::Spine;
 use std::marker::Model;
 
 /// A set in ascending order, of no two equal elements.
+///
+/// ```
+/// let mut set = BTreeSet::new(alloc)?;
+/// set.insert(30)?;
+/// set.insert(10)?;
+/// set.insert(20)?;
+/// assert_eq!(rt; set.get_index(0), Some(&10));
+/// assert_eq!(rt; set.rank(&25), 2);
+/// ```
+///
+/// Any lawful order serves; elements that it calls equal may differ, and then `insert` keeps the one
+/// that is there and `replace` puts the new one. Making a set and adding to it can be refused for
+/// want of memory alone; nothing else takes any, but `clone`, `split_off` and `append`.
 #[derive(Drop)]
 pub struct BTreeSet<T: Ord> {
     spine: Spine<T>,

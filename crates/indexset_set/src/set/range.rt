@@ -18,7 +18,12 @@ pub type Range<'a, T> = Iter<'a, T>;
 
 impl<T: Ord> BTreeSet<T> {
     /// The elements that satisfy both bounds, in order. The start must not be past the end, nor at it
-    /// where both are excluded.
+    /// where both are excluded, which `bounds_are_ordered` of the core tests.
+    ///
+    /// ```
+    /// // The elements from 10 on that are below 20.
+    /// let teens = set.range((Bound::Included(&10), Bound::Excluded(&20)));
+    /// ```
     pub fn range(&self, range: (Bound<&T>, Bound<&T>)) -> Range<'_, T>
         requires { IsTrue (are_ordered T.cmp (bound_map (λ v. v.now) range.0) (bound_map (λ v. v.now) range.1)) }
         ensures rest { result ≡ in_range T.cmp (items self.now) (bound_map (λ v. v.now) range.entry.0) (bound_map (λ v. v.now) range.entry.1) }
@@ -32,6 +37,11 @@ impl<T: Ord> BTreeSet<T> {
 
     /// The elements at the positions that satisfy both bounds, in order. There is none where the
     /// bounds are the wrong way round, and positions past the end have none.
+    ///
+    /// ```
+    /// // The third page of a hundred elements each.
+    /// let page = set.range_idx((Bound::Included(200), Bound::Excluded(300)));
+    /// ```
     pub fn range_idx(&self, range: (Bound<usize>, Bound<usize>)) -> Range<'_, T>
         ensures rest { result ≡ in_positions (items self.now) range.0 range.1 }
         ensures runs { ShowsInOrder (deref {X = T}) }
