@@ -2,7 +2,7 @@
 
 ghost use Rattle.std.specs.Prelude.{◌≡◌, ◌≢◌, ◌⊎◌, [], Some, Err, OnOk, IfErr, IfSome, OnSome};
 ghost use Rattle.std.specs.Io.KnownBytes.{Appends, Keeps};
-ghost use Rattle.indexset_core.specs.Cut.{items};
+ghost use Rattle.indexset_spine.specs.Cut.{items};
 ghost use Rattle.indexset_bench.specs.Command.{meaning};
 ghost use Rattle.indexset_bench.specs.Lines.{HasNoEnd, IsLinePart};
 ghost use Rattle.indexset_bench.specs.Reply.{AddsNew, contents_after};

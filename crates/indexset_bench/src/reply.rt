@@ -1,7 +1,7 @@
 //! The replies, and their texts.
 
 ghost use Rattle.std.specs.Prelude.{◌≡◌, Some, IfOk, OnOk, IfErr, OnErr};
-ghost use Rattle.indexset_core.specs.Cut.{items};
+ghost use Rattle.indexset_spine.specs.Cut.{items};
 ghost use Rattle.indexset_bench.specs.Reply.{AddsNew, reply_to, contents_after, reply_text};
 
 use crate::command::Command;

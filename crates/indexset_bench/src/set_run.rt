@@ -1,7 +1,7 @@
 //! Lists of commands to a set, and the reply to each.
 
 ghost use Rattle.std.specs.Prelude.{◌≡◌, ◌<◌, ◌++◌, [], ◌∷◌, IfOk, OnOk, IfErr, OnErr, IfSome, OnSome, IfNone, length, take};
-ghost use Rattle.indexset_core.specs.Cut.{items};
+ghost use Rattle.indexset_spine.specs.Cut.{items};
 ghost use Rattle.indexset_bench.specs.SetRun.{set_reply, set_after, set_replies, set_after_all};
 
 use indexset_core::refusal::Refusal;

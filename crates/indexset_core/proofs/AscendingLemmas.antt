@@ -12,7 +12,7 @@ use Rattle.std.proofs.lemmas.List.Sums.{position_or_len_is}
 use Rattle.std.proofs.lemmas.Option.{slice_get_past, slice_get_within, get_or_from_slice_get}
 use Rattle.std.proofs.lemmas.Bool.{false≢true, cases_order}
 use Rattle.std.proofs.lemmas.Bool.Decides.{nat_tests}
-use Rattle.indexset_core.specs.Cut.{equal_at}
+use Rattle.indexset_core.specs.Nodes.{equal_at}
 use Rattle.indexset_core.specs.Parted.{IsParted, less_count}
 use Rattle.indexset_core.specs.Order.{IsAscending, rank, has_equal, IsFoundAt, IsGapFor}
 use Rattle.indexset_core.specs.Order.{equal_element, lower_element}

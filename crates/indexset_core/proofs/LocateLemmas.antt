@@ -1,16 +1,14 @@
 -- The node that the answers name, and the place in it.
-use Rattle.std.proofs.Common.{◌≡◌, ℕ, zero, suc, ◌+◌, ◌-◌, ◌<◌, ◌≤◌, true, false, not, cond, List, [], ◌∷◌, ◌++◌, length, get_or, take, slice_get, Some, None, Ordering, refl, sym, ap, ◌∙◌, arith, subst, length-append, inl, inr}
+use Rattle.std.proofs.Common.{◌≡◌, ℕ, zero, suc, ◌+◌, ◌-◌, ◌<◌, ◌≤◌, true, false, not, cond, List, [], ◌∷◌, ◌++◌, length, map, get_or, take, slice_get, Some, None, Ordering, refl, sym, ap, ◌∙◌, arith, subst, length-append, inl, inr}
 use Rattle.std.specs.List.{All, AllWithin, HoldsAt, position_or_len}
 use Rattle.std.specs.Ordering.{is_lt, is_eq}
 use Rattle.std.proofs.lemmas.List.{get_or_append_left, get_or-append-add, get_or_default, get_or-map, length-map}
 use Rattle.std.proofs.lemmas.List.Sums.{sum_by-append, position_or_len_is, prefix_len_stops}
 use Rattle.std.proofs.lemmas.Option.{slice_get_read, slice_get_past}
 use Rattle.std.proofs.lemmas.Bool.{false≢true, cases_lt}
-use Rattle.std.specs.declared.vec.Vec.{Vec}
-use Rattle.indexset_core.specs.Cut.{Cut, cut, IsCut, joined, items, lens, lists, ends_less, equal_at, node_for, node_at}
+use Rattle.indexset_core.specs.Nodes.{joined, node_lengths, ends_less, equal_at, node_for, node_at}
 use Rattle.indexset_core.specs.Parted.{IsParted, less_count}
-use Rattle.indexset_core.proofs.CutBasics.{length-lists}
-use Rattle.indexset_core.proofs.CutLemmas.{get_or_place, length-joined-mono, length-joined-more, place-le, node_read, read}
+use Rattle.indexset_core.proofs.NodeLemmas.{get_or_in_node, length-joined-mono, length-joined-more, offset-le, length-held, node_read}
 use Rattle.indexset_core.proofs.PartedLemmas.{passes_below, fails_above, count_parted, count_parts, front-is_lt}
 
 module _ {X : Type 0} (answer : X → Ordering) where
@@ -49,7 +47,7 @@ module _ {X : Type 0} (answer : X → Ordering) where
       count_parted (λ y. is_lt (answer y)) xs 0 (omega arith) (λ k d low high. absurd (omega arith))
       (λ k d low high. rw (← get_or-append-add n xs k d) (fails (length n + k) d (omega arith) (omega (arith, length-append n xs))))
 
-  filled_at : (ns : List (List X)) → All (λ n. 1 ≤ n) (lens ns) → (k : ℕ) → k < length ns → 0 < length (get_or ns k [])
+  filled_at : (ns : List (List X)) → All (λ n. 1 ≤ n) (node_lengths ns) → (k : ℕ) → k < length ns → 0 < length (get_or ns k [])
   filled_at ns h k lt = omega (arith, subst (λ m. 1 ≤ m) (get_or-map (λ n. length n) ns k [] 0 lt) (h k 0 (omega (arith, length-map ns (λ n. length n)))))
 
   first : (n : List X) → 0 < length n → ((d : X) → is_lt (answer (get_or n (length n - 1) d)) ≡ true) → ends_less answer n ≡ true
@@ -57,7 +55,7 @@ module _ {X : Type 0} (answer : X → Ordering) where
   first (x ∷ xs) some h = ends_last (x ∷ xs) x some ∙ h x
 
   -- where each node has an item, one that ends Less has only such before it
-  pub ends_before : (ns : List (List X)) → All (λ n. 1 ≤ n) (lens ns) → IsParted answer (joined ns) → (j k : ℕ) → j < k → k < length ns → ends_less answer (get_or ns k []) ≡ true → ends_less answer (get_or ns j []) ≡ true
+  pub ends_before : (ns : List (List X)) → All (λ n. 1 ≤ n) (node_lengths ns) → IsParted answer (joined ns) → (j k : ℕ) → j < k → k < length ns → ends_less answer (get_or ns k []) ≡ true → ends_less answer (get_or ns j []) ≡ true
   ends_before ns filled h j k lt inside e =
       let a = get_or ns j [] in let b = get_or ns k [] in
       let some_a : 0 < length a = filled_at ns filled j (omega arith) in
@@ -65,14 +63,14 @@ module _ {X : Type 0} (answer : X → Ordering) where
       let p = length (joined (take j ns)) + (length a - 1) in
       let q = length (joined (take k ns)) + (length b - 1) in
       let le : p ≤ q = omega (arith, length-joined-more ns j (omega arith), length-joined-mono ns (j + 1) k (omega arith)) in
-      let low : q < length (joined ns) = omega (arith, place-le ns k (length b) inside (omega arith)) in
+      let low : q < length (joined ns) = omega (arith, offset-le ns k (length b) inside (omega arith)) in
       first a some_a (λ d.
-      let at_a = get_or_place ns j (length a - 1) d (omega arith) (omega arith) in
-      let at_b = get_or_place ns k (length b - 1) d inside (omega arith) in
+      let at_a = get_or_in_node ns j (length a - 1) d (omega arith) (omega arith) in
+      let at_b = get_or_in_node ns k (length b - 1) d inside (omega arith) in
       front-is_lt _ _ (rw (← at_a, ← at_b) (h p q d le low)) (sym (ends_last b d some_b) ∙ e))
 
   abbrev Filled : List (List X) → Type 0
-  Filled ns = 2 ≤ length ns → All (λ n. 1 ≤ n) (lens ns)
+  Filled ns = 2 ≤ length ns → All (λ n. 1 ≤ n) (node_lengths ns)
 
   node_for-one : (n : List X) → node_for answer (n ∷ []) ≡ 0
   node_for-one n = omega arith
@@ -101,7 +99,7 @@ module _ {X : Type 0} (answer : X → Ordering) where
   place_for (n ∷ []) some filled h = rw (node_for-one n) (place_here n [] refl)
   place_for (n ∷ m ∷ ms) some filled h =
       let all = filled (omega arith) in
-      let more : All (λ n. 1 ≤ n) (lens (m ∷ ms)) = λ k d lt. all (suc k) d (omega arith) in
+      let more : All (λ n. 1 ≤ n) (node_lengths (m ∷ ms)) = λ k d lt. all (suc k) d (omega arith) in
       elim (ends_less answer n) as (λ b. ends_less answer n ≡ b → Place (n ∷ m ∷ ms) (node_for answer (n ∷ m ∷ ms))) [
         | true ↦ λ e. rw (node_for-past n m ms e) (place_past n (m ∷ ms) _ (less_all n (parted-left n (joined (m ∷ ms)) h) e) (place_for (m ∷ ms) (omega arith) (λ _. more) (parted-right n (joined (m ∷ ms)) h)))
         | false ↦ λ e. rw (node_for-here n (m ∷ ms) e) (place_here n (m ∷ ms) (less_none n (joined (m ∷ ms)) (all 0 0 (omega arith)) h e))
@@ -133,7 +131,7 @@ module _ {X : Type 0} (answer : X → Ordering) where
   ends_for (n ∷ []) some filled h = rw (node_for-one n) (λ le. omega (arith, le, length-append n []))
   ends_for (n ∷ m ∷ ms) some filled h =
       let all = filled (omega arith) in
-      let more : All (λ n. 1 ≤ n) (lens (m ∷ ms)) = λ k d lt. all (suc k) d (omega arith) in
+      let more : All (λ n. 1 ≤ n) (node_lengths (m ∷ ms)) = λ k d lt. all (suc k) d (omega arith) in
       elim (ends_less answer n) as (λ b. ends_less answer n ≡ b → Ends (n ∷ m ∷ ms) (node_for answer (n ∷ m ∷ ms))) [
         | true ↦ λ e. rw (node_for-past n m ms e) (ends_past n (m ∷ ms) _ (ends_for (m ∷ ms) (omega arith) (λ _. more) (parted-right n (joined (m ∷ ms)) h)))
         | false ↦ λ e. rw (node_for-here n (m ∷ ms) e) (λ le. absurd (omega (arith, le, less_some n (all 0 0 (omega arith)) (parted-left n (joined (m ∷ ms)) h) e)))
@@ -158,7 +156,7 @@ module _ {X : Type 0} (answer : X → Ordering) where
       ]
 
   -- a node that ends Less, and all before it
-  pub ends_until : (ns : List (List X)) → All (λ n. 1 ≤ n) (lens ns) → IsParted answer (joined ns) → (k : ℕ) → k < length ns → ends_less answer (get_or ns k []) ≡ true → AllWithin (λ n. ends_less answer n ≡ true) ns 0 (k + 1)
+  pub ends_until : (ns : List (List X)) → All (λ n. 1 ≤ n) (node_lengths ns) → IsParted answer (joined ns) → (k : ℕ) → k < length ns → ends_less answer (get_or ns k []) ≡ true → AllWithin (λ n. ends_less answer n ≡ true) ns 0 (k + 1)
   ends_until ns filled h k inside e j d low high =
       let same : get_or ns j d ≡ get_or ns j [] = get_or_default ns j d [] (omega arith) in
       rw same (elim (cases_lt j k) [
@@ -166,13 +164,13 @@ module _ {X : Type 0} (answer : X → Ordering) where
         | inr ge ↦ let at : k ≡ j = omega arith in subst (λ i. ends_less answer (get_or ns i []) ≡ true) at e
       ])
 
-  -- the nodes as the code holds them
-  module _ {Z : Type 0} where
-    pub node_some : (vs : List (Vec X Z)) (k : ℕ) (v : Vec X Z) → k < length vs → v ≡ get_or vs k v → All (λ n. 1 ≤ n) (lens (lists vs)) → 1 ≤ length v.items
-    node_some vs k v h e filled = subst (λ (l : List X). 1 ≤ length l) (node_read vs k v h e []) (filled_at (lists vs) filled k (omega (arith, length-lists vs)))
+-- the nodes as the code holds them
+module _ {N X : Type 0} (answer : X → Ordering) (held : N → List X) where
+  pub node_some : (vs : List N) (k : ℕ) (v : N) → k < length vs → v ≡ get_or vs k v → All (λ n. 1 ≤ n) (node_lengths (map held vs)) → 1 ≤ length (held v)
+  node_some vs k v h e filled = subst (λ (l : List X). 1 ≤ length l) (node_read held vs k v h e []) (filled_at answer (map held vs) filled k (omega (arith, length-held held vs)))
 
-    pub node_ends : (vs : List (Vec X Z)) (k : ℕ) (v : Vec X Z) (x : X) → k < length vs → v ≡ get_or vs k v → 1 ≤ length v.items → x ≡ get_or v.items (length v.items - 1) x → (d : List X) → ends_less answer (get_or (lists vs) k d) ≡ is_lt (answer x)
-    node_ends vs k v x h e some is d = ap (λ n. ends_less answer n) (node_read vs k v h e d) ∙ (ends_last v.items x some ∙ ap (λ y. is_lt (answer y)) (sym is))
+  pub node_ends : (vs : List N) (k : ℕ) (v : N) (x : X) → k < length vs → v ≡ get_or vs k v → 1 ≤ length (held v) → x ≡ get_or (held v) (length (held v) - 1) x → (d : List X) → ends_less answer (get_or (map held vs) k d) ≡ is_lt (answer x)
+  node_ends vs k v x h e some is d = ap (λ n. ends_less answer n) (node_read held vs k v h e d) ∙ (ends_last answer (held v) x some ∙ ap (λ y. is_lt (answer y)) (sym is))
 
 -- what is read at a position tells whether the item there is answered Equal
 pub equal_read : {X : Type 0} (answer : X → Ordering) (l : List X) (i : ℕ) (x : X) → slice_get l i ≡ Some x → equal_at answer l i ≡ is_eq (answer x)
@@ -180,42 +178,3 @@ equal_read answer l i x e = rw e refl
 
 pub equal_none : {X : Type 0} (answer : X → Ordering) (l : List X) (i : ℕ) → slice_get l i ≡ None → equal_at answer l i ≡ false
 equal_none answer l i e = rw e refl
-
--- what the code reads of a spine
-module _ {X Z : Type 0} (vs : List (Vec X Z)) (size : ℕ) (s : Cut X) (view : cut (lists vs) size ≡ s) (is : IsCut (lens (lists vs)) size) where
-  pub spine_filled : 2 ≤ length s.nodes → All (λ n. 1 ≤ n) (lens s.nodes)
-  spine_filled two = rw (← view) (is.filled (omega (arith, length-map (lists vs) (λ n. length n), ap (λ (t : Cut X). length t.nodes) view)))
-
-  pub spine_some : 1 ≤ length s.nodes
-  spine_some = omega (arith, is.some, length-map (lists vs) (λ n. length n), ap (λ (t : Cut X). length t.nodes) view)
-
-  module _ (answer : X → Ordering) (k : ℕ) (found : k ≡ node_for answer (lists vs)) where
-    pub node_inside : k < length vs
-    node_inside = omega (arith, found, is.some, length-lists vs, length-map (lists vs) (λ n. length n))
-
-    pub node_named : k ≡ node_for answer s.nodes
-    node_named = found ∙ ap (λ (t : Cut X). node_for answer t.nodes) view
-
-    -- the offset that a search of the node answers
-    module _ (parted : IsParted answer (items s)) (o : ℕ) (at : o ≡ less_count answer (node_at s.nodes k)) where
-      pub located : length (joined (take k s.nodes)) + o ≡ less_count answer (items s)
-      located = rw (at, node_named) (place_for answer s.nodes spine_some spine_filled parted)
-
-      pub located_end : length (node_at s.nodes k) ≤ o → slice_get (items s) (length (joined (take k s.nodes)) + o) ≡ None
-      located_end le =
-          let ends : length (node_at s.nodes k) ≤ less_count answer (node_at s.nodes k) → length (joined s.nodes) ≤ length (joined (take k s.nodes)) + less_count answer (node_at s.nodes k) =
-          rw node_named (ends_for answer s.nodes spine_some spine_filled parted) in
-          slice_get_past (items s) _ (omega (arith, ends (omega arith)))
-
-  module _ (k : ℕ) (v : Vec X Z) (lt : k < length vs) (at : v ≡ get_or vs k v) where
-    pub node_is : node_at s.nodes k ≡ v.items
-    node_is = rw (← view) (node_read vs k v lt at [])
-
-    pub node_within : length v.items ≤ s.size
-    node_within =
-        let n = length-lists vs in
-        let here : get_or (lens (lists vs)) k 0 ≡ length v.items = get_or-map (λ n. length n) (lists vs) k [] 0 (omega arith) ∙ ap (λ l. length l) (node_read vs k v lt at []) in
-        omega (arith, here, is.bounded k 0 (omega (arith, length-map (lists vs) (λ n. length n))), ap (λ (t : Cut X). t.size) view)
-
-    pub spine_read : (o : ℕ) (x : X) → o < length v.items → x ≡ get_or v.items o x → slice_get (items s) (length (joined (take k s.nodes)) + o) ≡ Some x
-    spine_read o x inside e = subst (λ (t : Cut X). slice_get (items t) (length (joined (take k t.nodes)) + o) ≡ Some x) view (read vs k o v x lt inside at e)

@@ -1,9 +1,7 @@
 pub mod Bounds
-pub mod Cut
 pub mod Digits
-pub mod Edits
+pub mod Nodes
 pub mod Order
 pub mod Parted
 pub mod Refusal
-pub mod SpineLends
 pub mod Tally

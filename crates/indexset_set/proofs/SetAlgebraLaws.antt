@@ -1,4 +1,4 @@
--- What the algebra of two ascending lists gives, by its elements.
+-- What the algebra of two ascending vec_items gives, by its elements.
 use Rattle.std.proofs.Common.{◌≡◌, zero, suc, ◌+◌, ◌⊎◌, inl, inr, Bool, true, false, not, cond, ◌&&◌, ◌||◌, if◌then◌else◌, List, [], ◌∷◌, ◌++◌, length, take, drop, filter, Ordering, refl, ap, sym, ◌∙◌, subst, arith}
 use Rattle.std.specs.declared.cmp.Ordering.TheVariants.{Less, Equal, Greater}
 use Rattle.std.specs.Cmp.{IsTotalOrder}
@@ -11,7 +11,7 @@ use Rattle.std.proofs.lemmas.List.Kept.{AllPairs-filter}
 use Rattle.std.proofs.lemmas.Bool.{false≢true}
 use Rattle.indexset_core.specs.Order.{IsAscending, IsGapFor, below, above, rank, has_equal, keep, put}
 use Rattle.indexset_set.specs.SetAlgebra.{union, intersection, difference, symmetric_difference}
-use Rattle.indexset_core.proofs.OrderLemmas.{parted_by_item, gap_at, gap_put, gap_ascending}
+use Rattle.indexset_core.proofs.CallerLemmas.{parted_by_item, gap_at, gap_put, gap_ascending}
 use Rattle.indexset_set.proofs.SetAlgebraLemmas.{up_from, ascending_from, union_none, union_alone, union_at_Less, union_at_Equal, union_at_Greater, intersection_none, intersection_at_Less, intersection_at_Equal, intersection_at_Greater}
 
 or_left : (a b : Bool) → (a || b) ≡ false → a ≡ false

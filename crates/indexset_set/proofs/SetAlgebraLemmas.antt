@@ -1,4 +1,4 @@
--- One turn of a walk along two ascending lists.
+-- One turn of a walk along two ascending vec_items.
 use Rattle.std.proofs.Common.{◌≡◌, zero, suc, Option, None, Some, is_some, Bool, true, false, not, cond, ◌&&◌, if◌then◌else◌, List, [], ◌∷◌, ◌++◌, filter, Ordering, refl, ap, sym, ◌∙◌, subst, arith}
 use Rattle.std.specs.declared.cmp.Ordering.TheVariants.{Less, Equal, Greater}
 use Rattle.std.specs.Cmp.{IsTotalOrder}
@@ -201,7 +201,7 @@ module _ {T : Type 0} (cmp : T → T → Ordering) where
     apart_front y l r h g =
         rw (difference_over y l r h, difference_under y r l h) (union_front y (difference cmp l r) (difference cmp r l) (under_difference y l r h) (under_difference y r l g))
 
--- one turn, where both lists have a first element
+-- one turn, where both vec_items have a first element
 module _ {T : Type 0} (cmp : T → T → Ordering) (o : IsTotalOrder cmp) (xs us ys vs : List T) (x y : T) (a : xs ≡ x ∷ us) (b : ys ≡ y ∷ vs) (up : IsAscending cmp xs) (vp : IsAscending cmp ys) where
   left_rest : IsUnder cmp x us
   left_rest = (up_from cmp (x ∷ us) (subst (IsAscending cmp) a up)).0

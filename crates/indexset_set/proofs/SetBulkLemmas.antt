@@ -11,8 +11,7 @@ use Rattle.std.proofs.lemmas.List.Sums.{fold-append}
 use Rattle.indexset_core.specs.Order.{IsAscending, below, rank, put}
 use Rattle.indexset_set.specs.SetAlgebra.{put_all, MovesSome}
 use Rattle.indexset_set.specs.SetRanges.{not_below}
-use Rattle.indexset_core.proofs.OrderLemmas.{parted_by_item}
-use Rattle.indexset_core.proofs.PartedLemmas.{Parts, count_parts, front-is_lt, filter_front, filter_back}
+use Rattle.indexset_core.proofs.CallerLemmas.{parted_by_item, Parts, count_parts, front-is_lt, filter_front, filter_back}
 
 -- an ascending list, cut where v would go
 module _ {T : Type 0} (cmp : T → T → Ordering) (o : IsTotalOrder cmp) (l : List T) (up : IsAscending cmp l) (v : T) (i : ℕ) (place : i ≡ rank cmp l v) where

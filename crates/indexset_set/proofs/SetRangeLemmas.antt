@@ -15,8 +15,7 @@ use Rattle.std.proofs.lemmas.Bool.Decides.{nat_tests}
 use Rattle.indexset_core.specs.Bounds.{is_from_start, is_up_to_end, is_at_position, are_ordered, in_range, in_positions}
 use Rattle.indexset_set.specs.SetRanges.{is_before}
 use Rattle.indexset_core.specs.Order.{IsAscending, IsFoundAt, IsGapFor}
-use Rattle.indexset_core.proofs.OrderLemmas.{parted_by_item, found_after}
-use Rattle.indexset_core.proofs.PartedLemmas.{Parts, count_parts, count_parted, front-is_lt, front-is_le}
+use Rattle.indexset_core.proofs.CallerLemmas.{parted_by_item, found_after, Parts, count_parts, count_parted, front-is_lt, front-is_le}
 
 module _ {T : Type 0} where
   -- what passes is n elements from place i on

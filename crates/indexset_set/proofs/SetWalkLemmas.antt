@@ -1,8 +1,8 @@
--- Turns of a walk from both ends.
+-- Pulls of a walk from both ends.
 use Rattle.std.proofs.Common.{◌≡◌, ◌-◌, Bool, true, false, List, [], ◌∷◌, ◌++◌, length, Option, None, Some, refl, ap, sym, ◌∙◌, arith, append_assoc, length-append}
 use Rattle.std.proofs.lemmas.List.{append-nil}
 use Rattle.std.specs.Map.Iter.{TakesFirst, TakesLast}
-use Rattle.indexset_set.specs.SetWalks.{Turns, given_in_front, given_at_back}
+use Rattle.indexset_set.specs.SetWalks.{Pulls, given_in_front, given_at_back}
 
 module _ {A X : Type 0} (shows : A → X) where
   abbrev Parts : List Bool → List (Option A) → List X → List X → Type 0
@@ -18,7 +18,7 @@ module _ {A X : Type 0} (shows : A → X) where
       let front = given_in_front shows ends rs in let back = given_at_back shows ends rs in
       h ∙ (ap (λ l. l ++ shows x ∷ []) rest ∙ (append_assoc front (t ++ back) (shows x ∷ []) ∙ ap (λ l. front ++ l) (append_assoc t back (shows x ∷ []))))
 
-  pub each_once : (ends : List Bool) (s t : List X) (rs : List (Option A)) → Turns shows ends s rs t → Parts ends rs s t
+  pub each_once : (ends : List Bool) (s t : List X) (rs : List (Option A)) → Pulls shows ends s rs t → Parts ends rs s t
   each_once [] s t [] h = h ∙ sym (append-nil t)
   each_once [] s t (r ∷ rs) h = absurd h
   each_once (end ∷ ends) s t [] h = absurd h
@@ -36,7 +36,7 @@ module _ {A X : Type 0} (shows : A → X) where
   one_less_back None s u h = omega (arith, long h.0, long h.1)
   one_less_back (Some x) s u h = omega (arith, long h, length-append u (shows x ∷ []))
 
-  pub ends_at_last : (ends : List Bool) (s t : List X) (rs : List (Option A)) → Turns shows ends s rs t → length t ≡ length s - length ends
+  pub ends_at_last : (ends : List Bool) (s t : List X) (rs : List (Option A)) → Pulls shows ends s rs t → length t ≡ length s - length ends
   ends_at_last [] s t [] h = omega (arith, long h)
   ends_at_last [] s t (r ∷ rs) h = absurd h
   ends_at_last (end ∷ ends) s t [] h = absurd h

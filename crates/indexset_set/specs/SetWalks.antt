@@ -1,15 +1,15 @@
--- Turns of a walk from both ends.
+-- Pulls of a walk from both ends.
 use Rattle.std.specs.Prelude.{◌≡◌, Bool, true, false, List, [], ◌∷◌, ◌++◌, Option, Some, None}
 use Rattle.std.specs.Map.Iter.{TakesFirst, TakesLast}
 
 module _ {A X : Type 0} (shows : A → X) where
   -- turns from the front, at true, or from the back, at false, gave the answers rs, and took s to t
-  abbrev pub Turns : List Bool → List X → List (Option A) → List X → Type 0
-  Turns [] s [] t = s ≡ t
-  Turns [] s (r ∷ rs) t = ⊥
-  Turns (end ∷ ends) s [] t = ⊥
-  Turns (true ∷ ends) s (r ∷ rs) t = (u : List X) × TakesFirst shows s r u × Turns ends u rs t
-  Turns (false ∷ ends) s (r ∷ rs) t = (u : List X) × TakesLast shows s r u × Turns ends u rs t
+  abbrev pub Pulls : List Bool → List X → List (Option A) → List X → Type 0
+  Pulls [] s [] t = s ≡ t
+  Pulls [] s (r ∷ rs) t = ⊥
+  Pulls (end ∷ ends) s [] t = ⊥
+  Pulls (true ∷ ends) s (r ∷ rs) t = (u : List X) × TakesFirst shows s r u × Pulls ends u rs t
+  Pulls (false ∷ ends) s (r ∷ rs) t = (u : List X) × TakesLast shows s r u × Pulls ends u rs t
 
   -- what the turns from the front gave, in order
   abbrev pub given_in_front : List Bool → List (Option A) → List X

@@ -1,6 +1,6 @@
 //! A set kept as an ascending list that is cut into nodes.
 ghost use Rattle.std.specs.Prelude.{◌≡◌, ◌≤◌, ◌↔◌, IsTrue, length, max};
-ghost use Rattle.indexset_core.specs.Cut.{items};
+ghost use Rattle.indexset_spine.specs.Cut.{items};
 ghost use Rattle.indexset_core.specs.Order.{IsAscending};
 
 pub mod algebra;
@@ -14,7 +14,7 @@ mod make;
 mod positions;
 pub mod range;
 
-use indexset_core::spine::Spine;
+use indexset_spine::spine::Spine;
 use std::marker::Model;
 
 /// A set in ascending order, of no two equal elements.
@@ -37,7 +37,7 @@ pub struct BTreeSet<T: Ord> {
 }
 
 impl<T: Ord> Model for BTreeSet<T> {
-    ghost use Rattle.indexset_core.specs.Cut.{Cut, items};
+    ghost use Rattle.indexset_spine.specs.Cut.{Cut, items};
     ghost use Rattle.indexset_core.specs.Order.{IsAscending};
 
     ghost Value = { Cut T };

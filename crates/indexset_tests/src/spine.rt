@@ -1,10 +1,10 @@
 //! Worked examples of a list cut into nodes: each call, with the nodes that it leaves.
 ghost use Rattle.std.specs.Prelude.{IfSome};
-ghost use Rattle.indexset_core.specs.Cut.{IsSpot};
+ghost use Rattle.indexset_spine.specs.Cut.{IsSpot};
 
 use indexset_core::refusal::Refusal;
-use indexset_core::spine::Spine;
-use indexset_core::spot::Spot;
+use indexset_spine::spine::Spine;
+use indexset_spine::spot::Spot;
 use std::alloc::Global;
 use std::test::Fail;
 

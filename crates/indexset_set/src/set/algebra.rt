@@ -2,7 +2,7 @@
 ghost use Rattle.std.specs.Prelude.{◌≡◌, not};
 ghost use Rattle.std.specs.List.{list_all};
 ghost use Rattle.std.specs.Map.Iter.{ShowsInOrder, deref};
-ghost use Rattle.indexset_core.specs.Cut.{items};
+ghost use Rattle.indexset_spine.specs.Cut.{items};
 ghost use Rattle.indexset_core.specs.Order.{IsAscending, has_equal};
 ghost use Rattle.indexset_set.specs.SetAlgebra.{difference, intersection, symmetric_difference, union};
 

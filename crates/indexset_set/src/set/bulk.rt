@@ -2,7 +2,7 @@
 ghost use Rattle.std.specs.Prelude.{◌≡◌, ◌<◌, [], IfOk, OnOk, IfErr, OnErr, IfSome, length, drop, slice_get};
 ghost use Rattle.std.specs.Fn.{CalledAt};
 ghost use Rattle.std.specs.List.Retain.{IsFiltered};
-ghost use Rattle.indexset_core.specs.Cut.{items};
+ghost use Rattle.indexset_spine.specs.Cut.{items};
 ghost use Rattle.indexset_core.specs.Order.{below, put};
 ghost use Rattle.indexset_set.specs.SetAlgebra.{put_all, MovesSome};
 ghost use Rattle.indexset_set.specs.SetRanges.{not_below};

@@ -1,6 +1,6 @@
 //! Calls that add an element or take one out.
 ghost use Rattle.std.specs.Prelude.{◌≡◌, [], ◌∷◌, true, not, IfOk, OnOk, IfErr, OnErr, IsOk};
-ghost use Rattle.indexset_core.specs.Cut.{items};
+ghost use Rattle.indexset_spine.specs.Cut.{items};
 ghost use Rattle.indexset_core.specs.Order.{has_equal, keep, put, without, equal_element};
 
 use super::BTreeSet;

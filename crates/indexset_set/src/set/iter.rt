@@ -2,11 +2,11 @@
 ghost use Rattle.std.specs.Prelude.{◌≡◌, length, List};
 ghost use Rattle.std.specs.Iterator.{at_most};
 ghost use Rattle.std.specs.Map.Iter.{TakesFirst, TakesLast, ShowsInOrder, ShowsInReverse, GivesInOrder, GivesInReverse, deref};
-ghost use Rattle.indexset_core.specs.Cut.{items};
+ghost use Rattle.indexset_spine.specs.Cut.{items};
 
 use super::BTreeSet;
-pub use indexset_core::into_iter::IntoIter;
-use indexset_core::iter;
+pub use indexset_spine::into_iter::IntoIter;
+use indexset_spine::iter;
 use std::iter::FusedIterator;
 use std::marker::Model;
 

@@ -3,15 +3,15 @@ ghost use Rattle.std.specs.Prelude.{◌≡◌, ◌+◌, ◌≤◌, IsTrue, IfOk,
 ghost use Rattle.std.specs.Bool.{OnTrue, OnFalse};
 ghost use Rattle.std.specs.Option.{option_copied};
 ghost use Rattle.std.specs.Ordering.{is_eq};
-ghost use Rattle.indexset_core.specs.Cut.{items, IsSpot, IsItemSpot, position_of};
+ghost use Rattle.indexset_spine.specs.Cut.{items, IsSpot, IsItemSpot, position_of};
 ghost use Rattle.indexset_core.specs.Digits.{digits};
 ghost use Rattle.indexset_core.specs.Order.{IsAscending, IsFoundAt, IsGapFor, has_equal, rank, equal_element, lower_element};
 ghost use Rattle.indexset_core.specs.Parted.{IsParted, less_count};
 
 use super::BTreeSet;
 use indexset_core::probe::{ByItem, Probe};
-use indexset_core::spine::Spine;
-use indexset_core::spot::Spot;
+use indexset_spine::spine::Spine;
+use indexset_spine::spot::Spot;
 
 // Where the element equal to the value is, or where the value would go.
 pub(super) fn locate<T: Ord>(spine: &Spine<T>, value: &T) -> Spot

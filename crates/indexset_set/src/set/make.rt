@@ -2,13 +2,13 @@
 ghost use Rattle.std.specs.Prelude.{◌≡◌, ◌≤◌, List, [], ◌∷◌, IfOk, IfErr, fold};
 ghost use Rattle.std.specs.Iterator.{IsFiniteIterable};
 ghost use Rattle.std.specs.Iterator.Runs.{WholeRun};
-ghost use Rattle.indexset_core.specs.Cut.{items};
+ghost use Rattle.indexset_spine.specs.Cut.{items};
 ghost use Rattle.indexset_core.specs.Order.{keep};
 
 use super::BTreeSet;
 use indexset_core::constants::DEFAULT_INNER_SIZE;
 use indexset_core::refusal::Refusal;
-use indexset_core::spine::Spine;
+use indexset_spine::spine::Spine;
 use std::alloc::Global;
 
 impl<T: Ord + Drop> BTreeSet<T> {

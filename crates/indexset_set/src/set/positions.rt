@@ -1,7 +1,7 @@
 //! Calls that go by position: the element there, and the element there taken out.
 ghost use Rattle.std.specs.Prelude.{◌≡◌, ◌-◌, ◌<◌, Some, length, take, drop, remove, slice_get};
 ghost use Rattle.std.specs.Option.{option_copied};
-ghost use Rattle.indexset_core.specs.Cut.{items};
+ghost use Rattle.indexset_spine.specs.Cut.{items};
 
 use super::BTreeSet;
 use std::ops::Index;

@@ -2,7 +2,7 @@
 
 use super::ascending;
 use indexset_core::bounds::bounds_are_ordered;
-use indexset_core::spot::Spot;
+use indexset_spine::spot::Spot;
 use std::ops::Bound;
 use std::test::Fail;
 

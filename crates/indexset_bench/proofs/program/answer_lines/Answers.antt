@@ -2,7 +2,7 @@ use Rattle.std.proofs.Common.{◌≡◌, [], arith, rules}
 use Rattle.std.proofs.lemmas.Grind.{common_steps}
 use Rattle.std.proofs.lemmas.Result.{on_ok_weaker}
 use Rattle.std.specs.Io.KnownBytes.{Keeps}
-use Rattle.indexset_core.specs.Cut.{items}
+use Rattle.indexset_spine.specs.Cut.{items}
 use Rattle.indexset_bench.specs.declared.line.Part.TheVariants.{Whole}
 use Rattle.indexset_bench.proofs.Runs.{start, nothing_read, further, all_but_end, unanswered}
 use Rattle.indexset_bench.proofs.program.answer_lines.Goals as goal

@@ -1,4 +1,4 @@
-use Rattle.indexset_core.specs.Cut.{items}
+use Rattle.indexset_spine.specs.Cut.{items}
 use Rattle.indexset_bench.proofs.Runs.{SoFar}
 use Rattle.indexset_bench.proofs.program.answer_lines.Given as goal
 

@@ -2,7 +2,7 @@
 ghost use Rattle.std.specs.Prelude.{◌≡◌, drop};
 ghost use Rattle.std.specs.Map.Iter.{TakesFirst, deref};
 
-use indexset_core::iter::Iter;
+use indexset_spine::iter::Iter;
 use std::marker::Model;
 
 /// What is left of a walk, and its next item.

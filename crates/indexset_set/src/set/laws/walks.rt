@@ -11,17 +11,17 @@ ghost use Rattle.indexset_core.specs.Bounds.{in_positions, is_at_position};
 ghost use Rattle.indexset_core.specs.Order.{IsAscending, below, has_equal};
 ghost use Rattle.indexset_set.specs.SetAlgebra.{difference, intersection, symmetric_difference, union};
 ghost use Rattle.indexset_set.specs.SetRanges.{not_below};
-ghost use Rattle.indexset_set.specs.SetWalks.{Turns, given_at_back, given_in_front};
+ghost use Rattle.indexset_set.specs.SetWalks.{Pulls, given_at_back, given_in_front};
 
 /// Over any turns from either end, what a walk gave in front, what it has left, and what it gave at
 /// the back are its list: it gives each item once.
 pub fn a_walk_gives_each_item_once<T>()
-    ensures { (ends : List Bool) (s t : List T) (rs : List (Option _)) → Turns deref ends s rs t → s ≡ given_in_front deref ends rs ++ (t ++ given_at_back deref ends rs) }
+    ensures { (ends : List Bool) (s t : List T) (rs : List (Option _)) → Pulls deref ends s rs t → s ≡ given_in_front deref ends rs ++ (t ++ given_at_back deref ends rs) }
 {}
 
 /// Each turn leaves one item less, until none is left.
 pub fn a_walk_ends<T>()
-    ensures { (ends : List Bool) (s t : List T) (rs : List (Option _)) → Turns deref ends s rs t → length t ≡ length s - length ends }
+    ensures { (ends : List Bool) (s t : List T) (rs : List (Option _)) → Pulls deref ends s rs t → length t ≡ length s - length ends }
 {}
 
 /// With nothing left, either end answers `None` and leaves nothing.
@@ -50,7 +50,7 @@ pub fn a_union_has_the_elements_of_either<T>()
     ensures from_either { (cmp : T → T → Ordering) (l r : List T) → IsTotalOrder cmp → IsAscending cmp l → (x : T) → Contains (union cmp l r) x → Contains l x ⊎ (Contains r x × (has_equal cmp l x ≡ false)) }
 {}
 
-/// An intersection ascends, and has an equal one of what both lists have.
+/// An intersection ascends, and has an equal one of what both vec_items have.
 pub fn an_intersection_has_what_both_have<T>()
     ensures ascending { (cmp : T → T → Ordering) (l r : List T) → IsAscending cmp l → IsAscending cmp (intersection cmp l r) }
     ensures members { (cmp : T → T → Ordering) (l r : List T) → IsTotalOrder cmp → (x : T) → has_equal cmp (intersection cmp l r) x ≡ (has_equal cmp l x && has_equal cmp r x) }
@@ -68,7 +68,7 @@ pub fn a_symmetric_difference_has_what_either_has_alone<T>()
     ensures members { (cmp : T → T → Ordering) (l r : List T) → IsTotalOrder cmp → IsAscending cmp l → (x : T) → has_equal cmp (symmetric_difference cmp l r) x ≡ ((has_equal cmp l x && not (has_equal cmp r x)) || (has_equal cmp r x && not (has_equal cmp l x))) }
 {}
 
-/// A union is as long as both lists, less what they have in common.
+/// A union is as long as both vec_items, less what they have in common.
 pub fn lengths_of_union_and_intersection<T>()
     ensures { (cmp : T → T → Ordering) (l r : List T) → IsTotalOrder cmp → IsAscending cmp l → IsAscending cmp r → length (union cmp l r) + length (intersection cmp l r) ≡ length l + length r }
 {}

@@ -1,6 +1,6 @@
 use Rattle.std.proofs.lemmas.Cmp.{nat_cmp_total}
 use Rattle.std.specs.Ordering.{nat_cmp}
-use Rattle.indexset_core.proofs.OrderLemmas.{parted_by_item}
+use Rattle.indexset_core.proofs.CallerLemmas.{parted_by_item}
 use Rattle.indexset_tests.proofs.node.counts_its_questions.Goals as goal
 
 pub first_not_less-requires : goal.first_not_less-requires

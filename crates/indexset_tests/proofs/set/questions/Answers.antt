@@ -1,7 +1,7 @@
 use Rattle.std.specs.Ordering.{nat_cmp}
 use Rattle.std.proofs.lemmas.Cmp.{nat_cmp_total}
-use Rattle.indexset_core.specs.Cut.{items}
-use Rattle.indexset_core.proofs.OrderLemmas.{parted_by_item}
+use Rattle.indexset_spine.specs.Cut.{items}
+use Rattle.indexset_core.proofs.CallerLemmas.{parted_by_item}
 use Rattle.indexset_tests.proofs.set.questions.Goals as goal
 
 -- the probe compares with the key, and the elements ascend

@@ -4,8 +4,8 @@ use Rattle.std.specs.declared.cmp.Ordering.TheVariants.{Less}
 use Rattle.indexset_core.proofs.OrderLemmas.{parted_by_item, found_rank, found_without, gap_has_equal, gap_without, read_item}
 use Rattle.indexset_core.proofs.node.VecNodeLike.delete.Goals as goal
 
-pub returns-in-Ok-clause-place : goal.returns-in-Ok-clause-place
-returns-in-Ok-clause-place g c =
+pub returns-in-Ok-clause-index : goal.returns-in-Ok-clause-index
+returns-in-Ok-clause-index g c =
     let cmp = g.T.Ord.cmp in
     let found = rw c.as_slice.ensures.value at c.in-Ok.ensures.found in
     sym (found_rank cmp _ _ _ found (parted_by_item cmp g.met.T.Ord.total _ c.requires.ascending c.args.value.now))
@@ -13,12 +13,12 @@ returns-in-Ok-clause-place g c =
 pub returns-in-Ok-clause-item : goal.returns-in-Ok-clause-item
 returns-in-Ok-clause-item g c =
     let found = rw c.as_slice.ensures.value at c.in-Ok.ensures.found in
-    read_item c.args.self.now.items c.in-Ok.place c.take_item.result found.inside c.take_item.ensures.value
+    read_item c.args.self.now.items c.in-Ok.place c.remove_item.result found.inside c.remove_item.ensures.value
 
 pub returns-in-Ok-clause-list : goal.returns-in-Ok-clause-list
 returns-in-Ok-clause-list g c =
     let found = rw c.as_slice.ensures.value at c.in-Ok.ensures.found in
-    c.take_item.ensures.items ∙ sym (found_without g.T.Ord.cmp c.args.self.now.items _ _ g.met.T.Ord.total c.requires.ascending found)
+    c.remove_item.ensures.items ∙ sym (found_without g.T.Ord.cmp c.args.self.now.items _ _ g.met.T.Ord.total c.requires.ascending found)
 
 pub returns-in-Err-clause-found : goal.returns-in-Err-clause-found
 returns-in-Err-clause-found g c =
@@ -33,4 +33,4 @@ returns-in-Err-clause-list g c =
 pub returns-in-Ok-clause-ascending : goal.returns-in-Ok-clause-ascending
 returns-in-Ok-clause-ascending g c =
     let found = rw c.as_slice.ensures.value at c.in-Ok.ensures.found in
-    rw c.take_item.ensures.items (all_pairs_remove (λ x y. g.T.Ord.cmp x y ≡ Less) c.args.self.now.items c.in-Ok.place found.inside c.requires.ascending)
+    rw c.remove_item.ensures.items (all_pairs_remove (λ x y. g.T.Ord.cmp x y ≡ Less) c.args.self.now.items c.in-Ok.place found.inside c.requires.ascending)

@@ -1,5 +1,5 @@
 use Rattle.std.proofs.Common.{◌<◌, ◌∙◌, length, rules}
-use Rattle.indexset_core.specs.Cut.{items}
+use Rattle.indexset_spine.specs.Cut.{items}
 use Rattle.indexset_set.proofs.SetBulkLemmas.{moved_none, moved_more, moved_all}
 use Rattle.indexset_set.proofs.set.BTreeSet.append.Goals as goal
 

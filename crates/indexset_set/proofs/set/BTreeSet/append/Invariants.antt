@@ -1,6 +1,6 @@
 -- Some first elements were put in, and the others are left.
 use Rattle.std.proofs.Common.{◌≡◌, length}
-use Rattle.indexset_core.specs.Cut.{items}
+use Rattle.indexset_spine.specs.Cut.{items}
 use Rattle.indexset_set.specs.SetAlgebra.{MovesSome}
 use Rattle.indexset_set.proofs.set.BTreeSet.append.Given as goal
 

@@ -1,4 +1,4 @@
-use Rattle.indexset_core.proofs.AscendingLemmas.{told_has_equal}
+use Rattle.indexset_core.proofs.CallerLemmas.{told_has_equal}
 use Rattle.indexset_set.proofs.set.BTreeSet.contains.Goals as goal
 
 pub returns : goal.returns

@@ -1,4 +1,4 @@
-use Rattle.indexset_core.specs.Cut.{items}
+use Rattle.indexset_spine.specs.Cut.{items}
 use Rattle.indexset_set.proofs.SetRangeLemmas.{count_no}
 use Rattle.indexset_set.proofs.set.BTreeSet.count_before.Goals as goal
 

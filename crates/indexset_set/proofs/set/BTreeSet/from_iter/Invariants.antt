@@ -2,7 +2,7 @@
 use Rattle.std.proofs.Common.{◌≡◌, []}
 use Rattle.std.specs.List.{fold}
 use Rattle.indexset_core.specs.declared.constants.TheConstants.{DEFAULT_INNER_SIZE}
-use Rattle.indexset_core.specs.Cut.{items}
+use Rattle.indexset_spine.specs.Cut.{items}
 use Rattle.indexset_core.specs.Order.{keep}
 use Rattle.indexset_set.proofs.set.BTreeSet.from_iter.Given as goal
 

@@ -1,5 +1,5 @@
 use Rattle.std.proofs.Common.{sym, ◌∙◌}
-use Rattle.indexset_core.proofs.AscendingLemmas.{found_equal, gap_equal}
+use Rattle.indexset_core.proofs.CallerLemmas.{found_equal, gap_equal}
 use Rattle.indexset_set.proofs.set.BTreeSet.get.Goals as goal
 
 pub returns-then-spot : goal.returns-then-spot

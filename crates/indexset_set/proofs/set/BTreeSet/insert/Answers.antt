@@ -1,6 +1,6 @@
 use Rattle.std.proofs.Common.{not, sym, ap, ◌∙◌}
 use Rattle.std.proofs.lemmas.Bool.{false≢true}
-use Rattle.indexset_core.proofs.OrderLemmas.{found_has_equal, found_keep, gap_has_equal, gap_keep, gap_ascending}
+use Rattle.indexset_core.proofs.CallerLemmas.{found_has_equal, found_keep, gap_has_equal, gap_keep, gap_ascending}
 use Rattle.indexset_set.proofs.set.BTreeSet.insert.Goals as goal
 
 pub returns-then-spot-clause-added : goal.returns-then-spot-clause-added

@@ -1,5 +1,5 @@
 use Rattle.std.proofs.Common.{sym, ◌∙◌}
-use Rattle.indexset_core.proofs.AscendingLemmas.{position_found, position_absent}
+use Rattle.indexset_core.proofs.CallerLemmas.{position_found, position_absent}
 use Rattle.indexset_set.proofs.set.BTreeSet.locate_by.Goals as goal
 
 pub returns-then-spot-clause-found : goal.returns-then-spot-clause-found

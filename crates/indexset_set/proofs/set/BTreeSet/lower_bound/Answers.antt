@@ -1,6 +1,6 @@
 use Rattle.std.proofs.Common.{slice_get, ap, ◌∙◌}
-use Rattle.indexset_core.specs.Cut.{items}
-use Rattle.indexset_core.proofs.AscendingLemmas.{slice_get-rank}
+use Rattle.indexset_spine.specs.Cut.{items}
+use Rattle.indexset_core.proofs.CallerLemmas.{slice_get-rank}
 use Rattle.indexset_set.proofs.set.BTreeSet.lower_bound.Goals as goal
 
 pub returns : goal.returns

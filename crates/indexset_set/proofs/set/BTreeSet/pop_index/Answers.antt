@@ -1,6 +1,6 @@
 use Rattle.std.proofs.Common.{length, ◌<◌}
-use Rattle.indexset_core.specs.Cut.{items}
-use Rattle.indexset_core.proofs.AscendingLemmas.{remove_ascending}
+use Rattle.indexset_spine.specs.Cut.{items}
+use Rattle.indexset_core.proofs.CallerLemmas.{remove_ascending}
 use Rattle.indexset_set.proofs.set.BTreeSet.pop_index.Goals as goal
 
 pub invariant_of-self : goal.invariant_of-self

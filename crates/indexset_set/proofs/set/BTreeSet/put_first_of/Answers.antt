@@ -1,9 +1,8 @@
 use Rattle.std.proofs.Common.{◌∙◌, sym, ap, subst}
 use Rattle.std.specs.List.{slice_set}
-use Rattle.indexset_core.specs.Cut.{items, position_of}
+use Rattle.indexset_spine.specs.Cut.{items, position_of}
 use Rattle.indexset_core.specs.Order.{IsAscending}
-use Rattle.indexset_core.proofs.AscendingLemmas.{found_ascending}
-use Rattle.indexset_core.proofs.OrderLemmas.{found_put, gap_put, gap_ascending}
+use Rattle.indexset_core.proofs.CallerLemmas.{found_ascending, found_put, gap_put, gap_ascending}
 use Rattle.indexset_set.proofs.SetBulkLemmas.{rest_ascending, item_is}
 use Rattle.indexset_set.proofs.set.BTreeSet.put_first_of.Goals as goal
 

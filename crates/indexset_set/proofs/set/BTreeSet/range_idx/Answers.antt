@@ -1,6 +1,6 @@
 use Rattle.std.proofs.Common.{◌∙◌, length, ap, min}
 use Rattle.std.specs.Range.Bound.{start_index, end_index}
-use Rattle.indexset_core.specs.Cut.{items}
+use Rattle.indexset_spine.specs.Cut.{items}
 use Rattle.indexset_set.proofs.SetRangeLemmas.{clipped}
 use Rattle.indexset_set.proofs.set.BTreeSet.range_idx.Goals as goal
 

@@ -1,7 +1,7 @@
 use Rattle.std.proofs.Common.{ap, is_some, ◌∙◌}
 use Rattle.std.specs.Ordering.{is_eq}
-use Rattle.indexset_core.specs.Cut.{items}
-use Rattle.indexset_core.proofs.AscendingLemmas.{is_some-find}
+use Rattle.indexset_spine.specs.Cut.{items}
+use Rattle.indexset_core.proofs.CallerLemmas.{is_some-find}
 use Rattle.indexset_set.proofs.set.BTreeSet.remove.Goals as goal
 
 pub returns-clause-removed : goal.returns-clause-removed

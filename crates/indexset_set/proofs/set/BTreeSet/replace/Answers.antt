@@ -1,7 +1,6 @@
 use Rattle.std.proofs.Common.{sym, ◌∙◌}
 use Rattle.std.proofs.lemmas.Bool.{false≢true}
-use Rattle.indexset_core.proofs.AscendingLemmas.{found_equal, found_ascending, gap_equal}
-use Rattle.indexset_core.proofs.OrderLemmas.{found_put, gap_has_equal, gap_put, gap_ascending}
+use Rattle.indexset_core.proofs.CallerLemmas.{found_equal, found_ascending, gap_equal, found_put, gap_has_equal, gap_put, gap_ascending}
 use Rattle.indexset_set.proofs.set.BTreeSet.replace.Goals as goal
 
 pub invariant_of-self : goal.invariant_of-self

@@ -1,6 +1,5 @@
 use Rattle.std.proofs.Common.{sym, ◌∙◌}
-use Rattle.indexset_core.proofs.AscendingLemmas.{found_equal, gap_equal, remove_ascending}
-use Rattle.indexset_core.proofs.OrderLemmas.{found_without, gap_without}
+use Rattle.indexset_core.proofs.CallerLemmas.{found_equal, gap_equal, remove_ascending, found_without, gap_without}
 use Rattle.indexset_set.proofs.set.BTreeSet.take.Goals as goal
 
 pub invariant_of-self : goal.invariant_of-self

@@ -1,4 +1,4 @@
-use Rattle.indexset_core.proofs.AscendingLemmas.{slice_get-rank_equal}
+use Rattle.indexset_core.proofs.CallerLemmas.{slice_get-rank_equal}
 use Rattle.indexset_set.proofs.set.laws.element_at_the_rank_of_a_member.Goals as goal
 
 pub returns : goal.returns

@@ -1,4 +1,4 @@
-use Rattle.indexset_core.proofs.AscendingLemmas.{rank-slice_get}
+use Rattle.indexset_core.proofs.CallerLemmas.{rank-slice_get}
 use Rattle.indexset_set.proofs.set.laws.rank_of_the_element_at_a_position.Goals as goal
 
 pub returns : goal.returns

@@ -1,7 +1,6 @@
 use Rattle.std.proofs.Common.{ap}
-use Rattle.indexset_core.specs.Cut.{items}
-use Rattle.indexset_core.proofs.AscendingLemmas.{told_found, told_gap}
-use Rattle.indexset_core.proofs.OrderLemmas.{parted_by_item}
+use Rattle.indexset_spine.specs.Cut.{items}
+use Rattle.indexset_core.proofs.CallerLemmas.{told_found, told_gap, parted_by_item}
 use Rattle.indexset_set.proofs.set.lookup.locate.Goals as goal
 
 pub returns-clause-found : goal.returns-clause-found

@@ -1,6 +1,0 @@
-use Rattle.std.proofs.Common.{arith}
-use Rattle.indexset_core.proofs.CutLemmas.{turn}
-use Rattle.indexset_core.proofs.lengths.find_in.Goals as goal
-
-pub loop-place-preserved : goal.loop-place-preserved
-loop-place-preserved g c = omega (arith, c.index-nodes-place.result.ok, turn c.args.nodes.now c.loop-place.place c.index-nodes-place.result (omega arith) c.index-nodes-place.is)

@@ -1,5 +1,0 @@
-use Rattle.indexset_core.proofs.CutLemmas.{place_reads}
-use Rattle.indexset_core.proofs.spine.Spine.item.Goals as goal
-
-pub returns : goal.returns
-returns g c = place_reads _ _ c.args.self.now c.args.spot.now _ _ c.self.view_is c.requires c.index.ensures c.index-2.ensures

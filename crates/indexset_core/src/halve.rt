@@ -1,0 +1,26 @@
+//! A node that is cut in half.
+ghost use Rattle.std.specs.Prelude.{◌≡◌, ◌/◌, ◌≤◌, length, take, drop, IfOk, OnOk, IfErr, OnErr, vec_capacity};
+
+use crate::refusal::Refusal;
+
+/// Cuts a node at half its length, and answers the right half. Each half has room for as many items
+/// as the node held. A refused call leaves the node as it is.
+pub fn halve_node<T>(node: &mut Vec<T>) -> Result<Vec<T>, Refusal>
+    ensures left { OnOk result (node.new.items ≡ take (length node.old.items / 2) node.old.items) }
+    ensures left_room { OnOk result (length node.old.items ≤ vec_capacity node.new) }
+    ensures right { IfOk result (λ rest. rest.items ≡ drop (length node.old.items / 2) node.old.items) }
+    ensures right_room { IfOk result (λ rest. length node.old.items ≤ vec_capacity rest) }
+    ensures refusal { IfErr result (λ e. e ≡ Refusal.Memory) }
+    ensures err { OnErr result (node.new.items ≡ node.old.items) }
+{
+    let half = node.len() / 2;
+    let mut rest = node.split_off(half)?;
+    match rest.reserve(half) {
+        Ok(()) => Ok(rest),
+        Err(error) => {
+            let _ = node.append(&mut rest);
+            rest.destroy_empty();
+            Err(Refusal::from(error))
+        }
+    }
+}

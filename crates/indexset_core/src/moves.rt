@@ -1,0 +1,24 @@
+//! An item put into a list or taken out of it, by one move of the items behind it.
+ghost use Rattle.std.specs.Prelude.{◌≡◌, ◌<◌, ◌≤◌, length, insert, remove, slice_index_or, vec_len, vec_capacity};
+
+/// Puts an item at an index of a list that has room.
+pub fn insert_item<T>(items: &mut Vec<T>, index: usize, item: T)
+    requires within { index ≤ length items.old.items }
+    requires room { vec_len items.old < vec_capacity items.old }
+    ensures items { items.new.items ≡ insert items.old.items index item }
+    ensures capacity { vec_capacity items.new ≡ vec_capacity items.old }
+{
+    items.push_reserved(item);
+    items.as_mut_slice()[index..].rotate_right(1);
+}
+
+/// Takes out the item at an index.
+pub fn remove_item<T>(items: &mut Vec<T>, index: usize) -> T
+    requires { index < length items.old.items }
+    ensures value { result ≡ slice_index_or items.old.items index result }
+    ensures items { items.new.items ≡ remove items.old.items index }
+    ensures capacity { vec_capacity items.new ≡ vec_capacity items.old }
+{
+    items.as_mut_slice()[index..].rotate_left(1);
+    items.take_last()
+}

@@ -1,0 +1,13 @@
+pub mod CutEdits
+pub mod CutExamples
+pub mod CutLemmas
+pub mod CutSplits
+pub mod EditSteps
+pub mod IterLemmas
+pub mod RemoveSteps
+pub mod RetainNodes
+pub mod RetainSteps
+pub mod SpineReads
+pub mod SplitSteps
+pub mod SpotLemmas
+pub mod VecNodes

@@ -1,0 +1,15 @@
+use Rattle.std.proofs.Common.{sym, ◌∙◌}
+use Rattle.std.specs.Map.Iter.{deref}
+use Rattle.std_collections.proofs.IterRuns.{shows_in_order, shows_in_reverse}
+use Rattle.indexset_spine.specs.Cut.{vec_items}
+use Rattle.indexset_core.proofs.CallerLemmas.{length-joined}
+use Rattle.indexset_spine.proofs.spine.Spine.iter.Goals as goal
+
+pub returns-clause-runs : goal.returns-clause-runs
+returns-clause-runs g c = shows_in_order deref
+
+pub returns-clause-runs_back : goal.returns-clause-runs_back
+returns-clause-runs_back g c = shows_in_reverse deref
+
+pub over-requires : goal.over-requires
+over-requires g c = rw c.as_slice.ensures.value (c.self.invariant.total_is ∙ sym (length-joined (vec_items c.self.inside.nodes.items)))

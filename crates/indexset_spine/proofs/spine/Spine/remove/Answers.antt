@@ -1,0 +1,26 @@
+use Rattle.std.proofs.Common.{◌∙◌, ap, remove}
+use Rattle.indexset_core.specs.Nodes.{joined}
+use Rattle.indexset_spine.specs.Cut.{Cut, items, position_of}
+use Rattle.indexset_spine.proofs.EditSteps.{item_spot_in}
+use Rattle.indexset_spine.proofs.CutEdits.{spine_without, joined_without, one_inside, item_at_spot}
+use Rattle.indexset_spine.proofs.spine.Spine.remove.Goals as goal
+
+pub overflow_sub-self : goal.overflow_sub-self
+overflow_sub-self g c =
+    one_inside _ _ _ c.args.spot (item_spot_in _ _ c.args.self.now c.args.spot c.self.view_is c.requires) c.self.invariant
+
+pub invariant_of-self : goal.invariant_of-self
+invariant_of-self g c =
+    let spot = item_spot_in _ _ c.args.self.now c.args.spot c.self.view_is c.requires in
+    rw c.take_out.ensures.nodes (spine_without _ _ _ c.args.spot spot c.self.invariant)
+
+pub returns-clause-value : goal.returns-clause-value
+returns-clause-value g c =
+    let spot = item_spot_in _ _ c.args.self.now c.args.spot c.self.view_is c.requires in
+    rw (← c.self.view_is) (item_at_spot _ c.args.spot spot ∙ c.take_out.ensures.value)
+
+pub returns-clause-items : goal.returns-clause-items
+returns-clause-items g c =
+    let spot = item_spot_in _ _ c.args.self.now c.args.spot c.self.view_is c.requires in
+    ap joined c.take_out.ensures.nodes
+    ∙ (joined_without _ c.args.spot spot ∙ ap (λ (t : Cut g.row.T.Denot). remove (items t) (position_of t.nodes c.args.spot)) c.self.view_is)

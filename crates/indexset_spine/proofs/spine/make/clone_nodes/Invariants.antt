@@ -1,0 +1,10 @@
+use Rattle.std.proofs.Common.{◌≡◌, ◌≤◌, length, take, vec_len, vec_capacity}
+use Rattle.indexset_spine.specs.Cut.{vec_items}
+use Rattle.indexset_spine.proofs.spine.make.clone_nodes.Given as goal
+
+abbrev pub invariant-loop-node : goal.invariant-loop-node
+invariant-loop-node g l = record {
+  count : vec_len l.copies ≡ l.node-index;
+  room : length l.nodes ≤ vec_capacity l.copies;
+  same : vec_items l.copies.items ≡ take l.node-index (vec_items l.nodes);
+}

@@ -1,0 +1,91 @@
+-- A list that is cut into nodes.
+use Rattle.std.specs.Prelude.{◌≡◌, ℕ, ◌+◌, ◌-◌, ◌/◌, ◌<◌, ◌≤◌, ◌==◌, ◌&&◌, Bool, true, false, not, min, List, [], ◌∷◌, ◌++◌, length, map, sum, take, drop, refl, get_or, slice_get, slice_set, insert, remove, if◌then◌else◌, nat_lt}
+use Rattle.std.specs.List.{All, splice, position_or_len}
+use Rattle.std.specs.Option.{option_map_or}
+use Rattle.std.specs.Coded.{Coded, code_by, coded×, coded_ℕ, coded_list}
+use Rattle.std.specs.Ordering.{is_lt, is_eq}
+use Rattle.std.specs.declared.cmp.Ordering.{Ordering}
+use Rattle.std.specs.declared.vec.Vec.{Vec}
+use Rattle.indexset_core.specs.Nodes.{joined, node_lengths, node_at}
+use Rattle.indexset_spine.specs.declared.spot.Spot.{Spot}
+
+-- the nodes, in order, and how many items each may hold at most
+pub record Cut (X : Type 0) : Type 0 where
+  pub nodes : List (List X)
+  pub size : ℕ
+
+-- what holds of the lengths of the nodes: each is within the size, and none is 0 unless it is the only one
+pub record IsCut (lengths : List ℕ) (size : ℕ) : Type 0 where
+  pub two : 2 ≤ size
+  pub some : 1 ≤ length lengths
+  pub bounded : All (λ n. n ≤ size) lengths
+  pub filled : 2 ≤ length lengths → All (λ n. 1 ≤ n) lengths
+
+-- the same, with the sum of the lengths
+pub record IsSpine (lengths : List ℕ) (size total : ℕ) : Type 0 where
+  pub is_cut : IsCut lengths size
+  pub total_is : total ≡ sum lengths
+
+-- the place before the first item
+abbrev pub first_spot : Spot
+first_spot = record { node = 0; offset = 0; found = true }
+
+module _ {X : Type 0} where
+  abbrev pub cut : List (List X) → ℕ → Cut X
+  cut ns n = record { nodes = ns; size = n }
+
+  abbrev pub cut_code : Coded X → Coded (Cut X)
+  cut_code c = code_by (List (List X) × ℕ) (coded× (coded_list (coded_list c)) coded_ℕ) (λ s. (s.nodes, s.size)) (λ p. cut p.0 p.1) (λ _. refl)
+
+  -- the items
+  abbrev pub items : Cut X → List X
+  items s = joined s.nodes
+
+  -- what each `Vec` holds
+  abbrev pub vec_items : {Z : Type 0} → List (Vec X Z) → List (List X)
+  vec_items vs = map (λ v. v.items) vs
+
+  -- a place between items or at one: the node is there, and the offset is at most its length
+  pub record IsSpot (ns : List (List X)) (s : Spot) : Type 0 where
+    pub node_in : s.node < length ns
+    pub offset_in : s.offset ≤ length (node_at ns s.node)
+
+  -- the place of an item
+  pub record IsItemSpot (ns : List (List X)) (s : Spot) : Type 0 where
+    pub node_in : s.node < length ns
+    pub offset_in : s.offset < length (node_at ns s.node)
+
+  -- how many items stand before the place
+  abbrev pub position_of : List (List X) → Spot → ℕ
+  position_of ns s = length (joined (take s.node ns)) + s.offset
+
+  -- v goes in at the offset: a node within the size stays one; a full one is cut in half first, and v goes right where the offset is above the cut
+  unfoldable pub parts_with : ℕ → List X → ℕ → X → List (List X)
+  parts_with size n offset v =
+      let half = length n / 2 in
+      if nat_lt (length n) size then insert n offset v ∷ []
+      else if nat_lt half offset then take half n ∷ insert (drop half n) (offset - half) v ∷ []
+      else insert (take half n) offset v ∷ drop half n ∷ []
+
+  -- the nodes with v put at the place
+  unfoldable pub with_inserted : ℕ → List (List X) → Spot → X → List (List X)
+  with_inserted size ns s v = splice ns s.node (s.node + 1) (parts_with size (node_at ns s.node) s.offset v)
+
+  -- the nodes without the item at the place: an emptied node goes too, unless it is the only one
+  unfoldable pub without_item : List (List X) → Spot → List (List X)
+  without_item ns s =
+      if (length (node_at ns s.node) == 1) && nat_lt 1 (length ns) then remove ns s.node
+      else slice_set ns s.node (remove (node_at ns s.node) s.offset)
+
+  -- the nodes with v in place of the item at the place
+  unfoldable pub with_replaced : List (List X) → Spot → X → List (List X)
+  with_replaced ns s v = slice_set ns s.node (slice_set (node_at ns s.node) s.offset v)
+
+  -- the nodes with w in place of the item at the position i
+  unfoldable pub set_joined : List (List X) → ℕ → X → List (List X)
+  set_joined [] i w = []
+  set_joined (n ∷ ns) i w =
+      if nat_lt i (length n) then slice_set n i w ∷ ns else n ∷ set_joined ns (i - length n) w
+
+  abbrev pub with_item_at : Cut X → ℕ → X → Cut X
+  with_item_at s i w = cut (set_joined s.nodes i w) s.size

@@ -1,0 +1,35 @@
+-- What the steps of an edit do to the nodes.
+use Rattle.std.specs.Prelude.{ℕ, ◌+◌, ◌==◌, ◌&&◌, Bool, List, [], ◌∷◌, ◌++◌, length, not, filter, take, drop, slice_set, insert, remove, if◌then◌else◌, nat_lt}
+use Rattle.std.specs.List.Retain.{RetainsInTurn}
+use Rattle.indexset_spine.specs.declared.spot.Spot.{Spot}
+use Rattle.indexset_core.specs.Nodes.{node_at}
+
+module _ {X : Type 0} where
+  -- the nodes with v put into the node of the place
+  unfoldable pub with_item_in : List (List X) → Spot → X → List (List X)
+  with_item_in ns s v = slice_set ns s.node (insert (node_at ns s.node) s.offset v)
+
+  -- one empty node in place of none
+  abbrev pub or_one_empty : List (List X) → List (List X)
+  or_one_empty [] = [] ∷ []
+  or_one_empty (n ∷ ns) = n ∷ ns
+
+  -- the nodes without the k-th if it is empty and not the only one
+  unfoldable pub without_emptied : List (List X) → ℕ → List (List X)
+  without_emptied ns k = if (length (node_at ns k) == 0) && nat_lt 1 (length ns) then remove ns k else ns
+
+  -- the nodes that are not empty, or one empty node where none is left
+  unfoldable pub without_all_emptied : List (List X) → List (List X)
+  without_all_emptied ns = or_one_empty (filter (λ n. not (length n == 0)) ns)
+
+  -- the nodes up to the place: the last is cut at the offset, and goes if nothing is left of it, unless it is the only one
+  unfoldable pub left_nodes : List (List X) → Spot → List (List X)
+  left_nodes ns s = without_emptied (take s.node ns ++ take s.offset (node_at ns s.node) ∷ []) s.node
+
+  -- the nodes from the place on: the first is cut at the offset, and goes if nothing is left of it, unless it is the only one
+  unfoldable pub right_nodes : List (List X) → Spot → List (List X)
+  right_nodes ns s = without_emptied (drop s.offset (node_at ns s.node) ∷ drop (s.node + 1) ns) 0
+
+  -- calls by R over xs, from s on, kept ys and left t: whatever calls follow from t on, the two are one run
+  abbrev pub RetainsUpTo : {S : Type 0} → (S → X → Bool → S → X → Type 0) → S → List X → List X → S → Type 0
+  RetainsUpTo R s xs ys t = (more rest : List X) → RetainsInTurn R t more rest → RetainsInTurn R s (xs ++ more) (ys ++ rest)

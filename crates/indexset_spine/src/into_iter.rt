@@ -1,0 +1,104 @@
+//! An owned walk of a spine from both ends.
+ghost use Rattle.std.specs.Prelude.{◌≡◌, length, List};
+ghost use Rattle.std.specs.Iterator.{at_most};
+ghost use Rattle.std.specs.Map.Iter.{TakesFirst, TakesLast};
+ghost use Rattle.indexset_core.specs.Nodes.{joined};
+ghost use Rattle.indexset_spine.specs.Cut.{vec_items};
+
+use std::iter::FusedIterator;
+use std::marker::Model;
+use std::vec;
+
+/// The items that are left: those of the front node, of the nodes between, and of the back node.
+#[derive(Drop)]
+pub struct IntoIter<T> {
+    front: vec::IntoIter<T>,
+    middle: vec::IntoIter<Vec<T>>,
+    back: vec::IntoIter<T>,
+    left: usize,
+}
+
+impl<T> Model for IntoIter<T> {
+    ghost use Rattle.std.specs.Prelude.{◌≡◌, List, ◌++◌, length};
+    ghost use Rattle.std.specs.Vec.Iter.{into_iter_items};
+    ghost use Rattle.indexset_core.specs.Nodes.{joined};
+    ghost use Rattle.indexset_spine.specs.Cut.{vec_items};
+
+    ghost Value = { List T };
+
+    ghost view = { λ a. into_iter_items a.front ++ (joined (vec_items (into_iter_items a.middle)) ++ into_iter_items a.back) };
+
+    ghost invariant = { λ a. a.left ≡ length (into_iter_items a.front ++ (joined (vec_items (into_iter_items a.middle)) ++ into_iter_items a.back)) };
+}
+
+impl<T> IntoIter<T> {
+    /// The items of all nodes.
+    pub(crate) fn over(nodes: Vec<Vec<T>>, left: usize) -> Self
+        requires { left ≡ length (joined (vec_items nodes.items)) }
+        ensures { result ≡ joined (vec_items nodes.items) }
+    {
+        let alloc = *nodes.allocator();
+        IntoIter {
+            front: Vec::new(alloc).into_iter(),
+            middle: nodes.into_iter(),
+            back: Vec::new(alloc).into_iter(),
+            left,
+        }
+    }
+}
+
+impl<T: Drop> Iterator for IntoIter<T> {
+    type Item = T;
+
+    ghost next_gives = { TakesFirst (λ x. x) };
+
+    ghost remaining = { λ s. at_most (length s) };
+
+    fn next(&mut self) -> Option<T> {
+        loop {
+            if let Some(first) = self.front.next() {
+                self.left -= 1;
+                return Some(first);
+            }
+            if let Some(node) = self.middle.next() {
+                self.front = node.into_iter();
+            } else {
+                let first = self.back.next()?;
+                self.left -= 1;
+                return Some(first);
+            }
+        }
+    }
+
+    fn size_hint(&self) -> (usize, Option<usize>) {
+        (self.left, Some(self.left))
+    }
+}
+
+impl<T: Drop> DoubleEndedIterator for IntoIter<T> {
+    ghost next_back_gives = { TakesLast (λ x. x) };
+
+    fn next_back(&mut self) -> Option<T> {
+        loop {
+            if let Some(last) = self.back.next_back() {
+                self.left -= 1;
+                return Some(last);
+            }
+            if let Some(node) = self.middle.next_back() {
+                self.back = node.into_iter();
+            } else {
+                let last = self.front.next_back()?;
+                self.left -= 1;
+                return Some(last);
+            }
+        }
+    }
+}
+
+impl<T: Drop> ExactSizeIterator for IntoIter<T> {
+    fn len(&self) -> usize {
+        self.left
+    }
+}
+
+impl<T: Drop> FusedIterator for IntoIter<T> {}

@@ -1,0 +1,241 @@
+//! A list that is cut into nodes.
+ghost use Rattle.std.specs.Prelude.{◌≡◌, ◌+◌, ◌≤◌, IsTrue, Some, length, max, slice_get, MatchOption};
+ghost use Rattle.std.specs.Option.{option_copied, option_copied_mut};
+ghost use Rattle.std.specs.Borrow.{sem};
+ghost use Rattle.std.specs.List.{between};
+ghost use Rattle.std.specs.Map.Iter.{ShowsInOrder, ShowsInReverse, GivesInOrder, GivesInReverse, deref};
+ghost use Rattle.indexset_core.specs.Digits.{digits};
+ghost use Rattle.indexset_core.specs.Parted.{IsParted, less_count};
+ghost use Rattle.indexset_core.specs.Nodes.{node_at, node_for, equal_at, node_lengths};
+ghost use Rattle.indexset_spine.specs.Cut.{items, vec_items, IsCut, IsSpot, IsItemSpot, position_of};
+
+mod insert;
+mod make;
+mod remove;
+mod retain;
+mod split;
+
+use crate::into_iter::IntoIter;
+use crate::iter::Iter;
+use crate::spot::Spot;
+use crate::{lengths, locate};
+use indexset_core::probe::Probe;
+use indexset_core::search;
+use std::marker::Model;
+
+/// A list that is cut into nodes of at most a given number of items each.
+#[derive(Drop)]
+pub struct Spine<T> {
+    nodes: Vec<Vec<T>>,
+    size: usize,
+    // How many items there are, as the lengths of the nodes add up.
+    len: usize,
+}
+
+impl<T> Model for Spine<T> {
+    ghost use Rattle.indexset_core.specs.Nodes.{node_lengths};
+    ghost use Rattle.indexset_spine.specs.Cut.{Cut, cut, cut_code, vec_items, IsSpine};
+
+    ghost Value = { Cut T };
+
+    ghost view = { λ s. cut (vec_items s.nodes.items) s.size };
+
+    ghost invariant = { λ s. IsSpine (node_lengths (vec_items s.nodes.items)) s.size s.len };
+}
+
+impl<T> Spine<T> {
+    ghost use Rattle.indexset_spine.specs.SpineLends.{lends_item, lends_place};
+
+    /// How many items a node holds at most.
+    pub fn maximum_node_size(&self) -> usize
+        ensures value { result ≡ self.now.size }
+        ensures two { 2 ≤ result }
+    {
+        self.size
+    }
+
+    /// How many nodes there are.
+    pub fn node_count(&self) -> usize
+        ensures value { result ≡ length self.now.nodes }
+        ensures some { 1 ≤ result }
+        ensures few { result ≤ max 1 (length (items self.now)) }
+        ensures cut { IsCut (node_lengths self.now.nodes) self.now.size }
+    {
+        self.nodes.len()
+    }
+
+    /// How many items there are.
+    pub fn len(&self) -> usize
+        ensures { result ≡ length (items self.now) }
+    {
+        self.len
+    }
+
+    /// Where the probe finds what it seeks, by two binary searches.
+    pub fn locate_by<P: Probe<T>>(&self, probe: &mut P) -> Spot
+        requires { IsParted (P.answer probe.old) (items self.now) }
+        ensures node { result.node ≡ node_for (P.answer probe.old) self.now.nodes }
+        ensures offset { result.offset ≡ less_count (P.answer probe.old) (node_at self.now.nodes result.node) }
+        ensures found { result.found ≡ equal_at (P.answer probe.old) (items self.now) (position_of self.now.nodes result) }
+        ensures spot { IsSpot self.now.nodes result }
+        ensures item { IsTrue result.found → IsItemSpot self.now.nodes result }
+        ensures position { position_of self.now.nodes result ≡ less_count (P.answer probe.old) (items self.now) }
+        ensures fixed { P.answer probe.new ≡ P.answer probe.old }
+        ensures few { P.asked probe.new ≤ P.asked probe.old + (digits (length self.now.nodes) + digits self.now.size + 1) }
+    {
+        let node = locate::node_by(self.nodes.as_slice(), probe);
+        let items = self.nodes[node].as_slice();
+        let offset = search::first_not_less(items, probe);
+        let found = offset < items.len() && probe.place(&items[offset]).is_eq();
+        Spot {
+            node,
+            offset,
+            found,
+        }
+    }
+
+    /// How many items stand before a place.
+    pub fn position(&self, spot: &Spot) -> usize
+        requires { IsSpot self.now.nodes spot.now }
+        ensures { result ≡ position_of self.now.nodes spot.now }
+    {
+        // The sum of all lengths fits, so each sum of some does.
+        let _len = self.len;
+        lengths::prefix_in(self.nodes.as_slice(), spot.node) + spot.offset
+    }
+
+    /// The place of the item at a position.
+    pub fn spot(&self, i: usize) -> Option<Spot>
+        ensures { MatchOption result (length (items self.now) ≤ i) (λ s. IsItemSpot self.now.nodes s × (position_of self.now.nodes s ≡ i) × IsTrue s.found) }
+    {
+        let (node, offset) = lengths::find_in(self.nodes.as_slice(), i)?;
+        Some(Spot {
+            node,
+            offset,
+            found: true,
+        })
+    }
+
+    /// The spot after the first `i` items.
+    pub fn spot_after(&self, i: usize) -> Spot
+        requires { i ≤ length (items self.now) }
+        ensures spot { IsSpot self.now.nodes result }
+        ensures position { position_of self.now.nodes result ≡ i }
+    {
+        let _count = self.node_count();
+        if i == 0 {
+            return Spot {
+                node: 0,
+                offset: 0,
+                found: false,
+            };
+        }
+        let Some(last) = self.spot(i - 1) else {
+            unreachable!()
+        };
+        Spot {
+            node: last.node,
+            offset: last.offset + 1,
+            found: false,
+        }
+    }
+
+    /// The item at a place.
+    pub fn item(&self, spot: &Spot) -> &T
+        requires { IsItemSpot self.now.nodes spot.now }
+        ensures { slice_get (items self.now) (position_of self.now.nodes spot.now) ≡ Some result.now }
+    {
+        &self.nodes[spot.node][spot.offset]
+    }
+
+    /// The item at a place, or where the place is the end of its node, the first item of the next.
+    pub fn item_from(&self, spot: &Spot) -> Option<&T>
+        requires { IsSpot self.now.nodes spot.now }
+        ensures { option_copied result ≡ slice_get (items self.now) (position_of self.now.nodes spot.now) }
+    {
+        match item_in(&self.nodes, spot.node, spot.offset) {
+            Some(item) => Some(item),
+            None => item_in(&self.nodes, spot.node + 1, 0),
+        }
+    }
+
+    /// The item at a position.
+    pub fn get(&self, i: usize) -> Option<&T>
+        ensures { option_copied result ≡ slice_get (items self.now) i }
+    {
+        let spot = self.spot(i)?;
+        Some(self.item(&spot))
+    }
+
+    /// The item at a position, to write.
+    pub fn get_mut(&mut self, i: usize) -> Option<&mut T>
+        ensures* writes_back { sem 𝓛 (lends_item T.row self.entry i result) }
+        ensures value { option_copied_mut result ≡ slice_get (items self.old) i }
+    {
+        match self.spot(i) {
+            Some(spot) => Some(self.item_mut(i, spot)),
+            None => None,
+        }
+    }
+
+    /// The items, in order.
+    pub fn iter(&self) -> Iter<'_, T>
+        ensures rest { result ≡ items self.now }
+        ensures runs { ShowsInOrder (deref {X = T}) }
+        ensures runs_back { ShowsInReverse (deref {X = T}) }
+    {
+        Iter::over(self.nodes.as_slice(), self.len)
+    }
+
+    /// The items from position `i` up to position `j`, in order.
+    pub fn iter_between(&self, i: usize, j: usize) -> Iter<'_, T>
+        requires order { i ≤ j }
+        requires within { j ≤ length (items self.now) }
+        ensures rest { result ≡ between i j (items self.now) }
+        ensures runs { ShowsInOrder (deref {X = T}) }
+        ensures runs_back { ShowsInReverse (deref {X = T}) }
+    {
+        if i == j {
+            return Iter::over(&[], 0);
+        }
+        match (self.spot(i), self.spot(j - 1)) {
+            (Some(start), Some(end)) => Iter::through(self.nodes.as_slice(), &start, &end, j - i),
+            _ => unreachable!(),
+        }
+    }
+
+    // The item at a place, to write.
+    fn item_mut(&mut self, i: usize, spot: Spot) -> &mut T
+        requires place { IsItemSpot self.old.nodes spot }
+        requires position { position_of self.old.nodes spot ≡ i }
+        ensures* writes_back { sem 𝓛 (lends_place T.row self.entry i result) }
+        ensures value { slice_get (items self.old) i ≡ Some result.now }
+    {
+        let items = &mut self.nodes[spot.node];
+        &mut items[spot.offset]
+    }
+}
+
+// The item at an offset of the node k, where there is one.
+fn item_in<T>(nodes: &[Vec<T>], k: usize, offset: usize) -> Option<&T>
+    ensures { option_copied result ≡ slice_get (node_at (vec_items nodes.now) k) offset }
+{
+    nodes.get(k)?.get(offset)
+}
+
+impl<T: Drop> IntoIterator for Spine<T> {
+    type Item = T;
+
+    type IntoIter = IntoIter<T>;
+
+    ghost into_iter_gives = { λ s r. (r ≡ items s) × GivesInOrder T × GivesInReverse T };
+
+    fn into_iter(self) -> IntoIter<T> {
+        let Spine {
+            nodes,
+            size: _,
+            len,
+        } = self;
+        IntoIter::over(nodes, len)
+    }
+}

@@ -1,0 +1,126 @@
+//! Calls that put an item in.
+ghost use Rattle.std.specs.Prelude.{◌≡◌, ◌<◌, ◌≤◌, IfOk, OnOk, IfErr, OnErr, IfSome, length, drop, insert, slice_get, vec_len, vec_capacity};
+ghost use Rattle.std.specs.List.{HoldsAt};
+ghost use Rattle.indexset_core.specs.Nodes.{node_at};
+ghost use Rattle.indexset_spine.specs.Cut.{items, vec_items, IsSpot, position_of, with_inserted, without_item, first_spot};
+ghost use Rattle.indexset_spine.specs.Edits.{with_item_in};
+
+use super::Spine;
+use super::remove::take_out;
+use crate::spot::Spot;
+use indexset_core::halve::halve_node;
+use indexset_core::moves::insert_item;
+use indexset_core::refusal::{Refusal, Refused};
+
+impl<T: Drop> Spine<T> {
+    /// Puts an item at a place. A full node is first cut at half its length, and the item goes right
+    /// where the offset is above the cut, else left. A refused call hands back the item and changes
+    /// nothing.
+    pub fn insert(&mut self, spot: Spot, value: T) -> Result<(), Refused<T>>
+        requires { IsSpot self.old.nodes spot }
+        ensures nodes { OnOk result (self.new.nodes ≡ with_inserted self.old.size self.old.nodes spot value) }
+        ensures items { OnOk result (items self.new ≡ insert (items self.old) (position_of self.old.nodes spot) value) }
+        ensures size { self.new.size ≡ self.old.size }
+        ensures given_back { IfErr result (λ e. (e.value ≡ value) × (e.cause ≡ Refusal.Memory)) }
+        ensures err { OnErr result (self.new ≡ self.old) }
+    {
+        if self.len == usize::MAX {
+            return Err(Refused {
+                value,
+                cause: Refusal::Memory,
+            });
+        }
+        match make_room(&mut self.nodes, self.size, spot) {
+            Ok(place) => {
+                insert_in_room(&mut self.nodes, place, value);
+                self.len += 1;
+                Ok(())
+            }
+            Err(cause) => Err(Refused { value, cause }),
+        }
+    }
+
+    /// Puts the first item of another spine at a place, as `insert` does, and takes it out of the
+    /// other, as `remove` does. A refused call changes neither.
+    pub fn insert_from(&mut self, spot: Spot, other: &mut Spine<T>) -> Result<(), Refusal>
+        requires spot { IsSpot self.old.nodes spot }
+        requires other { 0 < length (items other.old) }
+        ensures nodes { OnOk result (IfSome (slice_get (items other.old) 0) (λ x. self.new.nodes ≡ with_inserted self.old.size self.old.nodes spot x)) }
+        ensures items { OnOk result (IfSome (slice_get (items other.old) 0) (λ x. items self.new ≡ insert (items self.old) (position_of self.old.nodes spot) x)) }
+        ensures rest_nodes { OnOk result (other.new.nodes ≡ without_item other.old.nodes first_spot) }
+        ensures rest { OnOk result (items other.new ≡ drop 1 (items other.old)) }
+        ensures size { self.new.size ≡ self.old.size }
+        ensures other_size { other.new.size ≡ other.old.size }
+        ensures refusal { IfErr result (λ e. e ≡ Refusal.Memory) }
+        ensures err { OnErr result (self.new ≡ self.old) }
+        ensures other_err { OnErr result (other.new ≡ other.old) }
+    {
+        if self.len == usize::MAX {
+            return Err(Refusal::Memory);
+        }
+        let place = make_room(&mut self.nodes, self.size, spot)?;
+        let first = Spot {
+            node: 0,
+            offset: 0,
+            found: true,
+        };
+        other.len -= 1;
+        let value = take_out(&mut other.nodes, first);
+        insert_in_room(&mut self.nodes, place, value);
+        self.len += 1;
+        Ok(())
+    }
+}
+
+// Makes room for one more item at a place, and answers where it then goes: a full node is cut in half
+// first. A refused call changes nothing.
+fn make_room<T>(nodes: &mut Vec<Vec<T>>, size: usize, spot: Spot) -> Result<Spot, Refusal>
+    requires spot { IsSpot (vec_items nodes.old.items) spot }
+    requires two { 2 ≤ size }
+    ensures spot { IfOk result (λ place. IsSpot (vec_items nodes.new.items) place) }
+    ensures room { IfOk result (λ place. HoldsAt (λ node. vec_len node < vec_capacity node) nodes.new.items place.node) }
+    ensures nodes { IfOk result (λ place. (value : T) → with_item_in (vec_items nodes.new.items) place value ≡ with_inserted size (vec_items nodes.old.items) spot value) }
+    ensures refusal { IfErr result (λ e. e ≡ Refusal.Memory) }
+    ensures err { OnErr result (vec_items nodes.new.items ≡ vec_items nodes.old.items) }
+{
+    if nodes[spot.node].len() < size {
+        nodes[spot.node].reserve(1)?;
+        return Ok(spot);
+    }
+    halve_at(nodes, spot)
+}
+
+// Cuts the node of a place in half, and answers where the place then is. A refused call changes
+// nothing.
+fn halve_at<T>(nodes: &mut Vec<Vec<T>>, spot: Spot) -> Result<Spot, Refusal>
+    requires spot { IsSpot (vec_items nodes.old.items) spot }
+    requires two { 2 ≤ length (node_at (vec_items nodes.old.items) spot.node) }
+    ensures spot { IfOk result (λ place. IsSpot (vec_items nodes.new.items) place) }
+    ensures room { IfOk result (λ place. HoldsAt (λ node. vec_len node < vec_capacity node) nodes.new.items place.node) }
+    ensures nodes { IfOk result (λ place. (value : T) → with_item_in (vec_items nodes.new.items) place value ≡ with_inserted (length (node_at (vec_items nodes.old.items) spot.node)) (vec_items nodes.old.items) spot value) }
+    ensures refusal { IfErr result (λ e. e ≡ Refusal.Memory) }
+    ensures err { OnErr result (vec_items nodes.new.items ≡ vec_items nodes.old.items) }
+{
+    nodes.reserve(1)?;
+    let node = &mut nodes[spot.node];
+    let right = halve_node(node)?;
+    let half = node.len();
+    insert_item(nodes, spot.node + 1, right);
+    if half < spot.offset {
+        return Ok(Spot {
+            node: spot.node + 1,
+            offset: spot.offset - half,
+            found: spot.found,
+        });
+    }
+    Ok(spot)
+}
+
+// Puts an item into a node that has room.
+fn insert_in_room<T>(nodes: &mut Vec<Vec<T>>, place: Spot, value: T)
+    requires spot { IsSpot (vec_items nodes.old.items) place }
+    requires room { HoldsAt (λ node. vec_len node < vec_capacity node) nodes.old.items place.node }
+    ensures { vec_items nodes.new.items ≡ with_item_in (vec_items nodes.old.items) place value }
+{
+    insert_item(&mut nodes[place.node], place.offset, value);
+}

@@ -1,0 +1,77 @@
+//! A spine split in two.
+ghost use Rattle.std.specs.Prelude.{◌≡◌, ◌≤◌, IfOk, OnOk, IfErr, OnErr, length, take, drop};
+ghost use Rattle.indexset_spine.specs.Cut.{items, vec_items, IsSpot, position_of};
+ghost use Rattle.indexset_spine.specs.Edits.{left_nodes, right_nodes};
+
+use super::Spine;
+use super::remove::drop_if_empty;
+use crate::spot::Spot;
+use indexset_core::refusal::Refusal;
+use std::mem;
+
+impl<T: Drop> Spine<T> {
+    /// Takes out the items from a place on, as a spine of the same size. A refused call changes
+    /// nothing.
+    pub fn split_off(&mut self, spot: Spot) -> Result<Spine<T>, Refusal>
+        requires { IsSpot self.old.nodes spot }
+        ensures nodes { OnOk result (self.new.nodes ≡ left_nodes self.old.nodes spot) }
+        ensures rest_nodes { IfOk result (λ s. s.nodes ≡ right_nodes self.old.nodes spot) }
+        ensures left { OnOk result (items self.new ≡ take (position_of self.old.nodes spot) (items self.old)) }
+        ensures right { IfOk result (λ s. items s ≡ drop (position_of self.old.nodes spot) (items self.old)) }
+        ensures size { self.new.size ≡ self.old.size }
+        ensures right_size { IfOk result (λ s. s.size ≡ self.old.size) }
+        ensures refusal { IfErr result (λ e. e ≡ Refusal.Memory) }
+        ensures err { OnErr result (self.new ≡ self.old) }
+    {
+        let left = self.position(&spot);
+        let nodes = split_nodes(&mut self.nodes, spot)?;
+        let right = Spine {
+            nodes,
+            size: self.size,
+            len: self.len - left,
+        };
+        self.len = left;
+        Ok(right)
+    }
+}
+
+// Takes out the nodes from a place on. A refused call changes nothing.
+fn split_nodes<T: Drop>(nodes: &mut Vec<Vec<T>>, spot: Spot) -> Result<Vec<Vec<T>>, Refusal>
+    requires { IsSpot (vec_items nodes.old.items) spot }
+    ensures left { OnOk result (vec_items nodes.new.items ≡ left_nodes (vec_items nodes.old.items) spot) }
+    ensures right { IfOk result (λ rest. vec_items rest.items ≡ right_nodes (vec_items nodes.old.items) spot) }
+    ensures refusal { IfErr result (λ e. e ≡ Refusal.Memory) }
+    ensures err { OnErr result (vec_items nodes.new.items ≡ vec_items nodes.old.items) }
+{
+    let mut right = nodes.split_off(spot.node)?;
+    match take_front(&mut right[0], spot.offset) {
+        Ok(front) => {
+            nodes.push_reserved(front);
+            drop_if_empty(nodes, spot.node);
+            drop_if_empty(&mut right, 0);
+            Ok(right)
+        }
+        Err(refusal) => {
+            // The list has kept its room.
+            match nodes.append(&mut right) {
+                Ok(()) => Err(refusal),
+                Err(_) => unreachable!(),
+            }
+        }
+    }
+}
+
+// Takes out the items before an offset. A refused call leaves the node as it is.
+fn take_front<T>(node: &mut Vec<T>, offset: usize) -> Result<Vec<T>, Refusal>
+    requires { offset ≤ length node.old.items }
+    ensures front { IfOk result (λ front. front.items ≡ take offset node.old.items) }
+    ensures rest { OnOk result (node.new.items ≡ drop offset node.old.items) }
+    ensures refusal { IfErr result (λ e. e ≡ Refusal.Memory) }
+    ensures err { OnErr result (node.new.items ≡ node.old.items) }
+{
+    if offset == 0 {
+        return Ok(Vec::new(*node.allocator()));
+    }
+    let rest = node.split_off(offset)?;
+    Ok(mem::replace(node, rest))
+}
