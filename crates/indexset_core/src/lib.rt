@@ -7,6 +7,7 @@ pub mod halve;
 pub mod laws;
 pub mod moves;
 pub mod node;
+pub mod pair;
 pub mod probe;
 pub mod refusal;
 pub mod search;
