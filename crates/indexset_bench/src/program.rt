@@ -72,7 +72,7 @@ fn answer_lines<R: BufRead, W: Write>(
         (W.contents writer.old) (W.contents writer.new) }
     ensures numbers_fit { result ≢ Err RunFault.Numbers }
 {
-    let mut set = BTreeSet::new(alloc).map_err(|_| RunFault::Memory)?;
+    let mut set = BTreeSet::new(alloc)?;
     let mut line = Vec::new(alloc);
     for _ in 0..u64::MAX {
         match next_line(reader, writer, &mut line)? {
@@ -108,6 +108,6 @@ fn answer_line<W: Write>(
     ensures only_new { result ≡ Err RunFault.Memory → AddsNew (items set.old) (meaning line.now) }
     ensures fault { IfErr result (λ fault. (fault ≡ RunFault.Memory) ⊎ (fault ≡ RunFault.Write)) }
 {
-    let reply = perform(set, parse(line)).map_err(|_| RunFault::Memory)?;
+    let reply = perform(set, parse(line))?;
     writer.writeln(reply).map_err(|_| RunFault::Write)
 }

@@ -1,6 +1,7 @@
 //! Worked examples of whole runs, and faults in mid-stream.
 
 use indexset_bench::{RunFault, run};
+use indexset_core::refusal::Refusal;
 use std::alloc::Global;
 use std::cell::Cell;
 use std::io::{self, BufReader, BufWriter, ErrorKind, Read, Write};
@@ -241,7 +242,7 @@ fn tells_the_first_fault(rt: HostRuntime) -> Result<(), Fail> {
 }
 
 #[test]
-fn tells_faults_by_status_and_word(rt: HostRuntime) {
+fn tells_faults_by_status_and_word(rt: HostRuntime) -> Result<(), Fail> {
     let told = [
         (RunFault::Memory, 1, "memory"),
         (RunFault::Numbers, 2, "numbers"),
@@ -251,5 +252,10 @@ fn tells_faults_by_status_and_word(rt: HostRuntime) {
     for (fault, status, word) in told {
         assert_eq!(rt; fault.status(), status);
         assert_eq!(rt; fault.word(), word);
+        let shown = format!(in rt.alloc(); "{fault}")?;
+        assert_eq!(rt; shown.as_str(), word);
     }
+    assert_eq!(rt; RunFault::from(Refusal::Memory), RunFault::Memory);
+    assert_eq!(rt; RunFault::from(Refusal::Numbers), RunFault::Numbers);
+    Ok(())
 }
