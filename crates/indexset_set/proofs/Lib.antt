@@ -1,6 +1,7 @@
 pub mod SetAlgebraLaws
 pub mod SetAlgebraLemmas
 pub mod SetBulkLemmas
+pub mod SetCloneLemmas
 pub mod SetMemberLemmas
 pub mod SetNodeLemmas
 pub mod SetPairLemmas

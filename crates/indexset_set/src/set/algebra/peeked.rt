@@ -6,7 +6,7 @@ use indexset_spine::iter::Iter;
 use std::marker::Model;
 
 /// What is left of a walk, and its next item.
-#[derive(Drop)]
+#[derive(Debug, Drop)]
 pub(crate) struct Peeked<'a, T> {
     head: Option<&'a T>,
     rest: Iter<'a, T>,
@@ -56,7 +56,7 @@ impl<'a, T> Peeked<'a, T> {
 }
 
 /// Two ascending walks, side by side.
-#[derive(Drop)]
+#[derive(Debug, Drop)]
 pub(crate) struct Sides<'a, T> {
     pub(crate) left: Peeked<'a, T>,
     pub(crate) right: Peeked<'a, T>,

@@ -11,7 +11,7 @@ use std::iter::FusedIterator;
 use std::marker::Model;
 
 /// The elements of either of two sets that are left.
-#[derive(Drop)]
+#[derive(Debug, Drop)]
 pub struct Union<'a, T: Ord> {
     pub(super) sides: Sides<'a, T>,
 }
