@@ -1,5 +1,5 @@
 -- What the code reads of a spine, and where its searches end.
-use Rattle.std.proofs.Common.{◌≡◌, ℕ, ◌+◌, ◌-◌, ◌<◌, ◌≤◌, false, List, [], length, get_or, take, slice_get, Option, Some, Ordering, inl, inr, sym, ap, ◌∙◌, arith, subst}
+use Rattle.std.proofs.Common.{◌≡◌, ℕ, ◌+◌, ◌-◌, ◌<◌, ◌≤◌, false, List, [], length, get_or, take, Option, Ordering, inl, inr, sym, ap, ◌∙◌, arith, subst}
 use Rattle.std.specs.List.{All}
 use Rattle.std.specs.Option.{option_map_or}
 use Rattle.std.specs.Ordering.{is_lt, is_eq}

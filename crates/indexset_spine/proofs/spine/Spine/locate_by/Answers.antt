@@ -1,5 +1,4 @@
 use Rattle.std.proofs.Common.{length, arith, ap, ◌∙◌}
-use Rattle.indexset_core.specs.Nodes.{equal_at}
 use Rattle.indexset_core.proofs.CallerLemmas.{digits-mono}
 use Rattle.indexset_spine.proofs.VecNodes.{length-vec_items}
 use Rattle.indexset_spine.proofs.SpineReads.{read_node, node_within, node_parted, located, told}
