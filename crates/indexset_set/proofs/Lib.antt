@@ -1,3 +1,4 @@
+pub mod MergeLemmas
 pub mod SetAlgebraLaws
 pub mod SetAlgebraLemmas
 pub mod SetBulkLemmas

@@ -1,3 +1,4 @@
+pub mod Merge
 pub mod SetAlgebra
 pub mod SetRanges
 pub mod SetWalks
