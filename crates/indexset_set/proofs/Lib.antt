@@ -1,3 +1,4 @@
+pub mod CompareLemmas
 pub mod MergeLemmas
 pub mod SetAlgebraLaws
 pub mod SetAlgebraLemmas
