@@ -1,4 +1,9 @@
 pub mod Merge
 pub mod SetAlgebra
+pub mod SetCursor
+pub mod SetLends
+pub mod SetNodes
+pub mod SetPairs
+pub mod SetProbes
 pub mod SetRanges
 pub mod SetWalks
