@@ -14,7 +14,7 @@ use Rattle.indexset_core.specs.Parted.{IsParted, less_count}
 use Rattle.indexset_core.proofs.CallerLemmas.{located_found, located_gap, found_equal, gap_equal, is_some-find, get_in_node, place_for, ends_for, parted_node, parted_by_item, gap_has_equal}
 use Rattle.indexset_log.specs.Located.{located, IsFoundIn}
 use Rattle.indexset_log.specs.Nodes.{is_filled}
-use Rattle.indexset_log.proofs.Ups.{Each, Up, each_all, length_filled, lawful_bounded}
+use Rattle.indexset_log.proofs.Ups.{Each, Up, each_all, lawful_ruled, filled_length, length_filled, lawful_bounded}
 use Rattle.indexset_log.proofs.Theorem.{no_last}
 
 -- the nodes as the code holds them: f tells the list of each
@@ -49,6 +49,9 @@ module _ {T : Type 0} (cmp : T → T → Ordering) where
 
     pub lawful_small : (k : ℕ) → k < length ns → length (node_at ns k) ≤ size
     lawful_small k lt = each_all _ ns (lawful_bounded cmp size ns law) k [] lt
+
+    pub node_some : (k : ℕ) → k < length ns → 1 ≤ length (node_at ns k)
+    node_some k lt = let rule = lawful_ruled cmp size ns law in filled_length _ (each_all (λ n. is_filled n ≡ true) ns rule.filled k [] lt)
 
     pub lawful_ascends : IsAscending cmp (joined ns)
     lawful_ascends = let nodes : IsNodeList cmp ns = law.nodes in nodes.ascending
