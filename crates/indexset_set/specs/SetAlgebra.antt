@@ -1,4 +1,4 @@
--- Two ascending vec_items as sets.
+-- Two ascending lists as sets.
 use Rattle.std.specs.Prelude.{◌≡◌, ℕ, List, take, drop, filter, not}
 use Rattle.std.specs.declared.cmp.Ordering.{Ordering}
 use Rattle.std.specs.List.{fold}
