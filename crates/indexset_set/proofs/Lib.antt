@@ -1,5 +1,10 @@
 pub mod SetAlgebraLaws
 pub mod SetAlgebraLemmas
 pub mod SetBulkLemmas
+pub mod SetMemberLemmas
+pub mod SetNodeLemmas
+pub mod SetPairLemmas
+pub mod SetProbeLemmas
 pub mod SetRangeLemmas
+pub mod SetValueLemmas
 pub mod SetWalkLemmas

@@ -1,16 +1,20 @@
 //! A set kept as an ascending list that is cut into nodes.
 ghost use Rattle.std.specs.Prelude.{◌≡◌, ◌≤◌, ◌↔◌, IsTrue, length, max};
-ghost use Rattle.indexset_spine.specs.Cut.{items};
+ghost use Rattle.indexset_core.specs.Nodes.{node_lengths};
+ghost use Rattle.indexset_spine.specs.Cut.{items, IsCut};
 ghost use Rattle.indexset_core.specs.Order.{IsAscending};
+ghost use Rattle.indexset_set.specs.SetProbes.{FindsInOrder};
 
 pub mod algebra;
 mod bulk;
 mod compare;
+pub mod cursor;
 mod edits;
 pub mod iter;
 pub mod laws;
 mod lookup;
 mod make;
+mod pairs;
 mod positions;
 pub mod range;
 
@@ -52,6 +56,7 @@ impl<T: Ord> BTreeSet<T> {
     pub fn len(&self) -> usize
         ensures value { result ≡ length (items self.now) }
         ensures ascending { IsAscending T.cmp (items self.now) }
+        ensures in_order { (v : T) → FindsInOrder (λ x. T.cmp x v) (items self.now) }
     {
         self.spine.len()
     }
@@ -68,6 +73,7 @@ impl<T: Ord> BTreeSet<T> {
         ensures value { result ≡ length self.now.nodes }
         ensures some { 1 ≤ result }
         ensures few { result ≤ max 1 (length (items self.now)) }
+        ensures cut { IsCut (node_lengths self.now.nodes) self.now.size }
     {
         self.spine.node_count()
     }

@@ -1,3 +1,4 @@
+pub mod CallerLemmas
 pub mod CutEdits
 pub mod CutExamples
 pub mod CutLemmas

@@ -1,5 +1,5 @@
 //! Calls that change many elements of a set at once.
-ghost use Rattle.std.specs.Prelude.{◌≡◌, ◌<◌, [], IfOk, OnOk, IfErr, OnErr, IfSome, length, drop, slice_get};
+ghost use Rattle.std.specs.Prelude.{◌≡◌, ◌<◌, ◌≤◌, take, [], IfOk, OnOk, IfErr, OnErr, IfSome, length, drop, slice_get};
 ghost use Rattle.std.specs.Fn.{CalledAt};
 ghost use Rattle.std.specs.List.Retain.{IsFiltered};
 ghost use Rattle.indexset_spine.specs.Cut.{items};
@@ -44,6 +44,22 @@ impl<T: Ord + Drop> BTreeSet<T> {
         Ok(BTreeSet { spine })
     }
 
+    /// Takes out the elements from a position on, as a set of the same node size. A refused call changes
+    /// nothing.
+    pub fn split_off_index(&mut self, i: usize) -> Result<Self, Refusal>
+        requires { i ≤ length (items self.old) }
+        ensures first { OnOk result (items self.new ≡ take i (items self.old)) }
+        ensures rest { IfOk result (λ s. items s ≡ drop i (items self.old)) }
+        ensures size { self.new.size ≡ self.old.size }
+        ensures rest_size { IfOk result (λ s. s.size ≡ self.old.size) }
+        ensures refusal { IfErr result (λ e. e ≡ Refusal.Memory) }
+        ensures err { OnErr result (self.new ≡ self.old) }
+    {
+        let spot = self.spine.spot_after(i);
+        let spine = self.spine.split_off(spot)?;
+        Ok(BTreeSet { spine })
+    }
+
     /// Puts the elements of another set in their places, first to last, each for the equal one where
     /// there is one, and takes them out of the other. A refused call has moved some first elements and
     /// leaves the others.
@@ -54,6 +70,7 @@ impl<T: Ord + Drop> BTreeSet<T> {
         ensures other_size { other.new.size ≡ other.old.size }
         ensures refusal { IfErr result (λ e. e ≡ Refusal.Memory) }
         ensures err { OnErr result (MovesSome T.cmp (items self.old) (items other.old) (items self.new) (items other.new)) }
+        ensures some_left { OnErr result (0 < length (items other.new)) }
     {
         while !other.is_empty() {
             self.put_first_of(other)?;

@@ -6,7 +6,9 @@ ghost use Rattle.std.specs.Ordering.{is_eq};
 ghost use Rattle.indexset_spine.specs.Cut.{items, IsSpot, IsItemSpot, position_of};
 ghost use Rattle.indexset_core.specs.Digits.{digits};
 ghost use Rattle.indexset_core.specs.Order.{IsAscending, IsFoundAt, IsGapFor, has_equal, rank, equal_element, lower_element};
-ghost use Rattle.indexset_core.specs.Parted.{IsParted, less_count};
+ghost use Rattle.indexset_core.specs.Parted.{less_count};
+ghost use Rattle.indexset_set.specs.SetNodes.{spot_of};
+ghost use Rattle.indexset_set.specs.SetProbes.{FindsInOrder};
 
 use super::BTreeSet;
 use indexset_core::probe::{ByItem, Probe};
@@ -19,6 +21,7 @@ pub(super) fn locate<T: Ord>(spine: &Spine<T>, value: &T) -> Spot
     ensures spot { IsSpot spine.now.nodes result }
     ensures item { IsTrue result.found → IsItemSpot spine.now.nodes result }
     ensures position { position_of spine.now.nodes result ≡ rank T.cmp (items spine.now) value.now }
+    ensures place { result ≡ spot_of T.cmp spine.now.nodes value.now }
     ensures found { OnTrue result.found (IsFoundAt T.cmp (items spine.now) value.now (position_of spine.now.nodes result)) }
     ensures gap { OnFalse result.found (IsGapFor T.cmp (items spine.now) value.now (position_of spine.now.nodes result)) }
 {
@@ -62,10 +65,11 @@ impl<T: Ord> BTreeSet<T> {
     /// The position of the first element that the probe answers Equal, or where it answers none so,
     /// how many it answers Less. It asks of one element a step of two binary searches.
     pub fn locate_by<P: Probe<T>>(&self, probe: &mut P) -> Result<usize, usize>
-        requires { IsParted (P.answer probe.old) (items self.now) }
+        requires { FindsInOrder (P.answer probe.old) (items self.now) }
         ensures found { IfOk result (λ i. position (λ x. is_eq (P.answer probe.old x)) (items self.now) ≡ Some i) }
         ensures absent { IfErr result (λ _. position (λ x. is_eq (P.answer probe.old x)) (items self.now) ≡ None) }
         ensures gap { IfErr result (λ i. i ≡ less_count (P.answer probe.old) (items self.now)) }
+        ensures ascending { IsAscending T.cmp (items self.now) }
         ensures fixed { P.answer probe.new ≡ P.answer probe.old }
         ensures few { P.asked probe.new ≤ P.asked probe.old + (digits (length self.now.nodes) + digits self.now.size + 1) }
     {

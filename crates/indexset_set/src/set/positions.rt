@@ -1,7 +1,8 @@
 //! Calls that go by position: the element there, and the element there taken out.
-ghost use Rattle.std.specs.Prelude.{◌≡◌, ◌-◌, ◌<◌, Some, length, take, drop, remove, slice_get};
+ghost use Rattle.std.specs.Prelude.{◌≡◌, ◌-◌, ◌<◌, Some, MatchOption, length, take, drop, remove, slice_get};
 ghost use Rattle.std.specs.Option.{option_copied};
 ghost use Rattle.indexset_spine.specs.Cut.{items};
+ghost use Rattle.indexset_set.specs.SetNodes.{IsWithoutAt};
 
 use super::BTreeSet;
 use std::ops::Index;
@@ -34,6 +35,7 @@ impl<T: Ord + Drop> BTreeSet<T> {
     pub fn pop_first(&mut self) -> Option<T>
         ensures value { result ≡ slice_get (items self.old) 0 }
         ensures rest { items self.new ≡ drop 1 (items self.old) }
+        ensures nodes { MatchOption result (self.new ≡ self.old) (λ _. IsWithoutAt self.old.nodes 0 self.new.nodes) }
         ensures size { self.new.size ≡ self.old.size }
     {
         let spot = self.spine.spot(0)?;
@@ -44,6 +46,7 @@ impl<T: Ord + Drop> BTreeSet<T> {
     pub fn pop_last(&mut self) -> Option<T>
         ensures value { result ≡ slice_get (items self.old) (length (items self.old) - 1) }
         ensures rest { items self.new ≡ take (length (items self.old) - 1) (items self.old) }
+        ensures nodes { MatchOption result (self.new ≡ self.old) (λ _. IsWithoutAt self.old.nodes (length (items self.old) - 1) self.new.nodes) }
         ensures size { self.new.size ≡ self.old.size }
     {
         let last = self.spine.len().saturating_sub(1);
@@ -56,6 +59,7 @@ impl<T: Ord + Drop> BTreeSet<T> {
         requires { i < length (items self.old) }
         ensures value { slice_get (items self.old) i ≡ Some result }
         ensures rest { items self.new ≡ remove (items self.old) i }
+        ensures nodes { IsWithoutAt self.old.nodes i self.new.nodes }
         ensures size { self.new.size ≡ self.old.size }
     {
         let spot = self.spine.spot(i).unwrap();

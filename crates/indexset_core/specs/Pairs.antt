@@ -1,0 +1,65 @@
+-- Lists of pairs, by key and by position.
+use Rattle.std.specs.Prelude.{◌≡◌, ℕ, Bool, List, [], ◌∷◌, Option, Some, None, if◌then◌else◌, filter, find, not, count_by, slice_get, slice_set}
+use Rattle.std.specs.List.{list_any}
+use Rattle.std.specs.Borrow.{Bor, MutBor}
+use Rattle.std.specs.Fn.{Mut}
+use Rattle.std.specs.Map.Calls.{CalledAtPair}
+use Rattle.std.specs.Option.{option_map, option_map_or}
+use Rattle.std.specs.Ordering.{is_eq, is_lt}
+use Rattle.std.specs.declared.cmp.Ordering.{Ordering}
+use Rattle.indexset_core.specs.declared.pair.Pair.{Pair}
+use Rattle.indexset_core.specs.Order.{put}
+
+module _ {K V : Type 0} where
+  abbrev pub pair : K → V → Pair K V
+  pair k w = record { key = k; value = w }
+
+  -- the pair with another value
+  abbrev pub valued : Pair K V → V → Pair K V
+  valued p w = record { key = p.key; value = w }
+
+  -- the key and the value
+  abbrev pub entry_of : Pair K V → K × V
+  entry_of p = (p.key, p.value)
+
+  -- the order of pairs, which is that of their keys
+  abbrev pub by_key : (K → K → Ordering) → Pair K V → Pair K V → Ordering
+  by_key cmp p q = cmp p.key q.key
+
+  -- the pairs, with w as the value at the position
+  abbrev pub set_value_at : List (Pair K V) → ℕ → V → List (Pair K V)
+  set_value_at l i w = option_map_or (λ p. slice_set l i (valued p w)) (slice_get l i) l
+
+  -- a call of the closure at the key and the value of p may answer b, and leave the value of q
+  abbrev pub CalledOnPair : {F : Type 0} → Mut F (Bor K × (MutBor V × Unit {0})) (Bool × (MutBor V × Unit {0})) → F → Pair K V → Bool → F → Pair K V → Type 0
+  CalledOnPair g f p b f' q = CalledAtPair g f p.key p.value b q.value f' × (q.key ≡ p.key)
+
+  module _ (cmp : K → K → Ordering) where
+    -- a pair has the key
+    abbrev pub has_key : List (Pair K V) → K → Bool
+    has_key l k = list_any (λ p. is_eq (cmp p.key k)) l
+
+    -- the pair of the key, where there is one
+    abbrev pub pair_of : List (Pair K V) → K → Option (Pair K V)
+    pair_of l k = find (λ p. is_eq (cmp p.key k)) l
+
+    -- its value
+    abbrev pub value_of : List (Pair K V) → K → Option V
+    value_of l k = option_map (λ p. p.value) (pair_of l k)
+
+    -- how many keys are below k
+    abbrev pub key_rank : List (Pair K V) → K → ℕ
+    key_rank l k = count_by (λ p. is_lt (cmp p.key k)) l
+
+    -- the pairs, with w as the value of the pair of the key, whose own key stays
+    unfoldable pub set_value : List (Pair K V) → K → V → List (Pair K V)
+    set_value [] k w = []
+    set_value (p ∷ l) k w = if is_eq (cmp p.key k) then valued p w ∷ l else p ∷ set_value l k w
+
+    -- the same, or where the key is not there, with k and w in their place
+    unfoldable pub put_value : List (Pair K V) → K → V → List (Pair K V)
+    put_value l k w = if has_key l k then set_value l k w else put (by_key cmp) l (pair k w)
+
+    -- the pairs without the one of the key
+    unfoldable pub without_key : List (Pair K V) → K → List (Pair K V)
+    without_key l k = filter (λ p. not (is_eq (cmp p.key k))) l

@@ -1,0 +1,285 @@
+-- What a put makes of lawful nodes, as the code meets it.
+use Rattle.std.proofs.Common.{◌≡◌, ◌≢◌, ℕ, zero, suc, ◌+◌, ◌-◌, ◌/◌, ◌<◌, ◌≤◌, Bool, true, false, cond, if◌then◌else◌, ◌&&◌, List, [], ◌∷◌, ◌++◌, length, map, get_or, set, insert, take, drop, slice_get, eqb, Option, Some, None, is_some, is_ok, Ordering, refl, ap, sym, ◌∙◌, subst, arith, append_assoc, length-append}
+use Rattle.std.proofs.Common.{nat_eq}
+use Rattle.std.proofs.lemmas.Bool.Decides.{nat_tests}
+use Rattle.std.specs.Cmp.{IsTotalOrder}
+use Rattle.std.specs.List.{find, splice}
+use Rattle.std.specs.Option.{option_or}
+use Rattle.std.specs.Ordering.{is_eq}
+use Rattle.std.proofs.lemmas.Bool.{false≢true, eq-eqb, ne_eqb, eqb-true, eqb-false}
+use Rattle.std.proofs.lemmas.List.{length-map, map-append, take-append-drop}
+use Rattle.std.proofs.lemmas.List.Folds.{find-append}
+use Rattle.std.proofs.lemmas.Option.{get_or_from_slice_get}
+use Rattle.std.proofs.Math.Seq.{get_or-append_seam}
+use Rattle.indexset_core.specs.Nodes.{joined, node_at}
+use Rattle.indexset_core.specs.Order.{IsAscending, put, keep, has_equal, equal_element, rank, IsFoundAt, IsGapFor}
+use Rattle.indexset_core.proofs.CallerLemmas.{is_some-find, joined-append, found_has_equal, gap_has_equal, found_rank, gap_rank, has_equal_found, parted_by_item}
+use Rattle.indexset_log.specs.declared.aim.Aim.{Aim}
+use Rattle.indexset_log.specs.declared.change.ChangeEvent.{ChangeEvent}
+use Rattle.indexset_log.specs.declared.change.ChangeEventUnassigned.{ChangeEventUnassigned}
+use Rattle.indexset_log.specs.declared.change.ChangeEventUnassigned.TheVariants.{InsertAt, RemoveAt, CreateNode, RemoveNode, SplitNode}
+use Rattle.indexset_log.specs.Aim.{IsAim}
+use Rattle.indexset_log.specs.Edits.{with_cut, with_room, put_into_target}
+use Rattle.indexset_log.specs.Nodes.{is_filled, last_of, IsLawful}
+use Rattle.indexset_log.specs.Replay.{replay, numbered_from, assigned}
+use Rattle.indexset_log.specs.Table.{target, half_of, part_for, is_past, cut_events, node_events, replace_events, target_events, put_events, checked_put_events}
+use Rattle.indexset_log.proofs.Ups.{Each, each-map, Up, up-left, up-right, Cut, cut_true, true_cut, greater, around, parts-put, parts-has_equal}
+use Rattle.indexset_log.proofs.Steps.{cut_at, insert_at, splice_at, filled_length}
+use Rattle.indexset_log.proofs.Replays.{all_each, each_all, length_filled, set_seam, ne_from, aim, target_at}
+use Rattle.indexset_log.proofs.Theorem.{numbered_replay, put_to, up_node, put_events_some, set_view}
+use Rattle.indexset_log.proofs.Rooms.{Roomy, roomy, Makes, target_makes}
+use Rattle.indexset_log.proofs.Takes.{at_place}
+use Rattle.indexset_log.proofs.Views.{ascends, node_is, length_view}
+
+-- a node cut in two, as the code does it
+cut_seam : {X : Type 0} (b : List X) (n : X) (a : List X) (l r : X) → insert (set (b ++ n ∷ a) (length b) l) (length b + 1) r ≡ b ++ l ∷ r ∷ a
+cut_seam b n a l r =
+    let made : insert ((b ++ l ∷ []) ++ a) (length (b ++ l ∷ [])) r ≡ (b ++ l ∷ []) ++ r ∷ a = insert_at (b ++ l ∷ []) a r in
+    let long : length (b ++ l ∷ []) ≡ length b + 1 = length-append b (l ∷ []) in
+    rw (set_seam b n a l) (subst (λ k. insert (b ++ l ∷ a) k r ≡ b ++ l ∷ r ∷ a) long (subst (λ q. insert q (length (b ++ l ∷ [])) r ≡ b ++ l ∷ r ∷ a) (append_assoc b (l ∷ []) a) (made ∙ append_assoc b (l ∷ []) (r ∷ a))))
+
+pub cut_view : {X Y : Type 0} (f : X → Y) (xs : List X) (k : ℕ) (n l r : X) → slice_get xs k ≡ Some n → map f (insert (set xs k l) (k + 1) r) ≡ splice (map f xs) k (k + 1) (f l ∷ f r ∷ [])
+cut_view f xs k n l r at = at_place (λ q j n. map f (insert (set q j l) (j + 1) r) ≡ splice (map f q) j (j + 1) (f l ∷ f r ∷ []))
+    (λ b n a.
+    rw (cut_seam b n a l r, map-append f b (l ∷ r ∷ a), map-append f b (n ∷ a))
+    (sym (subst (λ j. splice (map f b ++ f n ∷ map f a) j (j + 1) (f l ∷ f r ∷ []) ≡ map f b ++ f l ∷ f r ∷ map f a) (length-map b f) (splice_at (map f b) (f n) (map f a) (f l ∷ f r ∷ [])))))
+    xs k n at
+
+numbered-append : {T : Type 0} (s : ℕ) (xs ys : List (ChangeEventUnassigned T)) → numbered_from s (xs ++ ys) ≡ numbered_from s xs ++ numbered_from (s + length xs) ys
+numbered-append s [] ys = ap (λ k. numbered_from k ys) (omega arith)
+numbered-append s (x ∷ xs) ys =
+    let next : s + 1 + length xs ≡ s + suc (length xs) = omega arith in
+    ap (λ q. assigned s x ∷ q) (numbered-append (s + 1) xs ys ∙ ap (λ k. numbered_from (s + 1) xs ++ numbered_from k ys) next)
+
+-- two events as the code writes them
+pub two_written : {T : Type 0} (s : ℕ) (old mid new : List (ChangeEvent T)) (k : ℕ) (e f : ChangeEventUnassigned T) → mid ≡ old ++ assigned s e ∷ [] → k ≡ s + 1 → new ≡ mid ++ assigned k f ∷ [] → new ≡ old ++ numbered_from s (e ∷ f ∷ [])
+two_written s old mid new k e f first next second = second ∙ rw (first, next) (append_assoc old (assigned s e ∷ []) (assigned (s + 1) f ∷ []))
+
+-- the event of a cut, and none
+module _ {T : Type 0} (size s : ℕ) (n : List T) (v : T) where
+  pub cut_written : (name : T) (items : List (ChangeEvent T)) → eqb (length n) size ≡ true → name ≡ last_of n v → items ≡ assigned s (SplitNode name (length n / 2)) ∷ [] → items ≡ numbered_from s (cut_events size n v)
+  cut_written name items full same made = made ∙ rw (full, same) refl
+
+  pub cut_one : eqb (length n) size ≡ true → length (cut_events size n v) ≡ 1
+  cut_one full = rw full refl
+
+  pub whole_none : eqb (length n) size ≡ false → cut_events size n v ≡ []
+  whole_none part = rw part refl
+
+pub half_and : {T : Type 0} (cut past : Bool) (n : List T) → half_of cut (cut && past) n ≡ half_of cut past n
+half_and true past n = refl
+half_and false past n = refl
+
+module _ {T : Type 0} (cmp : T → T → Ordering) (o : IsTotalOrder cmp) (v : T) where
+  -- the events of a put into a part, by the place that a search answers
+  pub gap_written : (n : List T) (i : ℕ) → IsGapFor cmp n v i → node_events cmp n v ≡ InsertAt (last_of n v) v i ∷ []
+  unfolding node_events
+  gap_written n i gap = rw (gap_has_equal cmp n v i gap, gap_rank cmp n v i gap) refl
+
+  module _ (n : List T) (i : ℕ) (x : T) (up : IsAscending cmp n) (f : IsFoundAt cmp n v i) (here : slice_get n i ≡ Some x) where
+    place : rank cmp n v ≡ i
+    place = found_rank cmp n v i f (parted_by_item cmp o n up v)
+
+    item : get_or n i v ≡ x
+    item = get_or_from_slice_get n i x v here
+
+    pub only_replaced : length n ≡ 1 → node_events cmp n v ≡ RemoveNode x ∷ CreateNode v ∷ []
+    unfolding node_events replace_events
+    only_replaced one = rw (found_has_equal cmp n v i f, place, item, eq-eqb (length n) 1 one) refl
+
+    pub last_replaced : (length n ≡ 1 → ⊥) → i + 1 ≡ length n → node_events cmp n v ≡ RemoveAt (last_of n v) x i ∷ InsertAt (get_or n (i - 1) v) v i ∷ []
+    unfolding node_events replace_events
+    last_replaced more end = rw (found_has_equal cmp n v i f, place, item, ne_eqb (length n) 1 more, eq-eqb (i + 1) (length n) end) refl
+
+    pub inner_replaced : (length n ≡ 1 → ⊥) → (i + 1 ≡ length n → ⊥) → node_events cmp n v ≡ RemoveAt (last_of n v) x i ∷ InsertAt (last_of n v) v i ∷ []
+    unfolding node_events replace_events
+    inner_replaced more inner = rw (found_has_equal cmp n v i f, place, item, ne_eqb (length n) 1 more, ne_eqb (i + 1) (length n) inner) refl
+
+  replace_count : (n : List T) → length (replace_events cmp n v) ≡ 2
+  unfolding replace_events
+  replace_count n = grind arith
+
+  pub node_count : (n : List T) → length (node_events cmp n v) ≡ cond (has_equal cmp n v) 2 1
+  unfolding node_events
+  node_count n =
+      elim (has_equal cmp n v) as (λ t. length (if t then replace_events cmp n v else InsertAt (last_of n v) v (rank cmp n v) ∷ []) ≡ cond t 2 1) [
+        | true ↦ replace_count n
+        | false ↦ refl
+      ]
+
+  -- how long a put makes a list
+  pub put_length_is : (l : List T) → Up cmp l → length (put cmp l v) ≡ length l + cond (has_equal cmp l v) 0 1
+  put_length_is = around cmp o v (λ n. length (put cmp n v) ≡ length n + cond (has_equal cmp n v) 0 1)
+      (λ l r low high. rw (parts-put cmp o l [] r v low tt high, parts-has_equal cmp o l [] r v low tt high) (omega (arith, length-append l (v ∷ r), length-append l r)))
+      (λ l x r low same high. rw (parts-put cmp o l (x ∷ []) r v low (same, tt) high, parts-has_equal cmp o l (x ∷ []) r v low (same, tt) high) (omega (arith, length-append l (v ∷ r), length-append l (x ∷ r))))
+
+  find_no : (l : List T) → Each (λ x. is_eq (cmp x v) ≡ false) l → find (λ x. is_eq (cmp x v)) l ≡ None
+  find_no [] h = refl
+  find_no (x ∷ l) h = rw h.0 (find_no l h.1)
+
+  or_none : (s : Option T) → option_or s None ≡ s
+  or_none None = refl
+  or_none (Some x) = refl
+
+  -- an equal item stands in the target
+  pub equal_in_target : (ns : List (List T)) → Cut cmp ns → is_filled ns ≡ true → equal_element cmp (joined ns) v ≡ equal_element cmp (node_at ns (target cmp ns v)) v
+  equal_in_target [] cut some = absurd (false≢true some)
+  equal_in_target (n ∷ ns) cut some =
+      let p : T → Bool = λ x. is_eq (cmp x v) in
+      aim cmp o v (λ q. Cut cmp q → equal_element cmp (joined q) v ≡ equal_element cmp (node_at q (target cmp q v)) v)
+      (λ b n a low high stop cut.
+      let at = cut_at cmp o b n a cut in
+      let before : find p (joined b) ≡ None = find_no (joined b) (each-map _ _ (λ x e. ap is_eq e) (joined b) low) in
+      let after : find p (joined a) ≡ None = find_no (joined a) (each-map _ _ (λ x e. ap is_eq (greater cmp o x v e)) (joined a) high) in
+      rw (target_at cmp o v b n a at low stop, get_or-append_seam b n a [], joined-append b (n ∷ a))
+      (find-append p (joined b) (n ++ joined a) ∙ rw before (find-append p n (joined a) ∙ rw after (or_none (find p n)))))
+      n ns cut cut
+
+  -- all of a put, for the code
+  module _ (size : ℕ) (two : 2 ≤ size) (ns : List (List T)) (law : IsLawful cmp size ns) (a : Aim) (h : IsAim cmp size ns v a) where
+    some : is_filled ns ≡ true
+    some = length_filled ns (omega (arith, h.node_in))
+
+    r : Roomy cmp o v size ns (node_at ns (target cmp ns v)) (target cmp ns v) (with_room cmp size ns v)
+    r = roomy cmp o v size two ns (true_cut cmp ns law.nodes) (all_each _ ns law.small) some
+
+    made : Makes cmp o v size ns (target_events cmp size (node_at ns (target cmp ns v)) v) (put_into_target cmp (with_room cmp size ns v) v) (put cmp (joined ns) v)
+    made = target_makes cmp o v size two ns (true_cut cmp ns law.nodes) (all_each _ ns law.small) some
+
+    pub room_is : (if a.cut then with_cut ns a.node else ns) ≡ with_room cmp size ns v
+    room_is = rw (h.cut_is, h.node_is) refl
+
+    pub place_is : a.node + cond a.right 1 0 ≡ target cmp (with_room cmp size ns v) v
+    place_is = let d = r in rw (h.right_is, h.node_is) (sym d.place)
+
+    pub place_in : target cmp (with_room cmp size ns v) v < length (with_room cmp size ns v)
+    place_in = let d = r in omega (arith, filled_length (with_room cmp size ns v) d.some)
+
+    pub part_is : node_at (with_room cmp size ns v) (target cmp (with_room cmp size ns v) v) ≡ part_for cmp size (node_at ns a.node) v
+    part_is = let d = r in rw h.node_is d.part
+
+    pub half_is : half_of a.cut a.right (node_at ns a.node) ≡ part_for cmp size (node_at ns a.node) v
+    half_is = rw (h.cut_is, h.right_is) (half_and (eqb (length (node_at ns a.node)) size) (is_past cmp (take (length (node_at ns a.node) / 2) (node_at ns a.node)) v) (node_at ns a.node))
+
+    pub part_up : IsAscending cmp (part_for cmp size (node_at ns a.node) v)
+    part_up = let d = r in subst (IsAscending cmp) part_is (ascends cmp _ (up_node cmp (with_room cmp size ns v) (target cmp (with_room cmp size ns v) v) d.cut))
+
+    pub part_some : 1 ≤ length (part_for cmp size (node_at ns a.node) v)
+    part_some = let d = r in let cut : Cut cmp (with_room cmp size ns v) = d.cut in subst (λ q. 1 ≤ length q) part_is (filled_length _ (each_all _ (with_room cmp size ns v) cut.filled (target cmp (with_room cmp size ns v) v) [] place_in))
+
+    pub events_count : length (target_events cmp size (node_at ns a.node) v) ≡ cond a.cut 1 0 + cond (is_ok a.at) 2 1
+    unfolding target_events
+    events_count =
+        let n = node_at ns a.node in
+        let part = part_for cmp size n v in
+        let cuts : length (cut_events size n v) ≡ cond a.cut 1 0 = rw h.cut_is (cut_count n) in
+        let puts : length (node_events cmp part v) ≡ cond (is_ok a.at) 2 1 = node_count part ∙ ap (λ b. cond b 2 1) (sym (has_equal_found cmp part v a.at h.found h.gap)) in
+        length-append (cut_events size n v) (node_events cmp part v) ∙ rw (cuts, puts) refl
+      where
+        cut_count : (n : List T) → length (cut_events size n v) ≡ cond (eqb (length n) size) 1 0
+        cut_count n = elim (eqb (length n) size) as (λ t. length (if t then SplitNode (last_of n v) (length n / 2) ∷ [] else []) ≡ cond t 1 0) [
+          | true ↦ refl
+          | false ↦ refl
+        ]
+
+    pub target_length : length (target_events cmp size (node_at ns a.node) v) ≡ length (cut_events size (node_at ns a.node) v) + length (node_events cmp (part_for cmp size (node_at ns a.node) v) v)
+    unfolding target_events
+    target_length = length-append (cut_events size (node_at ns a.node) v) (node_events cmp (part_for cmp size (node_at ns a.node) v) v)
+
+    pub target_numbered : (s : ℕ) → numbered_from s (target_events cmp size (node_at ns a.node) v) ≡ numbered_from s (cut_events size (node_at ns a.node) v) ++ numbered_from (s + length (cut_events size (node_at ns a.node) v)) (node_events cmp (part_for cmp size (node_at ns a.node) v) v)
+    unfolding target_events
+    target_numbered s = numbered-append s (cut_events size (node_at ns a.node) v) (node_events cmp (part_for cmp size (node_at ns a.node) v) v)
+
+    pub put_lawful : IsLawful cmp size (put_into_target cmp (with_room cmp size ns v) v)
+    put_lawful = let d = made in record { nodes = cut_true cmp _ d.cut; small = each_all _ _ d.small }
+
+    pub put_replay : (s : ℕ) → replay cmp ns (numbered_from s (target_events cmp size (node_at ns a.node) v)) ≡ Some (put_into_target cmp (with_room cmp size ns v) v)
+    put_replay s = let d = made in rw h.node_is (numbered_replay cmp ns s (target_events cmp size (node_at ns (target cmp ns v)) v) ∙ d.replayed)
+
+    pub events_are : put_events cmp size ns v ≡ target_events cmp size (node_at ns a.node) v
+    events_are = put_events_some cmp size v ns a.node (some_not some) h.node_is
+      where
+        some_not : {X : Type 0} {xs : List X} → is_filled xs ≡ true → xs ≢ []
+        some_not full none = false≢true (sym (ap is_filled none) ∙ full)
+
+    pub put_joined : joined (put_into_target cmp (with_room cmp size ns v) v) ≡ put cmp (joined ns) v
+    put_joined = let d = made in d.holds
+
+    pub element_is : equal_element cmp (part_for cmp size (node_at ns a.node) v) v ≡ equal_element cmp (joined ns) v
+    element_is = let d = r in ap (λ q. equal_element cmp q v) (sym part_is) ∙ (sym (equal_in_target (with_room cmp size ns v) d.cut d.some) ∙ ap (λ q. equal_element cmp q v) d.same)
+
+    pub put_count : length (joined (put_into_target cmp (with_room cmp size ns v) v)) ≡ length (joined ns) + cond (is_ok a.at) 0 1
+    put_count =
+        let cut = true_cut cmp ns law.nodes in
+        let part = part_for cmp size (node_at ns a.node) v in
+        let test : T → Bool = λ x. is_eq (cmp x v) in
+        let whole : has_equal cmp (joined ns) v ≡ is_ok a.at = sym (is_some-find test (joined ns)) ∙ (ap is_some (sym element_is) ∙ (is_some-find test part ∙ sym (has_equal_found cmp part v a.at h.found h.gap))) in
+        rw put_joined (put_length_is (joined ns) cut.up ∙ rw whole refl)
+
+    pub cut_two : a.cut ≡ true → 2 ≤ length (node_at ns a.node)
+    cut_two e = omega (arith, eqb-true (length (node_at ns a.node)) size (sym h.cut_is ∙ e))
+
+    pub whole_room : a.cut ≡ false → length (node_at ns a.node) < size
+    whole_room e = omega (arith, ne_from (length (node_at ns a.node)) size (eqb-false (length (node_at ns a.node)) size (sym h.cut_is ∙ e)) (law.small a.node [] h.node_in))
+
+    pub whole_left : a.cut ≡ false → a.right ≡ false
+    whole_left e = h.right_is ∙ ap (λ b. b && is_past cmp (take (length (node_at ns a.node) / 2) (node_at ns a.node)) v) (sym h.cut_is ∙ e)
+
+    -- the nodes as the code holds them after it made room
+    module _ {N : Type 0} (f : N → List T) (items : List N) (held : map f items ≡ (if a.cut then with_cut ns a.node else ns)) (p : ℕ) (place : p ≡ a.node + cond a.right 1 0) where
+      sees : map f items ≡ with_room cmp size ns v
+      sees = held ∙ room_is
+
+      aims : p ≡ target cmp (with_room cmp size ns v) v
+      aims = place ∙ place_is
+
+      pub spot_in : p < length items
+      spot_in = omega (arith, aims, place_in, length_view f items (with_room cmp size ns v) sees)
+
+      pub spot_part : (n : N) → n ≡ get_or items p n → f n ≡ part_for cmp size (node_at ns a.node) v
+      spot_part n is = node_is f items (with_room cmp size ns v) p n sees spot_in is ∙ (ap (node_at (with_room cmp size ns v)) aims ∙ part_is)
+
+      pub spot_after : (n m : N) → n ≡ get_or items p n → f m ≡ put cmp (f n) v → map f (set items p m) ≡ put_into_target cmp (with_room cmp size ns v) v
+      spot_after n m is e =
+          let ms = with_room cmp size ns v in
+          set_view f items ms p m (put cmp (node_at ms p) v) sees (e ∙ ap (λ q. put cmp q v) (node_is f items ms p n sees spot_in is)) ∙ ap (λ k. set ms k (put cmp (node_at ms k) v)) aims
+
+-- the half of an ascending node is ascending
+pub half_up : {T : Type 0} (cmp : T → T → Ordering) (cut right : Bool) (n : List T) → Up cmp n → Up cmp (half_of cut right n)
+half_up cmp false right n up = up
+half_up cmp true true n up = up-right cmp (take (length n / 2) n) (drop (length n / 2) n) (subst (Up cmp) (sym (take-append-drop (length n / 2) n)) up)
+half_up cmp true false n up = up-left cmp (take (length n / 2) n) (drop (length n / 2) n) (subst (Up cmp) (sym (take-append-drop (length n / 2) n)) up)
+
+-- the last item of a beginning
+pub last_of_take : {T : Type 0} (n : List T) (i : ℕ) (x v : T) → i < length n → x ≡ get_or n i x → last_of (take (suc i) n) v ≡ x
+last_of_take [] i x v lt e = absurd (omega arith)
+last_of_take (y ∷ []) zero x v lt e = sym e
+last_of_take (y ∷ z ∷ n) zero x v lt e = sym e
+last_of_take (y ∷ n) (suc i) x v lt e = last_of_take n i x y (omega arith) e
+
+pub test_is : (a b : ℕ) → nat_eq a b ≡ eqb a b
+test_is a b = elim (eqb a b) as (λ t. eqb a b ≡ t → nat_eq a b ≡ t) [
+  | true ↦ λ e. let same : a ≡ b = eqb-true a b e in grind (arith, nat_tests)
+  | false ↦ λ e. let other : a ≡ b → ⊥ = eqb-false a b e in grind (arith, nat_tests)
+] refl
+
+module _ {T : Type 0} (cmp : T → T → Ordering) (size : ℕ) (ns : List (List T)) (v : T) where
+  pub aimed_events : (a : Aim) → IsAim cmp size ns v a → put_events cmp size ns v ≡ target_events cmp size (node_at ns a.node) v
+  aimed_events a h = put_events_some cmp size v ns a.node (λ none. absurd (omega (arith, h.node_in, ap (λ q. length q) none))) h.node_is
+
+  -- a checked put, where an equal item is there and where not
+  pub keep_there : has_equal cmp (joined ns) v ≡ true → keep cmp (joined ns) v ≡ joined ns
+  unfolding keep
+  keep_there h = rw h refl
+
+  pub keep_absent : has_equal cmp (joined ns) v ≡ false → keep cmp (joined ns) v ≡ put cmp (joined ns) v
+  unfolding keep
+  keep_absent h = rw h refl
+
+  pub checked_there : has_equal cmp (joined ns) v ≡ true → checked_put_events cmp size ns v ≡ []
+  unfolding checked_put_events
+  checked_there h = rw h refl
+
+  pub checked_absent : has_equal cmp (joined ns) v ≡ false → checked_put_events cmp size ns v ≡ put_events cmp size ns v
+  unfolding checked_put_events
+  checked_absent h = rw h refl

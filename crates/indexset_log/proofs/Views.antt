@@ -1,0 +1,147 @@
+-- What a search finds in lawful nodes, and the nodes as the code holds them.
+use Rattle.std.proofs.Common.{◌≡◌, ℕ, zero, suc, ◌-◌, ◌<◌, ◌≤◌, Bool, true, false, if◌then◌else◌, List, [], ◌∷◌, length, map, get_or, slice_get, Option, Some, None, is_some, Result, Ok, Err, IfOk, IfErr, Ordering, refl, ap, sym, ◌∙◌, subst, arith, inl, inr}
+use Rattle.std.specs.Cmp.{IsTotalOrder}
+use Rattle.std.specs.List.{All}
+use Rattle.std.specs.Result.{result_ok}
+use Rattle.std.specs.Prelude.{MatchOption}
+use Rattle.std.specs.Ordering.{is_lt, is_eq}
+use Rattle.std.proofs.lemmas.Bool.{cases_lt}
+use Rattle.std.proofs.lemmas.List.{get_or-map, length-map}
+use Rattle.std.proofs.lemmas.Option.{slice_get_past}
+use Rattle.indexset_core.specs.Nodes.{joined, node_lengths, node_at, node_for, ends_less, equal_at}
+use Rattle.indexset_core.specs.Order.{IsAscending, has_equal, equal_element, rank}
+use Rattle.indexset_core.specs.Parted.{IsParted, less_count}
+use Rattle.indexset_core.proofs.CallerLemmas.{located_found, located_gap, found_equal, gap_equal, is_some-find, get_in_node, place_for, ends_for, parted_node, parted_by_item, gap_has_equal}
+use Rattle.indexset_log.specs.Located.{located, IsFoundIn}
+use Rattle.indexset_log.specs.Nodes.{is_filled, IsLawful}
+use Rattle.indexset_log.proofs.Ups.{Each, Up, true_cut}
+use Rattle.indexset_log.proofs.Steps.{filled_length}
+use Rattle.indexset_log.proofs.Replays.{each_all, length_filled}
+use Rattle.indexset_log.proofs.Theorem.{no_last}
+
+-- the nodes as the code holds them: f tells the list of each
+module _ {T N : Type 0} (f : N → List T) (ns : List N) (k : ℕ) (n : N) (lt : k < length ns) (is : n ≡ get_or ns k n) where
+  pub view_at : (d : List T) → get_or (map f ns) k d ≡ f n
+  view_at d = get_or-map f ns k n d lt ∙ ap f (sym is)
+
+  pub ends_at : (answer : T → Ordering) (x : T) → slice_get (f n) (length (f n) - 1) ≡ Some x → (d : List T) → ends_less answer (get_or (map f ns) k d) ≡ is_lt (answer x)
+  ends_at answer x e d = ap (λ n. ends_less answer n) (view_at d) ∙ rw e refl
+
+  pub filled_here : All (λ n. 1 ≤ n) (node_lengths (map f ns)) → 1 ≤ length (f n)
+  filled_here filled =
+      let len : List T → ℕ = λ n. length n in
+      let within : k < length (map f ns) = rw (length-map ns f) lt in
+      let here : get_or (node_lengths (map f ns)) k 0 ≡ length (f n) = get_or-map len (map f ns) k [] 0 within ∙ ap len (view_at []) in
+      omega (arith, here, filled k 0 (rw (length-map (map f ns) len) within))
+
+  pub never_none : All (λ n. 1 ≤ n) (node_lengths (map f ns)) → slice_get (f n) (length (f n) - 1) ≡ None → ⊥
+  never_none filled none = no_last (f n) (length_filled (f n) (filled_here filled)) none
+
+-- the node at a place that the code reads
+pub node_is : {T N : Type 0} (f : N → List T) (items : List N) (nodes : List (List T)) (k : ℕ) (n : N) → map f items ≡ nodes → k < length items → n ≡ get_or items k n → f n ≡ node_at nodes k
+node_is f items nodes k n same lt is = sym (view_at f items k n lt is []) ∙ ap (λ q. node_at q k) same
+
+pub length_view : {T N : Type 0} (f : N → List T) (items : List N) (nodes : List (List T)) → map f items ≡ nodes → length nodes ≡ length items
+length_view f items nodes same = ap (λ q. length q) (sym same) ∙ length-map items f
+
+lens_from : {T : Type 0} (ns : List (List T)) → Each (λ n. is_filled n ≡ true) ns → All (λ n. 1 ≤ n) (node_lengths ns)
+lens_from [] h k d lt = absurd (omega arith)
+lens_from (n ∷ ns) h zero d lt = filled_length n h.0
+lens_from (n ∷ ns) h (suc k) d lt = lens_from ns h.1 k d (omega arith)
+
+module _ {T : Type 0} (cmp : T → T → Ordering) where
+  pub ascends : (l : List T) → Up cmp l → IsAscending cmp l
+  ascends [] h a b d lt inside = absurd (omega arith)
+  ascends (x ∷ xs) h a zero d lt inside = absurd (omega arith)
+  ascends (x ∷ xs) h zero (suc b) d lt inside = each_all _ xs h.0 b d (omega arith)
+  ascends (x ∷ xs) h (suc a) (suc b) d lt inside = ascends xs h.1 a b d (omega arith) (omega arith)
+
+  module _ (size : ℕ) (ns : List (List T)) (law : IsLawful cmp size ns) where
+    pub lawful_filled : All (λ n. 1 ≤ n) (node_lengths ns)
+    lawful_filled = let cut = true_cut cmp ns law.nodes in lens_from ns cut.filled
+
+    pub lawful_small : (k : ℕ) → k < length ns → length (node_at ns k) ≤ size
+    lawful_small k lt = law.small k [] lt
+
+    pub lawful_ascends : IsAscending cmp (joined ns)
+    lawful_ascends = let cut = true_cut cmp ns law.nodes in ascends (joined ns) cut.up
+
+    pub lawful_parted : IsTotalOrder cmp → (v : T) → IsParted (λ x. cmp x v) (joined ns)
+    lawful_parted o v = parted_by_item cmp o (joined ns) lawful_ascends v
+
+-- a search of the whole list asks the same as one of the node
+module _ {T : Type 0} (answer : T → Ordering) (ns : List (List T)) (some : 1 ≤ length ns) (filled : All (λ n. 1 ≤ n) (node_lengths ns)) (parted : IsParted answer (joined ns)) where
+  pub node_inside : node_for answer ns < length ns
+  node_inside = omega (arith, some)
+
+  pub read_joined : slice_get (joined ns) (less_count answer (joined ns)) ≡ slice_get (node_at ns (node_for answer ns)) (less_count answer (node_at ns (node_for answer ns)))
+  read_joined =
+      let k = node_for answer ns in
+      let n = node_at ns k in
+      let o = less_count answer n in
+      let place = place_for answer ns some (λ _. filled) parted in
+      elim (cases_lt o (length n)) [
+        | inl lt ↦ rw (← place) (get_in_node ns k o node_inside lt)
+        | inr ge ↦
+            let past = ends_for answer ns some (λ _. filled) parted ge in
+            slice_get_past (joined ns) _ (omega (arith, place, past)) ∙ sym (slice_get_past n o ge)
+      ]
+
+  pub equal_joined : equal_at answer (joined ns) (less_count answer (joined ns)) ≡ equal_at answer (node_at ns (node_for answer ns)) (less_count answer (node_at ns (node_for answer ns)))
+  equal_joined = rw read_joined refl
+
+module _ {T : Type 0} (cmp : T → T → Ordering) (o : IsTotalOrder cmp) (v : T) where
+  abbrev answer : T → Ordering
+  answer x = cmp x v
+
+  abbrev Absent : List (List T) → Type 0
+  Absent ns = (has_equal cmp (joined ns) v ≡ false) × (equal_element cmp (joined ns) v ≡ None)
+
+  module _ (size : ℕ) where
+    located_some : (ns : List (List T)) → IsLawful cmp size ns → 1 ≤ length ns → IfOk (located answer ns) (λ p. IsFoundIn cmp ns v p.0 p.1) × IfErr (located answer ns) (λ p. Absent ns)
+    located_some ns law some =
+        let k = node_for answer ns in
+        let n = node_at ns k in
+        let i = less_count answer n in
+        let filled = lawful_filled cmp size ns law in
+        let parted = lawful_parted cmp size ns law o v in
+        let inside : k < length ns = node_inside answer ns some filled parted in
+        let whole = equal_joined answer ns some filled parted in
+        let told : Bool → Result (ℕ × ℕ) (ℕ × ℕ) = λ b. if b then Ok (k, i) else Err (k, i) in
+        elim (equal_at answer n i) as (λ b. equal_at answer n i ≡ b → IfOk (told b) (λ p. IsFoundIn cmp ns v p.0 p.1) × IfErr (told b) (λ p. Absent ns)) [
+          | true ↦ λ e. (
+            record {
+              node_in = inside;
+              node_is = refl;
+              here = located_found cmp n v i (parted_node answer ns k inside parted) refl e;
+              item = sym (read_joined answer ns some filled parted) ∙ sym (found_equal cmp (joined ns) v (rank cmp (joined ns) v) (located_found cmp (joined ns) v (rank cmp (joined ns) v) parted refl (whole ∙ e)));
+            },
+            tt,
+          )
+          | false ↦ λ e.
+              let gap = located_gap cmp (joined ns) v (rank cmp (joined ns) v) parted refl (whole ∙ e) in
+              (tt, (gap_has_equal cmp (joined ns) v (rank cmp (joined ns) v) gap, gap_equal cmp (joined ns) v (rank cmp (joined ns) v) gap))
+        ] refl
+
+    pub located_told : (ns : List (List T)) → IsLawful cmp size ns → IfOk (located answer ns) (λ p. IsFoundIn cmp ns v p.0 p.1) × IfErr (located answer ns) (λ p. Absent ns)
+    located_told [] law = (tt, (refl, refl))
+    located_told (n ∷ ns) law = located_some (n ∷ ns) law (omega arith)
+
+    -- the answer of a search as the code passes it on
+    pub found_told : (ns : List (List T)) → IsLawful cmp size ns → (r : Result (ℕ × ℕ) (ℕ × ℕ)) → r ≡ located answer ns → (s : Option (ℕ × ℕ)) → s ≡ result_ok r → MatchOption s (equal_element cmp (joined ns) v ≡ None) (λ p. IsFoundIn cmp ns v p.0 p.1)
+    found_told ns law r e s is =
+        let told = located_told ns law in
+        subst (λ t. MatchOption t (equal_element cmp (joined ns) v ≡ None) (λ p. IsFoundIn cmp ns v p.0 p.1)) (sym is) (passed r (subst (λ q. IfOk q (λ p. IsFoundIn cmp ns v p.0 p.1)) (sym e) told.0) (subst (λ q. IfErr q (λ p. Absent ns)) (sym e) told.1))
+      where
+        passed : (r : Result (ℕ × ℕ) (ℕ × ℕ)) → IfOk r (λ p. IsFoundIn cmp ns v p.0 p.1) → IfErr r (λ p. Absent ns) → MatchOption (result_ok r) (equal_element cmp (joined ns) v ≡ None) (λ p. IsFoundIn cmp ns v p.0 p.1)
+        passed (Ok p) ok err = ok
+        passed (Err p) ok err = err.1
+
+    is_some-read : {X : Type 0} (l : List X) (i : ℕ) → i < length l → is_some (slice_get l i) ≡ true
+    is_some-read [] i lt = absurd (omega arith)
+    is_some-read (x ∷ xs) zero lt = refl
+    is_some-read (x ∷ xs) (suc i) lt = is_some-read xs i (omega arith)
+
+    pub found_is : (ns : List (List T)) → (s : Option (ℕ × ℕ)) → MatchOption s (equal_element cmp (joined ns) v ≡ None) (λ p. IsFoundIn cmp ns v p.0 p.1) → is_some s ≡ has_equal cmp (joined ns) v
+    found_is ns None h = ap is_some (sym h) ∙ is_some-find (λ x. is_eq (cmp x v)) (joined ns)
+    found_is ns (Some p) h = sym (is_some-read (node_at ns p.0) p.1 h.here.inside) ∙ (ap is_some h.item ∙ is_some-find (λ x. is_eq (cmp x v)) (joined ns))

@@ -1,0 +1,20 @@
+use Rattle.std.proofs.Common.{◌≡◌, map, set, refl, ap, ◌∙◌}
+use Rattle.std.proofs.Math.Seq.{map-set_same}
+use Rattle.indexset_core.proofs.CallerLemmas.{on_err}
+use Rattle.indexset_log.proofs.nodes.make_room.Goals as goal
+use Rattle.indexset_log.proofs.nodes.make_room.Goals.{then-is_err+in_ok-reserve_one, else-is_err}
+
+pub returns-in_err-reserve_one-clause-err : goal.returns-in_err-reserve_one-clause-err
+returns-in_err-reserve_one-clause-err g c =
+    let list = g.Node.NodeLike.list in
+    let kept : map list (set c.args.nodes.now.items c.args.aim.now.node c.reserve_one.new.self) ≡ map list c.args.nodes.now.items = map-set_same list c.args.nodes.now.items c.args.aim.now.node c.reserve_one.new.self c.index_mut-node.result.now (c.in_err-reserve_one.ensures.list ∙ ap list c.index_mut-node.ensures.value) in
+    on_err _ kept
+
+pub returns-clause-nodes : goal.returns-clause-nodes
+returns-clause-nodes g c =
+    let list = g.Node.NodeLike.list in
+    let old = c.args.nodes.now.items in
+    elim c.if-is_err.branch [
+      | then-is_err+in_ok-reserve_one w ↦ rw (c.if-aim.false, w.nodes-is) (map-set_same list old c.args.aim.now.node w.reserve_one.new.self w.index_mut-node.result.now (w.in_ok-reserve_one.ensures.list ∙ ap list w.index_mut-node.ensures.value))
+      | else-is_err w ↦ rw (c.if-aim.false, w.nodes-is) refl
+    ]

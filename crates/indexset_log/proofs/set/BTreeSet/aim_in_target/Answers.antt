@@ -1,0 +1,77 @@
+use Rattle.std.proofs.Common.{◌≡◌, ◌≤◌, ◌<◌, ◌-◌, ◌/◌, ◌&&◌, suc, true, false, Bool, length, map, take, eqb, nat_eq, get_or, arith, ap, subst, ◌∙◌, IfOk, IfErr}
+use Rattle.std.proofs.lemmas.Bool.{eq-eqb, ne_eqb}
+use Rattle.std.specs.Ordering.{is_gt}
+use Rattle.indexset_core.specs.Nodes.{node_at, node_for}
+use Rattle.indexset_core.specs.Order.{IsFoundAt, IsGapFor}
+use Rattle.indexset_log.specs.Nodes.{last_of}
+use Rattle.indexset_log.specs.Table.{part_for, is_past}
+use Rattle.indexset_log.proofs.Puts.{half_up, half_and, last_of_take, test_is}
+use Rattle.indexset_log.proofs.Theorem.{up_node}
+use Rattle.indexset_log.proofs.Ups.{true_cut}
+use Rattle.indexset_log.proofs.Views.{lawful_filled, lawful_parted, node_is, length_view, ascends}
+use Rattle.indexset_log.proofs.set.BTreeSet.aim_in_target.Goals as goal
+use Rattle.indexset_log.proofs.set.BTreeSet.aim_in_target.Goals.{then-cut, else-cut}
+
+pub node_by-node-requires-clause-filled : goal.node_by-node-requires-clause-filled
+node_by-node-requires-clause-filled g c = rw c.as_slice.ensures.value (lawful_filled g.T.Ord.cmp c.self.inside.size _ c.self.invariant.lawful)
+
+pub node_by-node-requires-clause-parted : goal.node_by-node-requires-clause-parted
+node_by-node-requires-clause-parted g c = rw (c.new.ensures, c.as_slice.ensures.value) (lawful_parted g.T.Ord.cmp c.self.inside.size _ c.self.invariant.lawful g.met.T.Ord.total c.args.value.now)
+
+pub find-requires : goal.find-requires
+find-requires g c =
+    let cmp = g.T.Ord.cmp in
+    let list = g.Node.NodeLike.list in
+    let items = c.self.inside.nodes.items in
+    let nodes = c.args.self.now.nodes in
+    let same : map list items ≡ nodes = ap (λ t. t.nodes) c.self.view_is in
+    let long = length_view list items nodes same in
+    let k = c.node_by-node.result in
+    let at : k ≡ node_for (λ x. cmp x c.args.value.now) nodes = rw (c.new.ensures, c.as_slice.ensures.value, same) at c.node_by-node.ensures.node in
+    let inside : k < length items = omega (arith, at, c.requires, long) in
+    let node : list c.index.result.now ≡ node_at nodes k = node_is list items nodes k c.index.result.now same inside c.index.ensures in
+    let held : c.as_slice-items.result.now ≡ node_at nodes k = c.as_slice-items.ensures.value ∙ (c.iter.ensures ∙ node) in
+    let law = rw same at c.self.invariant.lawful in
+    rw (c.part_of.ensures, held) (ascends cmp _ (half_up cmp _ c.if-cut.right (node_at nodes k) (up_node cmp nodes k (true_cut cmp nodes law.nodes))))
+
+pub returns : goal.returns
+returns g c =
+    let cmp = g.T.Ord.cmp in
+    let list = g.Node.NodeLike.list in
+    let items = c.self.inside.nodes.items in
+    let nodes = c.args.self.now.nodes in
+    let v = c.args.value.now in
+    let same : map list items ≡ nodes = ap (λ t. t.nodes) c.self.view_is in
+    let size : c.self.inside.size ≡ c.args.self.now.size = ap (λ t. t.size) c.self.view_is in
+    let long = length_view list items nodes same in
+    let k = c.node_by-node.result in
+    let at : k ≡ node_for (λ x. cmp x v) nodes = rw (c.new.ensures, c.as_slice.ensures.value, same) at c.node_by-node.ensures.node in
+    let inside : k < length items = omega (arith, at, c.requires, long) in
+    let n = node_at nodes k in
+    let node : list c.index.result.now ≡ n = node_is list items nodes k c.index.result.now same inside c.index.ensures in
+    let held : c.as_slice-items.result.now ≡ n = c.as_slice-items.ensures.value ∙ (c.iter.ensures ∙ node) in
+    let past : Bool = is_past cmp (take (length n / 2) n) v in
+    let cut : nat_eq (length c.as_slice-items.result.now) c.self.inside.size ≡ eqb (length n) c.args.self.now.size = rw (held, size) (test_is (length n) c.args.self.now.size) in
+    let right : c.if-cut.right ≡ (eqb (length n) c.args.self.now.size && past) =
+    elim c.if-cut.branch [
+      | then-cut w ↦
+          let full : eqb (length n) c.args.self.now.size ≡ true = eq-eqb _ _ (rw (held, size) at w.if-cut.true) in
+          let x = w.index-items-items.result in
+          let two : 2 ≤ length n = omega (arith, rw (held, size) at w.if-cut.true, size, c.self.invariant.two) in
+          let some : 1 ≤ length n / 2 = omega arith in
+          let read : x ≡ get_or n (length n / 2 - 1) x = rw held at w.index-items-items.is in
+          let last : last_of (take (length n / 2) n) v ≡ x = subst (λ j. last_of (take j n) v ≡ x) {x = suc (length n / 2 - 1)} {y = length n / 2} (omega arith) (last_of_take n (length n / 2 - 1) x v (omega arith) read) in
+          rw (full, last) (w.right-is ∙ (w.is_gt-right.ensures ∙ ap is_gt w.cmp.ensures))
+      | else-cut w ↦
+          let not_full : eqb (length n) c.args.self.now.size ≡ false = ne_eqb _ _ (rw (held, size) at w.if-cut.false) in
+          rw not_full (w.right-is ∙ (cut ∙ not_full))
+    ] in
+    let half : c.part_of.result.now ≡ part_for cmp c.args.self.now.size n v = c.part_of.ensures ∙ rw (held, size, test_is (length n) c.args.self.now.size, right) (half_and (eqb (length n) c.args.self.now.size) past n) in
+    record {
+      node_in = omega (arith, inside, long);
+      node_is = at;
+      cut_is = cut;
+      right_is = right;
+      found = subst (λ q. IfOk c.find.result (IsFoundAt cmp q v)) half c.find.ensures.found;
+      gap = subst (λ q. IfErr c.find.result (IsGapFor cmp q v)) half c.find.ensures.absent;
+    }

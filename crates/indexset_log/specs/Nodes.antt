@@ -1,0 +1,30 @@
+-- Lists of nodes.
+use Rattle.std.specs.Prelude.{◌≡◌, ℕ, ◌≤◌, length, Bool, true, false, List, [], ◌∷◌, ◌&&◌, All}
+use Rattle.std.specs.declared.cmp.Ordering.{Ordering}
+use Rattle.std.specs.Ordering.{is_lt}
+use Rattle.std.specs.List.{list_all}
+use Rattle.indexset_core.specs.Nodes.{joined}
+
+-- the last item, or d
+abbrev pub last_of : {T : Type 0} → List T → T → T
+last_of [] d = d
+last_of (x ∷ xs) d = last_of xs x
+
+-- there is an item
+abbrev pub is_filled : {T : Type 0} → List T → Bool
+is_filled [] = false
+is_filled (x ∷ xs) = true
+
+-- each item is below every later one
+abbrev pub is_ascending : {T : Type 0} → (T → T → Ordering) → List T → Bool
+is_ascending cmp [] = true
+is_ascending cmp (x ∷ xs) = list_all (λ y. is_lt (cmp x y)) xs && is_ascending cmp xs
+
+-- no node is empty, and the joining is ascending
+unfoldable pub are_nodes : {T : Type 0} → (T → T → Ordering) → List (List T) → Bool
+are_nodes cmp ns = list_all is_filled ns && is_ascending cmp (joined ns)
+
+-- besides, no node holds more than the given size
+pub record IsLawful {T : Type 0} (cmp : T → T → Ordering) (size : ℕ) (ns : List (List T)) : Type 0 where
+  pub nodes : are_nodes cmp ns ≡ true
+  pub small : All (λ n. length n ≤ size) ns

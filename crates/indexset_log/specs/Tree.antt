@@ -1,0 +1,25 @@
+-- What a logged tree is.
+use Rattle.std.specs.Prelude.{◌≡◌, ℕ, ◌+◌, ◌≤◌, length, List, if◌then◌else◌, nat_lt}
+use Rattle.std.below.core.specs.declared.int.u64.TheConstants.{MAX}
+use Rattle.indexset_core.specs.declared.refusal.Refusal.{Refusal}
+use Rattle.indexset_core.specs.declared.refusal.Refusal.TheVariants.{Memory, Numbers}
+use Rattle.std.specs.declared.cmp.Ordering.{Ordering}
+use Rattle.indexset_core.specs.Nodes.{joined}
+use Rattle.indexset_log.specs.Nodes.{IsLawful}
+
+-- its nodes, their greatest size, and the number of the next event
+pub record Tree (T : Type 0) : Type 0 where
+  pub nodes : List (List T)
+  pub size : ℕ
+  pub next : ℕ
+
+-- what holds of it: `most` is the limit of the node type, `len` the number of items
+pub record IsTree {T : Type 0} (cmp : T → T → Ordering) (most : ℕ) (nodes : List (List T)) (size len : ℕ) : Type 0 where
+  pub lawful : IsLawful cmp size nodes
+  pub two : 2 ≤ size
+  pub within : size ≤ most
+  pub counted : len ≡ length (joined nodes)
+
+-- why a call that would give so many events is refused, if it is
+abbrev pub refusal_for : ℕ → ℕ → Refusal
+refusal_for next count = if nat_lt MAX (next + count) then Numbers else Memory

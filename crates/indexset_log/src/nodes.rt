@@ -1,0 +1,113 @@
+//! What is done to the nodes.
+ghost use Rattle.std.specs.Prelude.{◌≡◌, ◌+◌, ◌/◌, ◌<◌, ◌≤◌, Bool, true, false, IsTrue, [], vec_len, vec_capacity, length, map, set, cond, if◌then◌else◌, Option, IfOk, OnOk, IfErr, OnErr, is_err};
+ghost use Rattle.std.specs.List.{HoldsAt};
+ghost use Rattle.indexset_core.specs.Nodes.{node_at};
+ghost use Rattle.indexset_core.specs.Order.{IsAscending, IsFoundAt, IsGapFor, put, equal_element};
+ghost use Rattle.indexset_log.specs.Edits.{with_cut};
+ghost use Rattle.indexset_log.specs.Table.{half_of};
+
+use crate::aim::Aim;
+use indexset_core::node::NodeLike;
+use indexset_core::refusal::Refusal;
+
+/// A node that stays whole, or the half of one that is cut.
+pub(crate) fn part_of<T>(items: &[T], cut: bool, right: bool) -> &[T]
+    ensures { result.now ≡ half_of cut right items.now }
+{
+    let half = items.len() / 2;
+    if !cut {
+        return items;
+    }
+    if right {
+        &items[half..]
+    } else {
+        &items[..half]
+    }
+}
+
+/// Cuts a node in half. A refused call leaves the vec_items as they are.
+pub(crate) fn cut_at<T: Ord + Drop, Node: NodeLike<T>>(
+    nodes: &mut Vec<Node>,
+    place: usize,
+) -> Result<(), Refusal>
+    requires place { place < length nodes.old.items }
+    requires two { 2 ≤ length (node_at (map Node.list nodes.old.items) place) }
+    ensures nodes { OnOk result (map Node.list nodes.new.items ≡ with_cut (map Node.list nodes.old.items) place) }
+    ensures left_room { OnOk result (HoldsAt (λ n. length (Node.list n) < Node.room n) nodes.new.items place) }
+    ensures right_room { OnOk result (HoldsAt (λ n. length (Node.list n) < Node.room n) nodes.new.items (place + 1)) }
+    ensures refusal { IfErr result (λ e. e ≡ Refusal.Memory) }
+    ensures err { OnErr result (map Node.list nodes.new.items ≡ map Node.list nodes.old.items) }
+{
+    nodes.reserve(1)?;
+    let node = &mut nodes[place];
+    let right = node.halve()?;
+    match nodes.insert(place + 1, right) {
+        Ok(()) => Ok(()),
+        Err(_) => unreachable!(),
+    }
+}
+
+/// Makes room where an item goes, and answers its node: a full node is cut in half. A refused call
+/// leaves the vec_items as they are.
+pub(crate) fn make_room<T: Ord + Drop, Node: NodeLike<T>>(
+    nodes: &mut Vec<Node>,
+    aim: &Aim,
+) -> Result<usize, Refusal>
+    requires place { aim.now.node < length nodes.old.items }
+    requires two { (aim.now.cut ≡ true) → 2 ≤ length (node_at (map Node.list nodes.old.items) aim.now.node) }
+    requires most { (aim.now.cut ≡ false) → length (node_at (map Node.list nodes.old.items) aim.now.node) < Node.most }
+    requires right { (aim.now.cut ≡ false) → aim.now.right ≡ false }
+    ensures nodes { OnOk result (map Node.list nodes.new.items ≡ (if aim.now.cut then with_cut (map Node.list nodes.old.items) aim.now.node else map Node.list nodes.old.items)) }
+    ensures place { IfOk result (λ place. place ≡ aim.now.node + cond aim.now.right 1 0) }
+    ensures room { IfOk result (λ place. is_err aim.now.at ≡ true → HoldsAt (λ n. length (Node.list n) < Node.room n) nodes.new.items place) }
+    ensures refusal { IfErr result (λ e. e ≡ Refusal.Memory) }
+    ensures err { OnErr result (map Node.list nodes.new.items ≡ map Node.list nodes.old.items) }
+{
+    if aim.cut {
+        cut_at(nodes, aim.node)?;
+        return Ok(if aim.right { aim.node + 1 } else { aim.node });
+    }
+    if aim.at.is_err() {
+        let node = &mut nodes[aim.node];
+        node.reserve_one()?;
+    }
+    Ok(aim.node)
+}
+
+/// Puts an item into its place in a node, where a gap has room, and answers the equal item that it
+/// takes the place of.
+pub(crate) fn put_in<T: Ord + Drop, Node: NodeLike<T>>(
+    node: &mut Node,
+    at: Result<usize, usize>,
+    value: T,
+) -> Option<T>
+    requires ascending { IsAscending T.cmp (Node.list node.old) }
+    requires found { IfOk at (IsFoundAt T.cmp (Node.list node.old) value) }
+    requires gap { IfErr at (IsGapFor T.cmp (Node.list node.old) value) }
+    requires room { is_err at ≡ true → length (Node.list node.old) < Node.room node.old }
+    ensures answer { result ≡ equal_element T.cmp (Node.list node.old) value }
+    ensures list { Node.list node.new ≡ put T.cmp (Node.list node.old) value }
+{
+    match at {
+        Ok(index) => node.replace(index, value),
+        Err(index) => {
+            node.insert_at(index, value);
+            None
+        }
+    }
+}
+
+/// An empty node with room for one item, and room for it in the list.
+pub(crate) fn first_node<T: Ord + Drop, Node: NodeLike<T>>(
+    nodes: &mut Vec<Node>,
+) -> Result<Node, Refusal>
+    requires { 1 ≤ Node.most }
+    ensures empty { IfOk result (λ node. Node.list node ≡ []) }
+    ensures room { IfOk result (λ node. 1 ≤ Node.room node) }
+    ensures nodes { nodes.new.items ≡ nodes.old.items }
+    ensures capacity { OnOk result (vec_len nodes.new < vec_capacity nodes.new) }
+    ensures refusal { IfErr result (λ e. e ≡ Refusal.Memory) }
+{
+    nodes.reserve(1)?;
+    Node::with_capacity(*nodes.allocator(), 1)
+}

@@ -1,0 +1,156 @@
+//! The logged set.
+ghost use Rattle.std.specs.Prelude.{◌≡◌, ◌+◌, ◌≤◌, [], length, None, MatchOption};
+ghost use Rattle.std.specs.Option.{option_copied};
+ghost use Rattle.indexset_core.specs.Nodes.{joined};
+ghost use Rattle.indexset_core.specs.Digits.{digits};
+ghost use Rattle.indexset_core.specs.Order.{has_equal, equal_element};
+ghost use Rattle.indexset_core.specs.Parted.{IsParted};
+ghost use Rattle.indexset_log.specs.Located.{located, IsFoundIn};
+
+mod put;
+mod remove;
+
+use crate::locate::node_by;
+use indexset_core::constants::DEFAULT_INNER_SIZE;
+use indexset_core::node::NodeLike;
+use indexset_core::probe::{ByItem, Probe};
+use std::alloc::Global;
+use std::marker::{Model, PhantomData};
+
+/// An ascending list cut into nodes, which tells its changes.
+#[derive(Drop)]
+pub struct BTreeSet<T: Ord + Clone + Drop, Node: NodeLike<T>> {
+    nodes: Vec<Node>,
+    // How many items a node holds at most.
+    size: usize,
+    // How many items there are.
+    len: usize,
+    // The number of the next event.
+    next: u64,
+    items: PhantomData<T>,
+}
+
+impl<T: Ord + Clone + Drop, Node: NodeLike<T>> Model for BTreeSet<T, Node> {
+    ghost use Rattle.std.specs.Prelude.{map};
+    ghost use Rattle.indexset_log.specs.Tree.{Tree, IsTree};
+
+    ghost Value = { Tree T };
+
+    ghost view = { λ s. record { nodes = map Node.list s.nodes.items; size = s.size; next = s.next } };
+
+    ghost invariant = { λ s. IsTree T.cmp Node.most (map Node.list s.nodes.items) s.size s.len };
+}
+
+impl<T: Ord + Clone + Drop, Node: NodeLike<T>> BTreeSet<T, Node> {
+    /// An empty tree, whose first event has the number `next`.
+    pub fn starting_at(alloc: Global, size: usize, next: u64) -> Self
+        requires two { 2 ≤ size }
+        requires within { size ≤ Node.most }
+        ensures { result ≡ record { nodes = []; size = size; next = next } }
+    {
+        BTreeSet {
+            nodes: Vec::new(alloc),
+            size,
+            len: 0,
+            next,
+            items: PhantomData,
+        }
+    }
+
+    /// An empty tree, whose first event has the number 0.
+    pub fn with_maximum_node_size(alloc: Global, size: usize) -> Self
+        requires two { 2 ≤ size }
+        requires within { size ≤ Node.most }
+        ensures { result ≡ record { nodes = []; size = size; next = 0 } }
+    {
+        BTreeSet::starting_at(alloc, size, 0)
+    }
+
+    /// An empty tree of the default node size, whose first event has the number 0.
+    pub fn new(alloc: Global) -> Self
+        requires { DEFAULT_INNER_SIZE ≤ Node.most }
+        ensures { result ≡ record { nodes = []; size = DEFAULT_INNER_SIZE; next = 0 } }
+    {
+        BTreeSet::with_maximum_node_size(alloc, DEFAULT_INNER_SIZE)
+    }
+
+    /// An empty tree, as `new` makes it.
+    pub fn default(alloc: Global) -> Self
+        requires { DEFAULT_INNER_SIZE ≤ Node.most }
+        ensures { result ≡ record { nodes = []; size = DEFAULT_INNER_SIZE; next = 0 } }
+    {
+        BTreeSet::new(alloc)
+    }
+
+    /// How many items there are.
+    pub fn len(&self) -> usize
+        ensures { result ≡ length (joined self.now.nodes) }
+    {
+        self.len
+    }
+
+    /// How many nodes there are.
+    pub fn node_count(&self) -> usize
+        ensures { result ≡ length self.now.nodes }
+    {
+        self.nodes.len()
+    }
+
+    /// The number of the next event.
+    pub fn events_issued(&self) -> u64
+        ensures { result ≡ self.now.next }
+    {
+        self.next
+    }
+
+    /// How many items a node holds at most.
+    pub fn maximum_node_size(&self) -> usize
+        ensures { result ≡ self.now.size }
+    {
+        self.size
+    }
+
+    /// Where the probe finds what it seeks, by two binary searches: the node and the offset in it.
+    /// Nothing is asked where there is no node.
+    pub fn locate_by<P: Probe<T>>(&self, probe: &mut P) -> Result<(usize, usize), (usize, usize)>
+        requires { IsParted (P.answer probe.old) (joined self.now.nodes) }
+        ensures place { result ≡ located (P.answer probe.old) self.now.nodes }
+        ensures fixed { P.answer probe.new ≡ P.answer probe.old }
+        ensures few { P.asked probe.new ≤ P.asked probe.old + (digits (length self.now.nodes) + digits self.now.size + 1) }
+    {
+        if self.nodes.is_empty() {
+            return Err((0, 0));
+        }
+        let node = node_by(self.nodes.as_slice(), probe);
+        let items = &self.nodes[node];
+        let offset = items.first_not_less(probe);
+        match items.get_ith(offset) {
+            Some(item) if probe.place(item).is_eq() => Ok((node, offset)),
+            _ => Err((node, offset)),
+        }
+    }
+
+    // Where the equal item is: its node, and the offset in it.
+    fn find(&self, value: &T) -> Option<(usize, usize)>
+        ensures { MatchOption result (equal_element T.cmp (joined self.now.nodes) value.now ≡ None) (λ p. IsFoundIn T.cmp self.now.nodes value.now p.0 p.1) }
+    {
+        // The nodes are lawful, so a search by an item may go by them.
+        let _nodes = &self.nodes;
+        self.locate_by(&mut ByItem::new(value)).ok()
+    }
+
+    /// Whether an equal item is there.
+    pub fn contains(&self, value: &T) -> bool
+        ensures { result ≡ has_equal T.cmp (joined self.now.nodes) value.now }
+    {
+        self.find(value).is_some()
+    }
+
+    /// The equal item.
+    pub fn get(&self, value: &T) -> Option<&T>
+        ensures { option_copied result ≡ equal_element T.cmp (joined self.now.nodes) value.now }
+    {
+        let (node, offset) = self.find(value)?;
+        self.nodes[node].get_ith(offset)
+    }
+}

@@ -1,0 +1,318 @@
+//! Calls that put items in.
+ghost use Rattle.std.specs.Prelude.{◌≡◌, ◌+◌, ◌<◌, ◌≤◌, [], ◌∷◌, ◌++◌, length, Some, None, IfOk, OnOk, IfErr, OnErr, IsOk, IfSome, MatchOption, is_none, not, true};
+ghost use Rattle.indexset_core.specs.Nodes.{joined, node_at};
+ghost use Rattle.indexset_core.specs.Order.{IsAscending, IsFoundAt, IsGapFor, put, keep, has_equal, equal_element};
+ghost use Rattle.indexset_log.specs.Aim.{IsAim};
+ghost use Rattle.indexset_log.specs.Edits.{with_room, put_into_target};
+ghost use Rattle.indexset_log.specs.Replay.{replay, numbered_from};
+ghost use Rattle.indexset_log.specs.Table.{put_events, checked_put_events, target_events, node_events};
+ghost use Rattle.indexset_log.specs.Tree.{refusal_for};
+ghost use Rattle.indexset_log.specs.declared.change.ChangeEventUnassigned.TheVariants.{CreateNode};
+
+use super::BTreeSet;
+use crate::aim::Aim;
+use crate::change::{ChangeEvent, ChangeEventUnassigned};
+use crate::locate::node_by;
+use crate::log::Log;
+use crate::nodes::{first_node, make_room, part_of, put_in};
+use indexset_core::node::NodeLike;
+use indexset_core::probe::ByItem;
+use indexset_core::refusal::{Refusal, Refused};
+use indexset_core::search;
+
+impl<T: Ord + Clone + Drop, Node: NodeLike<T>> BTreeSet<T, Node> {
+    /// Puts an item in, for any equal one, and tells the events. A refused call hands the item back
+    /// and changes nothing.
+    pub fn put_cdc(&mut self, value: T) -> Result<(Option<T>, Vec<ChangeEvent<T>>), Refused<T>>
+        requires clones { (x y : T) → T.is_clone x y → y ≡ x }
+        ensures answer { IfOk result (λ r. r.0 ≡ equal_element T.cmp (joined self.old.nodes) value) }
+        ensures contents { OnOk result (joined self.new.nodes ≡ put T.cmp (joined self.old.nodes) value) }
+        ensures events { IfOk result (λ r. r.1.items ≡ numbered_from self.old.next (put_events T.cmp self.old.size self.old.nodes value)) }
+        ensures replay { IfOk result (λ r. replay T.cmp self.old.nodes r.1.items ≡ Some self.new.nodes) }
+        ensures few { length (put_events T.cmp self.old.size self.old.nodes value) ≤ 3 }
+        ensures size { self.new.size ≡ self.old.size }
+        ensures next { OnOk result (self.new.next ≡ self.old.next + length (put_events T.cmp self.old.size self.old.nodes value)) }
+        ensures fits { OnOk result (self.old.next + length (put_events T.cmp self.old.size self.old.nodes value) ≤ u64.MAX) }
+        ensures refusal { IfErr result (λ e. e.cause ≡ refusal_for self.old.next (length (put_events T.cmp self.old.size self.old.nodes value))) }
+        ensures given_back { IfErr result (λ e. e.value ≡ value) }
+        ensures unchanged { OnErr result (self.new ≡ self.old) }
+    {
+        match self.ready_cdc(&value) {
+            Ok((aim, events)) => match self.carry_out(aim, value) {
+                Ok(old) => Ok((old, events)),
+                Err(refused) => Err(refused),
+            },
+            Err(cause) => Err(Refused { value, cause }),
+        }
+    }
+
+    /// The same, where no equal item is there. Else `None`: nothing changes, no number and no memory
+    /// is taken, and the item is dropped.
+    pub fn put_cdc_checked(&mut self, value: T) -> Result<Option<Vec<ChangeEvent<T>>>, Refused<T>>
+        requires clones { (x y : T) → T.is_clone x y → y ≡ x }
+        ensures answer { IfOk result (λ r. is_none r ≡ has_equal T.cmp (joined self.old.nodes) value) }
+        ensures contents { OnOk result (joined self.new.nodes ≡ keep T.cmp (joined self.old.nodes) value) }
+        ensures events { IfOk result (λ r. IfSome r (λ events. events.items ≡ numbered_from self.old.next (checked_put_events T.cmp self.old.size self.old.nodes value))) }
+        ensures replay { OnOk result (replay T.cmp self.old.nodes (numbered_from self.old.next (checked_put_events T.cmp self.old.size self.old.nodes value)) ≡ Some self.new.nodes) }
+        ensures size { self.new.size ≡ self.old.size }
+        ensures next { OnOk result (self.new.next ≡ self.old.next + length (checked_put_events T.cmp self.old.size self.old.nodes value)) }
+        ensures refusal { IfErr result (λ e. e.cause ≡ refusal_for self.old.next (length (checked_put_events T.cmp self.old.size self.old.nodes value))) }
+        ensures no_event { has_equal T.cmp (joined self.old.nodes) value ≡ true → IsOk result }
+        ensures given_back { IfErr result (λ e. e.value ≡ value) }
+        ensures unchanged { OnErr result (self.new ≡ self.old) }
+    {
+        if self.contains(&value) {
+            return Ok(None);
+        }
+        match self.put_cdc(value) {
+            Ok((_, events)) => Ok(Some(events)),
+            Err(refused) => Err(refused),
+        }
+    }
+
+    /// Puts an item in, for any equal one. It uses up as many numbers as `put_cdc`. A refused call
+    /// hands the item back and changes nothing.
+    pub fn put(&mut self, value: T) -> Result<Option<T>, Refused<T>>
+        ensures answer { IfOk result (λ old. old ≡ equal_element T.cmp (joined self.old.nodes) value) }
+        ensures contents { OnOk result (joined self.new.nodes ≡ put T.cmp (joined self.old.nodes) value) }
+        ensures replay { OnOk result (replay T.cmp self.old.nodes (numbered_from self.old.next (put_events T.cmp self.old.size self.old.nodes value)) ≡ Some self.new.nodes) }
+        ensures size { self.new.size ≡ self.old.size }
+        ensures next { OnOk result (self.new.next ≡ self.old.next + length (put_events T.cmp self.old.size self.old.nodes value)) }
+        ensures refusal { IfErr result (λ e. e.cause ≡ refusal_for self.old.next (length (put_events T.cmp self.old.size self.old.nodes value))) }
+        ensures given_back { IfErr result (λ e. e.value ≡ value) }
+        ensures unchanged { OnErr result (self.new ≡ self.old) }
+    {
+        match self.aim(&value) {
+            Ok(aim) => self.carry_out(aim, value),
+            Err(cause) => Err(Refused { value, cause }),
+        }
+    }
+
+    /// Puts an item in, where no equal one is there: true. Else false: nothing changes, no number and
+    /// no memory is taken, and the item is dropped.
+    pub fn insert(&mut self, value: T) -> Result<bool, Refused<T>>
+        ensures answer { IfOk result (λ r. r ≡ not (has_equal T.cmp (joined self.old.nodes) value)) }
+        ensures contents { OnOk result (joined self.new.nodes ≡ keep T.cmp (joined self.old.nodes) value) }
+        ensures replay { OnOk result (replay T.cmp self.old.nodes (numbered_from self.old.next (checked_put_events T.cmp self.old.size self.old.nodes value)) ≡ Some self.new.nodes) }
+        ensures size { self.new.size ≡ self.old.size }
+        ensures next { OnOk result (self.new.next ≡ self.old.next + length (checked_put_events T.cmp self.old.size self.old.nodes value)) }
+        ensures refusal { IfErr result (λ e. e.cause ≡ refusal_for self.old.next (length (checked_put_events T.cmp self.old.size self.old.nodes value))) }
+        ensures no_event { has_equal T.cmp (joined self.old.nodes) value ≡ true → IsOk result }
+        ensures given_back { IfErr result (λ e. e.value ≡ value) }
+        ensures unchanged { OnErr result (self.new ≡ self.old) }
+    {
+        if self.contains(&value) {
+            return Ok(false);
+        }
+        match self.put(value) {
+            Ok(_) => Ok(true),
+            Err(refused) => Err(refused),
+        }
+    }
+
+    // Where an item goes, `None` in an empty tree, if there are numbers for the events.
+    fn aim(&self, value: &T) -> Result<Option<Aim>, Refusal>
+        ensures aim { IfOk result (λ aim. MatchOption aim (self.now.nodes ≡ []) (IsAim T.cmp self.now.size self.now.nodes value.now)) }
+        ensures fits { OnOk result (self.now.next + length (put_events T.cmp self.now.size self.now.nodes value.now) ≤ u64.MAX) }
+        ensures numbers { IfErr result (λ e. (e ≡ Refusal.Numbers) × (u64.MAX < self.now.next + length (put_events T.cmp self.now.size self.now.nodes value.now))) }
+    {
+        let left = u64::MAX - self.next;
+        if self.nodes.is_empty() {
+            return if left < 1 {
+                Err(Refusal::Numbers)
+            } else {
+                Ok(None)
+            };
+        }
+        let aim = self.aim_in_target(value);
+        if left < aim.count() {
+            return Err(Refusal::Numbers);
+        }
+        Ok(Some(aim))
+    }
+
+    // The same, with the events.
+    fn ready_cdc(&self, value: &T) -> Result<(Option<Aim>, Vec<ChangeEvent<T>>), Refusal>
+        requires clones { (x y : T) → T.is_clone x y → y ≡ x }
+        ensures aim { IfOk result (λ r. MatchOption r.0 (self.now.nodes ≡ []) (IsAim T.cmp self.now.size self.now.nodes value.now)) }
+        ensures events { IfOk result (λ r. r.1.items ≡ numbered_from self.now.next (put_events T.cmp self.now.size self.now.nodes value.now)) }
+        ensures fits { OnOk result (self.now.next + length (put_events T.cmp self.now.size self.now.nodes value.now) ≤ u64.MAX) }
+        ensures refusal { IfErr result (λ e. e ≡ refusal_for self.now.next (length (put_events T.cmp self.now.size self.now.nodes value.now))) }
+    {
+        let aim = self.aim(value)?;
+        let events = match &aim {
+            Some(aim) => self.put_log(aim, value)?,
+            None => self.first_log(value)?,
+        };
+        Ok((aim, events))
+    }
+
+    // Puts an item where it goes. A refused call hands it back and changes nothing.
+    fn carry_out(&mut self, aim: Option<Aim>, value: T) -> Result<Option<T>, Refused<T>>
+        requires aim { MatchOption aim (self.old.nodes ≡ []) (IsAim T.cmp self.old.size self.old.nodes value) }
+        requires fits { self.old.next + length (put_events T.cmp self.old.size self.old.nodes value) ≤ u64.MAX }
+        ensures answer { IfOk result (λ old. old ≡ equal_element T.cmp (joined self.old.nodes) value) }
+        ensures contents { OnOk result (joined self.new.nodes ≡ put T.cmp (joined self.old.nodes) value) }
+        ensures replay { OnOk result (replay T.cmp self.old.nodes (numbered_from self.old.next (put_events T.cmp self.old.size self.old.nodes value)) ≡ Some self.new.nodes) }
+        ensures size { self.new.size ≡ self.old.size }
+        ensures next { OnOk result (self.new.next ≡ self.old.next + length (put_events T.cmp self.old.size self.old.nodes value)) }
+        ensures given_back { IfErr result (λ e. (e.value ≡ value) × (e.cause ≡ Refusal.Memory)) }
+        ensures unchanged { OnErr result (self.new ≡ self.old) }
+    {
+        // The nodes are lawful.
+        let _nodes = &self.nodes;
+        match aim {
+            Some(aim) => self.put_at(aim, value),
+            None => self.put_first(value),
+        }
+    }
+
+    // Where an item goes, in a tree with nodes.
+    fn aim_in_target(&self, value: &T) -> Aim
+        requires { 1 ≤ length self.now.nodes }
+        ensures { IsAim T.cmp self.now.size self.now.nodes value.now result }
+    {
+        let node = node_by(self.nodes.as_slice(), &mut ByItem::new(value));
+        let items = self.nodes[node].iter().as_slice();
+        let cut = items.len() == self.size;
+        let right = cut && value.cmp(&items[items.len() / 2 - 1]).is_gt();
+        Aim {
+            node,
+            cut,
+            right,
+            at: search::find(part_of(items, cut, right), value),
+        }
+    }
+
+    // The events of a put where the item goes.
+    fn put_log(&self, aim: &Aim, value: &T) -> Result<Vec<ChangeEvent<T>>, Refusal>
+        requires clones { (x y : T) → T.is_clone x y → y ≡ x }
+        requires aim { IsAim T.cmp self.now.size self.now.nodes value.now aim.now }
+        requires fits { self.now.next + length (target_events T.cmp self.now.size (node_at self.now.nodes aim.now.node) value.now) ≤ u64.MAX }
+        ensures events { IfOk result (λ events. events.items ≡ numbered_from self.now.next (target_events T.cmp self.now.size (node_at self.now.nodes aim.now.node) value.now)) }
+        ensures refusal { IfErr result (λ e. e ≡ Refusal.Memory) }
+    {
+        let mut log = Log::new(*self.nodes.allocator(), self.next);
+        let items = self.nodes[aim.node].iter().as_slice();
+        if aim.cut {
+            log.add(ChangeEventUnassigned::SplitNode {
+                max_value: items[items.len() - 1].clone()?,
+                split_index: items.len() / 2,
+            })?;
+        }
+        add_put(&mut log, part_of(items, aim.cut, aim.right), &aim.at, value)?;
+        Ok(log.events)
+    }
+
+    // Puts an item where it goes. A refused call hands it back and changes nothing.
+    fn put_at(&mut self, aim: Aim, value: T) -> Result<Option<T>, Refused<T>>
+        requires aim { IsAim T.cmp self.old.size self.old.nodes value aim }
+        requires fits { self.old.next + length (target_events T.cmp self.old.size (node_at self.old.nodes aim.node) value) ≤ u64.MAX }
+        ensures answer { IfOk result (λ old. old ≡ equal_element T.cmp (joined self.old.nodes) value) }
+        ensures nodes { OnOk result (self.new.nodes ≡ put_into_target T.cmp (with_room T.cmp self.old.size self.old.nodes value) value) }
+        ensures size { self.new.size ≡ self.old.size }
+        ensures next { OnOk result (self.new.next ≡ self.old.next + length (target_events T.cmp self.old.size (node_at self.old.nodes aim.node) value)) }
+        ensures given_back { IfErr result (λ e. (e.value ≡ value) × (e.cause ≡ Refusal.Memory)) }
+        ensures unchanged { OnErr result (self.new ≡ self.old) }
+    {
+        if aim.at.is_err() && self.len == usize::MAX {
+            return Err(Refused {
+                value,
+                cause: Refusal::Memory,
+            });
+        }
+        match make_room(&mut self.nodes, &aim) {
+            Ok(place) => {
+                self.next += aim.count();
+                if aim.at.is_err() {
+                    self.len += 1;
+                }
+                Ok(put_in(&mut self.nodes[place], aim.at, value))
+            }
+            Err(cause) => Err(Refused { value, cause }),
+        }
+    }
+
+    // Puts the first item in. A refused call hands it back and changes nothing.
+    fn put_first(&mut self, value: T) -> Result<Option<T>, Refused<T>>
+        requires none { self.old.nodes ≡ [] }
+        requires fits { self.old.next + 1 ≤ u64.MAX }
+        ensures answer { IfOk result (λ old. old ≡ None) }
+        ensures nodes { OnOk result (self.new.nodes ≡ (value ∷ []) ∷ []) }
+        ensures size { self.new.size ≡ self.old.size }
+        ensures next { OnOk result (self.new.next ≡ self.old.next + 1) }
+        ensures given_back { IfErr result (λ e. (e.value ≡ value) × (e.cause ≡ Refusal.Memory)) }
+        ensures unchanged { OnErr result (self.new ≡ self.old) }
+    {
+        match first_node(&mut self.nodes) {
+            Ok(mut node) => {
+                node.insert_at(0, value);
+                self.nodes.push_reserved(node);
+                self.len = 1;
+                self.next += 1;
+                Ok(None)
+            }
+            Err(cause) => Err(Refused { value, cause }),
+        }
+    }
+
+    // The event of the first item.
+    fn first_log(&self, value: &T) -> Result<Vec<ChangeEvent<T>>, Refusal>
+        requires clones { (x y : T) → T.is_clone x y → y ≡ x }
+        requires fits { self.now.next + 1 ≤ u64.MAX }
+        ensures events { IfOk result (λ events. events.items ≡ numbered_from self.now.next (CreateNode value.now ∷ [])) }
+        ensures refusal { IfErr result (λ e. e ≡ Refusal.Memory) }
+    {
+        let mut log = Log::new(*self.nodes.allocator(), self.next);
+        log.add(ChangeEventUnassigned::CreateNode {
+            max_value: value.clone()?,
+        })?;
+        Ok(log.events)
+    }
+}
+
+// The events of a put into a node, or into the half of one.
+fn add_put<T: Ord + Clone + Drop>(
+    log: &mut Log<T>,
+    part: &[T],
+    at: &Result<usize, usize>,
+    value: &T,
+) -> Result<(), Refusal>
+    requires clones { (x y : T) → T.is_clone x y → y ≡ x }
+    requires some { 1 ≤ length part.now }
+    requires ascending { IsAscending T.cmp part.now }
+    requires found { IfOk at.now (IsFoundAt T.cmp part.now value.now) }
+    requires gap { IfErr at.now (IsGapFor T.cmp part.now value.now) }
+    requires fits { log.old.next + length (node_events T.cmp part.now value.now) ≤ u64.MAX }
+    ensures events { OnOk result (log.new.events.items ≡ log.old.events.items ++ numbered_from log.old.next (node_events T.cmp part.now value.now)) }
+    ensures refusal { IfErr result (λ e. e ≡ Refusal.Memory) }
+{
+    let last = part.len() - 1;
+    let max_value = part[last].clone()?;
+    let copy = value.clone()?;
+    match *at {
+        Err(index) => log.add(ChangeEventUnassigned::InsertAt {
+            max_value,
+            value: copy,
+            index,
+        }),
+        Ok(_) if last == 0 => {
+            log.add(ChangeEventUnassigned::RemoveNode { max_value })?;
+            log.add(ChangeEventUnassigned::CreateNode { max_value: copy })
+        }
+        Ok(index) => {
+            let old = part[index].clone()?;
+            let name = part[if index == last { index - 1 } else { last }].clone()?;
+            log.add(ChangeEventUnassigned::RemoveAt {
+                max_value,
+                value: old,
+                index,
+            })?;
+            log.add(ChangeEventUnassigned::InsertAt {
+                max_value: name,
+                value: copy,
+                index,
+            })
+        }
+    }
+}

@@ -1,0 +1,84 @@
+-- What a written value leaves of the pairs of a map.
+use Rattle.std.proofs.Common.{◌≡◌, ℕ, zero, suc, ◌<◌, ◌≤◌, true, false, List, [], ◌∷◌, length, Ordering, Some, None, slice_get, refl, ap, sym, ◌∙◌, arith}
+use Rattle.std.specs.Option.{option_map, option_map_or}
+use Rattle.std.specs.List.{insert, slice_set}
+use Rattle.std.proofs.lemmas.List.Edits.{length-insert}
+use Rattle.indexset_core.specs.declared.pair.Pair.{Pair}
+use Rattle.indexset_core.specs.Nodes.{node_lengths}
+use Rattle.indexset_spine.specs.Cut.{Cut, items, with_item_at}
+use Rattle.indexset_core.specs.Order.{IsGapFor, put}
+use Rattle.indexset_core.specs.Pairs.{pair, valued, by_key, set_value_at, has_key, set_value, put_value}
+use Rattle.indexset_set.specs.SetPairs as cut
+use Rattle.indexset_core.proofs.CallerLemmas.{gap_put}
+use Rattle.indexset_set.proofs.SetValueLemmas.{items-with_value_at, size-with_value_at}
+use Rattle.indexset_map.specs.Contents.{Contents, contents, with_value_at}
+use Rattle.indexset_map.proofs.LengthLemmas.{node_lengths-set_joined}
+
+module _ {K V : Type 0} where
+  node_lengths-with_value_at : (s : Cut (Pair K V)) (i : ℕ) (w : V) → node_lengths (cut.with_value_at s i w).nodes ≡ node_lengths s.nodes
+  node_lengths-with_value_at s i w = elim (slice_get (items s) i) as (λ o. node_lengths (option_map_or (λ p. with_item_at s i (valued p w)) o s).nodes ≡ node_lengths s.nodes) [
+    | Some p ↦ node_lengths-set_joined s.nodes i (valued p w)
+    | None ↦ refl
+  ]
+
+  -- a write in the set is one in the map
+  pub contents_written : (s : Cut (Pair K V)) (m : Contents K V) (i : ℕ) (w : V) → contents s ≡ m → contents (cut.with_value_at s i w) ≡ with_value_at m i w
+  contents_written s m i w e = (λ j. record { pairs = items-with_value_at s i w j; lengths = node_lengths-with_value_at s i w j; size = size-with_value_at s i w j }) ∙ ap (λ (n : Contents K V). with_value_at n i w) e
+
+  pub set_cons : (q : Pair K V) (l : List (Pair K V)) (j : ℕ) (w : V) → q ∷ set_value_at l j w ≡ set_value_at (q ∷ l) (suc j) w
+  set_cons q l j w = elim (slice_get l j) as (λ o. q ∷ option_map_or (λ p. slice_set l j (valued p w)) o l ≡ option_map_or (λ p. slice_set (q ∷ l) (suc j) (valued p w)) o (q ∷ l)) [
+    | Some p ↦ refl
+    | None ↦ refl
+  ]
+
+  -- the last of two writes at a position
+  pub set_twice : (l : List (Pair K V)) (i : ℕ) (u w : V) → set_value_at (set_value_at l i u) i w ≡ set_value_at l i w
+  set_twice [] i u w = refl
+  set_twice (p ∷ l) zero u w = refl
+  set_twice (p ∷ l) (suc i) u w =
+      ap (λ t. set_value_at t (suc i) w) (sym (set_cons p l i u)) ∙ (sym (set_cons p (set_value_at l i u) i w) ∙ (ap (λ t. p ∷ t) (set_twice l i u w) ∙ set_cons p l i w))
+
+  pub set_there : (l : List (Pair K V)) (i : ℕ) (w : V) → i < length l → option_map (λ p. p.value) (slice_get (set_value_at l i w) i) ≡ Some w
+  set_there [] i w lt = absurd (omega arith)
+  set_there (p ∷ l) zero w lt = refl
+  set_there (p ∷ l) (suc i) w lt = ap (λ t. option_map (λ q. q.value) (slice_get t (suc i))) (sym (set_cons p l i w)) ∙ set_there l i w (omega arith)
+
+  -- a write of the value of a pair that was just put
+  at_insert : (l : List (Pair K V)) (i : ℕ) (k : K) (v w : V) → i ≤ length l → set_value_at (insert l i (pair k v)) i w ≡ insert l i (pair k w)
+  at_insert l zero k v w le = refl
+  at_insert [] (suc i) k v w le = absurd (omega arith)
+  at_insert (p ∷ l) (suc i) k v w le = sym (set_cons p (insert l i (pair k v)) i w) ∙ ap (λ t. p ∷ t) (at_insert l i k v w (omega arith))
+
+  get_insert : (l : List (Pair K V)) (i : ℕ) (q : Pair K V) → i ≤ length l → slice_get (insert l i q) i ≡ Some q
+  get_insert l zero q le = refl
+  get_insert [] (suc i) q le = absurd (omega arith)
+  get_insert (p ∷ l) (suc i) q le = get_insert l i q (omega arith)
+
+  module _ (cmp : K → K → Ordering) (l : List (Pair K V)) (k : K) where
+    pub put_there : has_key cmp l k ≡ true → (w : V) → put_value cmp l k w ≡ set_value cmp l k w
+    unfolding put_value
+    put_there h w = rw h refl
+
+    pub put_new : has_key cmp l k ≡ false → (w : V) → put_value cmp l k w ≡ put (by_key cmp) l (pair k w)
+    unfolding put_value
+    put_new h w = rw h refl
+
+    module _ (i : ℕ) (gap : (w : V) → IsGapFor (by_key cmp) l (pair k w) i) where
+      pub put_inside : (v : V) → i < length (put (by_key cmp) l (pair k v))
+      put_inside v = rw (gap_put (by_key cmp) l (pair k v) i (gap v)) (let n = length-insert l i (pair k v) (gap v).inside in let le = (gap v).inside in omega arith)
+
+      pub put_read : (v : V) → option_map (λ p. p.value) (slice_get (put (by_key cmp) l (pair k v)) i) ≡ Some v
+      put_read v = rw (gap_put (by_key cmp) l (pair k v) i (gap v)) (ap (option_map (λ p. p.value)) (get_insert l i (pair k v) (gap v).inside))
+
+      pub put_written : has_key cmp l k ≡ false → (v w : V) → set_value_at (put (by_key cmp) l (pair k v)) i w ≡ put_value cmp l k w
+      put_written h v w =
+          ap (λ t. set_value_at t i w) (gap_put (by_key cmp) l (pair k v) i (gap v)) ∙ (at_insert l i k v w (gap v).inside ∙ (sym (gap_put (by_key cmp) l (pair k w) i (gap w)) ∙ sym (put_new h w)))
+
+      pub kept_inside : has_key cmp l k ≡ false → (v : V) → i < length (put_value cmp l k v)
+      kept_inside h v = rw (put_new h v) (put_inside v)
+
+      pub kept_read : has_key cmp l k ≡ false → (v : V) → option_map (λ p. p.value) (slice_get (put_value cmp l k v) i) ≡ Some v
+      kept_read h v = rw (put_new h v) (put_read v)
+
+      pub kept_written : has_key cmp l k ≡ false → (v w : V) → set_value_at (put_value cmp l k v) i w ≡ put_value cmp l k w
+      kept_written h v w = ap (λ t. set_value_at t i w) (put_new h v) ∙ put_written h v w

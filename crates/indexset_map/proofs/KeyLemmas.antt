@@ -1,0 +1,93 @@
+-- What a search for a key says of the pairs of a map.
+use Rattle.std.proofs.Common.{◌≡◌, ℕ, ◌<◌, Bool, true, false, if◌then◌else◌, length, List, [], ◌∷◌, arith, Ordering, Result, Ok, Err, IfOk, IfErr, is_ok, Some, None, refl, ap, sym, ◌∙◌}
+use Rattle.std.specs.Cmp.{IsTotalOrder, on_total}
+use Rattle.std.specs.List.{position, remove}
+use Rattle.std.specs.Ordering.{is_eq}
+use Rattle.indexset_core.specs.declared.pair.Pair.{Pair}
+use Rattle.indexset_core.specs.Nodes.{node_lengths}
+use Rattle.indexset_spine.specs.Cut.{Cut, IsCut, items, with_inserted}
+use Rattle.indexset_core.specs.Order.{IsAscending, has_equal, keep, put}
+use Rattle.indexset_core.specs.Pairs.{pair, by_key, has_key, key_rank, put_value, without_key}
+use Rattle.indexset_core.proofs.CallerLemmas.{found_rank, found_without, parted_by_key, key_there, key_absent, key_found, key_inside, key_written, absent_without, without-pair}
+use Rattle.indexset_map.specs.Contents.{Contents, contents, with_put, with_value_at, without_at, without_pair}
+use Rattle.indexset_map.specs.Lengths.{lengths_with, lengths_without}
+use Rattle.indexset_map.proofs.ContentsLemmas.{put_new, put_there}
+use Rattle.indexset_map.proofs.LengthLemmas.{node_lengths-inserted, node_lengths-without}
+use Rattle.indexset_set.specs.SetNodes.{IsWithoutAt, nodes_kept, spot_of}
+
+module _ {K V : Type 0} (cmp : K → K → Ordering) (l : List (Pair K V)) (k : K) where
+  pub found_has_key : (r : Result ℕ ℕ) → IfOk r (λ i. position (λ p. is_eq (cmp p.key k)) l ≡ Some i) → IfErr r (λ _. position (λ p. is_eq (cmp p.key k)) l ≡ None) → is_ok r ≡ has_key cmp l k
+  found_has_key (Ok i) found absent = sym (key_there cmp l k i found)
+  found_has_key (Err i) found absent = sym (key_absent cmp l k absent)
+
+  pub key_removed : IsTotalOrder cmp → IsAscending (by_key cmp) l → (i : ℕ) → position (λ p. is_eq (cmp p.key k)) l ≡ Some i → V → IsTotalOrder (by_key {V = V} cmp) → remove l i ≡ without_key cmp l k
+  key_removed o up i h w o' = sym (found_without (by_key cmp) l (pair k w) i o' up (key_found cmp l k i h (parted_by_key cmp o l up k) w)) ∙ without-pair cmp l k w
+
+-- the same, with no value at hand
+pub key_taken : {K V : Type 0} (cmp : K → K → Ordering) (l : List (Pair K V)) (k : K) → IsTotalOrder cmp → IsAscending (by_key cmp) l → (i : ℕ) → position (λ p. is_eq (cmp p.key k)) l ≡ Some i → remove l i ≡ without_key cmp l k
+key_taken {V = V} cmp [] k o up i h = let lt = key_inside {V = V} cmp [] k i h in absurd (omega (arith, lt))
+key_taken {V = V} cmp (p ∷ l) k o up i h = key_removed cmp (p ∷ l) k o up i h p.value (on_total (λ (q : Pair _ V). q.key) o)
+
+get_or_inside : {X : Type 0} (l : List X) (i : ℕ) → i < length l → X
+get_or_inside [] i lt = absurd (omega arith)
+get_or_inside (x ∷ l) i lt = x
+
+module _ {K V : Type 0} (cmp : K → K → Ordering) where
+  keep_new : (l : List (Pair K V)) (p : Pair K V) → has_equal (by_key cmp) l p ≡ false → keep (by_key cmp) l p ≡ put (by_key cmp) l p
+  unfolding keep
+  keep_new l p h = rw h refl
+
+  nodes_new : (s : Cut (Pair K V)) (p : Pair K V) → has_equal (by_key cmp) (items s) p ≡ false → nodes_kept (by_key cmp) s p ≡ with_inserted s.size s.nodes (spot_of (by_key cmp) s.nodes p) p
+  unfolding nodes_kept
+  nodes_new s p h = ap (λ (b : Bool). if b then s.nodes else with_inserted s.size s.nodes (spot_of (by_key cmp) s.nodes p) p) h
+
+  -- what an insert into the set does to the map
+  pub contents_put : (s t : Cut (Pair K V)) (m : Contents K V) (k : K) (v : V) → contents s ≡ m → has_key cmp m.pairs k ≡ false
+      → items t ≡ keep (by_key cmp) (items s) (pair k v) → t.nodes ≡ nodes_kept (by_key cmp) s (pair k v) → t.size ≡ s.size
+      → IsTotalOrder (by_key {V = V} cmp) → IsAscending (by_key cmp) (items s) → IsCut (node_lengths s.nodes) s.size → contents t ≡ with_put cmp m k v
+  contents_put s t m k v e h is nodes size total up cut =
+      let none : has_key cmp (items s) k ≡ false = ap (λ (n : Contents K V). has_key cmp n.pairs k) e ∙ h in
+      let new : items t ≡ put_value cmp (items s) k v = is ∙ (keep_new (items s) (pair k v) none ∙ sym (put_new cmp (items s) k none v)) in
+      let lengths : node_lengths t.nodes ≡ lengths_with s.size (node_lengths s.nodes) (key_rank cmp (items s) k)
+      = ap node_lengths nodes ∙ (ap node_lengths (nodes_new s (pair k v) none) ∙ node_lengths-inserted (by_key cmp) s.size s.nodes (pair k v) total up cut) in
+      let chosen = lengths ∙ sym (ap (λ (b : Bool). if b then node_lengths s.nodes else lengths_with s.size (node_lengths s.nodes) (key_rank cmp (items s) k)) none) in
+      let same : contents t ≡ with_put cmp (contents s) k v = λ j. record { pairs = new j; lengths = chosen j; size = size j } in
+      same ∙ ap (λ (n : Contents K V). with_put cmp n k v) e
+
+-- what is taken out of the set is taken out of the map
+pub contents_removed : {K V : Type 0} (s t : Cut (Pair K V)) (m : Contents K V) (i : ℕ) → contents s ≡ m → items t ≡ remove (items s) i
+    → IsWithoutAt s.nodes i t.nodes → t.size ≡ s.size → contents t ≡ without_at m i
+contents_removed {K = K} {V = V} s t m i e is nodes size =
+    let lengths : node_lengths t.nodes ≡ lengths_without (node_lengths s.nodes) i = ap node_lengths nodes.3 ∙ node_lengths-without s.nodes nodes.0 i nodes.1 nodes.2 in
+    let same : contents t ≡ without_at (contents s) i = λ j. record { pairs = is j; lengths = lengths j; size = size j } in
+    same ∙ ap (λ (n : Contents K V). without_at n i) e
+
+module _ {K V : Type 0} (cmp : K → K → Ordering) (m : Contents K V) (k : K) where
+  module _ (i : ℕ) (h : position (λ p. is_eq (cmp p.key k)) m.pairs ≡ Some i) where
+    there : has_key cmp m.pairs k ≡ true
+    there = key_there cmp m.pairs k i h
+
+    pub put_found : (w : V) → with_value_at m i w ≡ with_put cmp m k w
+    put_found w =
+        let pairs = key_written cmp m.pairs k i h w ∙ sym (put_there cmp m.pairs k there w) in
+        let lengths = ap (λ (b : Bool). if b then m.lengths else lengths_with m.size m.lengths (key_rank cmp m.pairs k)) there in
+        λ j. record { pairs = pairs j; lengths = sym lengths j; size = m.size }
+
+    module _ (total : IsTotalOrder cmp) (up : IsAscending (by_key cmp) m.pairs) where
+      key_place : key_rank cmp m.pairs k ≡ i
+      key_place =
+          let parted = parted_by_key cmp total m.pairs up k in
+          let w = (get_or_inside m.pairs i (key_inside cmp m.pairs k i h)).value in
+          found_rank (by_key cmp) m.pairs (pair k w) i (key_found cmp m.pairs k i h parted w) parted
+
+      pub without_found : without_at m i ≡ without_pair cmp m k
+      without_found =
+          let pairs = key_taken cmp m.pairs k total up i h in
+          let lengths = ap (λ (b : Bool). if b then lengths_without m.lengths (key_rank cmp m.pairs k) else m.lengths) there ∙ ap (lengths_without m.lengths) key_place in
+          λ j. record { pairs = pairs j; lengths = sym lengths j; size = m.size }
+
+  pub without_absent : has_key cmp m.pairs k ≡ false → without_pair cmp m k ≡ m
+  without_absent h =
+      let pairs = absent_without cmp m.pairs k h in
+      let lengths = ap (λ (b : Bool). if b then lengths_without m.lengths (key_rank cmp m.pairs k) else m.lengths) h in
+      λ j. record { pairs = pairs j; lengths = lengths j; size = m.size }

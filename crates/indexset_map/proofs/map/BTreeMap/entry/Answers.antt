@@ -1,0 +1,32 @@
+use Rattle.std.proofs.Common.{refl, Some, None, Bool, sym, ap, if◌then◌else◌}
+use Rattle.std.specs.Option.{option_map}
+use Rattle.indexset_core.proofs.CallerLemmas.{key_pair, key_no_pair, key_absent, key_there}
+use Rattle.indexset_map.proofs.KeyLemmas.{put_found, without_found, without_absent}
+use Rattle.indexset_map.proofs.map.BTreeMap.entry.Goals as goal
+
+pub returns-in-Ok-clause-value : goal.returns-in-Ok-clause-value
+returns-in-Ok-clause-value g c = ap (option_map (λ p. p.value)) (sym (key_pair g.K.Ord.cmp _ _ c.in-Ok.index (c.in-Ok.ensures {u = tt}).found))
+
+pub returns-in-Ok-clause-update : goal.returns-in-Ok-clause-update
+returns-in-Ok-clause-update g c = put_found g.K.Ord.cmp c.args.self.now c.args.key c.in-Ok.index (c.in-Ok.ensures {u = tt}).found
+
+pub invariant_of-result-in-Err : goal.invariant_of-result-in-Err
+invariant_of-result-in-Err g c = record { absent = key_absent g.K.Ord.cmp _ _ (c.in-Err.ensures {u = tt}).absent; place = (c.in-Err.ensures {u = tt}).gap }
+
+pub returns-clause-value : goal.returns-clause-value
+returns-clause-value g c = sym (ap (option_map (λ p. p.value)) (key_no_pair g.K.Ord.cmp _ _ (c.in-Err.ensures {u = tt}).absent))
+
+pub returns-clause-update : goal.returns-clause-update
+returns-clause-update g c = λ w. refl
+
+pub returns-in-Ok-clause-missing : goal.returns-in-Ok-clause-missing
+returns-in-Ok-clause-missing g c = sym (ap (λ (b : Bool). if b then None else Some c.args.key) (key_there g.K.Ord.cmp _ _ c.in-Ok.index (c.in-Ok.ensures {u = tt}).found))
+
+pub returns-clause-missing : goal.returns-clause-missing
+returns-clause-missing g c = sym (ap (λ (b : Bool). if b then None else Some c.args.key) (key_absent g.K.Ord.cmp _ _ (c.in-Err.ensures {u = tt}).absent))
+
+pub returns-in-Ok-clause-removal : goal.returns-in-Ok-clause-removal
+returns-in-Ok-clause-removal g c = without_found g.K.Ord.cmp c.args.self.now c.args.key c.in-Ok.index (c.in-Ok.ensures {u = tt}).found g.met.K.Ord.total c.find.ensures.ascending
+
+pub returns-clause-removal : goal.returns-clause-removal
+returns-clause-removal g c = sym (without_absent g.K.Ord.cmp c.args.self.now c.args.key (key_absent g.K.Ord.cmp _ _ (c.in-Err.ensures {u = tt}).absent))

@@ -1,0 +1,75 @@
+-- What a contract sees of a map: its pairs in order, how long the nodes are that hold them, and how long a node is at most.
+use Rattle.std.specs.Prelude.{◌≡◌, ℕ, List, [], ◌∷◌, map, refl, if◌then◌else◌, length, remove, slice_get, slice_set}
+use Rattle.std.specs.Coded.{Coded, code_by, coded×, coded_ℕ, coded_list}
+use Rattle.std.specs.Borrow.{Bor}
+use Rattle.std.specs.Option.{option_map_or}
+use Rattle.std.proofs.Common.{ap, Some, None, length-set}
+use Rattle.std.specs.declared.cmp.Ordering.{Ordering}
+use Rattle.indexset_core.specs.declared.pair.Pair.{Pair}
+use Rattle.indexset_core.specs.Nodes.{node_lengths}
+use Rattle.indexset_spine.specs.Cut.{Cut, items}
+use Rattle.indexset_core.specs.Pairs.{pair, entry_of, valued, has_key, key_rank, set_value_at, set_value, put_value, without_key}
+use Rattle.indexset_map.specs.Lengths.{lengths_with, lengths_without}
+
+pub record Contents (K V : Type 0) : Type 0 where
+  pub pairs : List (Pair K V)
+  pub lengths : List ℕ
+  pub size : ℕ
+
+module _ {K V : Type 0} where
+  abbrev pub contents : Cut (Pair K V) → Contents K V
+  contents s = record { pairs = items s; lengths = node_lengths s.nodes; size = s.size }
+
+  -- the map with other pairs in nodes of the same lengths
+  abbrev pub with_pairs : Contents K V → List (Pair K V) → Contents K V
+  with_pairs m l = record { pairs = l; lengths = m.lengths; size = m.size }
+
+  -- the map, once w is the value at the position
+  abbrev pub with_value_at : Contents K V → ℕ → V → Contents K V
+  with_value_at m i w = with_pairs m (set_value_at m.pairs i w)
+
+  -- the map without the pair at the position
+  abbrev pub without_at : Contents K V → ℕ → Contents K V
+  without_at m i = record { pairs = remove m.pairs i; lengths = lengths_without m.lengths i; size = m.size }
+
+  module _ (cmp : K → K → Ordering) where
+    -- the map, once w is the value of the key if it is there
+    abbrev pub with_value : Contents K V → K → V → Contents K V
+    with_value m k w = with_pairs m (set_value cmp m.pairs k w)
+
+    -- the map, once w is the value of the key, which is put where it is not there
+    abbrev pub with_put : Contents K V → K → V → Contents K V
+    with_put m k w = record {
+      pairs = put_value cmp m.pairs k w;
+      lengths = if has_key cmp m.pairs k then m.lengths else lengths_with m.size m.lengths (key_rank cmp m.pairs k);
+      size = m.size;
+    }
+
+    -- the map without the pair of the key
+    abbrev pub without_pair : Contents K V → K → Contents K V
+    without_pair m k = record {
+      pairs = without_key cmp m.pairs k;
+      lengths = if has_key cmp m.pairs k then lengths_without m.lengths (key_rank cmp m.pairs k) else m.lengths;
+      size = m.size;
+    }
+
+  pub pairs_back : (l : List (Pair K V)) → map (λ e. pair e.0 e.1) (map entry_of l) ≡ l
+  pairs_back [] = refl
+  pairs_back (p ∷ l) = ap (λ t. p ∷ t) (pairs_back l)
+
+  abbrev pub pairs_code : Coded K → Coded V → Coded (List (Pair K V))
+  pairs_code k v = code_by (List (K × V)) (coded_list (coded× k v)) (λ l. map entry_of l) (λ e. map (λ t. pair t.0 t.1) e) pairs_back
+
+  -- what a `(&K, &V)` points to
+  abbrev pub pair_shown : Bor K × Bor V → Pair K V
+  pair_shown p = pair p.0.now p.1.now
+
+  abbrev pub contents_code : Coded K → Coded V → Coded (Contents K V)
+  contents_code k v = code_by (List (K × V) × (List ℕ × ℕ)) (coded× (coded_list (coded× k v)) (coded× (coded_list coded_ℕ) coded_ℕ)) (λ m. (map entry_of m.pairs, (m.lengths, m.size)))
+      (λ e. record { pairs = map (λ t. pair t.0 t.1) e.0; lengths = e.1.0; size = e.1.1 }) (λ m. ap (λ l. with_pairs m l) (pairs_back m.pairs))
+
+  pub length-with_value_at : (l : List (Pair K V)) (i : ℕ) (w : V) → length (set_value_at l i w) ≡ length l
+  length-with_value_at l i w = elim (slice_get l i) as (λ o. length (option_map_or (λ p. slice_set l i (valued p w)) o l) ≡ length l) [
+    | Some p ↦ length-set l i (valued p w)
+    | None ↦ refl
+  ]

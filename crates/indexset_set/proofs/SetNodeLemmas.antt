@@ -1,0 +1,47 @@
+-- The nodes of a set, by whether an equal element is there.
+use Rattle.std.proofs.Common.{◌≡◌, Bool, true, false, List, Ordering, if◌then◌else◌, refl, ap, sym, ◌∙◌}
+use Rattle.indexset_spine.specs.declared.spot.Spot.{Spot}
+use Rattle.indexset_core.specs.Nodes.{joined, node_at, node_for}
+use Rattle.indexset_spine.specs.Cut.{Cut, items, with_inserted, with_replaced, without_item}
+use Rattle.indexset_core.specs.Order.{has_equal}
+use Rattle.indexset_core.specs.Parted.{less_count}
+use Rattle.indexset_set.specs.SetNodes.{spot_of, nodes_kept, nodes_put, nodes_without}
+
+module _ {T : Type 0} (cmp : T → T → Ordering) where
+  -- a search that answers the place of w, which is v
+  pub spot_told : (ns : List (List T)) (v w : T) (s : Spot) → w ≡ v → s.node ≡ node_for (λ x. cmp x w) ns → s.offset ≡ less_count (λ x. cmp x w) (node_at ns s.node) → s.found ≡ has_equal cmp (joined ns) v → s ≡ spot_of cmp ns v
+  spot_told ns v w s same node offset found =
+      let node' : s.node ≡ node_for (λ x. cmp x v) ns = node ∙ ap (λ u. node_for (λ x. cmp x u) ns) same in
+      let offset' : s.offset ≡ less_count (λ x. cmp x v) (node_at ns (node_for (λ x. cmp x v) ns))
+      = offset ∙ (ap (λ u. less_count (λ x. cmp x u) (node_at ns s.node)) same ∙ ap (λ k. less_count (λ x. cmp x v) (node_at ns k)) node') in
+      λ j. record { node = node' j; offset = offset' j; found = found j }
+
+  module _ (s : Cut T) (v : T) where
+    pub kept_there : has_equal cmp (items s) v ≡ true → nodes_kept cmp s v ≡ s.nodes
+    unfolding nodes_kept
+    kept_there h = rw h refl
+
+    pub without_none : has_equal cmp (items s) v ≡ false → nodes_without cmp s v ≡ s.nodes
+    unfolding nodes_without
+    without_none h = rw h refl
+
+    -- what an edit at the place of a search left
+    module _ (spot : Spot) (t : List (List T)) (place : spot ≡ spot_of cmp s.nodes v) where
+      new : List (List T)
+      new = with_inserted s.size s.nodes (spot_of cmp s.nodes v) v
+
+      pub kept_new : has_equal cmp (items s) v ≡ false → t ≡ with_inserted s.size s.nodes spot v → t ≡ nodes_kept cmp s v
+      unfolding nodes_kept new
+      kept_new h is = is ∙ (ap (λ p. with_inserted s.size s.nodes p v) place ∙ sym (ap (λ (b : Bool). if b then s.nodes else new) h))
+
+      pub put_new : has_equal cmp (items s) v ≡ false → t ≡ with_inserted s.size s.nodes spot v → t ≡ nodes_put cmp s v
+      unfolding nodes_put new
+      put_new h is = is ∙ (ap (λ p. with_inserted s.size s.nodes p v) place ∙ sym (ap (λ (b : Bool). if b then with_replaced s.nodes (spot_of cmp s.nodes v) v else new) h))
+
+      pub put_there : has_equal cmp (items s) v ≡ true → t ≡ with_replaced s.nodes spot v → t ≡ nodes_put cmp s v
+      unfolding nodes_put new
+      put_there h is = is ∙ (ap (λ p. with_replaced s.nodes p v) place ∙ sym (ap (λ (b : Bool). if b then with_replaced s.nodes (spot_of cmp s.nodes v) v else new) h))
+
+      pub without_there : has_equal cmp (items s) v ≡ true → t ≡ without_item s.nodes spot → t ≡ nodes_without cmp s v
+      unfolding nodes_without
+      without_there h is = is ∙ (ap (λ p. without_item s.nodes p) place ∙ sym (ap (λ (b : Bool). if b then without_item s.nodes (spot_of cmp s.nodes v) else s.nodes) h))

@@ -1,0 +1,84 @@
+//! Calls on a set of pairs that write values.
+ghost use Rattle.std.specs.Prelude.{◌≡◌, ◌<◌, Some, length, nat_lt, slice_get};
+ghost use Rattle.std.specs.Map.Iter.{deref_pair_mut};
+ghost use Rattle.std.specs.Option.{option_copied_mut, option_map};
+ghost use Rattle.std.specs.Borrow.{sem};
+ghost use Rattle.std.specs.List.Retain.{RetainsInTurn};
+ghost use Rattle.indexset_spine.specs.Cut.{items};
+ghost use Rattle.indexset_core.specs.Pairs.{entry_of, CalledOnPair};
+
+use super::BTreeSet;
+use indexset_core::pair::Pair;
+
+impl<K: Ord, V> BTreeSet<Pair<K, V>> {
+    ghost use Rattle.indexset_set.specs.SetLends.{lends_value, lends_pair, lends_pair_if, lends_value_if};
+
+    /// The value at a position, to write, where there is one.
+    pub fn value_mut(&mut self, i: usize) -> Option<&mut V>
+        ensures* writes_back { sem 𝓛 (lends_value_if K.row V.row K.Ord self.entry i result) }
+        ensures value { option_copied_mut result ≡ option_map (λ p. p.value) (slice_get (items self.old) i) }
+    {
+        if i < self.spine.len() {
+            Some(self.value_at_mut(i))
+        } else {
+            None
+        }
+    }
+
+    /// The pair at a position, its value to write, where there is one.
+    pub fn pair_mut(&mut self, i: usize) -> Option<(&K, &mut V)>
+        ensures* writes_back { sem 𝓛 (lends_pair_if K.row V.row K.Ord self.entry i result) }
+        ensures value { option_map deref_pair_mut result ≡ option_map entry_of (slice_get (items self.old) i) }
+    {
+        let has = self.reaches(i);
+        if has {
+            return Some(self.pair_at_mut(i));
+        }
+        None
+    }
+
+    // Whether a position has a pair, of a set that is lent to write.
+    fn reaches(&mut self, i: usize) -> bool
+        ensures { (result ≡ nat_lt i (length (items self.old))) × (self.new ≡ self.old) }
+    {
+        i < self.spine.len()
+    }
+
+    /// The pair at a position, its value to write.
+    pub fn pair_at_mut(&mut self, i: usize) -> (&K, &mut V)
+        requires { i < length (items self.old) }
+        ensures* writes_back { sem 𝓛 (lends_pair K.row V.row K.Ord self.entry i result) }
+        ensures value { option_map entry_of (slice_get (items self.old) i) ≡ Some (result.0.now, result.1.now) }
+    {
+        let pair = self.spine.get_mut(i).unwrap();
+        (&pair.key, &mut pair.value)
+    }
+
+    // The value at a position, to write.
+    fn value_at_mut(&mut self, i: usize) -> &mut V
+        requires { i < length (items self.old) }
+        ensures* writes_back { sem 𝓛 (lends_value K.row V.row K.Ord self.entry i result) }
+        ensures value { option_map (λ p. p.value) (slice_get (items self.old) i) ≡ Some result.now }
+    {
+        let pair = self.spine.get_mut(i).unwrap();
+        &mut pair.value
+    }
+}
+
+impl<K: Ord + Drop, V: Drop> BTreeSet<Pair<K, V>> {
+    /// Asks the closure once a pair, in order, and keeps the pairs for which it answered true, with the
+    /// values that it left. It takes no memory.
+    pub fn retain_pairs<F: FnMut(&K, &mut V) -> bool>(&mut self, mut f: F)
+        requires { F.IsAlwaysCallable f }
+        ensures kept { RetainsInTurn (CalledOnPair F.FnMut) f (items self.old) (items self.new) }
+        ensures size { self.new.size ≡ self.old.size }
+    {
+        self.spine.retain_mut(
+            |pair: &mut Pair<K, V>| -> bool
+                requires { F.IsAlwaysCallable f }
+                ensures called { CalledOnPair F.FnMut f.entry pair.old result f.exit pair.new }
+                ensures again { F.IsAlwaysCallable f.exit }
+            { f(&pair.key, &mut pair.value) },
+        );
+    }
+}
