@@ -19,7 +19,7 @@ pub on_err : {T E P : Type 0} (r : Result T E) → P → OnErr r P
 on_err (Ok x) p = tt
 on_err (Err e) p = p
 
--- a node that is cut in two stands in its place
+-- a node that is cut in two is two nodes
 module _ {A : Type 0} (ns : List A) (k : ℕ) (l r : A) (h : k < length ns) where
   before : length (take k ns) ≡ k
   before = length-take-le k ns (omega arith)
@@ -108,7 +108,7 @@ module _ {X Z : Type 0} where
   pub node_len : (vs : List (Vec X Z)) (k : ℕ) (u : Vec X Z) → k < length (vec_items vs) → u ≡ get_or vs k u → length (node_at (vec_items vs) k) ≡ vec_len u
   node_len vs k u h at = ap (λ (n : List X). length n) (node_is vs k u h at) ∙ sym u.ok.0
 
-  -- a place in a node that has room
+  -- a spot in a node that has room
   pub room_puts : (vs : List (Vec X Z)) (s : Spot) (u w : Vec X Z) (size : ℕ) (v : X) → s.node < length (vec_items vs) → u ≡ get_or vs s.node u → w.items ≡ u.items → length (node_at (vec_items vs) s.node) < size → with_item_in (vec_items (slice_set vs s.node w)) s v ≡ with_inserted size (vec_items vs) s v
   room_puts vs s u w size v h at is short =
       ap (λ ns. with_item_in ns s v) (lists_kept vs s.node u w h at is) ∙ put_short size (vec_items vs) s v h short
@@ -167,7 +167,7 @@ module _ {X Z : Type 0} where
         let n : vec_len w ≡ length (take (length u.items / 2) u.items) = w.ok.0 ∙ ap (λ (l : List X). length l) left in
         subst (λ (v : Vec X Z). vec_len v < vec_capacity v) (sym e) (omega (arith, n, room, two_in two, u.ok, length-take (length u.items / 2) u.items))
 
--- a place, in the nodes as the code holds them
+-- a spot, in the nodes as the code holds them
 module _ {X : Type 0} where
   pub spot_in : (ns : List (List X)) (n : ℕ) (t : Cut X) (s : Spot) → cut ns n ≡ t → IsSpot t.nodes s → IsSpot ns s
   spot_in ns n t s e h = subst (λ (t : Cut X). IsSpot t.nodes s) (sym e) h

@@ -15,7 +15,7 @@ use Rattle.indexset_core.proofs.CallerLemmas.{length-joined-more, length-joined-
 use Rattle.indexset_spine.proofs.VecNodes.{node_read}
 
 module _ {X : Type 0} where
-  -- the items up to a place
+  -- the items up to a spot
   take_place : (ns : List (List X)) (k o : ℕ) → k < length ns → o ≤ length (node_at ns k) → take (length (joined (take k ns)) + o) (joined ns) ≡ joined (take k ns) ++ take o (node_at ns k)
   take_place [] k o lt le = absurd (omega arith)
   take_place (n ∷ ns) zero o lt le = let e : 0 + o ≡ o = omega arith in rw e (take-append-le o n (joined ns) le)
@@ -25,7 +25,7 @@ module _ {X : Type 0} where
       ∙ (take-append-add n (joined ns) (length (joined (take k ns)) + o)
       ∙ (ap (λ l. n ++ l) (take_place ns k o (omega arith) le) ∙ sym (append_assoc n (joined (take k ns)) (take o (node_at ns k)))))
 
-  -- the items from a place on
+  -- the items from a spot on
   drop_place : (ns : List (List X)) (k o : ℕ) → k < length ns → o ≤ length (node_at ns k) → drop (length (joined (take k ns)) + o) (joined ns) ≡ drop o (node_at ns k) ++ joined (drop (suc k) ns)
   drop_place [] k o lt le = absurd (omega arith)
   drop_place (n ∷ ns) zero o lt le = let e : 0 + o ≡ o = omega arith in rw e (drop-append-le o n (joined ns) le)
@@ -34,7 +34,7 @@ module _ {X : Type 0} where
       ap (λ m. drop m (n ++ joined ns)) e ∙ (drop-append-add n (joined ns) (length (joined (take k ns)) + o) ∙ drop_place ns k o (omega arith) le)
 
   module _ (ns : List (List X)) (k o l q : ℕ) (lt : l < length ns) (to : q ≤ length (node_at ns l)) where
-    -- the items between two places of one node
+    -- the items between two spots of one node
     between_in : k ≡ l → between (length (joined (take k ns)) + o) (length (joined (take l ns)) + q) (joined ns) ≡ between o q (node_at ns l)
     between_in e =
         between_is (joined ns) _ _
@@ -57,7 +57,7 @@ module _ {X : Type 0} where
         ∙ (ap (λ m. m ++ take q (node_at ns l)) (rw (same, node, ← add-one, ← between_is) at cut_up)
         ∙ append_assoc (drop o (node_at ns k)) (joined (between (k + 1) l ns)) (take q (node_at ns l)))))
 
-  -- the earlier of two places stands in no later node
+  -- the earlier of two spots stands in no later node
   places_order : (ns : List (List X)) (k o l q : ℕ) → l < length ns → q < length (node_at ns l) → length (joined (take k ns)) + o ≤ length (joined (take l ns)) + q → k ≤ l
   places_order ns k o l q lt inside le = elim (cases_lt l k) [
     | inl below ↦ absurd (omega (arith, length-joined-more ns l lt, length-joined-mono ns (l + 1) k (omega arith)))
@@ -76,7 +76,7 @@ module _ {X Z : Type 0} where
   between-vec_items : (vs : List (Vec X Z)) (i j : ℕ) → vec_items (between i j vs) ≡ between i j (vec_items vs)
   between-vec_items vs i j = sym (ap (λ l. take (j - i) l) (drop-map (λ (z : Vec X Z). z.items) i vs) ∙ take-map (λ (z : Vec X Z). z.items) (j - i) (drop i vs))
 
-  -- the parts of a walk from the item at the place p through the one at q, which stands in the node v
+  -- the parts of a walk from the item at the spot p through the one at q, which stands in the node v
   module _ (vs : List (Vec X Z)) (p q : Spot) (v : Vec X Z) (start : IsItemSpot (vec_items vs) p) (stop : IsItemSpot (vec_items vs) q) (at : v ≡ get_or vs q.node v) where
     in_vs : q.node < length vs
     in_vs = omega (arith, stop.node_in, length-vec_items vs)
