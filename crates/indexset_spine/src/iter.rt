@@ -47,7 +47,7 @@ impl<'a, T> Iter<'a, T> {
         }
     }
 
-    /// The `left` items from the one at a place through the one at another.
+    /// The `left` items from the one at a spot through the one at another.
     pub(crate) fn through(nodes: &'a [Vec<T>], start: &Spot, end: &Spot, left: usize) -> Self
         requires start { IsItemSpot (vec_items nodes.now) start.now }
         requires end { IsItemSpot (vec_items nodes.now) end.now }
