@@ -1,11 +1,11 @@
 //! A shared walk of a spine from both ends.
-ghost use Rattle.std.specs.Prelude.{◌≡◌, ◌+◌, ◌≤◌, length, List, IfSome, Some};
+ghost use Rattle.std.specs.Prelude.{◌≡◌, ◌+◌, length, List, IfSome, Some};
 ghost use Rattle.std.specs.List.{between};
 ghost use Rattle.std.specs.Iterator.{UpTo, at_most};
 ghost use Rattle.std.specs.Iterator.SizeHint.{IsWithinCount};
 ghost use Rattle.std.specs.Map.Iter.{TakesFirst, TakesLast, ShowsInOrder, ShowsInReverse, deref};
 ghost use Rattle.indexset_core.specs.Nodes.{joined};
-ghost use Rattle.indexset_spine.specs.Cut.{items, vec_items, IsItemSpot, position_of};
+ghost use Rattle.indexset_spine.specs.Cut.{items, vec_items, IsSpot, position_of};
 
 use crate::spine::Spine;
 use crate::spot::Spot;
@@ -47,18 +47,20 @@ impl<'a, T> Iter<'a, T> {
         }
     }
 
-    /// The `left` items from the one at a place through the one at another.
-    pub(crate) fn through(nodes: &'a [Vec<T>], start: &Spot, end: &Spot, left: usize) -> Self
-        requires start { IsItemSpot (vec_items nodes.now) start.now }
-        requires end { IsItemSpot (vec_items nodes.now) end.now }
-        requires some { 1 ≤ left }
-        requires left { position_of (vec_items nodes.now) start.now + left ≡ position_of (vec_items nodes.now) end.now + 1 }
-        ensures { result ≡ between (position_of (vec_items nodes.now) start.now) (position_of (vec_items nodes.now) end.now + 1) (joined (vec_items nodes.now)) }
+    /// The `left` items from one spot up to another.
+    pub(crate) fn from_to(nodes: &'a [Vec<T>], start: &Spot, end: &Spot, left: usize) -> Self
+        requires start { IsSpot (vec_items nodes.now) start.now }
+        requires end { IsSpot (vec_items nodes.now) end.now }
+        requires left { position_of (vec_items nodes.now) start.now + left ≡ position_of (vec_items nodes.now) end.now }
+        ensures { result ≡ between (position_of (vec_items nodes.now) start.now) (position_of (vec_items nodes.now) end.now) (joined (vec_items nodes.now)) }
     {
+        if left == 0 {
+            return Iter::over(&[], 0);
+        }
         let first = nodes[start.node].as_slice();
         if start.node == end.node {
             return Iter {
-                front: &first[start.offset..end.offset + 1],
+                front: &first[start.offset..end.offset],
                 middle: &[],
                 back: &[],
                 left,
@@ -68,7 +70,7 @@ impl<'a, T> Iter<'a, T> {
         Iter {
             front: &first[start.offset..],
             middle: &nodes[start.node + 1..end.node],
-            back: &last[..end.offset + 1],
+            back: &last[..end.offset],
             left,
         }
     }
