@@ -11,6 +11,7 @@ ghost use Rattle.indexset_spine.specs.Cut.{items, vec_items, IsCut, IsSpot, IsIt
 
 mod insert;
 mod make;
+mod part;
 mod remove;
 mod retain;
 mod split;
@@ -195,13 +196,8 @@ impl<T> Spine<T> {
         ensures runs { ShowsInOrder (deref {X = T}) }
         ensures runs_back { ShowsInReverse (deref {X = T}) }
     {
-        if i == j {
-            return Iter::over(&[], 0);
-        }
-        match (self.spot(i), self.spot(j - 1)) {
-            (Some(start), Some(end)) => Iter::through(self.nodes.as_slice(), &start, &end, j - i),
-            _ => unreachable!(),
-        }
+        let (start, end) = (self.spot_after(i), self.spot_after(j));
+        Iter::from_to(self.nodes.as_slice(), &start, &end, j - i)
     }
 
     // The item at a spot, to write.
