@@ -3,6 +3,7 @@ pub mod MergeLemmas
 pub mod SetAlgebraLaws
 pub mod SetAlgebraLemmas
 pub mod SetBulkLemmas
+pub mod SetCloneLemmas
 pub mod SetMemberLemmas
 pub mod SetNodeLemmas
 pub mod SetPairLemmas

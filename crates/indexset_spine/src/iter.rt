@@ -7,6 +7,8 @@ ghost use Rattle.std.specs.Map.Iter.{TakesFirst, TakesLast, ShowsInOrder, ShowsI
 ghost use Rattle.indexset_core.specs.Nodes.{joined};
 ghost use Rattle.indexset_spine.specs.Cut.{items, vec_items, IsSpot, position_of};
 
+mod traits;
+
 use crate::spine::Spine;
 use crate::spot::Spot;
 use std::iter::FusedIterator;

@@ -22,6 +22,7 @@ use crate::spot::Spot;
 use crate::{lengths, locate};
 use indexset_core::probe::Probe;
 use indexset_core::search;
+use std::alloc::Global;
 use std::marker::Model;
 
 /// A list that is cut into nodes of at most a given number of items each.
@@ -53,6 +54,11 @@ impl<T> Spine<T> {
         ensures two { 2 ≤ result }
     {
         self.size
+    }
+
+    /// What the nodes take memory of.
+    pub fn allocator(&self) -> &Global {
+        self.nodes.allocator()
     }
 
     /// How many nodes there are.
