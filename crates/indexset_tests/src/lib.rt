@@ -3,6 +3,8 @@
 #![tactic(auto)]
 
 #[cfg(test)]
+mod map;
+#[cfg(test)]
 mod node;
 #[cfg(test)]
 mod probe;
@@ -10,6 +12,8 @@ mod probe;
 mod program;
 #[cfg(test)]
 mod readme;
+#[cfg(test)]
+mod run_map;
 #[cfg(test)]
 mod run_set;
 #[cfg(test)]
