@@ -7,6 +7,8 @@ mod map;
 #[cfg(test)]
 mod node;
 #[cfg(test)]
+mod paths;
+#[cfg(test)]
 mod probe;
 #[cfg(test)]
 mod program;
