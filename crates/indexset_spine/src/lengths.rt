@@ -38,9 +38,9 @@ pub(crate) fn find_in<T>(nodes: &[Vec<T>], position: usize) -> Option<(usize, us
     ensures { MatchOption result (length (joined (vec_items nodes.now)) ≤ position) (λ p. (p.0 < length nodes.now) × (p.1 < length (node_at (vec_items nodes.now) p.0)) × (length (joined (take p.0 (vec_items nodes.now))) + p.1 ≡ position)) }
 {
     let mut left = position;
-    for (place, node) in nodes.iter().enumerate() {
+    for (k, node) in nodes.iter().enumerate() {
         if left < node.len() {
-            return Some((place, left));
+            return Some((k, left));
         }
         left -= node.len();
     }

@@ -3,7 +3,11 @@
 #![tactic(auto)]
 
 #[cfg(test)]
+mod map;
+#[cfg(test)]
 mod node;
+#[cfg(test)]
+mod paths;
 #[cfg(test)]
 mod probe;
 #[cfg(test)]
@@ -12,6 +16,7 @@ mod program;
 mod readme;
 #[cfg(test)]
 mod refusal;
+mod run_map;
 #[cfg(test)]
 mod run_set;
 #[cfg(test)]
