@@ -7,12 +7,15 @@ ghost use Rattle.indexset_spine.specs.Cut.{IsSpine};
 ghost use Rattle.indexset_core.specs.Order.{IsAscending};
 ghost use Rattle.indexset_core.specs.Pairs.{by_key, entry_of, has_key, key_rank, pair_of};
 
+pub mod cursor;
 mod edits;
 pub mod entry;
 pub mod iter;
 pub mod iter_mut;
 mod lookup;
 mod make;
+pub mod range;
+pub mod range_mut;
 pub mod values_mut;
 
 use indexset_core::pair::Pair;

@@ -1,0 +1,29 @@
+-- How many keys stand before or up to a bound, and the pairs that two such counts cut out.
+use Rattle.std.proofs.Common.{◌≡◌, ℕ, ◌+◌, true, List, [], ◌∷◌, take, drop, filter, Ordering, Some, None, ◌&&◌, refl, ap, sym, ◌∙◌, arith}
+use Rattle.std.specs.Cmp.{IsTotalOrder, on_total}
+use Rattle.std.specs.List.{between, count_by, position}
+use Rattle.std.specs.Ordering.{is_eq, is_le}
+use Rattle.std.specs.Range.Bound.{bound_map}
+use Rattle.std.specs.declared.ops.Bound.{Bound}
+use Rattle.std.specs.declared.ops.Bound.TheVariants.{Included, Excluded, Unbounded}
+use Rattle.indexset_core.specs.declared.pair.Pair.{Pair}
+use Rattle.indexset_core.specs.Bounds.{are_ordered, is_from_start, is_up_to_end, in_range}
+use Rattle.indexset_core.specs.Order.{IsAscending}
+use Rattle.indexset_core.specs.Pairs.{pair, by_key, key_rank}
+use Rattle.indexset_core.proofs.CallerLemmas.{absent_gap, key_absent, key_found, key_inside, parted_by_key}
+use Rattle.indexset_set.specs.SetRanges.{is_before}
+use Rattle.indexset_set.proofs.SetRangeLemmas.{found_not_above, gap_not_above}
+
+module _ {K V : Type 0} (cmp : K → K → Ordering) (o : IsTotalOrder cmp) where
+  pairs_total : IsTotalOrder (by_key {V = V} cmp)
+  pairs_total = on_total (λ (p : Pair K V). p.key) o
+
+  -- how many keys are not above a key that is there, or is not
+  pub past_found : (l : List (Pair K V)) → IsAscending (by_key cmp) l → (k : K) (i : ℕ) → position (λ p. is_eq (cmp p.key k)) l ≡ Some i → i + 1 ≡ count_by (λ p. is_le (cmp p.key k)) l
+  past_found [] up k i h = let lt = key_inside {V = V} cmp [] k i h in absurd (omega (arith, lt))
+  past_found (p ∷ l) up k i h = sym (found_not_above (by_key cmp) (p ∷ l) (pair k p.value) i pairs_total up (key_found cmp (p ∷ l) k i h (parted_by_key cmp o (p ∷ l) up k) p.value))
+
+  pub past_absent : (l : List (Pair K V)) → IsAscending (by_key cmp) l → (k : K) (i : ℕ) → position (λ p. is_eq (cmp p.key k)) l ≡ None → i ≡ key_rank cmp l k → i ≡ count_by (λ p. is_le (cmp p.key k)) l
+  past_absent [] up k i h place = place
+  past_absent (p ∷ l) up k i h place =
+      sym (gap_not_above (by_key cmp) (p ∷ l) (pair k p.value) i (absent_gap cmp (p ∷ l) k (key_absent cmp (p ∷ l) k h) (parted_by_key cmp o (p ∷ l) up k) i place p.value))
