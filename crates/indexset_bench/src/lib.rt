@@ -2,9 +2,11 @@
 #![tactic(auto)]
 
 mod command;
+pub mod command_run;
 mod fault;
 pub mod laws;
 mod line;
+pub mod map_run;
 mod program;
 mod reply;
 pub mod set_run;
