@@ -3,15 +3,13 @@ use Rattle.std.proofs.Common.{◌≡◌, ℕ, zero, suc, ◌+◌, ◌-◌, ◌<�
 use Rattle.std.specs.Cmp.{IsTotalOrder}
 use Rattle.std.specs.declared.ops.Bound.{Bound}
 use Rattle.std.specs.declared.ops.Bound.TheVariants.{Included, Excluded, Unbounded}
-use Rattle.std.specs.declared.cmp.Ordering.TheVariants.{Less, Equal, Greater}
 use Rattle.std.specs.List.{AllWithin, between, count_by, position_or_len}
-use Rattle.std.specs.Ordering.{is_lt, is_le, is_gt, is_ge}
+use Rattle.std.specs.Ordering.{is_le, is_lt}
 use Rattle.indexset_core.specs.declared.pair.Pair.{Pair}
-use Rattle.indexset_core.specs.Bounds.{is_from_start, is_up_to_end, is_within}
+use Rattle.indexset_core.specs.Bounds.{is_before, is_from_start, is_up_to_end, is_within}
 use Rattle.indexset_core.specs.Order.{IsAscending}
 use Rattle.indexset_core.specs.Pairs.{by_key}
-use Rattle.indexset_core.proofs.CallerLemmas.{Parts, count_parted, count_parts, front-is_le, front-is_lt, parted_by_key}
-use Rattle.indexset_set.specs.SetRanges.{is_before}
+use Rattle.indexset_core.proofs.CallerLemmas.{Parts, count_parted, count_parts, front-is_le, front-is_lt, not_before, parted_by_key}
 use Rattle.indexset_map.specs.Walk.{IsSpan}
 
 and_no : (a : Bool) → (a && false) ≡ false
@@ -57,22 +55,7 @@ module _ {X : Type 0} where
         rw (before 0 x (omega arith) (omega arith)) (t.0, ap (λ ys. x ∷ ys) t.1)
 
 -- keys between two bounds
-not_less : (a : Ordering) → not (is_lt a) ≡ is_ge a
-not_less Less = refl
-not_less Equal = refl
-not_less Greater = refl
-
-not_le : (a : Ordering) → not (is_le a) ≡ is_gt a
-not_le Less = refl
-not_le Equal = refl
-not_le Greater = refl
-
 module _ {K V : Type 0} (cmp : K → K → Ordering) where
-  not_before : (start : Bound K) → ◌≡◌ {A = Pair K V → Bool} (λ p. not (is_before cmp start p.key)) (λ p. is_from_start cmp start p.key)
-  not_before (Included a) = λ j p. not_less (cmp p.key a) j
-  not_before (Excluded a) = λ j p. not_le (cmp p.key a) j
-  not_before Unbounded = refl
-
   module _ (o : IsTotalOrder cmp) (l : List (Pair K V)) (up : IsAscending (by_key cmp) l) where
     before_parts : (start : Bound K) → Parts (λ p. is_before cmp start p.key) l (count_by (λ p. is_before cmp start p.key) l)
     before_parts (Included a) = count_parts is_lt front-is_lt (λ p. cmp p.key a) l (parted_by_key cmp o l up a)
@@ -90,13 +73,13 @@ module _ {K V : Type 0} (cmp : K → K → Ordering) where
         let inside = (before_parts start).inside in
         let there : position_or_len (λ p. not (is_before cmp start p.key)) l ≡ count_by (λ p. is_before cmp start p.key) l = first_passing (λ p. is_before cmp start p.key) l _ (before_parts start) in
         let here : i ≡ position_or_len (λ p. not (is_before cmp start p.key)) l = omega (arith, inside, there, f, len, clip) in
-        here ∙ ap (λ (r : Pair K V → Bool). position_or_len r l) (not_before start)
+        here ∙ ap (λ (r : Pair K V → Bool). position_or_len r l) (λ k p. not_before cmp o start p.key k)
 
     -- the keys between two bounds are one span
     key_span : (start end : Bound K) → IsSpan (λ p. is_within cmp start end p.key) l (min (count_by (λ p. is_before cmp start p.key) l) (count_by (λ p. is_up_to_end cmp end p.key) l)) (count_by (λ p. is_up_to_end cmp end p.key) l)
     key_span start end =
         subst (λ (f : Pair K V → Bool). IsSpan f l (min (count_by (λ p. is_before cmp start p.key) l) (count_by (λ p. is_up_to_end cmp end p.key) l)) (count_by (λ p. is_up_to_end cmp end p.key) l))
-        (λ j p. not_before start j p && is_up_to_end cmp end p.key) (span_of (λ p. is_before cmp start p.key) (λ p. is_up_to_end cmp end p.key) l _ _ (before_parts start) (up_to_parts end))
+        (λ k p. not_before cmp o start p.key k && is_up_to_end cmp end p.key) (span_of (λ p. is_before cmp start p.key) (λ p. is_up_to_end cmp end p.key) l _ _ (before_parts start) (up_to_parts end))
 
     -- the same where a walk clips both counts to the length
     pub key_walk : (start end : Bound K) (i j from to : ℕ) → from ≡ count_by (λ p. is_before cmp start p.key) l → to ≡ count_by (λ p. is_up_to_end cmp end p.key) l → j ≡ min to (length l) → i ≡ min from j → IsSpan (λ p. is_within cmp start end p.key) l i j

@@ -17,6 +17,8 @@ mod readme;
 #[cfg(test)]
 mod run_map;
 #[cfg(test)]
+mod refusal;
+#[cfg(test)]
 mod run_set;
 #[cfg(test)]
 mod set;

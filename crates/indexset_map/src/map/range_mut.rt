@@ -1,7 +1,8 @@
 //! Walks that lend the values between two bounds on keys, or between two positions, one at a time.
-ghost use Rattle.std.specs.Prelude.{◌≡◌, IsTrue, filter, length, min};
+ghost use Rattle.std.specs.Prelude.{◌≡◌, IsTrue, length, min};
 ghost use Rattle.std.specs.Range.Bound.{bound_map, end_index, start_index};
 ghost use Rattle.indexset_core.specs.Bounds.{are_ordered, in_positions, is_within};
+ghost use Rattle.indexset_core.specs.Pairs.{pairs_within};
 
 use super::BTreeMap;
 use super::iter_mut::IterMut;
@@ -29,10 +30,10 @@ impl<K: Ord, V> BTreeMap<K, V> {
         requires { IsTrue (are_ordered K.cmp (bound_map (λ k. k.now) range.0) (bound_map (λ k. k.now) range.1)) }
         ensures same_map { (walk_map result).ghost_name ≡ self.entry.ghost_name }
         ensures unchanged { (walk_map result).now ≡ self.old }
-        ensures rest { walk_rest result ≡ filter (λ p. is_within K.cmp (bound_map (λ k. k.now) range.entry.0) (bound_map (λ k. k.now) range.entry.1) p.key) self.old.pairs }
+        ensures rest { walk_rest result ≡ pairs_within K.cmp self.old.pairs (bound_map (λ k. k.now) range.entry.0) (bound_map (λ k. k.now) range.entry.1) }
         ensures span { IsSpan (λ p. is_within K.cmp (bound_map (λ k. k.now) range.entry.0) (bound_map (λ k. k.now) range.entry.1) p.key) self.old.pairs (walk_front result) (walk_back result) }
     {
-        // A map says here that its keys ascend.
+        // A map says here that its keys ascend, so the two positions cut out the range.
         let _len = self.len();
         let from = self.start_position(range.0);
         let to = self.end_position(range.1);
