@@ -9,15 +9,17 @@ ghost use Rattle.indexset_core.specs.Pairs.{by_key, entry_of, has_key, key_rank,
 
 mod bulk;
 mod compare;
+pub mod cursor;
 mod edits;
 pub mod entry;
 pub mod iter;
 pub mod iter_mut;
 mod lookup;
 mod make;
-pub mod values_mut;
 pub mod owned;
 pub mod range;
+pub mod range_mut;
+pub mod values_mut;
 
 use indexset_core::pair::Pair;
 use indexset_core::probe::ByKey;

@@ -16,6 +16,7 @@ mod program;
 mod readme;
 #[cfg(test)]
 mod refusal;
+#[cfg(test)]
 mod run_map;
 #[cfg(test)]
 mod run_set;
