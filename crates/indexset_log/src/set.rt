@@ -7,7 +7,10 @@ ghost use Rattle.indexset_core.specs.Order.{has_equal, equal_element};
 ghost use Rattle.indexset_core.specs.Parted.{IsParted};
 ghost use Rattle.indexset_log.specs.Located.{located, IsFoundIn};
 
+pub mod iter;
+pub mod nodes;
 mod put;
+pub mod range;
 mod remove;
 
 use crate::locate::node_by;
