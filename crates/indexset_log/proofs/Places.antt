@@ -1,79 +1,92 @@
 -- Where the places of a search stand, and what a walk between two places has left.
 use Rattle.std.proofs.Common.{◌≡◌, ℕ, zero, suc, ◌+◌, ◌-◌, ◌<◌, ◌≤◌, Bool, true, false, if◌then◌else◌, List, [], ◌∷◌, ◌++◌, length, map, take, drop, get_or, Result, Ok, Err, IfOk, IfErr, Ordering, refl, ap, sym, ◌∙◌, max, subst, arith, append_assoc, length-append}
 use Rattle.std.specs.Cmp.{IsTotalOrder}
-use Rattle.std.specs.List.{between, count_by}
-use Rattle.std.specs.Ordering.{is_le}
+use Rattle.std.specs.List.{All, between, count_by}
+use Rattle.std.specs.Ordering.{is_lt, is_le}
 use Rattle.std.proofs.lemmas.List.{append-nil, length-map, take-map, drop-map, take_all, take_rest, get_or-map}
+use Rattle.std.proofs.lemmas.Bool.{false≢true}
+use Rattle.std.proofs.lemmas.List.Sums.{count_by-le-length}
 use Rattle.std.proofs.lemmas.List.Edits.{length-between}
-use Rattle.indexset_core.specs.Nodes.{joined, node_at, node_for, equal_at}
+use Rattle.indexset_core.specs.Nodes.{joined, node_lengths, node_at, node_for, equal_at, IsLawful}
 use Rattle.indexset_core.specs.Order.{rank}
-use Rattle.indexset_core.specs.Parted.{less_count}
+use Rattle.indexset_core.specs.Parted.{IsParted, less_count}
 use Rattle.indexset_core.proofs.CallerLemmas.{between_in, between_across, found_not_above, gap_not_above, located_found, located_gap, node_read, offset-le, length-joined-mono, length-joined-more, parted_node, place_for}
 use Rattle.indexset_log.specs.Located.{located}
-use Rattle.indexset_log.specs.Nodes.{IsLawful}
 use Rattle.indexset_log.specs.Places.{IsPlace, items_before}
 use Rattle.indexset_log.proofs.Views.{lawful_filled, lawful_small, lawful_ascends, lawful_parted, equal_joined, node_inside}
 
--- where a search ends
-module _ {T : Type 0} (cmp : T → T → Ordering) (o : IsTotalOrder cmp) (v : T) where
+-- what is answered Equal is there
+equal_inside : {T : Type 0} (answer : T → Ordering) (l : List T) (i : ℕ) → equal_at answer l i ≡ true → i < length l
+equal_inside answer [] i e = absurd (false≢true e)
+equal_inside answer (x ∷ xs) zero e = omega arith
+equal_inside answer (x ∷ xs) (suc i) e = omega (arith, equal_inside answer xs i e)
+
+-- where a search ends: the place before the first item not answered Less, which the next one follows where it is answered Equal
+module _ {T : Type 0} (answer : T → Ordering) where
+  pub record IsEnd (found : Bool) (ns : List (List T)) (p : ℕ × ℕ) : Type 0 where
+    pub place : IsPlace ns p
+    pub after : found ≡ true → IsPlace ns (p.0, p.1 + 1)
+    pub before : items_before ns p ≡ less_count answer (joined ns)
+    pub equal : equal_at answer (joined ns) (less_count answer (joined ns)) ≡ found
+
+  abbrev Ends : List (List T) → Result (ℕ × ℕ) (ℕ × ℕ) → Type 0
+  Ends ns r = IfOk r (IsEnd true ns) × IfErr r (IsEnd false ns)
+
+  some_end : (ns : List (List T)) → All (λ n. 1 ≤ n) (node_lengths ns) → IsParted answer (joined ns) → 1 ≤ length ns → Ends ns (located answer ns)
+  some_end ns filled parted some =
+      let k = node_for answer ns in
+      let i = less_count answer (node_at ns k) in
+      let inside : k < length ns = node_inside answer ns some filled parted in
+      let fits : i ≤ length (node_at ns k) = count_by-le-length (λ x. is_lt (answer x)) (node_at ns k) in
+      let at : items_before ns (k, i) ≡ less_count answer (joined ns) = place_for answer ns some (λ _. filled) parted in
+      let whole = equal_joined answer ns some filled parted in
+      let told : Bool → Result (ℕ × ℕ) (ℕ × ℕ) = λ b. if b then Ok (k, i) else Err (k, i) in
+      let end : (b : Bool) → equal_at answer (node_at ns k) i ≡ b → IsEnd b ns (k, i) = λ b e.
+          record {
+            place = record { node_in = omega (arith, inside); offset_in = fits };
+            after = λ yes. record { node_in = omega (arith, inside); offset_in = omega (arith, equal_inside answer (node_at ns k) i (e ∙ yes)) };
+            before = at;
+            equal = whole ∙ e;
+          } in
+      elim (equal_at answer (node_at ns k) i) as (λ b. equal_at answer (node_at ns k) i ≡ b → Ends ns (told b)) [
+        | true ↦ λ e. (end true e, tt)
+        | false ↦ λ e. (tt, end false e)
+      ] refl
+
+  pub located_end : (ns : List (List T)) → All (λ n. 1 ≤ n) (node_lengths ns) → IsParted answer (joined ns) → Ends ns (located answer ns)
+  located_end [] filled parted = (tt, record { place = record { node_in = omega arith; offset_in = omega arith }; after = λ yes. absurd (false≢true yes); before = refl; equal = refl })
+  located_end (n ∷ ns) filled parted = some_end (n ∷ ns) filled parted (omega arith)
+
+-- the same of a search for an item, as the code takes its answer apart
+module _ {T : Type 0} (cmp : T → T → Ordering) (o : IsTotalOrder cmp) (v : T) (size : ℕ) (ns : List (List T)) (law : IsLawful cmp size ns) where
   abbrev answer : T → Ordering
   answer x = cmp x v
 
-  abbrev not_above : List (List T) → ℕ
-  not_above ns = count_by (λ x. is_le (cmp x v)) (joined ns)
+  abbrev not_above : ℕ
+  not_above = count_by (λ x. is_le (cmp x v)) (joined ns)
 
-  pub record AtEqual (ns : List (List T)) (p : ℕ × ℕ) : Type 0 where
-    pub place : IsPlace ns p
-    pub after : IsPlace ns (p.0, p.1 + 1)
-    pub before : items_before ns p ≡ rank cmp (joined ns) v
-    pub through : items_before ns p + 1 ≡ not_above ns
+  told : IfOk (located answer ns) (IsEnd answer true ns) × IfErr (located answer ns) (IsEnd answer false ns)
+  told = located_end answer ns (lawful_filled cmp size ns law) (lawful_parted cmp size ns law o v)
 
-  pub record AtGap (ns : List (List T)) (p : ℕ × ℕ) : Type 0 where
-    pub place : IsPlace ns p
-    pub before : items_before ns p ≡ rank cmp (joined ns) v
-    pub through : items_before ns p ≡ not_above ns
+  module _ (r : Result (ℕ × ℕ) (ℕ × ℕ)) (e : r ≡ located answer ns) (p : ℕ × ℕ) where
+    pub ends_equal : r ≡ Ok p → IsEnd answer true ns p
+    ends_equal is = subst (λ q. IfOk q (IsEnd answer true ns)) (sym e ∙ is) told.0
 
-  module _ (size : ℕ) where
-    some_ends : (ns : List (List T)) → IsLawful cmp size ns → 1 ≤ length ns → IfOk (located answer ns) (AtEqual ns) × IfErr (located answer ns) (AtGap ns)
-    some_ends ns law some =
-        let k = node_for answer ns in
-        let i = less_count answer (node_at ns k) in
-        let r = rank cmp (joined ns) v in
-        let filled = lawful_filled cmp size ns law in
-        let parted = lawful_parted cmp size ns law o v in
-        let inside : k < length ns = node_inside answer ns some filled parted in
-        let whole = equal_joined answer ns some filled parted in
-        let at : items_before ns (k, i) ≡ r = place_for answer ns some (λ _. filled) parted in
-        let told : Bool → Result (ℕ × ℕ) (ℕ × ℕ) = λ b. if b then Ok (k, i) else Err (k, i) in
-        elim (equal_at answer (node_at ns k) i) as (λ b. equal_at answer (node_at ns k) i ≡ b → IfOk (told b) (AtEqual ns) × IfErr (told b) (AtGap ns)) [
-          | true ↦ λ e.
-              let here = located_found cmp (node_at ns k) v i (parted_node answer ns k inside parted) refl e in
-              let found = located_found cmp (joined ns) v r parted refl (whole ∙ e) in
-              (
-                record {
-                  place = record { node_in = omega (arith, inside); offset_in = omega (arith, here.inside) };
-                  after = record { node_in = omega (arith, inside); offset_in = omega (arith, here.inside) };
-                  before = at;
-                  through = ap (λ n. n + 1) at ∙ sym (found_not_above cmp (joined ns) v r o (lawful_ascends cmp size ns law) found);
-                },
-                tt,
-              )
-          | false ↦ λ e.
-              let here = located_gap cmp (node_at ns k) v i (parted_node answer ns k inside parted) refl e in
-              let gap = located_gap cmp (joined ns) v r parted refl (whole ∙ e) in
-              (
-                tt,
-                record {
-                  place = record { node_in = omega (arith, inside); offset_in = here.inside };
-                  before = at;
-                  through = at ∙ sym (gap_not_above cmp (joined ns) v r gap);
-                },
-              )
-        ] refl
+    pub ends_gap : r ≡ Err p → IsEnd answer false ns p
+    ends_gap is = subst (λ q. IfErr q (IsEnd answer false ns)) (sym e ∙ is) told.1
 
-    pub search_ends : (ns : List (List T)) → IsLawful cmp size ns → IfOk (located answer ns) (AtEqual ns) × IfErr (located answer ns) (AtGap ns)
-    search_ends [] law = (tt, record { place = record { node_in = omega arith; offset_in = omega arith }; before = refl; through = refl })
-    search_ends (n ∷ ns) law = some_ends (n ∷ ns) law (omega arith)
+  -- the items up to an equal one, and those before a gap
+  pub end_through : (p : ℕ × ℕ) → IsEnd answer true ns p → items_before ns (p.0, p.1 + 1) ≡ not_above
+  end_through p end =
+      let parted = lawful_parted cmp size ns law o v in
+      let found = located_found cmp (joined ns) v (rank cmp (joined ns) v) parted refl end.equal in
+      omega (arith, end.before, found_not_above cmp (joined ns) v (rank cmp (joined ns) v) o (lawful_ascends cmp size ns law) found)
+
+  pub gap_through : (p : ℕ × ℕ) → IsEnd answer false ns p → items_before ns p ≡ not_above
+  gap_through p end =
+      let parted = lawful_parted cmp size ns law o v in
+      let gap = located_gap cmp (joined ns) v (rank cmp (joined ns) v) parted refl end.equal in
+      end.before ∙ sym (gap_not_above cmp (joined ns) v (rank cmp (joined ns) v) gap)
 
 -- the nodes as the code holds them: f tells the list of each
 module _ {T N : Type 0} (f : N → List T) where
@@ -88,14 +101,6 @@ module _ {T N : Type 0} (f : N → List T) where
 
   pub between-map : (ns : List N) (i j : ℕ) → map f (between i j ns) ≡ between i j (map f ns)
   between-map ns i j = sym (ap (λ l. take (j - i) l) (drop-map f i ns) ∙ take-map f (j - i) (drop i ns))
-
--- the answer of a search as the code takes it apart
-module _ {T : Type 0} (cmp : T → T → Ordering) (o : IsTotalOrder cmp) (v : T) (size : ℕ) (ns : List (List T)) (law : IsLawful cmp size ns) (r : Result (ℕ × ℕ) (ℕ × ℕ)) (e : r ≡ located (λ x. cmp x v) ns) (p : ℕ × ℕ) where
-  pub ends_equal : r ≡ Ok p → AtEqual cmp o v ns p
-  ends_equal is = subst (λ q. IfOk q (AtEqual cmp o v ns)) (sym e ∙ is) (search_ends cmp o v size ns law).0
-
-  pub ends_gap : r ≡ Err p → AtGap cmp o v ns p
-  ends_gap is = subst (λ q. IfErr q (AtGap cmp o v ns)) (sym e ∙ is) (search_ends cmp o v size ns law).1
 
 -- the offset of a place is within the size
 pub place_small : {T : Type 0} (cmp : T → T → Ordering) (size : ℕ) (ns : List (List T)) → IsLawful cmp size ns → (p : ℕ × ℕ) → IsPlace ns p → p.1 ≤ size
@@ -173,3 +178,10 @@ module _ {T N : Type 0} (f : N → List T) (ns : List N) (p q : ℕ × ℕ) (sta
       -- its parts have no more items than there are
       pub parts_fit : length front + length middle + length back ≤ length (joined (map f ns))
       parts_fit = omega (arith, walk_fits, ap (λ l. length l) walk_across, length-append front (middle ++ back), length-append middle back)
+
+-- as many nodes as items at most
+pub few_nodes : {T : Type 0} (ns : List (List T)) → All (λ n. 1 ≤ n) (node_lengths ns) → length ns ≤ length (joined ns)
+few_nodes [] filled = omega arith
+few_nodes (n ∷ ns) filled =
+    let rest = few_nodes ns (λ k d lt. filled (suc k) d (omega arith)) in
+    omega (arith, rest, length-append n (joined ns), filled 0 0 (omega arith))

@@ -3,9 +3,9 @@ use Rattle.std.proofs.lemmas.Option.{slice_get-get_or}
 use Rattle.std.proofs.Math.Seq.{map-set_same}
 use Rattle.indexset_core.specs.Nodes.{node_at}
 use Rattle.indexset_core.proofs.CallerLemmas.{on_err}
-use Rattle.indexset_log.proofs.Puts.{cut_view}
+use Rattle.indexset_log.proofs.Puts.{halved_view}
 use Rattle.indexset_log.proofs.Views.{node_is}
-use Rattle.indexset_log.proofs.nodes.cut_at.Goals as goal
+use Rattle.indexset_log.proofs.nodes.halve_at.Goals as goal
 
 pub returns-in_err-right-clause-err : goal.returns-in_err-right-clause-err
 returns-in_err-right-clause-err g c =
@@ -24,4 +24,4 @@ returns-clause-nodes g c =
     let node : list c.index_mut-node.result.now ≡ n = node_is list old (map list old) k c.index_mut-node.result.now refl c.requires.place (rw c.reserve.ensures.items at c.index_mut-node.ensures.value) in
     let left : list l ≡ take (length n / 2) n = rw node at c.in_ok-right.ensures.left in
     let right : list r ≡ drop (length n / 2) n = rw node at c.in_ok-right.ensures.right in
-    rw (c.in-Ok.ensures.items, c.reserve.ensures.items) (cut_view list old k (get_or old k l) l r (slice_get-get_or old k l c.requires.place) ∙ rw (left, right) refl)
+    rw (c.in-Ok.ensures.items, c.reserve.ensures.items) (halved_view list old k (get_or old k l) l r (slice_get-get_or old k l c.requires.place) ∙ rw (left, right) refl)
