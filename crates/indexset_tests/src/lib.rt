@@ -4,6 +4,7 @@
 
 #[cfg(test)]
 mod map;
+mod logged_walks;
 #[cfg(test)]
 mod node;
 #[cfg(test)]
