@@ -3,8 +3,9 @@
 #![tactic(auto)]
 
 #[cfg(test)]
-mod map;
 mod logged_walks;
+#[cfg(test)]
+mod map;
 #[cfg(test)]
 mod node;
 #[cfg(test)]
