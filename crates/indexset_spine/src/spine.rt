@@ -225,6 +225,18 @@ fn item_in<T>(nodes: &[Vec<T>], k: usize, offset: usize) -> Option<&T>
     nodes.get(k)?.get(offset)
 }
 
+impl<'a, T> IntoIterator for &'a Spine<T> {
+    type Item = &'a T;
+
+    type IntoIter = Iter<'a, T>;
+
+    ghost into_iter_gives = { λ b r. (r ≡ items b.now) × ShowsInOrder (deref {X = T}) × ShowsInReverse (deref {X = T}) };
+
+    fn into_iter(self) -> Iter<'a, T> {
+        self.iter()
+    }
+}
+
 impl<T: Drop> IntoIterator for Spine<T> {
     type Item = T;
 
