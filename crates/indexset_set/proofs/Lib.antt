@@ -1,3 +1,4 @@
+pub mod CallerLemmas
 pub mod CompareLemmas
 pub mod MergeLemmas
 pub mod SetAlgebraLaws
