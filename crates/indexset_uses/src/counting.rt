@@ -5,8 +5,8 @@ ghost use Rattle.indexset_core.specs.Digits.{digits};
 ghost use Rattle.indexset_set.specs.SetAlgebra.{union, intersection};
 ghost use Rattle.indexset_spine.specs.Cut.{items};
 
-use indexset_core::probe::{ByItem, Counting};
-use indexset_set::BTreeSet;
+use indexset::base::probe::{ByItem, Counting};
+use indexset::BTreeSet;
 
 /// How many elements either set has, where their number may be told.
 pub fn count_of_either(a: &BTreeSet<u64>, b: &BTreeSet<u64>) -> Option<usize>

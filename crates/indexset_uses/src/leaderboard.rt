@@ -5,8 +5,8 @@ ghost use Rattle.std.specs.Ordering.{nat_cmp};
 ghost use Rattle.indexset_core.specs.Order.{rank};
 ghost use Rattle.indexset_spine.specs.Cut.{items};
 
-use indexset_core::refusal::Refusal;
-use indexset_set::BTreeSet;
+use indexset::base::refusal::Refusal;
+use indexset::BTreeSet;
 
 /// Enters a score, and tells whether it is on the board, as it then always is.
 pub fn enter(board: &mut BTreeSet<u64>, score: u64) -> Result<bool, Refusal>

@@ -4,7 +4,7 @@ ghost use Rattle.std.specs.declared.ops.Bound.TheVariants.{Included, Excluded};
 ghost use Rattle.indexset_core.specs.Bounds.{in_positions};
 ghost use Rattle.indexset_spine.specs.Cut.{items};
 
-use indexset_set::BTreeSet;
+use indexset::BTreeSet;
 use std::alloc::{AllocError, Global};
 use std::ops::Bound;
 

@@ -8,7 +8,7 @@ mod listing;
 mod order_book;
 
 use anyhow::Result;
-use indexset_set::BTreeSet;
+use indexset::BTreeSet;
 
 fn main(rt: HostRuntime) -> Result<()> {
     show_leaderboard(&rt)?;

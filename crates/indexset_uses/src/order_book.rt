@@ -2,7 +2,7 @@
 ghost use Rattle.std.specs.Prelude.{◌≡◌, ◌-◌, ◌≤◌, [], length, slice_get, drop, take, Some, IfSome, OnSome, IfNone};
 ghost use Rattle.indexset_spine.specs.Cut.{items};
 
-use indexset_set::BTreeSet;
+use indexset::BTreeSet;
 
 /// The highest bid and the lowest ask, taken out where the bid is not below the ask.
 pub fn take_match(bids: &mut BTreeSet<u64>, asks: &mut BTreeSet<u64>) -> Option<(u64, u64)>
