@@ -1,9 +1,7 @@
 //! Counts: of what two sets have, and of the questions that a search asks.
 ghost use Rattle.std.specs.Prelude.{◌≡◌, ◌+◌, ◌≤◌, length, position, None, Some, IfSome, IfOk, IfErr};
 ghost use Rattle.std.specs.Ordering.{is_eq, nat_cmp};
-ghost use Rattle.indexset_core.specs.Digits.{digits};
-ghost use Rattle.indexset_set.specs.SetAlgebra.{union, intersection};
-ghost use Rattle.indexset_spine.specs.Cut.{items};
+ghost use Rattle.indexset.specs.Words.{digits, intersection, items, union};
 
 use indexset::base::probe::{ByItem, Counting};
 use indexset::BTreeSet;

@@ -2,8 +2,7 @@
 ghost use Rattle.std.specs.Prelude.{◌≡◌, ◌+◌, ◌-◌, true, length, slice_get, IfOk};
 ghost use Rattle.std.specs.Option.{option_copied};
 ghost use Rattle.std.specs.Ordering.{nat_cmp};
-ghost use Rattle.indexset_core.specs.Order.{rank};
-ghost use Rattle.indexset_spine.specs.Cut.{items};
+ghost use Rattle.indexset.specs.Words.{items, rank};
 
 use indexset::base::refusal::Refusal;
 use indexset::BTreeSet;

@@ -1,8 +1,7 @@
 //! A paged listing: the elements page by page.
 ghost use Rattle.std.specs.Prelude.{◌≡◌, ◌<◌, ◌^◌, ◌+◌, ◌*◌, IfOk};
 ghost use Rattle.std.specs.declared.ops.Bound.TheVariants.{Included, Excluded};
-ghost use Rattle.indexset_core.specs.Bounds.{in_positions};
-ghost use Rattle.indexset_spine.specs.Cut.{items};
+ghost use Rattle.indexset.specs.Words.{in_positions, items};
 
 use indexset::BTreeSet;
 use std::alloc::{AllocError, Global};

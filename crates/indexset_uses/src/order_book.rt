@@ -1,6 +1,6 @@
 //! An order book: prices that are bid and prices that are asked, each a set.
 ghost use Rattle.std.specs.Prelude.{◌≡◌, ◌-◌, ◌≤◌, [], length, slice_get, drop, take, Some, IfSome, OnSome, IfNone};
-ghost use Rattle.indexset_spine.specs.Cut.{items};
+ghost use Rattle.indexset.specs.Words.{items};
 
 use indexset::BTreeSet;
 

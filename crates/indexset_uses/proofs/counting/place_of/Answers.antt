@@ -1,6 +1,6 @@
 use Rattle.std.proofs.Common.{◌≡◌, ℕ, IfErr, None, position, ap, subst, ◌∙◌}
 use Rattle.std.specs.Ordering.{is_eq, nat_cmp}
-use Rattle.indexset_spine.specs.Cut.{items}
+use Rattle.indexset.specs.Words.{items}
 use Rattle.indexset_uses.proofs.counting.place_of.Goals as goal
 
 -- the probe asks about the key
