@@ -1,5 +1,5 @@
 -- A value written into a set of pairs.
-use Rattle.std.proofs.Common.{◌≡◌, ℕ, List, Option, Some, None, Ordering, slice_get, refl, ap, sym, subst}
+use Rattle.std.proofs.Common.{◌≡◌, ℕ, Option, Some, None, Ordering, slice_get, refl, ap, sym, subst}
 use Rattle.std.specs.Option.{option_map_or}
 use Rattle.std.specs.List.{slice_set}
 use Rattle.indexset_core.specs.declared.pair.Pair.{Pair}

@@ -1,5 +1,5 @@
 -- A cursor in a list: it stands at a position, or at the end place, which is the length.
-use Rattle.std.specs.Prelude.{ℕ, ◌+◌, ◌-◌, ◌==◌, List, length, min, Option, None, refl, slice_get, if◌then◌else◌}
+use Rattle.std.specs.Prelude.{ℕ, ◌+◌, ◌-◌, ◌==◌, List, length, min, Option, refl, slice_get, if◌then◌else◌}
 use Rattle.std.specs.Coded.{Coded, code_by, coded×, coded_ℕ, coded_list}
 
 pub record Standing (X : Type 0) : Type 0 where

@@ -3,8 +3,8 @@ ghost use Rattle.std.specs.Prelude.{◌≡◌, ◌+◌, ◌≤◌, length, posit
 ghost use Rattle.std.specs.Ordering.{is_eq, nat_cmp};
 ghost use Rattle.indexset.specs.Words.{digits, intersection, items, union};
 
-use indexset::base::probe::{ByItem, Counting};
 use indexset::BTreeSet;
+use indexset::base::probe::{ByItem, Counting};
 
 /// How many elements either set has, where their number may be told.
 pub fn count_of_either(a: &BTreeSet<u64>, b: &BTreeSet<u64>) -> Option<usize>

@@ -4,8 +4,8 @@ ghost use Rattle.std.specs.Option.{option_copied};
 ghost use Rattle.std.specs.Ordering.{nat_cmp};
 ghost use Rattle.indexset.specs.Words.{items, rank};
 
-use indexset::base::refusal::Refusal;
 use indexset::BTreeSet;
+use indexset::base::refusal::Refusal;
 
 /// Enters a score, and tells whether it is on the board, as it then always is.
 pub fn enter(board: &mut BTreeSet<u64>, score: u64) -> Result<bool, Refusal>

@@ -1,10 +1,10 @@
 -- The next pair is lent as an `Option`, which the borrow checker does not cover. First `ready` is asked, of the walk lent again for a lifetime within the old one; then `next_pair` lends the pair as it is.
-use Rattle.std.proofs.Common.{◌≡◌, ℕ, ◌<◌, Bool, true, false, T, not, [], ◌∷◌, ◌++◌, length, Option, Some, None, slice_get, if◌then◌else◌, refl, sym, ap, ◌∙◌, lit<, nat_lt, ◌≤◌, w64, arith}
+use Rattle.std.proofs.Common.{◌≡◌, ℕ, ◌<◌, Bool, true, false, T, not, [], ◌∷◌, ◌++◌, length, Option, Some, None, slice_get, refl, sym, ap, ◌∙◌, lit<, nat_lt, ◌≤◌, w64, arith}
 use Rattle.std.proofs.raw_atomic.Walks.{proved, leaves}
 use Rattle.std.proofs.VecSteps.Element.{Some-of, none_of}
 use Rattle.std.specs.Option.{option_map}
 use mir.Syntax.{a_type, named, dcons, dnil}
-use mir.Val.{Val, vptr, vint, vbool, vstruct, vcons, vnil, of_list}
+use mir.Val.{Val, vptr, vint, vstruct, vcons, vnil, of_list}
 use mir.MapTy.{inst_fn}
 use base.Logic.{SProp, emp, id⊢, sep, wand, apply∗}
 use base.Fml.{ftrue, flft, fdead, fres, Lft, GName}
@@ -16,7 +16,6 @@ use types.Match.{live}
 use contract.Running.{tables}
 use contract.Monad.{fact, fact_i}
 use contract.BorrowLft.{◌⊑◌}
-use contract.Lifetimes.{Lfts}
 use denote.Exit.{yes, no}
 use denote.Lend.{LentAgain, lends_again, comes_back}
 use types.Tokens.{lft_new, lft_end, lft-common}
@@ -28,7 +27,7 @@ use Rattle.std.proofs.lemmas.Bool.Decides.{nat_tests}
 use Rattle.indexset_set.specs.contracts.set.pairs.BTreeSet+Pair+K+V.reaches as r
 use Rattle.indexset_set.proofs.set.pairs.BTreeSet+Pair+K+V.reaches.Met as ready
 use denote.RattleType.{RattleType, owns}
-use denote.Signature.{types_at, plain, named_lft}
+use denote.Signature.{types_at, plain}
 use denote.Builtin.{RefMutOf, usize, bool}
 use denote.Plain.{uint_vals, uint_Tells, uint_Makes}
 use denote.Ref.{MutRef, ShrRef, MutBor, mut_vals, mut_Tells}

@@ -1,6 +1,5 @@
-use Rattle.std.proofs.Common.{◌≡◌, [], ◌∷◌, ◌++◌, rules, arith, ap, sym, subst, ◌∙◌, append_assoc}
-use Rattle.std.proofs.lemmas.Grind.{common_steps}
-use Rattle.indexset_core.specs.Order.{IsAscending, keep}
+use Rattle.std.proofs.Common.{◌≡◌, ◌∷◌, rules}
+use Rattle.indexset_core.specs.Order.{keep}
 use Rattle.indexset_spine.specs.Cut.{items}
 use Rattle.indexset_set.proofs.SetCloneLemmas.{held_further}
 use Rattle.indexset_set.proofs.set.traits.BTreeSetClone.clone.Goals as goal
