@@ -6,4 +6,6 @@ pub use Rattle.indexset_core.proofs.NodeLemmas.{around, get_in_node, held-set, h
 pub use Rattle.indexset_core.proofs.OrderLemmas.{found_after, found_has_equal, found_keep, found_put, found_rank, found_without, gap_ascending, gap_at, gap_has_equal, gap_keep, gap_put, gap_rank, gap_without, has_equal_found, less_from, parted_by_item, read_item}
 pub use Rattle.indexset_core.proofs.PairLemmas.{absent_gap, absent_without, key_absent, key_found, key_inside, key_no_pair, key_pair, key_there, key_written, parted_by_key, value_ascending, without-pair}
 pub use Rattle.indexset_core.proofs.PartedLemmas.{Parts, count_parted, count_parts, filter_back, filter_front, front-is_le, front-is_lt}
+pub use Rattle.indexset_core.proofs.PlaceLemmas.{between_across, between_in, places_order}
+pub use Rattle.indexset_core.proofs.RangeLemmas.{count_each, count_no, found_not_above, gap_not_above, not_before, range_is, range_order}
 pub use Rattle.indexset_core.proofs.ResultLemmas.{on_err}

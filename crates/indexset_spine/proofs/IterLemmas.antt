@@ -9,60 +9,10 @@ use Rattle.std.specs.List.{between}
 use Rattle.std.specs.declared.vec.Vec.{Vec}
 use Rattle.indexset_spine.specs.declared.spot.Spot.{Spot}
 use Rattle.indexset_core.specs.Nodes.{joined, node_at}
-use Rattle.indexset_spine.specs.Cut.{vec_items, IsItemSpot, position_of}
+use Rattle.indexset_spine.specs.Cut.{vec_items, IsSpot, position_of}
 use Rattle.indexset_spine.proofs.VecNodes.{length-vec_items}
-use Rattle.indexset_core.proofs.CallerLemmas.{length-joined-more, length-joined-mono, offset-le}
+use Rattle.indexset_core.proofs.CallerLemmas.{between_in, between_across, places_order, offset-le}
 use Rattle.indexset_spine.proofs.VecNodes.{node_read}
-
-module _ {X : Type 0} where
-  -- the items up to a spot
-  take_place : (ns : List (List X)) (k o : ℕ) → k < length ns → o ≤ length (node_at ns k) → take (length (joined (take k ns)) + o) (joined ns) ≡ joined (take k ns) ++ take o (node_at ns k)
-  take_place [] k o lt le = absurd (omega arith)
-  take_place (n ∷ ns) zero o lt le = let e : 0 + o ≡ o = omega arith in rw e (take-append-le o n (joined ns) le)
-  take_place (n ∷ ns) (suc k) o lt le =
-      let e : length (n ++ joined (take k ns)) + o ≡ length n + (length (joined (take k ns)) + o) = omega (arith, length-append n (joined (take k ns))) in
-      ap (λ m. take m (n ++ joined ns)) e
-      ∙ (take-append-add n (joined ns) (length (joined (take k ns)) + o)
-      ∙ (ap (λ l. n ++ l) (take_place ns k o (omega arith) le) ∙ sym (append_assoc n (joined (take k ns)) (take o (node_at ns k)))))
-
-  -- the items from a spot on
-  drop_place : (ns : List (List X)) (k o : ℕ) → k < length ns → o ≤ length (node_at ns k) → drop (length (joined (take k ns)) + o) (joined ns) ≡ drop o (node_at ns k) ++ joined (drop (suc k) ns)
-  drop_place [] k o lt le = absurd (omega arith)
-  drop_place (n ∷ ns) zero o lt le = let e : 0 + o ≡ o = omega arith in rw e (drop-append-le o n (joined ns) le)
-  drop_place (n ∷ ns) (suc k) o lt le =
-      let e : length (n ++ joined (take k ns)) + o ≡ length n + (length (joined (take k ns)) + o) = omega (arith, length-append n (joined (take k ns))) in
-      ap (λ m. drop m (n ++ joined ns)) e ∙ (drop-append-add n (joined ns) (length (joined (take k ns)) + o) ∙ drop_place ns k o (omega arith) le)
-
-  module _ (ns : List (List X)) (k o l q : ℕ) (lt : l < length ns) (to : q ≤ length (node_at ns l)) where
-    -- the items between two spots of one node
-    between_in : k ≡ l → between (length (joined (take k ns)) + o) (length (joined (take l ns)) + q) (joined ns) ≡ between o q (node_at ns l)
-    between_in e =
-        between_is (joined ns) _ _
-        ∙ (ap (λ m. drop (length (joined (take k ns)) + o) m) (take_place ns l q lt to)
-        ∙ (ap (λ i. drop (length (joined (take i ns)) + o) (joined (take l ns) ++ take q (node_at ns l))) e
-        ∙ (drop-append-add (joined (take l ns)) (take q (node_at ns l)) o ∙ sym (between_is (node_at ns l) o q))))
-
-    -- and of two
-    between_across : k < l → o ≤ length (node_at ns k) → between (length (joined (take k ns)) + o) (length (joined (take l ns)) + q) (joined ns) ≡ drop o (node_at ns k) ++ (joined (between (k + 1) l ns) ++ take q (node_at ns l))
-    between_across below from =
-        let ms = take l ns in
-        let same : take k ms ≡ take k ns = take-take k l ns (omega arith) in
-        let node : node_at ms k ≡ node_at ns k = get_or-take l ns k [] below in
-        let in_ms : k < length ms = omega (arith, length-take-le l ns (omega arith)) in
-        let before : length (joined (take k ns)) + o ≤ length (joined ms) = omega (arith, length-joined-more ns k (omega arith), length-joined-mono ns (k + 1) l (omega arith)) in
-        let cut_up : drop (length (joined (take k ms)) + o) (joined ms) ≡ drop o (node_at ms k) ++ joined (drop (suc k) ms) = drop_place ms k o in_ms (rw node from) in
-        between_is (joined ns) _ _
-        ∙ (ap (λ m. drop (length (joined (take k ns)) + o) m) (take_place ns l q lt to)
-        ∙ (drop-append-le (length (joined (take k ns)) + o) (joined ms) (take q (node_at ns l)) before
-        ∙ (ap (λ m. m ++ take q (node_at ns l)) (rw (same, node, ← add-one, ← between_is) at cut_up)
-        ∙ append_assoc (drop o (node_at ns k)) (joined (between (k + 1) l ns)) (take q (node_at ns l)))))
-
-  -- the earlier of two spots stands in no later node
-  places_order : (ns : List (List X)) (k o l q : ℕ) → l < length ns → q < length (node_at ns l) → length (joined (take k ns)) + o ≤ length (joined (take l ns)) + q → k ≤ l
-  places_order ns k o l q lt inside le = elim (cases_lt l k) [
-    | inl below ↦ absurd (omega (arith, length-joined-more ns l lt, length-joined-mono ns (l + 1) k (omega arith)))
-    | inr above ↦ above
-  ]
 
 module _ {X Z : Type 0} where
   pub joined_push : (vs : List (Vec X Z)) (v : Vec X Z) → joined (vec_items (vs ++ v ∷ [])) ≡ joined (vec_items vs) ++ v.items
@@ -73,39 +23,29 @@ module _ {X Z : Type 0} where
   back_turn vs mid v front back e n =
       ap (λ l. front ++ l) (sym (joined_push vs v) ∙ (ap (λ m. joined (vec_items m)) (sym e) ∙ (sym (append-nil (joined (vec_items mid))) ∙ ap (λ l. joined (vec_items mid) ++ l) (sym n))))
 
-  between-vec_items : (vs : List (Vec X Z)) (i j : ℕ) → vec_items (between i j vs) ≡ between i j (vec_items vs)
+  pub between-vec_items : (vs : List (Vec X Z)) (i j : ℕ) → vec_items (between i j vs) ≡ between i j (vec_items vs)
   between-vec_items vs i j = sym (ap (λ l. take (j - i) l) (drop-map (λ (z : Vec X Z). z.items) i vs) ∙ take-map (λ (z : Vec X Z). z.items) (j - i) (drop i vs))
 
-  -- the parts of a walk from the item at the spot p through the one at q, which stands in the node v
-  module _ (vs : List (Vec X Z)) (p q : Spot) (v : Vec X Z) (start : IsItemSpot (vec_items vs) p) (stop : IsItemSpot (vec_items vs) q) (at : v ≡ get_or vs q.node v) where
-    in_vs : q.node < length vs
-    in_vs = omega (arith, stop.node_in, length-vec_items vs)
-
-    past : length (joined (take q.node (vec_items vs))) + (q.offset + 1) ≡ position_of (vec_items vs) q + 1
-    past = omega arith
-
-    to : q.offset + 1 ≤ length (node_at (vec_items vs) q.node)
-    to = omega (arith, stop.offset_in)
-
+  -- the parts of a walk from the place p up to the place q in the node v
+  module _ (vs : List (Vec X Z)) (p q : Spot) (v : Vec X Z) (start : IsSpot (vec_items vs) p) (stop : IsSpot (vec_items vs) q) (at : v ≡ get_or vs q.node v) where
     last : node_at (vec_items vs) q.node ≡ v.items
-    last = node_read vs q.node v in_vs at []
+    last = node_read vs q.node v (omega (arith, stop.node_in, length-vec_items vs)) at []
 
-    pub walk_in : p.node ≡ q.node → between p.offset (q.offset + 1) v.items ++ (joined (vec_items {Z = Z} []) ++ []) ≡ between (position_of (vec_items vs) p) (position_of (vec_items vs) q + 1) (joined (vec_items vs))
+    pub walk_in : p.node ≡ q.node → between p.offset q.offset v.items ++ (joined (vec_items {Z = Z} []) ++ []) ≡ between (position_of (vec_items vs) p) (position_of (vec_items vs) q) (joined (vec_items vs))
     walk_in e =
-        append-nil (between p.offset (q.offset + 1) v.items)
-        ∙ sym (rw (← past) (between_in (vec_items vs) p.node p.offset q.node (q.offset + 1) stop.node_in to e ∙ ap (between p.offset (q.offset + 1)) last))
+        append-nil (between p.offset q.offset v.items)
+        ∙ sym (between_in (vec_items vs) p.node p.offset q.node q.offset stop.node_in stop.offset_in e ∙ ap (between p.offset q.offset) last)
 
-    pub walk_across : (u : Vec X Z) → u ≡ get_or vs p.node u → p.node < q.node → between p.offset (length u.items) u.items ++ (joined (vec_items (between (p.node + 1) q.node vs)) ++ take (q.offset + 1) v.items) ≡ between (position_of (vec_items vs) p) (position_of (vec_items vs) q + 1) (joined (vec_items vs))
+    pub walk_across : (u : Vec X Z) → u ≡ get_or vs p.node u → p.node < q.node → between p.offset (length u.items) u.items ++ (joined (vec_items (between (p.node + 1) q.node vs)) ++ take q.offset v.items) ≡ between (position_of (vec_items vs) p) (position_of (vec_items vs) q) (joined (vec_items vs))
     walk_across u here below =
-        let first : node_at (vec_items vs) p.node ≡ u.items = node_read vs p.node u (omega (arith, in_vs)) here [] in
-        let from : p.offset ≤ length (node_at (vec_items vs) p.node) = omega (arith, start.offset_in) in
-        let whole = between_across (vec_items vs) p.node p.offset q.node (q.offset + 1) stop.node_in to below from in
-        rw (take_rest u.items p.offset, between-vec_items vs (p.node + 1) q.node, ← first, ← last, ← past) (sym whole)
+        let first : node_at (vec_items vs) p.node ≡ u.items = node_read vs p.node u (omega (arith, start.node_in, length-vec_items vs)) here [] in
+        let whole = between_across (vec_items vs) p.node p.offset q.node q.offset stop.node_in stop.offset_in below start.offset_in in
+        rw (take_rest u.items p.offset, between-vec_items vs (p.node + 1) q.node, ← first, ← last) (sym whole)
 
     -- how many items they hold
-    pub walk_length : (left : ℕ) → position_of (vec_items vs) p + left ≡ position_of (vec_items vs) q + 1 → left ≡ length (between (position_of (vec_items vs) p) (position_of (vec_items vs) q + 1) (joined (vec_items vs)))
-    walk_length left e = omega (arith, length-between (joined (vec_items vs)) (position_of (vec_items vs) p) (position_of (vec_items vs) q + 1) (omega (arith, past, offset-le (vec_items vs) q.node (q.offset + 1) stop.node_in to)))
+    pub walk_length : (left : ℕ) → position_of (vec_items vs) p + left ≡ position_of (vec_items vs) q → left ≡ length (between (position_of (vec_items vs) p) (position_of (vec_items vs) q) (joined (vec_items vs)))
+    walk_length left e = omega (arith, length-between (joined (vec_items vs)) (position_of (vec_items vs) p) (position_of (vec_items vs) q) (offset-le (vec_items vs) q.node q.offset stop.node_in stop.offset_in))
 
-    -- where p isn't behind q
-    pub nodes_order : position_of (vec_items vs) p ≤ position_of (vec_items vs) q → (p.node ≡ q.node → ⊥) → p.node < q.node
+    -- where p stands before q
+    pub nodes_order : position_of (vec_items vs) p < position_of (vec_items vs) q → (p.node ≡ q.node → ⊥) → p.node < q.node
     nodes_order le other = omega (arith, other, places_order (vec_items vs) p.node p.offset q.node q.offset stop.node_in stop.offset_in le)

@@ -11,6 +11,7 @@ ghost use Rattle.indexset_spine.specs.Cut.{items, vec_items, IsCut, IsSpot, IsIt
 
 mod insert;
 mod make;
+mod part;
 mod remove;
 mod retain;
 mod split;
@@ -21,6 +22,7 @@ use crate::spot::Spot;
 use crate::{lengths, locate};
 use indexset_core::probe::Probe;
 use indexset_core::search;
+use std::alloc::Global;
 use std::marker::Model;
 
 /// A list that is cut into nodes of at most a given number of items each.
@@ -52,6 +54,11 @@ impl<T> Spine<T> {
         ensures two { 2 ≤ result }
     {
         self.size
+    }
+
+    /// What the nodes take memory of.
+    pub fn allocator(&self) -> &Global {
+        self.nodes.allocator()
     }
 
     /// How many nodes there are.
@@ -195,13 +202,8 @@ impl<T> Spine<T> {
         ensures runs { ShowsInOrder (deref {X = T}) }
         ensures runs_back { ShowsInReverse (deref {X = T}) }
     {
-        if i == j {
-            return Iter::over(&[], 0);
-        }
-        match (self.spot(i), self.spot(j - 1)) {
-            (Some(start), Some(end)) => Iter::through(self.nodes.as_slice(), &start, &end, j - i),
-            _ => unreachable!(),
-        }
+        let (start, end) = (self.spot_after(i), self.spot_after(j));
+        Iter::from_to(self.nodes.as_slice(), &start, &end, j - i)
     }
 
     // The item at a spot, to write.
@@ -221,6 +223,18 @@ fn item_in<T>(nodes: &[Vec<T>], k: usize, offset: usize) -> Option<&T>
     ensures { option_copied result ≡ slice_get (node_at (vec_items nodes.now) k) offset }
 {
     nodes.get(k)?.get(offset)
+}
+
+impl<'a, T> IntoIterator for &'a Spine<T> {
+    type Item = &'a T;
+
+    type IntoIter = Iter<'a, T>;
+
+    ghost into_iter_gives = { λ b r. (r ≡ items b.now) × ShowsInOrder (deref {X = T}) × ShowsInReverse (deref {X = T}) };
+
+    fn into_iter(self) -> Iter<'a, T> {
+        self.iter()
+    }
 }
 
 impl<T: Drop> IntoIterator for Spine<T> {

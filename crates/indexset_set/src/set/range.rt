@@ -4,9 +4,8 @@ ghost use Rattle.std.specs.List.{count_by};
 ghost use Rattle.std.specs.Map.Iter.{ShowsInOrder, ShowsInReverse, deref};
 ghost use Rattle.std.specs.Ordering.{is_le};
 ghost use Rattle.std.specs.Range.Bound.{bound_map, start_index, end_index};
-ghost use Rattle.indexset_core.specs.Bounds.{are_ordered, in_range, in_positions, is_up_to_end};
+ghost use Rattle.indexset_core.specs.Bounds.{are_ordered, in_range, in_positions, is_before, is_up_to_end};
 ghost use Rattle.indexset_spine.specs.Cut.{items};
-ghost use Rattle.indexset_set.specs.SetRanges.{is_before};
 
 use super::BTreeSet;
 use super::iter::Iter;
@@ -87,8 +86,8 @@ impl<T: Ord> BTreeSet<T> {
     }
 }
 
-// The first position that is not before the start, or the length where there is none.
-fn first_position(start: Bound<usize>, len: usize) -> usize
+/// The first position that is not before the start, or the length where there is none.
+pub fn first_position(start: Bound<usize>, len: usize) -> usize
     ensures { result ≡ min (start_index start) len }
 {
     match start {
@@ -98,8 +97,8 @@ fn first_position(start: Bound<usize>, len: usize) -> usize
     }
 }
 
-// The first position past the end, or the length where there is none.
-fn end_position(end: Bound<usize>, len: usize) -> usize
+/// The first position past the end, or the length where there is none.
+pub fn end_position(end: Bound<usize>, len: usize) -> usize
     ensures { result ≡ min (end_index end len) len }
 {
     match end {
