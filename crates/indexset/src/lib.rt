@@ -8,7 +8,7 @@ pub mod base {
 
 pub use indexset_map::{
     BTreeMap, Entry, IntoIterMap, IntoKeys, IntoValues, IterMap, IterMut, Keys, OccupiedEntry,
-    RangeMap, VacantEntry, Values,
+    RangeMap, VacantEntry, Values, ValuesMut,
 };
 pub use indexset_set::{
     BTreeSet, Cursor, Difference, Intersection, IntoIter, Iter, Range, SymmetricDifference, Union,

@@ -7,6 +7,7 @@ ghost use Rattle.indexset_core.specs.Order.{has_equal, equal_element};
 ghost use Rattle.indexset_core.specs.Parted.{IsParted};
 ghost use Rattle.indexset_log.specs.Located.{located, IsFoundIn};
 
+mod attach;
 mod put;
 mod remove;
 

@@ -17,6 +17,7 @@ mod lookup;
 mod make;
 pub mod owned;
 pub mod range;
+pub mod values_mut;
 
 use indexset_core::pair::Pair;
 use indexset_core::probe::ByKey;

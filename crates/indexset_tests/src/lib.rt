@@ -15,6 +15,8 @@ mod program;
 #[cfg(test)]
 mod readme;
 #[cfg(test)]
+mod refusal;
+#[cfg(test)]
 mod run_map;
 #[cfg(test)]
 mod run_set;

@@ -4,9 +4,8 @@ ghost use Rattle.std.specs.List.{count_by};
 ghost use Rattle.std.specs.Map.Iter.{ShowsInOrder, ShowsInReverse};
 ghost use Rattle.std.specs.Ordering.{is_le};
 ghost use Rattle.std.specs.Range.Bound.{bound_map};
-ghost use Rattle.indexset_core.specs.Bounds.{are_ordered, in_positions, is_up_to_end};
+ghost use Rattle.indexset_core.specs.Bounds.{are_ordered, in_positions, is_before, is_up_to_end};
 ghost use Rattle.indexset_core.specs.Pairs.{pairs_within};
-ghost use Rattle.indexset_set.specs.SetRanges.{is_before};
 ghost use Rattle.indexset_map.specs.Contents.{pair_shown};
 
 use super::BTreeMap;

@@ -1,5 +1,5 @@
 use Rattle.std.proofs.Common.{◌∙◌}
-use Rattle.indexset_set.proofs.SetRangeLemmas.{count_each}
+use Rattle.indexset_core.proofs.CallerLemmas.{count_each}
 use Rattle.indexset_map.proofs.map.BTreeMap.end_position.Goals as goal
 
 pub returns-in-Unbounded : goal.returns-in-Unbounded

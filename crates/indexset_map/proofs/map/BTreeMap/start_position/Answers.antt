@@ -1,4 +1,4 @@
-use Rattle.indexset_set.proofs.SetRangeLemmas.{count_no}
+use Rattle.indexset_core.proofs.CallerLemmas.{count_no}
 use Rattle.indexset_map.proofs.map.BTreeMap.start_position.Goals as goal
 
 pub returns-in-Unbounded : goal.returns-in-Unbounded
