@@ -3,6 +3,8 @@
 #![tactic(auto)]
 
 #[cfg(test)]
+mod counted;
+#[cfg(test)]
 mod map;
 #[cfg(test)]
 mod node;
