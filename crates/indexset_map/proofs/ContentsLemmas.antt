@@ -15,7 +15,7 @@ use Rattle.indexset_core.specs.Order.{IsGapFor, put}
 use Rattle.indexset_core.specs.Pairs.{pair, valued, by_key, set_value_at, has_key, pair_of, value_of, set_value, put_value}
 use Rattle.indexset_set.specs.SetPairs as cut
 use Rattle.indexset_core.proofs.CallerLemmas.{gap_put, is_some-find}
-use Rattle.indexset_set.proofs.SetValueLemmas.{items-with_value_at, size-with_value_at}
+use Rattle.indexset_set.proofs.CallerLemmas.{items-with_value_at, size-with_value_at}
 use Rattle.indexset_map.specs.Contents.{Contents, contents, with_value_at}
 use Rattle.indexset_map.proofs.LengthLemmas.{node_lengths-set_joined}
 

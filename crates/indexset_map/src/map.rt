@@ -9,6 +9,7 @@ ghost use Rattle.indexset_core.specs.Pairs.{by_key, entry_of, has_key, key_rank,
 
 mod bulk;
 mod compare;
+pub mod cursor;
 mod edits;
 pub mod entry;
 pub mod iter;
@@ -17,6 +18,7 @@ mod lookup;
 mod make;
 pub mod owned;
 pub mod range;
+pub mod range_mut;
 pub mod values_mut;
 
 use indexset_core::pair::Pair;

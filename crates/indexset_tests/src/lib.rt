@@ -5,6 +5,8 @@
 #[cfg(test)]
 mod counted;
 #[cfg(test)]
+mod logged_walks;
+#[cfg(test)]
 mod map;
 #[cfg(test)]
 mod node;

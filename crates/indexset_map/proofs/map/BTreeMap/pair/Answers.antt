@@ -3,7 +3,7 @@ use Rattle.std.specs.Option.{option_copied}
 use Rattle.indexset_spine.specs.Cut.{items}
 use Rattle.indexset_core.specs.Pairs.{pair_of}
 use Rattle.indexset_core.proofs.CallerLemmas.{parted_by_key}
-use Rattle.indexset_set.proofs.SetProbeLemmas.{in_order}
+use Rattle.indexset_set.proofs.CallerLemmas.{in_order}
 use Rattle.indexset_map.proofs.map.BTreeMap.pair.Goals as goal
 
 pub get_by-requires : goal.get_by-requires

@@ -1,6 +1,6 @@
 use Rattle.std.proofs.Common.{take, drop, ap, ◌∙◌}
 use Rattle.indexset_map.specs.Contents.{Contents}
-use Rattle.indexset_map.proofs.KeyRangeLemmas.{cut_below, cut_from}
+use Rattle.indexset_map.proofs.RangeLemmas.{cut_below, cut_from}
 use Rattle.indexset_map.proofs.map.BTreeMap.split_off.Goals as goal
 
 pub returns-clause-below : goal.returns-clause-below
