@@ -1,5 +1,5 @@
 //! The logged set.
-ghost use Rattle.std.specs.Prelude.{◌≡◌, ◌+◌, ◌≤◌, [], length, None, MatchOption};
+ghost use Rattle.std.specs.Prelude.{◌≡◌, ◌==◌, ◌+◌, ◌≤◌, [], length, None, MatchOption};
 ghost use Rattle.std.specs.Option.{option_copied};
 ghost use Rattle.indexset_core.specs.Nodes.{joined};
 ghost use Rattle.indexset_core.specs.Digits.{digits};
@@ -8,8 +8,10 @@ ghost use Rattle.indexset_core.specs.Parted.{IsParted};
 ghost use Rattle.indexset_log.specs.Located.{located, IsFoundIn};
 
 mod attach;
+mod make;
 mod put;
 mod remove;
+mod remove_range;
 
 use crate::locate::node_by;
 use indexset_core::constants::DEFAULT_INNER_SIZE;
@@ -88,6 +90,13 @@ impl<T: Ord + Clone + Drop, Node: NodeLike<T>> BTreeSet<T, Node> {
         ensures { result ≡ length (joined self.now.nodes) }
     {
         self.len
+    }
+
+    /// Whether there is no item.
+    pub fn is_empty(&self) -> bool
+        ensures { result ≡ (length (joined self.now.nodes) == 0) }
+    {
+        self.len == 0
     }
 
     /// How many nodes there are.
