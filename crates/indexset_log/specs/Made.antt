@@ -14,7 +14,7 @@ module _ {T : Type 0} (cmp : T → T → Ordering) where
   inserted t v = record {
     nodes = with_checked_put cmp t.size t.nodes v;
     size = t.size;
-    next = t.next + length (checked_put_events cmp t.size t.nodes v)
+    next = t.next + length (checked_put_events cmp t.size t.nodes v);
   }
 
   -- the items that do not satisfy both bounds

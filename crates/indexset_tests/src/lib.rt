@@ -3,6 +3,8 @@
 #![tactic(auto)]
 
 #[cfg(test)]
+mod logged;
+#[cfg(test)]
 mod node;
 #[cfg(test)]
 mod probe;
