@@ -8,7 +8,7 @@ use Rattle.std.proofs.lemmas.List.{length-map, map-set, take_all, drop_all, appe
 use Rattle.indexset_core.proofs.CallerLemmas.{length-joined-take}
 use Rattle.indexset_log.specs.Nodes.{is_filled}
 use Rattle.indexset_log.proofs.Views.{node_is}
-use Rattle.indexset_log.proofs.Ups.{Each, Up, Ruled, length_filled, lawful_from, lawful_ruled, lawful_bounded}
+use Rattle.indexset_log.proofs.Ups.{Each, Up, lawful_from, lawful_ruled, lawful_bounded}
 
 module _ {T : Type 0} (p : T → Bool) where
   filter_le : (l : List T) → length (filter p l) ≤ length l
