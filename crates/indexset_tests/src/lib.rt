@@ -11,6 +11,8 @@ mod logged_walks;
 #[cfg(test)]
 mod map;
 #[cfg(test)]
+mod logged;
+#[cfg(test)]
 mod node;
 #[cfg(test)]
 mod paths;
