@@ -2,6 +2,7 @@ pub mod Command
 pub mod Fault
 pub mod Lines
 pub mod Reading
+pub mod Replica
 pub mod Reply
 pub mod Run
 pub mod SetRun

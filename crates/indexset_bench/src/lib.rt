@@ -6,6 +6,7 @@ mod fault;
 pub mod laws;
 mod line;
 mod program;
+pub mod replica;
 mod reply;
 pub mod set_run;
 

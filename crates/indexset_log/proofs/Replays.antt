@@ -55,7 +55,7 @@ module _ {T : Type 0} (cmp : T → T → Ordering) (o : IsTotalOrder cmp) (v : T
   pub over_rest : (n q : List T) → is_filled n ≡ true → Up cmp (n ++ q) → is_lt (cmp (last_of n v) v) ≡ false → Each (λ y. cmp v y ≡ Less) q
   over_rest n q full up h = each-map _ _ (λ y. over (last_of n v) y h) q (each_last (λ x. Each (λ y. cmp x y ≡ Less) q) n v full (up-between cmp n q up))
 
-  not_reaching : (n : List T) → is_filled n ≡ true → reaches cmp v n ≡ false → cmp (last_of n v) v ≡ Less
+  pub not_reaching : (n : List T) → is_filled n ≡ true → reaches cmp v n ≡ false → cmp (last_of n v) v ≡ Less
   not_reaching n full h =
       elim (cmp (last_of n v) v) as (λ a. not (is_lt a) ≡ false → a ≡ Less) [
         | Less ↦ λ g. refl
@@ -63,7 +63,7 @@ module _ {T : Type 0} (cmp : T → T → Ordering) (o : IsTotalOrder cmp) (v : T
         | Greater ↦ λ g. absurd (false≢true (sym g))
       ] (ap not (sym (ends_by (λ x. cmp x v) n v full)) ∙ h)
 
-  reaching : (n : List T) → is_filled n ≡ true → reaches cmp v n ≡ true → is_lt (cmp (last_of n v) v) ≡ false
+  pub reaching : (n : List T) → is_filled n ≡ true → reaches cmp v n ≡ true → is_lt (cmp (last_of n v) v) ≡ false
   reaching n full h =
       elim (cmp (last_of n v) v) as (λ a. not (is_lt a) ≡ true → is_lt a ≡ false) [
         | Less ↦ λ g. absurd (false≢true g)
