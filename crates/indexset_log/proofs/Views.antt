@@ -42,6 +42,11 @@ node_is f items nodes k n same lt is = sym (view_at f items k n lt is []) ∙ ap
 pub length_view : {T N : Type 0} (f : N → List T) (items : List N) (nodes : List (List T)) → map f items ≡ nodes → length nodes ≡ length items
 length_view f items nodes same = ap (λ q. length q) (sym same) ∙ length-map items f
 
+pub lens_from : {T : Type 0} (ns : List (List T)) → Each (λ n. is_filled n ≡ true) ns → All (λ n. 1 ≤ n) (node_lengths ns)
+lens_from [] h k d lt = absurd (omega arith)
+lens_from (n ∷ ns) h zero d lt = filled_length n h.0
+lens_from (n ∷ ns) h (suc k) d lt = lens_from ns h.1 k d (omega arith)
+
 module _ {T : Type 0} (cmp : T → T → Ordering) where
   module _ (size : ℕ) (ns : List (List T)) (law : IsLawful cmp size ns) where
     pub lawful_filled : All (λ n. 1 ≤ n) (node_lengths ns)
