@@ -15,7 +15,7 @@ use Rattle.indexset_log.specs.Nodes.{is_filled, last_of, is_ascending, are_nodes
 use Rattle.indexset_log.specs.Replay.{edit, has_name, node_named, reaches, step_plain}
 use Rattle.indexset_log.specs.declared.change.ChangeEventUnassigned.{ChangeEventUnassigned}
 use Rattle.indexset_log.specs.declared.change.ChangeEventUnassigned.TheVariants.{InsertAt, RemoveAt, CreateNode, RemoveNode, SplitNode}
-use Rattle.indexset_log.proofs.CallerLemmas.{Cut, Each, Up, cut_true, node_is, true_cut}
+use Rattle.indexset_log.proofs.CallerLemmas.{Ruled, Each, Up, ruled_tested, node_is, tested_ruled}
 use Rattle.indexset_bench.specs.Replica.{IsEdit, misfit}
 
 some_inj : {X : Type 0} {x y : X} → Some x ≡ Some y → x ≡ y

@@ -18,7 +18,7 @@ use Rattle.indexset_core.specs.Order.{IsAscending, IsFoundAt, IsGapFor, has_equa
 use Rattle.indexset_core.proofs.CallerLemmas.{found_has_equal, gap_has_equal, joined-append, joined-splice, joined_around, less_from, slice_get-right}
 use Rattle.indexset_log.specs.Nodes.{is_filled, last_of, is_ascending}
 use Rattle.indexset_log.specs.Replay.{has_name, node_named, reaches}
-use Rattle.indexset_log.proofs.CallerLemmas.{Cut, Each, Up, all_each, ascends, at_place, each-append, each-left, each-map, each-right, each_all, each_last, filled_length, greater, last_some, lens_from, node_is, length_filled, not_reaching, over_rest, place_none, position_at, reached, reaching, true_up, unnamed, up-between, up-left, up-right, up_put, up_true, upto_last}
+use Rattle.indexset_log.proofs.CallerLemmas.{Ruled, Each, Up, all_each, ascends, at_place, each-append, each-left, each-map, each-right, each_all, each_last, filled_length, greater, last_some, lens_from, node_is, length_filled, not_reaching, over_rest, place_none, position_at, reached, reaching, true_up, unnamed, up-between, up-left, up-right, up_put, up_true, upto_last}
 use Rattle.indexset_bench.specs.Replica.{first_item, is_between, last_item}
 
 -- ---- the two ways to say that nodes are nodes
@@ -32,10 +32,10 @@ module _ {T : Type 0} (cmp : T → T → Ordering) where
   ups [] h = tt
   ups (x ∷ xs) h = (all_each (λ y. cmp x y ≡ Less) xs (λ k d lt. h 0 (suc k) d (omega arith) (omega arith)), ups xs (λ a b d lt inside. h (suc a) (suc b) d (omega arith) (omega arith)))
 
-  pub cut_of : (ns : List (List T)) → IsNodeList cmp ns → Cut cmp ns
+  pub cut_of : (ns : List (List T)) → IsNodeList cmp ns → Ruled cmp ns
   cut_of ns h = record { filled = filled_each ns h.filled; up = ups (joined ns) h.ascending }
 
-  pub list_of : (ns : List (List T)) → Cut cmp ns → IsNodeList cmp ns
+  pub list_of : (ns : List (List T)) → Ruled cmp ns → IsNodeList cmp ns
   list_of ns h = record { filled = lens_from ns h.filled; ascending = ascends cmp (joined ns) h.up }
 
 bool_same : (a b : Bool) → (a ≡ true → b ≡ true) → (b ≡ true → a ≡ true) → a ≡ b
@@ -119,7 +119,7 @@ module _ {T : Type 0} (cmp : T → T → Ordering) (o : IsTotalOrder cmp) (v : T
 
   pub parted : (P : List (List T) → ℕ → Type 0)
       → ((b a : List (List T)) → Each (λ x. cmp x v ≡ Less) (joined b) → Reached a → P (b ++ a) (length b))
-      → (ns : List (List T)) → Cut cmp ns → P ns (position_or_len (reaches cmp v) ns)
+      → (ns : List (List T)) → Ruled cmp ns → P ns (position_or_len (reaches cmp v) ns)
   parted P hit [] cut = hit [] [] tt tt
   parted P hit (n ∷ ns) cut =
       elim (reaches cmp v n) as (λ t. reaches cmp v n ≡ t → P (n ∷ ns) (position_or_len (reaches cmp v) (n ∷ ns))) [
@@ -141,7 +141,7 @@ module _ {T : Type 0} (cmp : T → T → Ordering) (o : IsTotalOrder cmp) (v : T
   all_reached (n ∷ a) full on = (on.0, reached cmp o v a full.1 on.2)
 
   -- from that place on every node reaches v
-  on_reached : (ns : List (List T)) → Cut cmp ns → (j : ℕ) (d : List T) → position_or_len (reaches cmp v) ns ≤ j → j < length ns → reaches cmp v (get_or ns j d) ≡ true
+  on_reached : (ns : List (List T)) → Ruled cmp ns → (j : ℕ) (d : List T) → position_or_len (reaches cmp v) ns ≤ j → j < length ns → reaches cmp v (get_or ns j d) ≡ true
   on_reached ns cut =
       parted (λ q k. Each (λ n. is_filled n ≡ true) q → (j : ℕ) (d : List T) → k ≤ j → j < length q → reaches cmp v (get_or q j d) ≡ true)
       (λ b a low on full j d from inside.
@@ -151,7 +151,7 @@ module _ {T : Type 0} (cmp : T → T → Ordering) (o : IsTotalOrder cmp) (v : T
       ns cut cut.filled
 
   -- the search over nodes as the code holds them
-  module _ {N : Type 0} (f : N → List T) (items : List N) (cut : Cut cmp (map f items)) where
+  module _ {N : Type 0} (f : N → List T) (items : List N) (cut : Ruled cmp (map f items)) where
     read : (k : ℕ) (d : N) → k < length items → get_or (map f items) k (f d) ≡ f (get_or items k d)
     read k d lt = get_or-map f items k d (f d) lt
 
@@ -180,7 +180,7 @@ module _ {T : Type 0} (cmp : T → T → Ordering) (o : IsTotalOrder cmp) (v : T
       let last : cmp v (last_of n v) ≡ Less = each_last (λ x. cmp v x ≡ Less) n v full.0 (each-left _ n (joined a) high) in
       (rw (full.0, greater cmp o _ v last) refl, unnamed_above a full.1 (each-right _ n (joined a) high))
 
-  named_here : (ns : List (List T)) → Cut cmp ns → let k = position_or_len (reaches cmp v) ns in k < length ns → has_name cmp v (node_at ns k) ≡ true → node_named cmp ns v ≡ Some k
+  named_here : (ns : List (List T)) → Ruled cmp ns → let k = position_or_len (reaches cmp v) ns in k < length ns → has_name cmp v (node_at ns k) ≡ true → node_named cmp ns v ≡ Some k
   named_here ns cut =
       parted (λ q k. Each (λ n. is_filled n ≡ true) q → k < length q → has_name cmp v (node_at q k) ≡ true → node_named cmp q v ≡ Some k)
       (λ b a low on. here b a low)
@@ -190,7 +190,7 @@ module _ {T : Type 0} (cmp : T → T → Ordering) (o : IsTotalOrder cmp) (v : T
       here b [] low full inside own = absurd (omega (arith, length-append b []))
       here b (n ∷ a) low full inside own = position_at (has_name cmp v) b n a (unnamed cmp o v b (each-left _ b (n ∷ a) full) low) (rw get_or-append_seam at own)
 
-  named_not : (ns : List (List T)) → Cut cmp ns → let k = position_or_len (reaches cmp v) ns in (k < length ns → has_name cmp v (node_at ns k) ≡ false) → node_named cmp ns v ≡ None
+  named_not : (ns : List (List T)) → Ruled cmp ns → let k = position_or_len (reaches cmp v) ns in (k < length ns → has_name cmp v (node_at ns k) ≡ false) → node_named cmp ns v ≡ None
   named_not ns cut =
       parted (λ q k. Each (λ n. is_filled n ≡ true) q → (k < length q → has_name cmp v (node_at q k) ≡ false) → node_named cmp q v ≡ None)
       (λ b a low on. none b a low on)
@@ -208,7 +208,7 @@ module _ {T : Type 0} (cmp : T → T → Ordering) (o : IsTotalOrder cmp) (v : T
           nowhere (b ++ n ∷ a) (each-append _ b (n ∷ a) (unnamed cmp o v b (each-left _ b (n ∷ a) full) low) (here, unnamed_above a rest.1 on.2))
 
   -- the same, as the code holds the nodes
-  module _ {N : Type 0} (f : N → List T) (items : List N) (cut : Cut cmp (map f items)) (k : ℕ) (is : k ≡ position_or_len (reaches cmp v) (map f items)) where
+  module _ {N : Type 0} (f : N → List T) (items : List N) (cut : Ruled cmp (map f items)) (k : ℕ) (is : k ≡ position_or_len (reaches cmp v) (map f items)) where
     node_here : (n : N) → k < length items → n ≡ get_or items k n → node_at (map f items) (position_or_len (reaches cmp v) (map f items)) ≡ f n
     node_here n lt read = sym (node_is f items (map f items) k n refl lt read ∙ ap (λ j. node_at (map f items) j) is)
 
@@ -246,7 +246,7 @@ module _ {T : Type 0} (cmp : T → T → Ordering) (o : IsTotalOrder cmp) (v : T
   equal_in_node b (n ∷ a) low on = rw (get_or-append_seam, joined-append b (n ∷ a), has_equal-append (joined b) (n ++ joined a), none_low (joined b) low, has_equal-append n (joined a), none_high (joined a) on.2) (or-false (has_equal cmp n v))
 
   -- the same, as the code holds the nodes
-  module _ {N : Type 0} (f : N → List T) (items : List N) (cut : Cut cmp (map f items)) (k : ℕ) (is : k ≡ position_or_len (reaches cmp v) (map f items)) where
+  module _ {N : Type 0} (f : N → List T) (items : List N) (cut : Ruled cmp (map f items)) (k : ℕ) (is : k ≡ position_or_len (reaches cmp v) (map f items)) where
     equal_here : has_equal cmp (joined (map f items)) v ≡ has_equal cmp (node_at (map f items) k) v
     equal_here = rw is (parted (λ q j. has_equal cmp (joined q) v ≡ has_equal cmp (node_at q j) v) equal_in_node (map f items) cut)
 
@@ -292,7 +292,7 @@ module _ {T : Type 0} (cmp : T → T → Ordering) (o : IsTotalOrder cmp) (v : T
       up_true cmp (l ++ v ∷ r) (up_put cmp l v r (low.0 both.0) (high.0 both.1) up))
 
   -- a value put into a node, or into a node of its own
-  pub fits_node : (ns : List (List T)) → Cut cmp ns → (p : ℕ) → p < length ns → (i : ℕ) → let n = node_at ns p in is_ascending cmp (joined (splice ns p (p + 1) (insert n i v ∷ []))) ≡ is_between cmp (option_or (last_item (take i n)) (last_item (joined (take p ns)))) v (option_or (first_item (drop i n)) (first_item (joined (drop (p + 1) ns))))
+  pub fits_node : (ns : List (List T)) → Ruled cmp ns → (p : ℕ) → p < length ns → (i : ℕ) → let n = node_at ns p in is_ascending cmp (joined (splice ns p (p + 1) (insert n i v ∷ []))) ≡ is_between cmp (option_or (last_item (take i n)) (last_item (joined (take p ns)))) v (option_or (first_item (drop i n)) (first_item (joined (drop (p + 1) ns))))
   fits_node ns cut p inside i =
       let n = node_at ns p in
       let b = joined (take p ns) in
@@ -301,7 +301,7 @@ module _ {T : Type 0} (cmp : T → T → Ordering) (o : IsTotalOrder cmp) (v : T
       let made : joined (splice ns p (p + 1) (insert n i v ∷ [])) ≡ (b ++ take i n) ++ v ∷ (drop i n ++ a) = joined-splice ns (insert n i v ∷ []) p (p + 1) ∙ simp (append_assoc, append-nil) in
       rw made (between (b ++ take i n) (drop i n ++ a) (subst (Up cmp) (sym whole) cut.up) ∙ rw (last_item-append b (take i n), first_item-append (drop i n) a) refl)
 
-  pub fits_alone : (ns : List (List T)) → Cut cmp ns → (p : ℕ) → is_ascending cmp (joined (insert ns p (v ∷ []))) ≡ is_between cmp (last_item (joined (take p ns))) v (first_item (joined (drop p ns)))
+  pub fits_alone : (ns : List (List T)) → Ruled cmp ns → (p : ℕ) → is_ascending cmp (joined (insert ns p (v ∷ []))) ≡ is_between cmp (last_item (joined (take p ns))) v (first_item (joined (drop p ns)))
   fits_alone ns cut p =
       let b = joined (take p ns) in
       let a = joined (drop p ns) in

@@ -14,7 +14,7 @@ use Rattle.indexset_core.specs.Parted.{IsParted, less_count}
 use Rattle.indexset_core.proofs.CallerLemmas.{located_found, located_gap, found_equal, gap_equal, is_some-find, get_in_node, place_for, ends_for, parted_node, parted_by_item, gap_has_equal}
 use Rattle.indexset_log.specs.Located.{located, IsFoundIn}
 use Rattle.indexset_log.specs.Nodes.{is_filled}
-use Rattle.indexset_log.proofs.Ups.{each_all, lawful_ruled, filled_length, length_filled, lawful_bounded}
+use Rattle.indexset_log.proofs.Ups.{Each, each_all, lawful_ruled, filled_length, length_filled, lawful_bounded}
 use Rattle.indexset_log.proofs.Theorem.{no_last}
 
 -- the nodes as the code holds them: f tells the list of each

@@ -3,9 +3,9 @@ ghost use Rattle.std.specs.Prelude.{◌≡◌, IsTrue, drop, filter, min, take};
 ghost use Rattle.std.specs.Map.Iter.{ShowsInOrder, ShowsInReverse, deref};
 ghost use Rattle.std.specs.Ordering.{is_ge};
 ghost use Rattle.std.specs.Range.Bound.{bound_map, start_index, end_index};
-ghost use Rattle.indexset_core.specs.Bounds.{are_ordered, in_range, in_positions, is_before, is_up_to_end, is_from_start};
-ghost use Rattle.indexset_spine.specs.Cut.{items, IsSpot, position_of};
+ghost use Rattle.indexset_core.specs.Bounds.{are_ordered, in_range, in_positions, is_from_start, is_up_to_end};
 ghost use Rattle.indexset_core.specs.Order.{above, below, up_to};
+ghost use Rattle.indexset_spine.specs.Cut.{IsSpot, items, position_of};
 
 use super::BTreeSet;
 use super::iter::Iter;

@@ -1,5 +1,4 @@
 use Rattle.std.proofs.Common.{◌∙◌}
-use Rattle.indexset_core.proofs.CallerLemmas.{range_order, range_is}
 use Rattle.indexset_spine.proofs.CallerLemmas.{place_within}
 use Rattle.indexset_set.proofs.SetRangeLemmas.{range_order, range_is}
 use Rattle.indexset_set.proofs.set.BTreeSet.range.Goals as goal
