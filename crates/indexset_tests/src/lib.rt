@@ -2,6 +2,10 @@
 //! public call runs once with ample memory.
 #![tactic(auto)]
 
+pub mod callers;
+
+#[cfg(test)]
+mod counted;
 #[cfg(test)]
 mod logged;
 #[cfg(test)]
