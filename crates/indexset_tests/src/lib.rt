@@ -7,11 +7,11 @@ pub mod callers;
 #[cfg(test)]
 mod counted;
 #[cfg(test)]
+mod logged;
+#[cfg(test)]
 mod logged_walks;
 #[cfg(test)]
 mod map;
-#[cfg(test)]
-mod logged;
 #[cfg(test)]
 mod node;
 #[cfg(test)]

@@ -1,5 +1,6 @@
 //! Worked examples of the logged set and its events.
-ghost use Rattle.std.specs.Prelude.{◌≤◌};
+ghost use Rattle.std.specs.Prelude.{◌≤◌, ◌<◌, length, IfOk};
+ghost use Rattle.indexset_core.specs.Nodes.{node_at};
 
 use crate::tagged::Tagged;
 use indexset_core::node::NodeLike;
@@ -67,7 +68,22 @@ fn tree_of<Node: NodeLike<u64>>(
     Ok(tree)
 }
 
-/// Where each of these values stands: its node, and the place there.
+/// Where a value stands: its node, and the place there.
+fn place_of<Node: NodeLike<u64>>(
+    tree: &BTreeSet<u64, Node>,
+    value: u64,
+) -> Result<(usize, usize), (usize, usize)>
+    ensures node { IfOk result (λ place. place.0 < length tree.now.nodes) }
+    ensures offset { IfOk result (λ place. place.1 < length (node_at tree.now.nodes place.0)) }
+{
+    let count = tree.node_count();
+    if count == 0 {
+        return Err((0, 0));
+    }
+    tree.locate_by(&mut ByItem::new(&value))
+}
+
+/// Where each of these values stands.
 fn places_of<Node: NodeLike<u64>>(
     alloc: Global,
     tree: &BTreeSet<u64, Node>,
@@ -75,7 +91,7 @@ fn places_of<Node: NodeLike<u64>>(
 ) -> Result<Vec<Result<(usize, usize), (usize, usize)>>, Fail> {
     let mut places = Vec::new(alloc);
     for value in values {
-        places.push(tree.locate_by(&mut ByItem::new(value)))?;
+        places.push(place_of(tree, *value))?;
     }
     Ok(places)
 }
@@ -244,7 +260,7 @@ fn an_empty_tree_has_no_node(rt: HostRuntime) -> Result<(), Fail> {
     assert!(rt; tree.is_empty());
     assert_eq!(rt; tree.maximum_node_size(), 1024);
     assert_eq!(rt; tree.get(&1), None);
-    assert_eq!(rt; tree.locate_by(&mut ByItem::new(&1)), Err((0, 0)));
+    assert_eq!(rt; place_of(&tree, 1), Err((0, 0)));
     Ok(())
 }
 
@@ -289,13 +305,13 @@ fn a_removal_by_place(rt: HostRuntime) -> Result<(), Fail> {
     let mut tree: Set = tree_of(rt.alloc(), 4, &[1, 2, 3])?;
     assert_eq!(rt; tree.put(3)?, Some(3));
     assert_eq!(rt; tree.events_issued(), 5);
-    if let Ok((node, offset)) = tree.locate_by(&mut ByItem::new(&2)) {
+    if let Ok((node, offset)) = place_of(&tree, 2) {
         let (item, events) = tree.remove_at_cdc(node, offset)?;
         assert_eq!(rt; item, 2);
         let rows = rows_of(rt.alloc(), events.as_slice())?;
         assert_eq!(rt; rows.as_slice(), [(5, "remove", 3, 2, 1)].as_slice());
     }
-    if let Ok((node, offset)) = tree.locate_by(&mut ByItem::new(&1)) {
+    if let Ok((node, offset)) = place_of(&tree, 1) {
         assert_eq!(rt; tree.remove_at(node, offset)?, 1);
     }
     assert_eq!(rt; tree.events_issued(), 7);
