@@ -7,7 +7,6 @@ pub mod EditSteps
 pub mod IterLemmas
 pub mod PartLemmas
 pub mod RemoveSteps
-pub mod RetainNodes
 pub mod RetainSteps
 pub mod SpineReads
 pub mod SplitSteps

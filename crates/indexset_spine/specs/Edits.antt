@@ -1,15 +1,14 @@
 -- What the steps of an edit do to the nodes.
-use Rattle.std.specs.Prelude.{ℕ, ◌+◌, ◌==◌, ◌&&◌, Bool, List, [], ◌∷◌, ◌++◌, length, not, filter, take, drop, slice_set, insert, remove, if◌then◌else◌, nat_lt}
-use Rattle.std.specs.List.Retain.{RetainsInTurn}
+use Rattle.std.specs.Prelude.{◌≡◌, ℕ, ◌+◌, ◌==◌, ◌&&◌, Bool, List, [], ◌∷◌, ◌++◌, length, not, cond, filter, take, drop, slice_set, insert, remove, if◌then◌else◌, nat_lt}
 use Rattle.indexset_spine.specs.declared.spot.Spot.{Spot}
 use Rattle.indexset_core.specs.Nodes.{node_at}
 
 module _ {X : Type 0} where
-  -- the nodes with v put into the node of the place
+  -- the nodes with v inserted into the node of the spot
   unfoldable pub with_item_in : List (List X) → Spot → X → List (List X)
   with_item_in ns s v = slice_set ns s.node (insert (node_at ns s.node) s.offset v)
 
-  -- one empty node in place of none
+  -- one empty node where there is none
   abbrev pub or_one_empty : List (List X) → List (List X)
   or_one_empty [] = [] ∷ []
   or_one_empty (n ∷ ns) = n ∷ ns
@@ -22,14 +21,26 @@ module _ {X : Type 0} where
   unfoldable pub without_all_emptied : List (List X) → List (List X)
   without_all_emptied ns = or_one_empty (filter (λ n. not (length n == 0)) ns)
 
-  -- the nodes up to the place: the last is cut at the offset, and goes if nothing is left of it, unless it is the only one
+  -- the nodes up to the spot: the last ends at the offset, and goes if nothing is left of it, unless it is the only one
   unfoldable pub left_nodes : List (List X) → Spot → List (List X)
   left_nodes ns s = without_emptied (take s.node ns ++ take s.offset (node_at ns s.node) ∷ []) s.node
 
-  -- the nodes from the place on: the first is cut at the offset, and goes if nothing is left of it, unless it is the only one
+  -- the nodes from the spot on: the first starts at the offset, and goes if nothing is left of it, unless it is the only one
   unfoldable pub right_nodes : List (List X) → Spot → List (List X)
   right_nodes ns s = without_emptied (drop s.offset (node_at ns s.node) ∷ drop (s.node + 1) ns) 0
 
-  -- calls by R over xs, from s on, kept ys and left t: whatever calls follow from t on, the two are one run
-  abbrev pub RetainsUpTo : {S : Type 0} → (S → X → Bool → S → X → Type 0) → S → List X → List X → S → Type 0
-  RetainsUpTo R s xs ys t = (more rest : List X) → RetainsInTurn R t more rest → RetainsInTurn R s (xs ++ more) (ys ++ rest)
+  -- R went over the items in turn, from s on to t, and ys has those of which it said true, as it left them
+  abbrev pub RetainsTo : {S : Type 0} → (S → X → Bool → S → X → Type 0) → S → List X → List X → S → Type 0
+  RetainsTo R s [] ys t = (ys ≡ []) × (t ≡ s)
+  RetainsTo {S} R s (x ∷ xs) ys t = (b : Bool) × (u : S) × (y : X) × R s x b u y × (zs : List X) × RetainsTo R u xs zs t × (ys ≡ cond b (y ∷ zs) zs)
+
+  -- the same over one node after another, each keeping its own
+  abbrev pub RetainsEach : {S : Type 0} → (S → X → Bool → S → X → Type 0) → S → List (List X) → List (List X) → Type 0
+  RetainsEach R s [] ms = ms ≡ []
+  RetainsEach {S} R s (n ∷ ns) ms = (m : List X) × (t : S) × RetainsTo R s n m t × (ls : List (List X)) × RetainsEach R t ns ls × (ms ≡ m ∷ ls)
+
+  -- and of these nodes the emptied ones went
+  pub record RetainsNodes {S : Type 0} (R : S → X → Bool → S → X → Type 0) (s : S) (ns ms : List (List X)) : Type 0 where
+    pub each : List (List X)
+    pub run : RetainsEach R s ns each
+    pub left : ms ≡ without_all_emptied each

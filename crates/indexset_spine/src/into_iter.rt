@@ -1,10 +1,12 @@
 //! An owned walk of a spine from both ends.
-ghost use Rattle.std.specs.Prelude.{◌≡◌, length, List, IfSome, Some};
-ghost use Rattle.std.specs.Iterator.{UpTo, at_most};
+ghost use Rattle.std.specs.Prelude.{◌≡◌, length, List, Some, IfSome};
+ghost use Rattle.std.specs.Iterator.{at_most, UpTo};
 ghost use Rattle.std.specs.Iterator.SizeHint.{IsWithinCount};
 ghost use Rattle.std.specs.Map.Iter.{TakesFirst, TakesLast};
 ghost use Rattle.indexset_core.specs.Nodes.{joined};
 ghost use Rattle.indexset_spine.specs.Cut.{vec_items};
+
+mod traits;
 
 use std::iter::FusedIterator;
 use std::marker::Model;
@@ -51,9 +53,9 @@ impl<T> IntoIter<T> {
 impl<T: Drop> Iterator for IntoIter<T> {
     type Item = T;
 
-    ghost next_gives = { TakesFirst (λ x. x) };
-
     ghost remaining = { λ s. at_most (length s) };
+
+    ghost next_gives = { TakesFirst (λ x. x) };
 
     fn next(&mut self) -> Option<T> {
         loop {
@@ -72,9 +74,9 @@ impl<T: Drop> Iterator for IntoIter<T> {
     }
 
     fn size_hint(&self) -> (usize, Option<usize>)
+        ensures value { result ≡ (length self.now, Some (length self.now)) }
         ensures lower { IsWithinCount result.0 (at_most (length self.now)) }
         ensures upper { IfSome result.1 (UpTo (at_most (length self.now))) }
-        ensures exact { result ≡ (length self.now, Some (length self.now)) }
     {
         (self.left, Some(self.left))
     }

@@ -1,13 +1,14 @@
 //! A shared walk of a spine from both ends.
 ghost use Rattle.std.specs.Prelude.{◌≡◌, ◌+◌, length, List, IfSome, Some};
 ghost use Rattle.std.specs.List.{between};
-ghost use Rattle.std.specs.Iterator.{UpTo, at_most};
+ghost use Rattle.std.specs.Iterator.{at_most, UpTo};
 ghost use Rattle.std.specs.Iterator.SizeHint.{IsWithinCount};
-ghost use Rattle.std.specs.Map.Iter.{TakesFirst, TakesLast, ShowsInOrder, ShowsInReverse, deref};
+ghost use Rattle.std.specs.Map.Iter.{TakesFirst, TakesLast, deref};
 ghost use Rattle.indexset_core.specs.Nodes.{joined};
-ghost use Rattle.indexset_spine.specs.Cut.{items, vec_items, IsSpot, position_of};
+ghost use Rattle.indexset_spine.specs.Cut.{vec_items, IsSpot, position_of};
 
-use crate::spine::Spine;
+mod traits;
+
 use crate::spot::Spot;
 use std::iter::FusedIterator;
 use std::marker::Model;
@@ -143,15 +144,3 @@ impl<'a, T> ExactSizeIterator for Iter<'a, T> {
 }
 
 impl<'a, T> FusedIterator for Iter<'a, T> {}
-
-impl<'a, T> IntoIterator for &'a Spine<T> {
-    type Item = &'a T;
-
-    type IntoIter = Iter<'a, T>;
-
-    ghost into_iter_gives = { λ b r. (r ≡ items b.now) × ShowsInOrder (deref {X = T}) × ShowsInReverse (deref {X = T}) };
-
-    fn into_iter(self) -> Iter<'a, T> {
-        self.iter()
-    }
-}

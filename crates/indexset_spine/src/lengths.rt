@@ -33,14 +33,14 @@ pub(crate) fn distance_in<T>(nodes: &[Vec<T>], start: &Spot, end: &Spot) -> usiz
     prefix_in(between, between.len()) + end.offset - start.offset
 }
 
-/// The node of a position, and the offset in it.
+/// The index of the node of a position, and the offset in that node.
 pub(crate) fn find_in<T>(nodes: &[Vec<T>], position: usize) -> Option<(usize, usize)>
     ensures { MatchOption result (length (joined (vec_items nodes.now)) ≤ position) (λ p. (p.0 < length nodes.now) × (p.1 < length (node_at (vec_items nodes.now) p.0)) × (length (joined (take p.0 (vec_items nodes.now))) + p.1 ≡ position)) }
 {
     let mut left = position;
-    for (place, node) in nodes.iter().enumerate() {
+    for (k, node) in nodes.iter().enumerate() {
         if left < node.len() {
-            return Some((place, left));
+            return Some((k, left));
         }
         left -= node.len();
     }

@@ -3,13 +3,23 @@
 #![tactic(auto)]
 
 #[cfg(test)]
+mod logged_walks;
+#[cfg(test)]
+mod map;
+#[cfg(test)]
 mod node;
+#[cfg(test)]
+mod paths;
 #[cfg(test)]
 mod probe;
 #[cfg(test)]
 mod program;
 #[cfg(test)]
 mod readme;
+#[cfg(test)]
+mod refusal;
+#[cfg(test)]
+mod run_map;
 #[cfg(test)]
 mod run_set;
 #[cfg(test)]
