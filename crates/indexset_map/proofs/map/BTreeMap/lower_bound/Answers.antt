@@ -1,5 +1,4 @@
 use Rattle.std.proofs.Common.{length, ap}
-use Rattle.indexset_core.specs.declared.pair.Pair.{Pair}
 use Rattle.indexset_map.specs.Contents.{Contents}
 use Rattle.indexset_map.proofs.SpanLemmas.{first_from}
 use Rattle.indexset_map.proofs.map.BTreeMap.lower_bound.Goals as goal
