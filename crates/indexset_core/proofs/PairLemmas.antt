@@ -62,10 +62,10 @@ module _ {X : Type 0} (p : X → Bool) where
     | false ↦ λ g. absurd (cc)
   ] h
 
-  find_position : (xs : List X) (i : ℕ) → position p xs ≡ Some i → find p xs ≡ slice_get xs i
+  pub find_position : (xs : List X) (i : ℕ) → position p xs ≡ Some i → find p xs ≡ slice_get xs i
   find_position xs i h = find_at p xs ∙ ap (λ j. slice_get xs j) (position_is xs i h)
 
-  find_absent : (xs : List X) → position p xs ≡ None → find p xs ≡ None
+  pub find_absent : (xs : List X) → position p xs ≡ None → find p xs ≡ None
   find_absent xs h = find_at p xs ∙ slice_get_past xs (position_or_len p xs) (position_past xs h)
 
   any_absent : (xs : List X) → position p xs ≡ None → list_any p xs ≡ false
