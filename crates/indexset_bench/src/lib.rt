@@ -2,9 +2,12 @@
 #![tactic(auto)]
 
 mod command;
+pub mod command_run;
 mod fault;
 pub mod laws;
 mod line;
+pub mod map_run;
+mod perform;
 mod program;
 mod reply;
 pub mod set_run;

@@ -4,6 +4,7 @@ ghost use Rattle.std.specs.Prelude.{◌≡◌, ◌<◌, ◌++◌, [], ◌∷◌,
 ghost use Rattle.indexset_spine.specs.Cut.{items};
 ghost use Rattle.indexset_bench.specs.SetRun.{set_reply, set_after, set_replies, set_after_all};
 
+use crate::command_run::Run;
 use indexset_core::refusal::Refusal;
 use indexset_set::BTreeSet;
 use std::alloc::Global;
@@ -54,15 +55,6 @@ pub enum SetReply<T> {
     Count(usize),
     /// It was done.
     Done,
-}
-
-/// What a list of commands was answered.
-#[derive(Debug, Drop)]
-pub struct Run<R> {
-    /// The replies, in turn, to the commands before the refused one, or to all of them.
-    pub replies: Vec<R>,
-    /// Why the run ended before its commands did, if it did.
-    pub refused: Option<Refusal>,
 }
 
 /// Carries out the commands in turn, and ends at the first that is refused: then the replies are

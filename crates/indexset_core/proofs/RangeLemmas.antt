@@ -98,7 +98,7 @@ module _ {T : Type 0} (cmp : T → T → Ordering) (o : IsTotalOrder cmp) where
   ordered_weaker (Excluded a) Unbounded h x e = refl
   ordered_weaker Unbounded end h x e = absurd (false≢true e)
 
-  not_before : (start : Bound T) (x : T) → not (is_before cmp start x) ≡ is_from_start cmp start x
+  pub not_before : (start : Bound T) (x : T) → not (is_before cmp start x) ≡ is_from_start cmp start x
   not_before (Included a) x = not_less (cmp x a)
   not_before (Excluded a) x = not_le (cmp x a)
   not_before Unbounded x = refl

@@ -1,5 +1,5 @@
 -- Lists of pairs, by key and by position.
-use Rattle.std.specs.Prelude.{◌≡◌, ℕ, Bool, List, [], ◌∷◌, Option, Some, None, if◌then◌else◌, filter, find, not, count_by, slice_get, slice_set}
+use Rattle.std.specs.Prelude.{◌≡◌, ℕ, Bool, List, [], ◌∷◌, Option, Some, None, if◌then◌else◌, filter, find, not, map, count_by, slice_get, slice_set}
 use Rattle.std.specs.List.{list_any}
 use Rattle.std.specs.Borrow.{Bor, MutBor}
 use Rattle.std.specs.Fn.{Mut}
@@ -7,7 +7,9 @@ use Rattle.std.specs.Map.Calls.{CalledAtPair}
 use Rattle.std.specs.Option.{option_map, option_map_or}
 use Rattle.std.specs.Ordering.{is_eq, is_lt}
 use Rattle.std.specs.declared.cmp.Ordering.{Ordering}
+use Rattle.std.specs.declared.ops.Bound.{Bound}
 use Rattle.indexset_core.specs.declared.pair.Pair.{Pair}
+use Rattle.indexset_core.specs.Bounds.{is_within}
 use Rattle.indexset_core.specs.Order.{put}
 
 module _ {K V : Type 0} where
@@ -30,6 +32,14 @@ module _ {K V : Type 0} where
   abbrev pub set_value_at : List (Pair K V) → ℕ → V → List (Pair K V)
   set_value_at l i w = option_map_or (λ p. slice_set l i (valued p w)) (slice_get l i) l
 
+  -- the keys, in the order of the pairs
+  abbrev pub pair_keys : List (Pair K V) → List K
+  pair_keys l = map (λ p. p.key) l
+
+  -- the values, in the order of the pairs
+  abbrev pub pair_values : List (Pair K V) → List V
+  pair_values l = map (λ p. p.value) l
+
   -- a call of the closure at the key and the value of p may answer b, and leave the value of q
   abbrev pub CalledOnPair : {F : Type 0} → Mut F (Bor K × (MutBor V × Unit {0})) (Bool × (MutBor V × Unit {0})) → F → Pair K V → Bool → F → Pair K V → Type 0
   CalledOnPair g f p b f' q = CalledAtPair g f p.key p.value b q.value f' × (q.key ≡ p.key)
@@ -50,6 +60,17 @@ module _ {K V : Type 0} where
     -- how many keys are below k
     abbrev pub key_rank : List (Pair K V) → K → ℕ
     key_rank l k = count_by (λ p. is_lt (cmp p.key k)) l
+
+    -- the pairs whose keys are below k, and those whose keys are not
+    abbrev pub pairs_below : List (Pair K V) → K → List (Pair K V)
+    pairs_below l k = filter (λ p. is_lt (cmp p.key k)) l
+
+    abbrev pub pairs_from : List (Pair K V) → K → List (Pair K V)
+    pairs_from l k = filter (λ p. not (is_lt (cmp p.key k))) l
+
+    -- the pairs whose keys satisfy both bounds
+    abbrev pub pairs_within : List (Pair K V) → Bound K → Bound K → List (Pair K V)
+    pairs_within l start end = filter (λ p. is_within cmp start end p.key) l
 
     -- the pairs, with w as the value of the pair of the key, whose own key stays
     unfoldable pub set_value : List (Pair K V) → K → V → List (Pair K V)

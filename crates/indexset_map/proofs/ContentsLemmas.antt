@@ -1,16 +1,21 @@
 -- What a written value leaves of the pairs of a map.
-use Rattle.std.proofs.Common.{◌≡◌, ℕ, zero, suc, ◌<◌, ◌≤◌, true, false, List, [], ◌∷◌, length, Ordering, Some, None, slice_get, refl, ap, sym, ◌∙◌, arith}
-use Rattle.std.specs.Option.{option_map, option_map_or}
+use Rattle.std.proofs.Common.{◌≡◌, ℕ, zero, suc, ◌<◌, ◌≤◌, true, false, List, [], ◌∷◌, length, Ordering, Some, None, slice_get, refl, ap, sym, ◌∙◌, arith, ◌-◌, ◌++◌, take, Option, IsSome, is_some}
+use Rattle.std.specs.Option.{option_map, option_map_or, option_copied}
 use Rattle.std.specs.List.{insert, remove, slice_set}
+use Rattle.std.specs.Borrow.{Bor}
+use Rattle.std.specs.Ordering.{is_eq}
+use Rattle.std.proofs.Math.ListN.{drop_of_length-le}
+use Rattle.std.proofs.lemmas.Bool.{false≢true}
+use Rattle.std.proofs.lemmas.List.{append-nil}
 use Rattle.std.proofs.lemmas.List.Edits.{length-insert}
 use Rattle.indexset_core.specs.declared.pair.Pair.{Pair}
 use Rattle.indexset_core.specs.Nodes.{node_lengths}
 use Rattle.indexset_spine.specs.Cut.{Cut, items, with_item_at}
 use Rattle.indexset_core.specs.Order.{IsGapFor, put}
-use Rattle.indexset_core.specs.Pairs.{pair, valued, by_key, set_value_at, has_key, set_value, put_value}
+use Rattle.indexset_core.specs.Pairs.{pair, valued, by_key, set_value_at, has_key, pair_of, value_of, set_value, put_value}
 use Rattle.indexset_set.specs.SetPairs as cut
-use Rattle.indexset_core.proofs.CallerLemmas.{gap_put}
-use Rattle.indexset_set.proofs.SetValueLemmas.{items-with_value_at, size-with_value_at}
+use Rattle.indexset_core.proofs.CallerLemmas.{gap_put, is_some-find}
+use Rattle.indexset_set.proofs.CallerLemmas.{items-with_value_at, size-with_value_at}
 use Rattle.indexset_map.specs.Contents.{Contents, contents, with_value_at}
 use Rattle.indexset_map.proofs.LengthLemmas.{node_lengths-set_joined}
 
@@ -64,6 +69,17 @@ module _ {K V : Type 0} where
   get_insert l zero q le = refl
   get_insert [] (suc i) q le = absurd (omega arith)
   get_insert (p ∷ l) (suc i) q le = get_insert l i q (omega arith)
+
+  pub last_removed : (l : List (Pair K V)) → remove l (length l - 1) ≡ take (length l - 1) l
+  last_removed l = ap (λ rest. take (length l - 1) l ++ rest) (drop_of_length-le l {i = suc (length l - 1)} (omega arith)) ∙ append-nil _
+
+  -- a key that is there has a value
+  pub value_there : (cmp : K → K → Ordering) (l : List (Pair K V)) (k : K) → has_key cmp l k ≡ true → (r : Option (Bor V)) → option_copied r ≡ value_of cmp l k → IsSome r
+  value_there cmp l k h r e = is_there r (pair_of cmp l k) e (is_some-find (λ p. is_eq (cmp p.key k)) l ∙ h) where
+    is_there : (r : Option (Bor V)) (o : Option (Pair K V)) → option_copied r ≡ option_map (λ p. p.value) o → is_some o ≡ true → IsSome r
+    is_there (Some v) o e there = refl
+    is_there None (Some p) e there = absurd (cc)
+    is_there None None e there = absurd (false≢true there)
 
   module _ (cmp : K → K → Ordering) (l : List (Pair K V)) (k : K) where
     pub put_there : has_key cmp l k ≡ true → (w : V) → put_value cmp l k w ≡ set_value cmp l k w

@@ -74,7 +74,7 @@ module _ {K V : Type 0} (cmp : K → K → Ordering) (m : Contents K V) (k : K) 
         λ j. record { pairs = pairs j; lengths = sym lengths j; size = m.size }
 
     module _ (total : IsTotalOrder cmp) (up : IsAscending (by_key cmp) m.pairs) where
-      key_place : key_rank cmp m.pairs k ≡ i
+      pub key_place : key_rank cmp m.pairs k ≡ i
       key_place =
           let parted = parted_by_key cmp total m.pairs up k in
           let w = (get_or_inside m.pairs i (key_inside cmp m.pairs k i h)).value in

@@ -2,6 +2,7 @@
 use Rattle.std.specs.Prelude.{◌≡◌, ℕ, List, [], ◌∷◌, map, refl, if◌then◌else◌, length, remove, slice_get, slice_set}
 use Rattle.std.specs.Coded.{Coded, code_by, coded×, coded_ℕ, coded_list}
 use Rattle.std.specs.Borrow.{Bor}
+use Rattle.std.specs.List.{fold}
 use Rattle.std.specs.Option.{option_map_or}
 use Rattle.std.proofs.Common.{ap, Some, None, length-set}
 use Rattle.std.specs.declared.cmp.Ordering.{Ordering}
@@ -19,6 +20,10 @@ pub record Contents (K V : Type 0) : Type 0 where
 module _ {K V : Type 0} where
   abbrev pub contents : Cut (Pair K V) → Contents K V
   contents s = record { pairs = items s; lengths = node_lengths s.nodes; size = s.size }
+
+  -- no pairs, in one empty node
+  abbrev pub no_pairs : ℕ → Contents K V
+  no_pairs size = record { pairs = []; lengths = 0 ∷ []; size = size }
 
   -- the map with other pairs in nodes of the same lengths
   abbrev pub with_pairs : Contents K V → List (Pair K V) → Contents K V
@@ -44,6 +49,10 @@ module _ {K V : Type 0} where
       lengths = if has_key cmp m.pairs k then m.lengths else lengths_with m.size m.lengths (key_rank cmp m.pairs k);
       size = m.size;
     }
+
+    -- the map, once each entry was put in its place in turn
+    abbrev pub with_all : Contents K V → List (K × V) → Contents K V
+    with_all m entries = fold (λ n e. with_put n e.0 e.1) m entries
 
     -- the map without the pair of the key
     abbrev pub without_pair : Contents K V → K → Contents K V

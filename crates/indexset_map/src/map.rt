@@ -1,5 +1,5 @@
 //! A map kept as a set of pairs.
-ghost use Rattle.std.specs.Prelude.{◌≡◌, ◌<◌, ◌≤◌, Some, None, IfOk, IfErr, false, length, max, position, slice_get, OnOk, OnErr};
+ghost use Rattle.std.specs.Prelude.{◌≡◌, ◌<◌, ◌≤◌, ◌↔◌, IsTrue, Some, None, IfOk, IfErr, false, length, max, position, slice_get, OnOk, OnErr};
 ghost use Rattle.std.specs.Borrow.{sem};
 ghost use Rattle.std.specs.Option.{option_copied, option_map};
 ghost use Rattle.std.specs.Ordering.{is_eq};
@@ -7,12 +7,18 @@ ghost use Rattle.indexset_spine.specs.Cut.{IsSpine};
 ghost use Rattle.indexset_core.specs.Order.{IsAscending};
 ghost use Rattle.indexset_core.specs.Pairs.{by_key, entry_of, has_key, key_rank, pair_of};
 
+mod bulk;
+mod compare;
+pub mod cursor;
 mod edits;
 pub mod entry;
 pub mod iter;
 pub mod iter_mut;
 mod lookup;
 mod make;
+pub mod owned;
+pub mod range;
+pub mod range_mut;
 pub mod values_mut;
 
 use indexset_core::pair::Pair;
@@ -22,6 +28,19 @@ use indexset_set::BTreeSet;
 use std::marker::Model;
 
 /// A map in the order of its keys, of which no two are equal.
+///
+/// ```
+/// let mut ages = BTreeMap::new(alloc)?;
+/// ages.insert("Carol", 41)?;
+/// ages.insert("Alice", 30)?;
+/// assert_eq!(rt; ages.get(&"Alice"), Some(&30));
+/// assert_eq!(rt; ages.get_index(1), Some((&"Carol", &41)));
+/// assert_eq!(rt; ages.rank(&"Bob"), 1);
+/// ```
+///
+/// Any lawful order of keys serves; keys that it calls equal may differ, and then `insert` keeps the
+/// one that is there. Making a map and adding to it can be refused for want of memory alone; nothing
+/// else takes any, but `clone`, `split_off` and `append`.
 #[derive(Drop)]
 pub struct BTreeMap<K: Ord, V> {
     set: BTreeSet<Pair<K, V>>,
@@ -45,6 +64,13 @@ impl<K: Ord, V> BTreeMap<K, V> {
         self.set.len()
     }
 
+    /// Whether there is no pair.
+    pub fn is_empty(&self) -> bool
+        ensures { IsTrue result ↔ (length self.now.pairs ≡ 0) }
+    {
+        self.len() == 0
+    }
+
     /// How many nodes there are: an empty map has one.
     pub fn node_count(&self) -> usize
         ensures value { result ≡ length self.now.lengths }
@@ -53,6 +79,14 @@ impl<K: Ord, V> BTreeMap<K, V> {
         ensures spine { IsSpine self.now.lengths self.now.size (length self.now.pairs) }
     {
         self.set.node_count()
+    }
+
+    /// How many pairs a node holds at most.
+    pub fn maximum_node_size(&self) -> usize
+        ensures value { result ≡ self.now.size }
+        ensures two { 2 ≤ result }
+    {
+        self.set.maximum_node_size()
     }
 
     // The position of a key, or where it would go.
@@ -97,17 +131,7 @@ impl<K: Ord, V> BTreeMap<K, V> {
 }
 
 impl<K: Ord + Drop, V: Drop> BTreeMap<K, V> {
-    ghost use Rattle.indexset_map.specs.Contents.{with_put, without_at};
-
-    // Takes out the pair at a position.
-    fn take_at(&mut self, i: usize) -> (K, V)
-        requires { i < length self.old.pairs }
-        ensures value { option_map entry_of (slice_get self.old.pairs i) ≡ Some result }
-        ensures rest { self.new ≡ without_at self.old i }
-    {
-        let Pair { key, value } = self.set.pop_index(i);
-        (key, value)
-    }
+    ghost use Rattle.indexset_map.specs.Contents.{with_put};
 
     // Puts a pair whose key is not there in its place.
     fn put(&mut self, key: K, value: V) -> Result<(), Refused<(K, V)>>

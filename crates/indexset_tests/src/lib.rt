@@ -5,7 +5,11 @@
 #[cfg(test)]
 mod logged_walks;
 #[cfg(test)]
+mod map;
+#[cfg(test)]
 mod node;
+#[cfg(test)]
+mod paths;
 #[cfg(test)]
 mod probe;
 #[cfg(test)]
@@ -14,6 +18,8 @@ mod program;
 mod readme;
 #[cfg(test)]
 mod refusal;
+#[cfg(test)]
+mod run_map;
 #[cfg(test)]
 mod run_set;
 #[cfg(test)]

@@ -15,6 +15,7 @@ mod counted;
 mod documented;
 mod ranges;
 mod tagged;
+mod traits;
 mod walks;
 
 // Adds a value, and lets it go where memory is refused.

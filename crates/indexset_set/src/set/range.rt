@@ -86,8 +86,8 @@ impl<T: Ord> BTreeSet<T> {
     }
 }
 
-// The first position that is not before the start, or the length where there is none.
-fn first_position(start: Bound<usize>, len: usize) -> usize
+/// The first position that is not before the start, or the length where there is none.
+pub fn first_position(start: Bound<usize>, len: usize) -> usize
     ensures { result ≡ min (start_index start) len }
 {
     match start {
@@ -97,8 +97,8 @@ fn first_position(start: Bound<usize>, len: usize) -> usize
     }
 }
 
-// The first position past the end, or the length where there is none.
-fn end_position(end: Bound<usize>, len: usize) -> usize
+/// The first position past the end, or the length where there is none.
+pub fn end_position(end: Bound<usize>, len: usize) -> usize
     ensures { result ≡ min (end_index end len) len }
 {
     match end {

@@ -1,7 +1,7 @@
 use Rattle.std.proofs.Common.{length, ap, arith}
 use Rattle.std.specs.Vec.Iter.{into_iter_items}
 use Rattle.indexset_spine.specs.Cut.{items}
-use Rattle.indexset_bench.proofs.SetRuns.{replies_to_first, held_after_first, count_of_replies, further}
+use Rattle.indexset_bench.proofs.CommandRuns.{replies_to_first, held_after_first, count_of_replies, further}
 use Rattle.indexset_bench.proofs.set_run.run_set.Goals as goal
 
 pub loop-command-preserved : goal.loop-command-preserved

@@ -3,7 +3,7 @@ use Rattle.std.proofs.Common.{◌≡◌, length}
 use Rattle.std.specs.Vec.Iter.{into_iter_items, into_iter_len}
 use Rattle.indexset_spine.specs.Cut.{items}
 use Rattle.indexset_bench.specs.SetRun.{set_reply, set_after}
-use Rattle.indexset_bench.proofs.SetRuns.{SoFar}
+use Rattle.indexset_bench.proofs.CommandRuns.{SoFar}
 use Rattle.indexset_bench.proofs.set_run.run_set.Given as goal
 
 abbrev pub invariant-loop-command : goal.invariant-loop-command

@@ -1,20 +1,17 @@
-use Rattle.std.proofs.Common.{slice_get, sym, ap, ◌∙◌}
+use Rattle.std.proofs.Common.{sym, ap, ◌∙◌}
 use Rattle.std.specs.Option.{option_map}
 use Rattle.indexset_core.specs.Pairs.{entry_of}
 use Rattle.indexset_core.proofs.CallerLemmas.{key_pair, key_no_pair, key_absent}
-use Rattle.indexset_map.specs.Contents.{Contents}
-use Rattle.indexset_map.proofs.KeyLemmas.{contents_removed, without_found, without_absent}
+use Rattle.indexset_map.proofs.KeyLemmas.{without_found, without_absent}
 use Rattle.indexset_map.proofs.map.BTreeMap.remove_entry.Goals as goal
 
 pub returns-in-Ok-clause-value : goal.returns-in-Ok-clause-value
 returns-in-Ok-clause-value g c =
-    sym (ap (option_map entry_of) (key_pair g.K.Ord.cmp _ _ c.in-Ok.i (c.in-Ok.ensures {u = tt}).found ∙ (ap (λ (m : Contents g.row.K.Denot g.row.V.Denot). slice_get m.pairs c.in-Ok.i) (sym c.self.view_is) ∙ c.pop_index-key.ensures.value)))
+    sym (ap (option_map entry_of) (key_pair g.K.Ord.cmp _ _ c.in-Ok.i (c.in-Ok.ensures {u = tt}).found) ∙ c.pop_index.ensures.value)
 
 pub returns-in-Ok-clause-rest : goal.returns-in-Ok-clause-rest
 returns-in-Ok-clause-rest g c =
-    let out = c.pop_index-key.ensures in
-    contents_removed c.self.inside.set c.pop_index-key.new.self c.args.self.now c.in-Ok.i c.self.view_is out.rest out.nodes out.size
-    ∙ without_found g.K.Ord.cmp c.args.self.now c.args.key.now c.in-Ok.i (c.in-Ok.ensures {u = tt}).found g.met.K.Ord.total c.find.ensures.ascending
+    c.pop_index.ensures.rest ∙ without_found g.K.Ord.cmp c.args.self.now c.args.key.now c.in-Ok.i (c.in-Ok.ensures {u = tt}).found g.met.K.Ord.total c.find.ensures.ascending
 
 pub returns-in-Err-clause-value : goal.returns-in-Err-clause-value
 returns-in-Err-clause-value g c = sym (ap (option_map entry_of) (key_no_pair g.K.Ord.cmp _ _ (c.in-Err.ensures {u = tt}).absent))

@@ -1,0 +1,152 @@
+//! Lists of commands to a map, and the reply to each.
+
+ghost use Rattle.std.specs.Prelude.{◌≡◌, ◌<◌, ◌++◌, [], ◌∷◌, IfOk, OnOk, IfErr, OnErr, IfSome, OnSome, IfNone, length, take};
+ghost use Rattle.indexset_bench.specs.MapRun.{map_reply, map_after, map_replies, map_after_all};
+
+use crate::command_run::Run;
+use indexset_core::refusal::Refusal;
+use indexset_map::BTreeMap;
+use std::alloc::Global;
+
+/// What is asked of a map. The reply is a `Value`, an `Entry`, a `Flag`, a `Count` or `Done`, as it is
+/// said here.
+#[derive(Debug, Drop)]
+pub enum MapCommand<K, V> {
+    /// Makes the value that of the key: a `Value`, the old one.
+    Insert(K, V),
+    /// Asks for the value of the key: a `Value`.
+    Get(K),
+    /// Takes the pair of the key out: a `Value`, that of the pair.
+    Remove(K),
+    /// Asks for the pair at the position: an `Entry`.
+    GetIndex(usize),
+    /// Takes the pair of the key out: an `Entry`, that pair.
+    RemoveEntry(K),
+    /// Takes the pair of the least key out: an `Entry`, that pair.
+    PopFirst,
+    /// Takes the pair of the greatest key out: an `Entry`, that pair.
+    PopLast,
+    /// Asks whether the key is there: a `Flag`.
+    ContainsKey(K),
+    /// Asks how many keys are below the key: a `Count`.
+    Rank(K),
+    /// Asks how many pairs there are: a `Count`.
+    Len,
+    /// Takes all pairs out: `Done`.
+    Clear,
+}
+
+/// The reply to a command.
+#[derive(Debug, PartialEq, Drop)]
+pub enum MapReply<K, V> {
+    /// The value, where there is one; a clone of it where it stays in the map.
+    Value(Option<V>),
+    /// The key and the value, where there are such; clones where they stay in the map.
+    Entry(Option<(K, V)>),
+    /// Whether it is so.
+    Flag(bool),
+    /// How many there are.
+    Count(usize),
+    /// It was done.
+    Done,
+}
+
+/// Carries out the commands in turn, and ends at the first that is refused: then the replies are
+/// those to the commands before it, and the map is as they left it.
+///
+/// Room for a reply is asked for before its command acts. Keys and values that stay in the map are
+/// cloned into their replies, which is why a clone has to be identical to its source.
+pub fn run_map<K: Ord + Clone + Drop, V: Clone + Drop>(
+    alloc: Global,
+    map: &mut BTreeMap<K, V>,
+    commands: Vec<MapCommand<K, V>>,
+) -> Run<MapReply<K, V>>
+    requires keys { (x y : K) → K.is_clone x y → y ≡ x }
+    requires values { (x y : V) → V.is_clone x y → y ≡ x }
+
+    // The commands that were answered are the first ones, as many as there are replies.
+    ensures replies { result.replies.items ≡ map_replies K.cmp map.old.pairs
+        (take (length result.replies.items) commands.items) }
+    ensures contents { map.new.pairs ≡ map_after_all K.cmp map.old.pairs
+        (take (length result.replies.items) commands.items) }
+    ensures all { IfNone result.refused
+        (length result.replies.items ≡ length commands.items) }
+    ensures fewer { OnSome result.refused
+        (length result.replies.items < length commands.items) }
+    ensures refused { IfSome result.refused (λ e. e ≡ Refusal.Memory) }
+    ensures size { map.new.size ≡ map.old.size }
+{
+    let mut replies = Vec::new(alloc);
+    for command in commands {
+        if let Err(refusal) = answer(map, &mut replies, command) {
+            return Run {
+                replies,
+                refused: Some(refusal),
+            };
+        }
+    }
+    Run {
+        replies,
+        refused: None,
+    }
+}
+
+/// Carries out a command and adds the reply to those before it. A refused one changes nothing.
+fn answer<K: Ord + Clone + Drop, V: Clone + Drop>(
+    map: &mut BTreeMap<K, V>,
+    replies: &mut Vec<MapReply<K, V>>,
+    command: MapCommand<K, V>,
+) -> Result<(), Refusal>
+    requires keys { (x y : K) → K.is_clone x y → y ≡ x }
+    requires values { (x y : V) → V.is_clone x y → y ≡ x }
+    ensures told { OnOk result (replies.new.items
+        ≡ replies.old.items ++ map_reply K.cmp map.old.pairs command ∷ []) }
+    ensures ok { OnOk result (map.new.pairs ≡ map_after K.cmp map.old.pairs command) }
+    ensures size { map.new.size ≡ map.old.size }
+    ensures refusal { IfErr result (λ e. e ≡ Refusal.Memory) }
+    ensures untold { OnErr result (replies.new.items ≡ replies.old.items) }
+    ensures err { OnErr result (map.new.pairs ≡ map.old.pairs) }
+{
+    replies.reserve(1)?;
+    let reply = act(map, command)?;
+    replies.push_reserved(reply);
+    Ok(())
+}
+
+/// Carries out a command, and answers the reply to it. A refused one changes nothing.
+fn act<K: Ord + Clone + Drop, V: Clone + Drop>(
+    map: &mut BTreeMap<K, V>,
+    command: MapCommand<K, V>,
+) -> Result<MapReply<K, V>, Refusal>
+    requires keys { (x y : K) → K.is_clone x y → y ≡ x }
+    requires values { (x y : V) → V.is_clone x y → y ≡ x }
+    ensures reply { IfOk result (λ reply. reply ≡ map_reply K.cmp map.old.pairs command) }
+    ensures ok { OnOk result (map.new.pairs ≡ map_after K.cmp map.old.pairs command) }
+    ensures size { map.new.size ≡ map.old.size }
+    ensures refusal { IfErr result (λ e. e ≡ Refusal.Memory) }
+    ensures err { OnErr result (map.new.pairs ≡ map.old.pairs) }
+{
+    let reply = match command {
+        MapCommand::Insert(key, value) => match map.insert(key, value) {
+            Ok(old) => MapReply::Value(old),
+            Err(refused) => return Err(refused.cause),
+        },
+        MapCommand::Get(key) => MapReply::Value(map.get(&key).cloned()?),
+        MapCommand::Remove(key) => MapReply::Value(map.remove(&key)),
+        MapCommand::GetIndex(i) => match map.get_index(i) {
+            Some((key, value)) => MapReply::Entry(Some((key.clone()?, value.clone()?))),
+            None => MapReply::Entry(None),
+        },
+        MapCommand::RemoveEntry(key) => MapReply::Entry(map.remove_entry(&key)),
+        MapCommand::PopFirst => MapReply::Entry(map.pop_first()),
+        MapCommand::PopLast => MapReply::Entry(map.pop_last()),
+        MapCommand::ContainsKey(key) => MapReply::Flag(map.contains_key(&key)),
+        MapCommand::Rank(key) => MapReply::Count(map.rank(&key)),
+        MapCommand::Len => MapReply::Count(map.len()),
+        MapCommand::Clear => {
+            map.clear();
+            MapReply::Done
+        }
+    };
+    Ok(reply)
+}

@@ -1,0 +1,124 @@
+//! A cursor that stands at a position of a map, or at its end place.
+ghost use Rattle.std.specs.Prelude.{◌≡◌, ◌-◌, ◌==◌, None, slice_get, if◌then◌else◌};
+ghost use Rattle.std.specs.List.{position_or_len};
+ghost use Rattle.std.specs.Option.{option_copied, option_map};
+ghost use Rattle.std.specs.Range.Bound.{bound_map};
+ghost use Rattle.indexset_core.specs.Bounds.{is_from_start};
+ghost use Rattle.indexset_core.specs.Pairs.{entry_of};
+ghost use Rattle.indexset_set.specs.SetCursor.{item_at, one_back, one_on, standing_at};
+
+use super::BTreeMap;
+use indexset_core::pair::Pair;
+use indexset_set::Cursor;
+use std::marker::Model;
+use std::ops::Bound;
+
+/// A position of a map from 0 to the length, which is the end place, where there is no pair.
+///
+/// ```
+/// // The keys of a map with keys 1 and 3, next to 2.
+/// let cursor = map.lower_bound(Bound::Included(&2));
+/// assert_eq!(rt; cursor.key(), Some(&3));
+/// assert_eq!(rt; cursor.peek_prev().map(|pair| pair.0), Some(&1));
+/// ```
+///
+/// A cursor goes round: one on from the end place is the first position, and one back from there is
+/// the end place.
+#[derive(Drop)]
+pub struct CursorMap<'a, K: Ord, V> {
+    cursor: Cursor<'a, Pair<K, V>>,
+}
+
+impl<'a, K: Ord, V> Model for CursorMap<'a, K, V> {
+    ghost use Rattle.indexset_core.specs.declared.pair.Pair.{Pair};
+    ghost use Rattle.indexset_set.specs.SetCursor.{Standing};
+    ghost use Rattle.indexset_map.specs.Contents.{pairs_code};
+
+    ghost Value = { Standing (Pair K V) };
+
+    ghost view = { λ c. c.cursor };
+}
+
+impl<K: Ord, V> BTreeMap<K, V> {
+    /// A cursor at the first pair whose key is within the bound, or at the end place where there is none.
+    pub fn lower_bound(&self, bound: Bound<&K>) -> CursorMap<'_, K, V>
+        ensures pairs { result.list ≡ self.now.pairs }
+        ensures position { result.position ≡ position_or_len (λ p. is_from_start K.cmp (bound_map (λ k. k.now) bound.entry) p.key) self.now.pairs }
+    {
+        // A map says here that its keys ascend.
+        let _len = self.len();
+        let i = self.start_position(bound);
+        CursorMap {
+            cursor: self.set.cursor_at(i),
+        }
+    }
+}
+
+impl<'a, K: Ord, V> CursorMap<'a, K, V> {
+    /// Goes one on, and from the end place to the first position.
+    pub fn move_next(&mut self)
+        ensures { self.new ≡ one_on self.old }
+    {
+        self.cursor.move_next();
+    }
+
+    /// Goes one back, and from the first position to the end place.
+    pub fn move_prev(&mut self)
+        ensures { self.new ≡ one_back self.old }
+    {
+        self.cursor.move_prev();
+    }
+
+    /// Goes to a position, or to the end place where there is none.
+    pub fn move_index(&mut self, i: usize)
+        ensures { self.new ≡ standing_at self.old.list i }
+    {
+        self.cursor.move_index(i);
+    }
+
+    /// The key at the position, and none at the end place.
+    pub fn key(&self) -> Option<&'a K>
+        ensures { option_copied result ≡ option_map (λ p. p.key) (item_at self.now) }
+    {
+        Some(&self.cursor.item()?.key)
+    }
+
+    /// The value at the position, and none at the end place.
+    pub fn value(&self) -> Option<&'a V>
+        ensures { option_copied result ≡ option_map (λ p. p.value) (item_at self.now) }
+    {
+        Some(&self.cursor.item()?.value)
+    }
+
+    /// The key and the value at the position, and none at the end place.
+    pub fn key_value(&self) -> Option<(&'a K, &'a V)>
+        ensures { option_map (λ p. (p.0.now, p.1.now)) result ≡ option_map entry_of (item_at self.now) }
+    {
+        let pair = self.cursor.item()?;
+        Some((&pair.key, &pair.value))
+    }
+
+    /// The pair that `move_next` would go to: at the end place the first, where there is one.
+    pub fn peek_next(&self) -> Option<(&'a K, &'a V)>
+        ensures { option_map (λ p. (p.0.now, p.1.now)) result ≡ option_map entry_of (item_at (one_on self.now)) }
+    {
+        let pair = self.cursor.peek_next()?;
+        Some((&pair.key, &pair.value))
+    }
+
+    /// The pair before, and none at the first position.
+    pub fn peek_prev(&self) -> Option<(&'a K, &'a V)>
+        ensures { option_map (λ p. (p.0.now, p.1.now)) result ≡ (if self.now.position == 0 then None else option_map entry_of (slice_get self.now.list (self.now.position - 1))) }
+    {
+        let pair = self.cursor.peek_prev()?;
+        Some((&pair.key, &pair.value))
+    }
+
+    /// The pair at another position, where there is one. The cursor stays.
+    pub fn peek_index(&self, i: usize) -> Option<(&'a K, &'a V)>
+        ensures { option_map (λ p. (p.0.now, p.1.now)) result ≡ option_map entry_of (slice_get self.now.list i) }
+    {
+        let pair = self.cursor.peek_index(i)?;
+        Some((&pair.key, &pair.value))
+    }
+}

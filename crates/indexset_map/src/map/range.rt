@@ -1,0 +1,87 @@
+//! The pairs between two bounds on keys, or between two positions.
+ghost use Rattle.std.specs.Prelude.{◌≡◌, IsTrue};
+ghost use Rattle.std.specs.List.{count_by};
+ghost use Rattle.std.specs.Map.Iter.{ShowsInOrder, ShowsInReverse};
+ghost use Rattle.std.specs.Ordering.{is_le};
+ghost use Rattle.std.specs.Range.Bound.{bound_map};
+ghost use Rattle.indexset_core.specs.Bounds.{are_ordered, in_positions, is_before, is_up_to_end};
+ghost use Rattle.indexset_core.specs.Pairs.{pairs_within};
+ghost use Rattle.indexset_map.specs.Contents.{pair_shown};
+
+use super::BTreeMap;
+use super::iter::IterMap;
+use std::ops::Bound;
+
+/// The pairs of a part of a map that are left, from both ends.
+pub type RangeMap<'a, K, V> = IterMap<'a, K, V>;
+
+impl<K: Ord, V> BTreeMap<K, V> {
+    /// The pairs whose keys satisfy both bounds, in order. The start must not be past the end, nor at it
+    /// where both are excluded, which `bounds_are_ordered` of the core tests.
+    ///
+    /// ```
+    /// // The pairs of the keys from 10 on that are below 20.
+    /// let teens = map.range((Bound::Included(&10), Bound::Excluded(&20)));
+    /// ```
+    pub fn range(&self, range: (Bound<&K>, Bound<&K>)) -> RangeMap<'_, K, V>
+        requires { IsTrue (are_ordered K.cmp (bound_map (λ k. k.now) range.0) (bound_map (λ k. k.now) range.1)) }
+        ensures rest { result ≡ pairs_within K.cmp self.now.pairs (bound_map (λ k. k.now) range.entry.0) (bound_map (λ k. k.now) range.entry.1) }
+        ensures runs { ShowsInOrder (pair_shown {K = K} {V = V}) }
+        ensures runs_back { ShowsInReverse (pair_shown {K = K} {V = V}) }
+    {
+        // A map says here that its keys ascend, so the two positions cut out the range.
+        let _len = self.len();
+        let from = self.start_position(range.0);
+        let to = self.end_position(range.1);
+        self.range_idx((Bound::Included(from), Bound::Excluded(to)))
+    }
+
+    /// The pairs at the positions that satisfy both bounds, in order. There is none where the bounds
+    /// are the wrong way round, and positions past the end have none.
+    ///
+    /// ```
+    /// // The third page of a hundred pairs each.
+    /// let page = map.range_idx((Bound::Included(200), Bound::Excluded(300)));
+    /// ```
+    pub fn range_idx(&self, range: (Bound<usize>, Bound<usize>)) -> RangeMap<'_, K, V>
+        ensures rest { result ≡ in_positions self.now.pairs range.0 range.1 }
+        ensures runs { ShowsInOrder (pair_shown {K = K} {V = V}) }
+        ensures runs_back { ShowsInReverse (pair_shown {K = K} {V = V}) }
+    {
+        IterMap::of(self.set.range_idx(range))
+    }
+
+    // The first position whose key is not before the start, or the length where there is none.
+    pub(super) fn start_position(&self, start: Bound<&K>) -> usize
+        ensures { result ≡ count_by (λ p. is_before K.cmp (bound_map (λ k. k.now) start.entry) p.key) self.now.pairs }
+    {
+        match start {
+            Bound::Unbounded => 0,
+            Bound::Included(key) => self.rank(key),
+            Bound::Excluded(key) => self.position_past(key),
+        }
+    }
+
+    // The first position whose key is past the end, or the length where there is none.
+    pub(super) fn end_position(&self, end: Bound<&K>) -> usize
+        ensures { result ≡ count_by (λ p. is_up_to_end K.cmp (bound_map (λ k. k.now) end.entry) p.key) self.now.pairs }
+    {
+        match end {
+            Bound::Unbounded => self.len(),
+            Bound::Excluded(key) => self.rank(key),
+            Bound::Included(key) => self.position_past(key),
+        }
+    }
+
+    // The first position whose key is above the key, or the length where there is none.
+    fn position_past(&self, key: &K) -> usize
+        ensures { result ≡ count_by (λ p. is_le (K.cmp p.key key.now)) self.now.pairs }
+    {
+        // The length fits, and so does one more than a position.
+        let _len = self.len();
+        match self.find(key) {
+            Ok(i) => i + 1,
+            Err(i) => i,
+        }
+    }
+}

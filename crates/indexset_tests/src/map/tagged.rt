@@ -1,0 +1,20 @@
+//! Keys that are equal and differ.
+use super::put;
+use crate::tagged::Tagged;
+use indexset_map::BTreeMap;
+use std::test::Fail;
+
+#[test]
+fn insert_keeps_the_key_and_append_puts_it(rt: HostRuntime) -> Result<(), Fail> {
+    let [p, q, r] = ['p', 'q', 'r'].map(|tag| Tagged { key: 1, tag });
+    let mut map = BTreeMap::from(rt.alloc(), vec![in rt.alloc(); (p, "a")]?)?;
+    assert_eq!(rt; put(&mut map, q, "b")?, Some("a"));
+    let shown = map.get_key_value(&r).map(|(key, value)| (key.tag, *value));
+    assert_eq!(rt; shown, Some(('p', "b")));
+    let mut other = BTreeMap::from(rt.alloc(), vec![in rt.alloc(); (r, "c")]?)?;
+    map.append(&mut other)?;
+    let shown = map.get_key_value(&p).map(|(key, value)| (key.tag, *value));
+    assert_eq!(rt; shown, Some(('r', "c")));
+    assert_eq!(rt; map.len(), 1);
+    Ok(())
+}
