@@ -1,5 +1,5 @@
 -- Where the places of a search stand, and what a walk between two places has left.
-use Rattle.std.proofs.Common.{◌≡◌, ℕ, zero, suc, ◌+◌, ◌-◌, ◌<◌, ◌≤◌, Bool, true, false, if◌then◌else◌, List, [], ◌∷◌, ◌++◌, length, map, take, drop, get_or, Result, Ok, Err, IfOk, IfErr, Ordering, Option, None, slice_get, refl, ap, sym, ◌∙◌, max, subst, arith, append_assoc, length-append}
+use Rattle.std.proofs.Common.{◌≡◌, ℕ, zero, suc, ◌+◌, ◌-◌, ◌<◌, ◌≤◌, Bool, true, false, if◌then◌else◌, List, [], ◌∷◌, ◌++◌, length, map, take, drop, get_or, Result, Ok, Err, IfOk, IfErr, Ordering, Option, Some, None, slice_get, refl, ap, sym, ◌∙◌, max, subst, arith, append_assoc, length-append}
 use Rattle.std.specs.Cmp.{IsTotalOrder}
 use Rattle.std.specs.List.{All, between, count_by, find, position}
 use Rattle.std.specs.Ordering.{is_lt, is_le, is_eq}
@@ -74,11 +74,11 @@ module _ {T : Type 0} (answer : T → Ordering) (ns : List (List T)) (filled : A
     pub end_read : slice_get (joined ns) (less_count answer (joined ns)) ≡ slice_get (node_at ns p.0) p.1
     end_read = let end = end_at is in rw (← end.before) (get_in_node ns p.0 p.1 end_node end_offset)
 
+    pub end_position : position (λ x. is_eq (answer x)) (joined ns) ≡ Some (less_count answer (joined ns))
+    end_position = let end = end_at is in position_found answer (joined ns) (less_count answer (joined ns)) parted refl end.equal
+
     pub end_found : find (λ x. is_eq (answer x)) (joined ns) ≡ slice_get (node_at ns p.0) p.1
-    end_found =
-        let end = end_at is in
-        let i = less_count answer (joined ns) in
-        find_position (λ x. is_eq (answer x)) (joined ns) i (position_found answer (joined ns) i parted refl end.equal) ∙ end_read
+    end_found = find_position (λ x. is_eq (answer x)) (joined ns) (less_count answer (joined ns)) end_position ∙ end_read
 
   module _ (is : r ≡ Err p) where
     pub gap_position : position (λ x. is_eq (answer x)) (joined ns) ≡ None

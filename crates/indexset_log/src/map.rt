@@ -10,6 +10,7 @@ ghost use Rattle.indexset_log.specs.Located.{located};
 
 pub mod iter;
 mod put;
+pub mod range;
 mod remove;
 
 use crate::set::BTreeSet;
@@ -155,6 +156,7 @@ impl<K: Ord + Clone + Drop, V: Clone + Drop, Node: NodeLike<Pair<K, V>>> BTreeMa
         ensures place { result ≡ located (λ p. K.cmp p.key key.now) self.now.nodes }
         ensures lawful { IsLawful (by_key K.cmp) self.now.size self.now.nodes }
         ensures two { 2 ≤ self.now.size }
+        ensures within { self.now.size ≤ usize.MAX }
         ensures number { self.now.next ≤ u64.MAX }
     {
         // A set says here that its pairs ascend, so a probe by key may go by them.

@@ -3,7 +3,7 @@ ghost use Rattle.std.specs.Prelude.{◌≡◌, length};
 ghost use Rattle.std.specs.Iterator.{at_most};
 ghost use Rattle.std.specs.Map.Iter.{TakesFirst, TakesLast, ShowsInOrder, ShowsInReverse};
 ghost use Rattle.indexset_core.specs.Nodes.{joined};
-ghost use Rattle.indexset_log.specs.Keys.{pair_shown};
+ghost use Rattle.indexset_core.specs.Pairs.{pair_shown};
 
 use super::BTreeMap;
 use crate::set::iter;
