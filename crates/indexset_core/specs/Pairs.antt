@@ -24,6 +24,10 @@ module _ {K V : Type 0} where
   abbrev pub entry_of : Pair K V → K × V
   entry_of p = (p.key, p.value)
 
+  -- what a `(&K, &V)` points to
+  abbrev pub pair_shown : Bor K × Bor V → Pair K V
+  pair_shown p = pair p.0.now p.1.now
+
   -- the order of pairs, which is that of their keys
   abbrev pub by_key : (K → K → Ordering) → Pair K V → Pair K V → Ordering
   by_key cmp p q = cmp p.key q.key

@@ -1,8 +1,8 @@
 -- Where the places of a search stand, and what a walk between two places has left.
-use Rattle.std.proofs.Common.{◌≡◌, ℕ, zero, suc, ◌+◌, ◌-◌, ◌<◌, ◌≤◌, Bool, true, false, if◌then◌else◌, List, [], ◌∷◌, ◌++◌, length, map, take, drop, get_or, Result, Ok, Err, IfOk, IfErr, Ordering, refl, ap, sym, ◌∙◌, max, subst, arith, append_assoc, length-append}
+use Rattle.std.proofs.Common.{◌≡◌, ℕ, zero, suc, ◌+◌, ◌-◌, ◌<◌, ◌≤◌, Bool, true, false, if◌then◌else◌, List, [], ◌∷◌, ◌++◌, length, map, take, drop, get_or, Result, Ok, Err, IfOk, IfErr, Ordering, Option, Some, None, slice_get, refl, ap, sym, ◌∙◌, max, subst, arith, append_assoc, length-append}
 use Rattle.std.specs.Cmp.{IsTotalOrder}
-use Rattle.std.specs.List.{All, between, count_by}
-use Rattle.std.specs.Ordering.{is_lt, is_le}
+use Rattle.std.specs.List.{All, between, count_by, find, position}
+use Rattle.std.specs.Ordering.{is_lt, is_le, is_eq}
 use Rattle.std.proofs.lemmas.List.{append-nil, length-map, take-map, drop-map, take_all, take_rest, get_or-map}
 use Rattle.std.proofs.lemmas.Bool.{false≢true}
 use Rattle.std.proofs.lemmas.List.Sums.{count_by-le-length}
@@ -10,16 +10,10 @@ use Rattle.std.proofs.lemmas.List.Edits.{length-between}
 use Rattle.indexset_core.specs.Nodes.{joined, node_lengths, node_at, node_for, equal_at, IsLawful}
 use Rattle.indexset_core.specs.Order.{rank}
 use Rattle.indexset_core.specs.Parted.{IsParted, less_count}
-use Rattle.indexset_core.proofs.CallerLemmas.{between_in, between_across, found_not_above, gap_not_above, located_found, located_gap, node_read, offset-le, length-joined-mono, length-joined-more, parted_node, place_for}
+use Rattle.indexset_core.proofs.CallerLemmas.{between_in, between_across, equal_inside, find_absent, find_position, found_not_above, gap_not_above, get_in_node, position_absent, position_found, located_found, located_gap, node_read, offset-le, length-joined-mono, length-joined-more, parted_node, place_for}
 use Rattle.indexset_log.specs.Located.{located}
 use Rattle.indexset_log.specs.Places.{IsPlace, items_before}
 use Rattle.indexset_log.proofs.Views.{lawful_filled, lawful_small, lawful_ascends, lawful_parted, equal_joined, node_inside}
-
--- what is answered Equal is there
-equal_inside : {T : Type 0} (answer : T → Ordering) (l : List T) (i : ℕ) → equal_at answer l i ≡ true → i < length l
-equal_inside answer [] i e = absurd (false≢true e)
-equal_inside answer (x ∷ xs) zero e = omega arith
-equal_inside answer (x ∷ xs) (suc i) e = omega (arith, equal_inside answer xs i e)
 
 -- where a search ends: the place before the first item not answered Less, which the next one follows where it is answered Equal
 module _ {T : Type 0} (answer : T → Ordering) where
@@ -57,6 +51,42 @@ module _ {T : Type 0} (answer : T → Ordering) where
   located_end [] filled parted = (tt, record { place = record { node_in = omega arith; offset_in = omega arith }; after = λ yes. absurd (false≢true yes); before = refl; equal = refl })
   located_end (n ∷ ns) filled parted = some_end (n ∷ ns) filled parted (omega arith)
 
+-- a place that another follows in its node stands in a node that is there
+pub place_inside : {T : Type 0} (ns : List (List T)) (p : ℕ × ℕ) → IsPlace ns (p.0, p.1 + 1) → p.0 < length ns
+place_inside [] p after = absurd (omega (arith, after.offset_in))
+place_inside (n ∷ ns) p after = omega (arith, after.node_in)
+
+-- what a search finds
+module _ {T : Type 0} (answer : T → Ordering) (ns : List (List T)) (filled : All (λ n. 1 ≤ n) (node_lengths ns)) (parted : IsParted answer (joined ns)) (r : Result (ℕ × ℕ) (ℕ × ℕ)) (e : r ≡ located answer ns) (p : ℕ × ℕ) where
+  pub end_at : r ≡ Ok p → IsEnd answer true ns p
+  end_at is = subst (λ q. IfOk q (IsEnd answer true ns)) (sym e ∙ is) (located_end answer ns filled parted).0
+
+  pub gap_at : r ≡ Err p → IsEnd answer false ns p
+  gap_at is = subst (λ q. IfErr q (IsEnd answer false ns)) (sym e ∙ is) (located_end answer ns filled parted).1
+
+  module _ (is : r ≡ Ok p) where
+    pub end_node : p.0 < length ns
+    end_node = let end = end_at is in place_inside ns p (end.after refl)
+
+    pub end_offset : p.1 < length (node_at ns p.0)
+    end_offset = let end = end_at is in let after = end.after refl in omega (arith, after.offset_in)
+
+    pub end_read : slice_get (joined ns) (less_count answer (joined ns)) ≡ slice_get (node_at ns p.0) p.1
+    end_read = let end = end_at is in rw (← end.before) (get_in_node ns p.0 p.1 end_node end_offset)
+
+    pub end_position : position (λ x. is_eq (answer x)) (joined ns) ≡ Some (less_count answer (joined ns))
+    end_position = let end = end_at is in position_found answer (joined ns) (less_count answer (joined ns)) parted refl end.equal
+
+    pub end_found : find (λ x. is_eq (answer x)) (joined ns) ≡ slice_get (node_at ns p.0) p.1
+    end_found = find_position (λ x. is_eq (answer x)) (joined ns) (less_count answer (joined ns)) end_position ∙ end_read
+
+  module _ (is : r ≡ Err p) where
+    pub gap_position : position (λ x. is_eq (answer x)) (joined ns) ≡ None
+    gap_position = let end = gap_at is in position_absent answer (joined ns) (less_count answer (joined ns)) parted refl end.equal
+
+    pub gap_found : find (λ x. is_eq (answer x)) (joined ns) ≡ None
+    gap_found = find_absent (λ x. is_eq (answer x)) (joined ns) gap_position
+
 -- the same of a search for an item, as the code takes its answer apart
 module _ {T : Type 0} (cmp : T → T → Ordering) (o : IsTotalOrder cmp) (v : T) (size : ℕ) (ns : List (List T)) (law : IsLawful cmp size ns) where
   abbrev answer : T → Ordering
@@ -65,15 +95,12 @@ module _ {T : Type 0} (cmp : T → T → Ordering) (o : IsTotalOrder cmp) (v : T
   abbrev not_above : ℕ
   not_above = count_by (λ x. is_le (cmp x v)) (joined ns)
 
-  told : IfOk (located answer ns) (IsEnd answer true ns) × IfErr (located answer ns) (IsEnd answer false ns)
-  told = located_end answer ns (lawful_filled cmp size ns law) (lawful_parted cmp size ns law o v)
-
   module _ (r : Result (ℕ × ℕ) (ℕ × ℕ)) (e : r ≡ located answer ns) (p : ℕ × ℕ) where
     pub ends_equal : r ≡ Ok p → IsEnd answer true ns p
-    ends_equal is = subst (λ q. IfOk q (IsEnd answer true ns)) (sym e ∙ is) told.0
+    ends_equal = end_at answer ns (lawful_filled cmp size ns law) (lawful_parted cmp size ns law o v) r e p
 
     pub ends_gap : r ≡ Err p → IsEnd answer false ns p
-    ends_gap is = subst (λ q. IfErr q (IsEnd answer false ns)) (sym e ∙ is) told.1
+    ends_gap = gap_at answer ns (lawful_filled cmp size ns law) (lawful_parted cmp size ns law o v) r e p
 
   -- the items up to an equal one, and those before a gap
   pub end_through : (p : ℕ × ℕ) → IsEnd answer true ns p → items_before ns (p.0, p.1 + 1) ≡ not_above

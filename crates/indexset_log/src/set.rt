@@ -1,5 +1,6 @@
 //! The logged set.
-ghost use Rattle.std.specs.Prelude.{◌≡◌, ◌==◌, ◌+◌, ◌≤◌, [], length, None, MatchOption};
+ghost use Rattle.std.specs.Prelude.{◌≡◌, ◌==◌, ◌+◌, ◌≤◌, [], length, None, MatchOption, find};
+ghost use Rattle.std.specs.Ordering.{is_eq};
 ghost use Rattle.std.specs.Option.{option_copied};
 ghost use Rattle.indexset_core.specs.Nodes.{joined, IsLawful};
 ghost use Rattle.indexset_core.specs.Digits.{digits};
@@ -119,9 +120,11 @@ impl<T: Ord + Clone + Drop, Node: NodeLike<T>> BTreeSet<T, Node> {
         self.next
     }
 
-    /// How many items a node holds at most.
+    /// How many items a node holds at most: at least 2, and within the limit of the node type.
     pub fn maximum_node_size(&self) -> usize
-        ensures { result ≡ self.now.size }
+        ensures value { result ≡ self.now.size }
+        ensures two { 2 ≤ result }
+        ensures within { result ≤ Node.most }
     {
         self.size
     }
@@ -166,7 +169,24 @@ impl<T: Ord + Clone + Drop, Node: NodeLike<T>> BTreeSet<T, Node> {
     pub fn get(&self, value: &T) -> Option<&T>
         ensures { option_copied result ≡ equal_element T.cmp (joined self.now.nodes) value.now }
     {
-        let (node, offset) = self.find(value)?;
-        self.nodes[node].get_ith(offset)
+        // The nodes are lawful, so a search by an item may go by them.
+        let _nodes = &self.nodes;
+        self.get_by(&mut ByItem::new(value))
+    }
+
+    /// The first item that the probe answers Equal.
+    pub(crate) fn get_by<P: Probe<T>>(&self, probe: &mut P) -> Option<&T>
+        requires { IsParted (P.answer probe.old) (joined self.now.nodes) }
+        ensures { option_copied result ≡ find (λ x. is_eq (P.answer probe.old x)) (joined self.now.nodes) }
+    {
+        match self.locate_by(probe) {
+            Ok((node, offset)) => self.nodes[node].get_ith(offset),
+            Err(_) => None,
+        }
+    }
+
+    /// The allocator of the nodes.
+    pub(crate) fn allocator(&self) -> Global {
+        *self.nodes.allocator()
     }
 }

@@ -1,7 +1,6 @@
 -- What a contract sees of a map: its pairs in order, how long the nodes are that hold them, and how long a node is at most.
 use Rattle.std.specs.Prelude.{◌≡◌, ℕ, List, [], ◌∷◌, map, refl, if◌then◌else◌, length, remove, slice_get, slice_set}
 use Rattle.std.specs.Coded.{Coded, code_by, coded×, coded_ℕ, coded_list}
-use Rattle.std.specs.Borrow.{Bor}
 use Rattle.std.specs.List.{fold}
 use Rattle.std.specs.Option.{option_map_or}
 use Rattle.std.proofs.Common.{ap, Some, None, length-set}
@@ -68,10 +67,6 @@ module _ {K V : Type 0} where
 
   abbrev pub pairs_code : Coded K → Coded V → Coded (List (Pair K V))
   pairs_code k v = code_by (List (K × V)) (coded_list (coded× k v)) (λ l. map entry_of l) (λ e. map (λ t. pair t.0 t.1) e) pairs_back
-
-  -- what a `(&K, &V)` points to
-  abbrev pub pair_shown : Bor K × Bor V → Pair K V
-  pair_shown p = pair p.0.now p.1.now
 
   abbrev pub contents_code : Coded K → Coded V → Coded (Contents K V)
   contents_code k v = code_by (List (K × V) × (List ℕ × ℕ)) (coded× (coded_list (coded× k v)) (coded× (coded_list coded_ℕ) coded_ℕ)) (λ m. (map entry_of m.pairs, (m.lengths, m.size)))

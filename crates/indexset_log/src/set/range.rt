@@ -165,8 +165,8 @@ impl<T: Ord + Clone + Drop, Node: NodeLike<T>> BTreeSet<T, Node> {
         }
     }
 
-    // The place behind all items.
-    fn last_place(&self) -> (usize, usize)
+    /// The place behind all items.
+    pub(crate) fn last_place(&self) -> (usize, usize)
         ensures place { IsPlace self.now.nodes result }
         ensures before { items_before self.now.nodes result ≡ length (joined self.now.nodes) }
     {

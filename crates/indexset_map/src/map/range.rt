@@ -5,8 +5,7 @@ ghost use Rattle.std.specs.Map.Iter.{ShowsInOrder, ShowsInReverse};
 ghost use Rattle.std.specs.Ordering.{is_le};
 ghost use Rattle.std.specs.Range.Bound.{bound_map};
 ghost use Rattle.indexset_core.specs.Bounds.{are_ordered, in_positions, is_before, is_up_to_end};
-ghost use Rattle.indexset_core.specs.Pairs.{pairs_within};
-ghost use Rattle.indexset_map.specs.Contents.{pair_shown};
+ghost use Rattle.indexset_core.specs.Pairs.{pair_shown, pairs_within};
 
 use super::BTreeMap;
 use super::iter::IterMap;

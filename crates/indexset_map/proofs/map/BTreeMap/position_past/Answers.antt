@@ -1,4 +1,4 @@
-use Rattle.indexset_map.proofs.RangeLemmas.{past_found, past_absent}
+use Rattle.indexset_core.proofs.CallerLemmas.{past_found, past_absent}
 use Rattle.indexset_map.proofs.map.BTreeMap.position_past.Goals as goal
 
 pub returns-in-Ok : goal.returns-in-Ok

@@ -1,5 +1,5 @@
 use Rattle.std.proofs.Common.{◌∙◌}
-use Rattle.indexset_map.proofs.RangeLemmas.{key_range_is}
+use Rattle.indexset_core.proofs.CallerLemmas.{key_range_is}
 use Rattle.indexset_map.proofs.map.BTreeMap.range.Goals as goal
 
 pub returns-clause-rest : goal.returns-clause-rest

@@ -1,5 +1,5 @@
 use Rattle.std_collections.proofs.IterRuns.{shows_in_order, shows_in_reverse}
-use Rattle.indexset_map.specs.Contents.{pair_shown}
+use Rattle.indexset_core.specs.Pairs.{pair_shown}
 use Rattle.indexset_map.proofs.map.BTreeMap.range_idx.Goals as goal
 
 pub returns-clause-runs : goal.returns-clause-runs

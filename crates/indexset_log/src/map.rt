@@ -1,0 +1,168 @@
+//! The logged map, a logged set of pairs.
+ghost use Rattle.std.specs.Prelude.{◌≡◌, ◌+◌, ◌≤◌, [], length, map, None, IfOk, OnOk, IfErr, OnErr, IsOk};
+ghost use Rattle.std.specs.Map.Iter.{ShowsInOrder, ShowsInReverse, deref};
+ghost use Rattle.std.specs.Option.{option_copied, unwrap_or};
+ghost use Rattle.indexset_core.specs.Nodes.{joined, IsLawful};
+ghost use Rattle.indexset_core.specs.Order.{IsAscending};
+ghost use Rattle.indexset_core.specs.Pairs.{by_key, has_key, pair_of};
+ghost use Rattle.indexset_log.specs.Attach.{attached, attach_refusal};
+ghost use Rattle.indexset_log.specs.Located.{located};
+
+pub mod iter;
+mod put;
+pub mod range;
+mod remove;
+
+use crate::set::BTreeSet;
+use crate::set::nodes::Nodes;
+use indexset_core::constants::DEFAULT_INNER_SIZE;
+use indexset_core::node::NodeLike;
+use indexset_core::pair::Pair;
+use indexset_core::probe::ByKey;
+use indexset_core::refusal::Refused;
+use std::alloc::Global;
+use std::marker::Model;
+
+/// A list of pairs, ascending by key and cut into nodes, which tells its changes.
+#[derive(Drop)]
+pub struct BTreeMap<K: Ord + Clone + Drop, V: Clone + Drop, Node: NodeLike<Pair<K, V>>> {
+    set: BTreeSet<Pair<K, V>, Node>,
+}
+
+impl<K: Ord + Clone + Drop, V: Clone + Drop, Node: NodeLike<Pair<K, V>>> Model
+    for BTreeMap<K, V, Node>
+{
+    ghost use Rattle.indexset_core.specs.declared.pair.Pair.{Pair};
+    ghost use Rattle.indexset_log.specs.Tree.{Tree};
+
+    ghost Value = { Tree (Pair K V) };
+
+    ghost view = { λ m. m.set };
+}
+
+impl<K: Ord + Clone + Drop, V: Clone + Drop, Node: NodeLike<Pair<K, V>>> BTreeMap<K, V, Node> {
+    /// An empty map, whose nodes are to hold at most `size` pairs each, and whose first event has the
+    /// number `next`. (It is not in the Rust crate.)
+    pub fn starting_at(alloc: Global, size: usize, next: u64) -> Self
+        requires two { 2 ≤ size }
+        requires within { size ≤ Node.most }
+        ensures { result ≡ record { nodes = []; size = size; next = next } }
+    {
+        BTreeMap {
+            set: BTreeSet::starting_at(alloc, size, next),
+        }
+    }
+
+    /// An empty map, whose first event has the number 0.
+    pub fn with_maximum_node_size(alloc: Global, size: usize) -> Self
+        requires two { 2 ≤ size }
+        requires within { size ≤ Node.most }
+        ensures { result ≡ record { nodes = []; size = size; next = 0 } }
+    {
+        BTreeMap::starting_at(alloc, size, 0)
+    }
+
+    /// An empty map of the default node size, whose first event has the number 0.
+    pub fn new(alloc: Global) -> Self
+        requires { DEFAULT_INNER_SIZE ≤ Node.most }
+        ensures { result ≡ record { nodes = []; size = DEFAULT_INNER_SIZE; next = 0 } }
+    {
+        BTreeMap::with_maximum_node_size(alloc, DEFAULT_INNER_SIZE)
+    }
+
+    /// An empty map, as `new` makes it.
+    pub fn default(alloc: Global) -> Self
+        requires { DEFAULT_INNER_SIZE ≤ Node.most }
+        ensures { result ≡ record { nodes = []; size = DEFAULT_INNER_SIZE; next = 0 } }
+    {
+        BTreeMap::new(alloc)
+    }
+
+    /// How many pairs there are.
+    pub fn len(&self) -> usize
+        ensures { result ≡ length (joined self.now.nodes) }
+    {
+        self.set.len()
+    }
+
+    /// How many nodes there are: no more than pairs. None is empty or holds more than the node size,
+    /// and the pairs of all ascend by key, one node after another, which a caller learns here.
+    pub fn node_count(&self) -> usize
+        ensures value { result ≡ length self.now.nodes }
+        ensures few { result ≤ length (joined self.now.nodes) }
+        ensures lawful { IsLawful (by_key K.cmp) self.now.size self.now.nodes }
+    {
+        self.set.node_count()
+    }
+
+    /// How many pairs there is room for: the sum of the nodes' capacities, which stops at the greatest
+    /// usize.
+    pub fn capacity(&self) -> usize
+        ensures { length (joined self.now.nodes) ≤ result }
+    {
+        self.set.capacity()
+    }
+
+    /// The number of the next event. (It is not in the Rust crate.)
+    pub fn events_issued(&self) -> u64
+        ensures { result ≡ self.now.next }
+    {
+        self.set.events_issued()
+    }
+
+    /// The nodes, in order. (The Rust crate lends them locked.)
+    pub fn iter_nodes(&self) -> Nodes<'_, Node>
+        ensures rest { map Node.list result ≡ self.now.nodes }
+        ensures runs { ShowsInOrder (deref {X = Node}) }
+        ensures runs_back { ShowsInReverse (deref {X = Node}) }
+    {
+        self.set.iter_nodes()
+    }
+
+    /// Takes a whole node of pairs in, as the set does. No event is given, and no number is used up. A
+    /// refused call hands the node back and changes nothing.
+    pub fn attach_node(&mut self, node: Node) -> Result<(), Refused<Node>>
+        ensures nodes { OnOk result (self.new.nodes ≡ attached (by_key K.cmp) self.old.nodes (Node.list node)) }
+        ensures ascending { OnOk result (IsAscending (by_key K.cmp) (joined self.new.nodes)) }
+        ensures count { OnOk result (length (joined self.new.nodes) ≡ length (joined self.old.nodes) + length (Node.list node)) }
+        ensures good { IsOk result → attach_refusal (by_key K.cmp) self.old.size self.old.nodes (Node.list node) ≡ None }
+        ensures refusal { IfErr result (λ e. e.cause ≡ unwrap_or (attach_refusal (by_key K.cmp) self.old.size self.old.nodes (Node.list node)) Refusal.Memory) }
+        ensures given_back { IfErr result (λ e. e.value ≡ node) }
+        ensures size { self.new.size ≡ self.old.size }
+        ensures next { self.new.next ≡ self.old.next }
+        ensures unchanged { OnErr result (self.new ≡ self.old) }
+    {
+        self.set.attach_node(node)
+    }
+
+    /// The pair of a key, where there is one.
+    pub fn get(&self, key: &K) -> Option<&Pair<K, V>>
+        ensures { option_copied result ≡ pair_of K.cmp (joined self.now.nodes) key.now }
+    {
+        // A set says here that its pairs ascend, so a probe by key may go by them.
+        let _nodes = self.set.node_count();
+        self.set.get_by(&mut ByKey::new(key))
+    }
+
+    /// Whether a key is there.
+    pub fn contains_key(&self, key: &K) -> bool
+        ensures { result ≡ has_key K.cmp (joined self.now.nodes) key.now }
+    {
+        self.get(key).is_some()
+    }
+
+    // Where a search for a key ends.
+    fn locate(&self, key: &K) -> Result<(usize, usize), (usize, usize)>
+        ensures place { result ≡ located (λ p. K.cmp p.key key.now) self.now.nodes }
+        ensures lawful { IsLawful (by_key K.cmp) self.now.size self.now.nodes }
+        ensures two { 2 ≤ self.now.size }
+        ensures within { self.now.size ≤ usize.MAX }
+        ensures number { self.now.next ≤ u64.MAX }
+    {
+        // A set says here that its pairs ascend, so a probe by key may go by them.
+        let _nodes = self.set.node_count();
+        let _size = self.set.maximum_node_size();
+        let _next = self.set.events_issued();
+        self.set.locate_by(&mut ByKey::new(key))
+    }
+}

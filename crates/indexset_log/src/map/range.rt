@@ -1,0 +1,149 @@
+//! The pairs between two bounds on keys.
+ghost use Rattle.std.specs.Prelude.{◌≡◌, IsTrue, length};
+ghost use Rattle.std.specs.Iterator.{at_most};
+ghost use Rattle.std.specs.List.{count_by};
+ghost use Rattle.std.specs.Map.Iter.{TakesFirst, TakesLast, ShowsInOrder, ShowsInReverse};
+ghost use Rattle.std.specs.Ordering.{is_le};
+ghost use Rattle.std.specs.Range.Bound.{bound_map};
+ghost use Rattle.indexset_core.specs.Bounds.{are_ordered, is_before, is_up_to_end};
+ghost use Rattle.indexset_core.specs.Nodes.{joined};
+ghost use Rattle.indexset_core.specs.Pairs.{key_rank, pair_shown, pairs_within};
+ghost use Rattle.indexset_log.specs.Places.{IsPlace, items_before};
+
+use super::BTreeMap;
+use crate::set::range;
+use indexset_core::node::NodeLike;
+use indexset_core::pair::Pair;
+use std::iter::FusedIterator;
+use std::marker::Model;
+use std::ops::Bound;
+
+/// The pairs of a part of a map that are left, from both ends.
+#[derive(Drop)]
+pub struct Range<'a, K: Ord + Clone + Drop, V: Clone + Drop, Node: NodeLike<Pair<K, V>>> {
+    rest: range::Range<'a, Pair<K, V>, Node>,
+}
+
+impl<'a, K: Ord + Clone + Drop, V: Clone + Drop, Node: NodeLike<Pair<K, V>>> Model
+    for Range<'a, K, V, Node>
+{
+    ghost use Rattle.std.specs.Prelude.{List};
+    ghost use Rattle.indexset_core.specs.declared.pair.Pair.{Pair};
+
+    ghost Value = { List (Pair K V) };
+
+    ghost view = { λ a. a.rest };
+}
+
+impl<'a, K: Ord + Clone + Drop, V: Clone + Drop, Node: NodeLike<Pair<K, V>>> Iterator
+    for Range<'a, K, V, Node>
+{
+    type Item = (&'a K, &'a V);
+
+    ghost next_gives = { TakesFirst pair_shown };
+
+    ghost remaining = { λ s. at_most (length s) };
+
+    fn next(&mut self) -> Option<(&'a K, &'a V)> {
+        let pair = self.rest.next()?;
+        Some((&pair.key, &pair.value))
+    }
+
+    fn size_hint(&self) -> (usize, Option<usize>) {
+        self.rest.size_hint()
+    }
+}
+
+impl<'a, K: Ord + Clone + Drop, V: Clone + Drop, Node: NodeLike<Pair<K, V>>> DoubleEndedIterator
+    for Range<'a, K, V, Node>
+{
+    ghost next_back_gives = { TakesLast pair_shown };
+
+    fn next_back(&mut self) -> Option<(&'a K, &'a V)> {
+        let pair = self.rest.next_back()?;
+        Some((&pair.key, &pair.value))
+    }
+}
+
+impl<'a, K: Ord + Clone + Drop, V: Clone + Drop, Node: NodeLike<Pair<K, V>>> ExactSizeIterator
+    for Range<'a, K, V, Node>
+{
+    fn len(&self) -> usize {
+        self.rest.len()
+    }
+}
+
+impl<'a, K: Ord + Clone + Drop, V: Clone + Drop, Node: NodeLike<Pair<K, V>>> FusedIterator
+    for Range<'a, K, V, Node>
+{
+}
+
+impl<K: Ord + Clone + Drop, V: Clone + Drop, Node: NodeLike<Pair<K, V>>> BTreeMap<K, V, Node> {
+    /// The pairs whose keys satisfy both bounds, in order. The start must not be past the end, nor at
+    /// it where both are excluded, which `bounds_are_ordered` of the core tests.
+    ///
+    /// ```
+    /// // The pairs of the keys from 10 on that are below 20.
+    /// let teens = map.range((Bound::Included(&10), Bound::Excluded(&20)));
+    /// ```
+    pub fn range(&self, range: (Bound<&K>, Bound<&K>)) -> Range<'_, K, V, Node>
+        requires { IsTrue (are_ordered K.cmp (bound_map (λ k. k.now) range.0) (bound_map (λ k. k.now) range.1)) }
+        ensures rest { result ≡ pairs_within K.cmp (joined self.now.nodes) (bound_map (λ k. k.now) range.entry.0) (bound_map (λ k. k.now) range.entry.1) }
+        ensures runs { ShowsInOrder (pair_shown {K = K} {V = V}) }
+        ensures runs_back { ShowsInReverse (pair_shown {K = K} {V = V}) }
+    {
+        // A set says here that its pairs ascend, so the two places cut out the range.
+        let _nodes = self.set.node_count();
+        let from = self.place_from(range.0);
+        let to = self.place_to(range.1);
+        Range {
+            rest: self.set.range_between(from, to),
+        }
+    }
+
+    // The place before the first key that does not stand before the start.
+    fn place_from(&self, start: Bound<&K>) -> (usize, usize)
+        ensures place { IsPlace self.now.nodes result }
+        ensures before { items_before self.now.nodes result ≡ count_by (λ p. is_before K.cmp (bound_map (λ k. k.now) start.entry) p.key) (joined self.now.nodes) }
+    {
+        match start {
+            Bound::Included(key) => self.place_not_below(key),
+            Bound::Excluded(key) => self.place_above(key),
+            Bound::Unbounded => (0, 0),
+        }
+    }
+
+    // The place before the first key that stands past the end.
+    fn place_to(&self, end: Bound<&K>) -> (usize, usize)
+        ensures place { IsPlace self.now.nodes result }
+        ensures before { items_before self.now.nodes result ≡ count_by (λ p. is_up_to_end K.cmp (bound_map (λ k. k.now) end.entry) p.key) (joined self.now.nodes) }
+    {
+        match end {
+            Bound::Included(key) => self.place_above(key),
+            Bound::Excluded(key) => self.place_not_below(key),
+            Bound::Unbounded => self.set.last_place(),
+        }
+    }
+
+    // The place before the first key that is not below the key.
+    fn place_not_below(&self, key: &K) -> (usize, usize)
+        ensures place { IsPlace self.now.nodes result }
+        ensures before { items_before self.now.nodes result ≡ key_rank K.cmp (joined self.now.nodes) key.now }
+    {
+        match self.locate(key) {
+            Ok(place) => place,
+            Err(place) => place,
+        }
+    }
+
+    // The place before the first key above the key.
+    fn place_above(&self, key: &K) -> (usize, usize)
+        ensures place { IsPlace self.now.nodes result }
+        ensures before { items_before self.now.nodes result ≡ count_by (λ p. is_le (K.cmp p.key key.now)) (joined self.now.nodes) }
+    {
+        match self.locate(key) {
+            Ok((node, offset)) => (node, offset + 1),
+            Err(place) => place,
+        }
+    }
+}

@@ -1,0 +1,67 @@
+//! Calls that take pairs out.
+ghost use Rattle.std.specs.Prelude.{◌≡◌, ◌+◌, ◌<◌, ◌≤◌, [], length, Some, IfOk, OnOk, IfErr, OnErr, IsOk};
+ghost use Rattle.std.specs.Option.{option_map};
+ghost use Rattle.indexset_core.specs.Nodes.{joined};
+ghost use Rattle.indexset_core.specs.Pairs.{by_key, entry_of, pair_of, without_key};
+ghost use Rattle.indexset_log.specs.Keys.{key_removal_events};
+ghost use Rattle.indexset_log.specs.Replay.{replay, numbered_from, IsNumberedFrom};
+ghost use Rattle.indexset_log.specs.Tree.{refusal_for};
+
+use super::BTreeMap;
+use crate::change::ChangeEvent;
+use indexset_core::node::NodeLike;
+use indexset_core::pair::Pair;
+use indexset_core::refusal::Refusal;
+
+impl<K: Ord + Clone + Drop, V: Clone + Drop, Node: NodeLike<Pair<K, V>>> BTreeMap<K, V, Node> {
+    /// Takes out the pair of a key, where there is one, and tells the events. A refused call changes
+    /// nothing.
+    pub fn remove_cdc(
+        &mut self,
+        key: &K,
+    ) -> Result<(Option<(K, V)>, Vec<ChangeEvent<Pair<K, V>>>), Refusal>
+        requires keys { (x y : K) → K.is_clone x y → y ≡ x }
+        requires values { (x y : V) → V.is_clone x y → y ≡ x }
+        ensures answer { IfOk result (λ r. r.0 ≡ option_map entry_of (pair_of K.cmp (joined self.old.nodes) key.now)) }
+        ensures contents { OnOk result (joined self.new.nodes ≡ without_key K.cmp (joined self.old.nodes) key.now) }
+        ensures events { IfOk result (λ r. r.1.items ≡ numbered_from self.old.next (key_removal_events K.cmp self.old.nodes key.now)) }
+        ensures numbered { IfOk result (λ r. IsNumberedFrom self.old.next r.1.items) }
+        ensures replay { IfOk result (λ r. replay (by_key K.cmp) self.old.nodes r.1.items ≡ Some self.new.nodes) }
+        ensures size { self.new.size ≡ self.old.size }
+        ensures next { OnOk result (self.new.next ≡ self.old.next + length (key_removal_events K.cmp self.old.nodes key.now)) }
+        ensures fits { OnOk result (self.old.next + length (key_removal_events K.cmp self.old.nodes key.now) ≤ u64.MAX) }
+        ensures refusal { IfErr result (λ e. e ≡ refusal_for self.old.next (length (key_removal_events K.cmp self.old.nodes key.now))) }
+        ensures no_event { key_removal_events K.cmp self.old.nodes key.now ≡ [] → IsOk result }
+        ensures unchanged { OnErr result (self.new ≡ self.old) }
+    {
+        match self.locate(key) {
+            Ok((node, offset)) => {
+                let (pair, events) = self.set.remove_at_cdc(node, offset)?;
+                let Pair { key, value } = pair;
+                Ok((Some((key, value)), events))
+            }
+            Err(_) => Ok((None, Vec::new(self.set.allocator()))),
+        }
+    }
+
+    /// Takes out the pair of a key, where there is one. It uses up as many numbers as `remove_cdc`, and
+    /// is refused only where they don't fit. It takes no memory.
+    pub fn remove(&mut self, key: &K) -> Result<Option<(K, V)>, Refusal>
+        ensures answer { IfOk result (λ entry. entry ≡ option_map entry_of (pair_of K.cmp (joined self.old.nodes) key.now)) }
+        ensures contents { OnOk result (joined self.new.nodes ≡ without_key K.cmp (joined self.old.nodes) key.now) }
+        ensures replay { OnOk result (replay (by_key K.cmp) self.old.nodes (numbered_from self.old.next (key_removal_events K.cmp self.old.nodes key.now)) ≡ Some self.new.nodes) }
+        ensures size { self.new.size ≡ self.old.size }
+        ensures next { OnOk result (self.new.next ≡ self.old.next + length (key_removal_events K.cmp self.old.nodes key.now)) }
+        ensures refusal { IfErr result (λ e. (e ≡ Refusal.Numbers) × (u64.MAX < self.old.next + length (key_removal_events K.cmp self.old.nodes key.now))) }
+        ensures unchanged { OnErr result (self.new ≡ self.old) }
+    {
+        match self.locate(key) {
+            Ok((node, offset)) => {
+                let pair = self.set.remove_at(node, offset)?;
+                let Pair { key, value } = pair;
+                Ok(Some((key, value)))
+            }
+            Err(_) => Ok(None),
+        }
+    }
+}
