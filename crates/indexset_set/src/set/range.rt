@@ -1,10 +1,11 @@
 //! The elements between two bounds, or between two positions.
-ghost use Rattle.std.specs.Prelude.{◌≡◌, IsTrue, drop, filter, min, take};
+ghost use Rattle.std.specs.Prelude.{◌≡◌, IsTrue, min};
+ghost use Rattle.std.specs.List.{count_by};
 ghost use Rattle.std.specs.Map.Iter.{ShowsInOrder, ShowsInReverse, deref};
-ghost use Rattle.std.specs.Ordering.{is_ge};
+ghost use Rattle.std.specs.Ordering.{is_le};
 ghost use Rattle.std.specs.Range.Bound.{bound_map, start_index, end_index};
-ghost use Rattle.indexset_core.specs.Bounds.{are_ordered, in_range, in_positions, is_from_start, is_up_to_end};
-ghost use Rattle.indexset_core.specs.Order.{above, below, up_to};
+ghost use Rattle.indexset_core.specs.Bounds.{are_ordered, in_range, in_positions, is_before, is_up_to_end};
+ghost use Rattle.indexset_core.specs.Order.{rank};
 ghost use Rattle.indexset_spine.specs.Cut.{IsSpot, items, position_of};
 
 use super::BTreeSet;
@@ -52,10 +53,10 @@ impl<T: Ord> BTreeSet<T> {
         Iter::of(self.spine.iter_between(from, to))
     }
 
-    // The spot from which on the elements satisfy the start.
+    // The spot after the elements before the start.
     fn start_of(&self, start: Bound<&T>) -> Spot
         ensures spot { IsSpot self.now.nodes result }
-        ensures rest { drop (position_of self.now.nodes result) (items self.now) ≡ filter (is_from_start T.cmp (bound_map (λ v. v.now) start.entry)) (items self.now) }
+        ensures position { position_of self.now.nodes result ≡ count_by (is_before T.cmp (bound_map (λ v. v.now) start.entry)) (items self.now) }
     {
         match start {
             Bound::Included(v) => self.after_below(v),
@@ -64,10 +65,10 @@ impl<T: Ord> BTreeSet<T> {
         }
     }
 
-    // The spot up to which the elements satisfy the end.
+    // The spot after the elements that are not past the end.
     fn end_of(&self, end: Bound<&T>) -> Spot
         ensures spot { IsSpot self.now.nodes result }
-        ensures front { take (position_of self.now.nodes result) (items self.now) ≡ filter (is_up_to_end T.cmp (bound_map (λ v. v.now) end.entry)) (items self.now) }
+        ensures position { position_of self.now.nodes result ≡ count_by (is_up_to_end T.cmp (bound_map (λ v. v.now) end.entry)) (items self.now) }
     {
         match end {
             Bound::Included(v) => self.after_up_to(v),
@@ -79,17 +80,15 @@ impl<T: Ord> BTreeSet<T> {
     // The spot after the elements that are below the value.
     fn after_below(&self, value: &T) -> Spot
         ensures spot { IsSpot self.now.nodes result }
-        ensures front { take (position_of self.now.nodes result) (items self.now) ≡ below T.cmp (items self.now) value.now }
-        ensures rest { drop (position_of self.now.nodes result) (items self.now) ≡ filter (λ x. is_ge (T.cmp x value.now)) (items self.now) }
+        ensures position { position_of self.now.nodes result ≡ rank T.cmp (items self.now) value.now }
     {
         locate(&self.spine, value)
     }
 
-    // The spot after the elements that are not above the value.
+    // The spot after the elements that are below the value or equal to it.
     fn after_up_to(&self, value: &T) -> Spot
         ensures spot { IsSpot self.now.nodes result }
-        ensures front { take (position_of self.now.nodes result) (items self.now) ≡ up_to T.cmp (items self.now) value.now }
-        ensures rest { drop (position_of self.now.nodes result) (items self.now) ≡ above T.cmp (items self.now) value.now }
+        ensures position { position_of self.now.nodes result ≡ count_by (λ x. is_le (T.cmp x value.now)) (items self.now) }
     {
         // The length fits, and so does one more than an offset.
         let _len = self.len();
@@ -101,7 +100,7 @@ impl<T: Ord> BTreeSet<T> {
     }
 }
 
-/// The first position that is not before the start, or the length where there is none.
+// The first position that is not before the start, or the length where there is none.
 pub fn first_position(start: Bound<usize>, len: usize) -> usize
     ensures { result ≡ min (start_index start) len }
 {
