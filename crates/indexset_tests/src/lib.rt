@@ -3,6 +3,8 @@
 #![tactic(auto)]
 
 #[cfg(test)]
+mod logged_map;
+#[cfg(test)]
 mod logged_walks;
 #[cfg(test)]
 mod map;
