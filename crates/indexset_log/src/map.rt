@@ -5,6 +5,7 @@ ghost use Rattle.std.specs.Option.{option_copied, unwrap_or};
 ghost use Rattle.indexset_core.specs.Nodes.{joined, IsLawful};
 ghost use Rattle.indexset_core.specs.Order.{IsAscending};
 ghost use Rattle.indexset_core.specs.Pairs.{by_key, has_key, pair_of};
+ghost use Rattle.indexset_core.specs.declared.refusal.Refusal.TheVariants.{Memory};
 ghost use Rattle.indexset_log.specs.Attach.{attached, attach_refusal};
 ghost use Rattle.indexset_log.specs.Located.{located};
 
@@ -126,7 +127,7 @@ impl<K: Ord + Clone + Drop, V: Clone + Drop, Node: NodeLike<Pair<K, V>>> BTreeMa
         ensures ascending { OnOk result (IsAscending (by_key K.cmp) (joined self.new.nodes)) }
         ensures count { OnOk result (length (joined self.new.nodes) ≡ length (joined self.old.nodes) + length (Node.list node)) }
         ensures good { IsOk result → attach_refusal (by_key K.cmp) self.old.size self.old.nodes (Node.list node) ≡ None }
-        ensures refusal { IfErr result (λ e. e.cause ≡ unwrap_or (attach_refusal (by_key K.cmp) self.old.size self.old.nodes (Node.list node)) Refusal.Memory) }
+        ensures refusal { IfErr result (λ e. e.cause ≡ unwrap_or (attach_refusal (by_key K.cmp) self.old.size self.old.nodes (Node.list node)) Memory) }
         ensures given_back { IfErr result (λ e. e.value ≡ node) }
         ensures size { self.new.size ≡ self.old.size }
         ensures next { self.new.next ≡ self.old.next }

@@ -9,6 +9,8 @@ mod counted;
 #[cfg(test)]
 mod logged;
 #[cfg(test)]
+mod logged_map;
+#[cfg(test)]
 mod logged_walks;
 #[cfg(test)]
 mod map;

@@ -3,6 +3,7 @@ ghost use Rattle.std.specs.Prelude.{◌≡◌, ◌+◌, ◌≤◌, length, true,
 ghost use Rattle.indexset_core.specs.Nodes.{joined};
 ghost use Rattle.indexset_core.specs.Order.{put, keep};
 ghost use Rattle.indexset_core.specs.Pairs.{by_key, has_key, pair, value_of};
+ghost use Rattle.indexset_log.specs.Edits.{with_put, with_checked_put};
 ghost use Rattle.indexset_log.specs.Replay.{replay, numbered_from, IsNumberedFrom};
 ghost use Rattle.indexset_log.specs.Table.{put_events, checked_put_events};
 ghost use Rattle.indexset_log.specs.Tree.{refusal_for};
@@ -25,6 +26,7 @@ impl<K: Ord + Clone + Drop, V: Clone + Drop, Node: NodeLike<Pair<K, V>>> BTreeMa
         requires values { (x y : V) → V.is_clone x y → y ≡ x }
         ensures answer { IfOk result (λ r. r.0 ≡ value_of K.cmp (joined self.old.nodes) key) }
         ensures contents { OnOk result (joined self.new.nodes ≡ put (by_key K.cmp) (joined self.old.nodes) (pair key value)) }
+        ensures nodes { OnOk result (self.new.nodes ≡ with_put (by_key K.cmp) self.old.size self.old.nodes (pair key value)) }
         ensures events { IfOk result (λ r. r.1.items ≡ numbered_from self.old.next (put_events (by_key K.cmp) self.old.size self.old.nodes (pair key value))) }
         ensures numbered { IfOk result (λ r. IsNumberedFrom self.old.next r.1.items) }
         ensures replay { IfOk result (λ r. replay (by_key K.cmp) self.old.nodes r.1.items ≡ Some self.new.nodes) }
@@ -51,6 +53,7 @@ impl<K: Ord + Clone + Drop, V: Clone + Drop, Node: NodeLike<Pair<K, V>>> BTreeMa
         requires values { (x y : V) → V.is_clone x y → y ≡ x }
         ensures answer { IfOk result (λ r. is_none r ≡ has_key K.cmp (joined self.old.nodes) key) }
         ensures contents { OnOk result (joined self.new.nodes ≡ keep (by_key K.cmp) (joined self.old.nodes) (pair key value)) }
+        ensures nodes { OnOk result (self.new.nodes ≡ with_checked_put (by_key K.cmp) self.old.size self.old.nodes (pair key value)) }
         ensures events { IfOk result (λ r. IfSome r (λ events. events.items ≡ numbered_from self.old.next (checked_put_events (by_key K.cmp) self.old.size self.old.nodes (pair key value)))) }
         ensures numbered { IfOk result (λ r. IfSome r (λ events. IsNumberedFrom self.old.next events.items)) }
         ensures replay { OnOk result (replay (by_key K.cmp) self.old.nodes (numbered_from self.old.next (checked_put_events (by_key K.cmp) self.old.size self.old.nodes (pair key value))) ≡ Some self.new.nodes) }
@@ -69,6 +72,7 @@ impl<K: Ord + Clone + Drop, V: Clone + Drop, Node: NodeLike<Pair<K, V>>> BTreeMa
     pub fn insert(&mut self, key: K, value: V) -> Result<Option<V>, Refused<(K, V)>>
         ensures answer { IfOk result (λ old. old ≡ value_of K.cmp (joined self.old.nodes) key) }
         ensures contents { OnOk result (joined self.new.nodes ≡ put (by_key K.cmp) (joined self.old.nodes) (pair key value)) }
+        ensures nodes { OnOk result (self.new.nodes ≡ with_put (by_key K.cmp) self.old.size self.old.nodes (pair key value)) }
         ensures replay { OnOk result (replay (by_key K.cmp) self.old.nodes (numbered_from self.old.next (put_events (by_key K.cmp) self.old.size self.old.nodes (pair key value))) ≡ Some self.new.nodes) }
         ensures size { self.new.size ≡ self.old.size }
         ensures next { OnOk result (self.new.next ≡ self.old.next + length (put_events (by_key K.cmp) self.old.size self.old.nodes (pair key value))) }
@@ -85,6 +89,7 @@ impl<K: Ord + Clone + Drop, V: Clone + Drop, Node: NodeLike<Pair<K, V>>> BTreeMa
     pub fn checked_insert(&mut self, key: K, value: V) -> Result<Option<()>, Refused<(K, V)>>
         ensures answer { IfOk result (λ r. is_none r ≡ has_key K.cmp (joined self.old.nodes) key) }
         ensures contents { OnOk result (joined self.new.nodes ≡ keep (by_key K.cmp) (joined self.old.nodes) (pair key value)) }
+        ensures nodes { OnOk result (self.new.nodes ≡ with_checked_put (by_key K.cmp) self.old.size self.old.nodes (pair key value)) }
         ensures replay { OnOk result (replay (by_key K.cmp) self.old.nodes (numbered_from self.old.next (checked_put_events (by_key K.cmp) self.old.size self.old.nodes (pair key value))) ≡ Some self.new.nodes) }
         ensures size { self.new.size ≡ self.old.size }
         ensures next { OnOk result (self.new.next ≡ self.old.next + length (checked_put_events (by_key K.cmp) self.old.size self.old.nodes (pair key value))) }

@@ -99,7 +99,8 @@ impl<T: Ord + Clone + Drop, Node: NodeLike<T>> BTreeSet<T, Node> {
 
     /// The items from one place to before another, in order. A place is a node and an offset in it of
     /// at most its length, as `locate_by` answers it; where there is no node it is (0, 0). No fewer
-    /// items may stand before the second place. (It is not in the Rust crate.)
+    /// items may stand before the second place. The lengths of the nodes between the two are added up,
+    /// so that the walk knows its own. (It is not in the Rust crate.)
     pub fn range_between(&self, from: (usize, usize), to: (usize, usize)) -> Range<'_, T, Node>
         requires from { IsPlace self.now.nodes from }
         requires to { IsPlace self.now.nodes to }
