@@ -1,7 +1,10 @@
 pub mod Digits
 pub mod Lines
+pub mod LoggedRuns
+pub mod LoggedSets
 pub mod Meanings
 pub mod Pieces
+pub mod ReplicaAttach
 pub mod ReplicaEdits
 pub mod ReplicaNodes
 pub mod ReplicaSteps

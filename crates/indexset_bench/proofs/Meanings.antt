@@ -1,5 +1,5 @@
 -- `meaning` gives the command that a line spells.
-use Rattle.std.proofs.Common.{take, take-append-drop, Option, None, Some, MatchOption, ◌≡◌, ◌≢◌, ℕ, ◌+◌, ◌*◌, ◌<◌, ◌^◌, Bool, true, false, cond, ◌&&◌, List, [], ◌∷◌, ◌++◌, drop, get_or, length, refl, sym, ap, ◌∙◌, arith}
+use Rattle.std.proofs.Common.{take, take-append-drop, Option, None, Some, MatchOption, ◌≡◌, ◌≢◌, ℕ, ◌+◌, ◌*◌, ◌<◌, ◌^◌, Bool, true, false, cond, ◌&&◌, List, [], ◌∷◌, ◌++◌, drop, get_or, length, refl, sym, ap, subst, ◌∙◌, arith}
 use lib.Chars.{codes}
 use Rattle.std.proofs.Math.Seq.{take-append_seam, drop-append_seam}
 use Rattle.std.specs.List.{find}
@@ -131,59 +131,83 @@ meaning_is line None h = at (meaning line) refl
 -- ---- a word and a number
 
 -- the text is that of the number, or of none
-abbrev IsNumberOf : List ℕ → Option ℕ → Type 0
+abbrev pub IsNumberOf : List ℕ → Option ℕ → Type 0
 IsNumberOf digits o = MatchOption o ((n : ℕ) → n < 2 ^ 64 → digits ≢ decimal n) (λ n. (digits ≡ decimal n) × (n < 2 ^ 64))
 
-module _ (word : List ℕ) (make : ℕ → Command) (spelled : (n : ℕ) → spelling (make n) ≡ word ++ decimal n) (fitting : (n : ℕ) → n < 2 ^ 64 → FitsU64 (make n))
-    (only : (c : Command) (digits : List ℕ) → FitsU64 c → word ++ digits ≡ spelling c → (n : ℕ) × (n < 2 ^ 64) × (c ≡ make n)) where
-  numbered : (line digits : List ℕ) (o : Option ℕ) → line ≡ word ++ digits → IsNumberOf digits o → option_map make o ≡ meaning line
-  numbered line digits o e h = meaning_is line (option_map make o) (at o h)
+-- the command's word, with the space behind it
+abbrev pub word : Command → List ℕ
+word (Add n) = codes "add "
+word (Del n) = codes "del "
+word (Has n) = codes "has "
+word (Rank n) = codes "rank "
+word (At n) = codes "at "
+word Len = codes "len"
+
+-- the command's number, if it has one
+abbrev number_in : Command → ℕ
+number_in (Add n) = n
+number_in (Del n) = n
+number_in (Has n) = n
+number_in (Rank n) = n
+number_in (At n) = n
+number_in Len = 0
+
+-- the command with another number
+abbrev with_number : Command → ℕ → Command
+with_number (Add m) n = Add n
+with_number (Del m) n = Del n
+with_number (Has m) n = Has n
+with_number (Rank m) n = Rank n
+with_number (At m) n = At n
+with_number Len n = Len
+
+-- a line that begins with a command's word spells a command of that word, or none
+same_word : (x c : Command) (digits : List ℕ) → word x ++ digits ≡ spelling c → c ≡ with_number x (number_in c)
+unfolding key
+same_word (Add m) (Add n) digits e = refl
+same_word (Del m) (Del n) digits e = refl
+same_word (Has m) (Has n) digits e = refl
+same_word (Rank m) (Rank n) digits e = refl
+same_word (At m) (At n) digits e = refl
+same_word Len Len digits e = refl
+same_word x c digits e = absurd (omega (arith, ap key e))
+
+-- what `strip_prefix` says: the line begins with the word, and the digits are the rest
+abbrev pub IsAfter : List ℕ → List ℕ → List ℕ → Type 0
+IsAfter p line digits = (bytes_eq (take (length p) line) p ≡ true) × (digits ≡ drop (length p) line) × (length digits + length p ≡ length line)
+
+is_append : (p line digits : List ℕ) → IsAfter p line digits → line ≡ p ++ digits
+is_append p line digits cut =
+    sym (take-append-drop (length p) line) ∙ ap (λ l. l ++ drop (length p) line) ((bytes_eq-Decides (take (length p) line) p).0 cut.0) ∙ ap (λ l. p ++ l) (sym cut.1)
+
+-- a word and a number are the command that is made of them
+abbrev pub Tells : (ℕ → Command) → Type 0
+Tells make = (line digits : List ℕ) (o : Option ℕ) (meant : Option Command) → IsAfter (word (make 0)) line digits → IsNumberOf digits o → meant ≡ option_map make o → meant ≡ meaning line
+
+module _ (make : ℕ → Command) (spelled : (n : ℕ) → spelling (make n) ≡ word (make 0) ++ decimal n) (renumbered : (n : ℕ) → with_number (make 0) n ≡ make n)
+    (fits : (n : ℕ) → (n < 2 ^ 64 → FitsU64 (make n)) × (FitsU64 (make n) → n < 2 ^ 64)) where
+  numbered : Tells make
+  numbered line digits o meant cut h mapped = mapped ∙ meaning_is line (option_map make o) (at o h)
     where
+      e : line ≡ word (make 0) ++ digits
+      e = is_append (word (make 0)) line digits cut
       at : (o : Option ℕ) → IsNumberOf digits o → Means line (option_map make o)
-      at (Some n) h = (e ∙ ap (λ ds. word ++ ds) h.0 ∙ sym (spelled n), fitting n h.1)
+      at (Some n) h = (e ∙ ap (λ ds. word (make 0) ++ ds) h.0 ∙ sym (spelled n), (fits n).0 h.1)
       at None h = λ c fit is.
-          let found = only c digits fit (sym e ∙ is) in
-          h found.0 found.1 (sym (drop-append_seam word digits) ∙ ap (drop (length word)) (sym e ∙ is ∙ ap spelling found.2 ∙ spelled found.0) ∙ drop-append_seam word (decimal found.0))
+          let n = number_in c in
+          let made : c ≡ make n = same_word (make 0) c digits (sym e ∙ is) ∙ renumbered n in
+          h n ((fits n).1 (subst FitsU64 made fit)) (sym (drop-append_seam (word (make 0)) digits) ∙ ap (drop (length (word (make 0)))) (sym e ∙ is ∙ ap spelling made ∙ spelled n) ∙ drop-append_seam (word (make 0)) (decimal n))
 
-only_add : (c : Command) (digits : List ℕ) → FitsU64 c → codes "add " ++ digits ≡ spelling c → (n : ℕ) × (n < 2 ^ 64) × (c ≡ Add n)
-unfolding key
-only_add (Add n) digits fit e = (n, fit, refl)
-only_add c digits fit e = absurd (omega (arith, ap key e))
-
-only_del : (c : Command) (digits : List ℕ) → FitsU64 c → codes "del " ++ digits ≡ spelling c → (n : ℕ) × (n < 2 ^ 64) × (c ≡ Del n)
-unfolding key
-only_del (Del n) digits fit e = (n, fit, refl)
-only_del c digits fit e = absurd (omega (arith, ap key e))
-
-only_has : (c : Command) (digits : List ℕ) → FitsU64 c → codes "has " ++ digits ≡ spelling c → (n : ℕ) × (n < 2 ^ 64) × (c ≡ Has n)
-unfolding key
-only_has (Has n) digits fit e = (n, fit, refl)
-only_has c digits fit e = absurd (omega (arith, ap key e))
-
-only_rank : (c : Command) (digits : List ℕ) → FitsU64 c → codes "rank " ++ digits ≡ spelling c → (n : ℕ) × (n < 2 ^ 64) × (c ≡ Rank n)
-unfolding key
-only_rank (Rank n) digits fit e = (n, fit, refl)
-only_rank c digits fit e = absurd (omega (arith, ap key e))
-
-only_at : (c : Command) (digits : List ℕ) → FitsU64 c → codes "at " ++ digits ≡ spelling c → (n : ℕ) × (n < 2 ^ 64) × (c ≡ At n)
-unfolding key
-only_at (At n) digits fit e = (n, fit, refl)
-only_at c digits fit e = absurd (omega (arith, ap key e))
-
-pub added : (line digits : List ℕ) (o : Option ℕ) → line ≡ codes "add " ++ digits → IsNumberOf digits o → option_map Add o ≡ meaning line
-added = numbered (codes "add ") Add (λ n. refl) (λ n h. h) only_add
-
-pub deleted : (line digits : List ℕ) (o : Option ℕ) → line ≡ codes "del " ++ digits → IsNumberOf digits o → option_map Del o ≡ meaning line
-deleted = numbered (codes "del ") Del (λ n. refl) (λ n h. h) only_del
-
-pub asked : (line digits : List ℕ) (o : Option ℕ) → line ≡ codes "has " ++ digits → IsNumberOf digits o → option_map Has o ≡ meaning line
-asked = numbered (codes "has ") Has (λ n. refl) (λ n h. h) only_has
-
-pub ranked : (line digits : List ℕ) (o : Option ℕ) → line ≡ codes "rank " ++ digits → IsNumberOf digits o → option_map Rank o ≡ meaning line
-ranked = numbered (codes "rank ") Rank (λ n. refl) (λ n h. h) only_rank
-
-pub placed_at : (line digits : List ℕ) (o : Option ℕ) → line ≡ codes "at " ++ digits → IsNumberOf digits o → option_map At o ≡ meaning line
-placed_at = numbered (codes "at ") At (λ n. refl) (λ n h. h) only_at
+pub added : Tells Add
+added = numbered Add (λ n. refl) (λ n. refl) (λ n. ((λ h. h), (λ h. h)))
+pub deleted : Tells Del
+deleted = numbered Del (λ n. refl) (λ n. refl) (λ n. ((λ h. h), (λ h. h)))
+pub asked : Tells Has
+asked = numbered Has (λ n. refl) (λ n. refl) (λ n. ((λ h. h), (λ h. h)))
+pub ranked : Tells Rank
+ranked = numbered Rank (λ n. refl) (λ n. refl) (λ n. ((λ h. h), (λ h. h)))
+pub placed_at : Tells At
+placed_at = numbered At (λ n. refl) (λ n. refl) (λ n. ((λ h. h), (λ h. h)))
 
 pub length_asked : (line : List ℕ) → line ≡ codes "len" → Some Len ≡ meaning line
 length_asked line e = meaning_is line (Some Len) (e, tt)
@@ -202,11 +226,6 @@ no_command line no_add no_del no_has no_rank no_at no_len = meaning_is line None
     none Len fit is = no_len is
 
 -- ---- what the code's tests say
-
--- what `strip_prefix` says
-pub front_is : (p line rest : List ℕ) → bytes_eq (take (length p) line) p ≡ true → rest ≡ drop (length p) line → line ≡ p ++ rest
-front_is p line rest same cut =
-    sym (take-append-drop (length p) line) ∙ ap (λ l. l ++ drop (length p) line) ((bytes_eq-Decides (take (length p) line) p).0 same) ∙ ap (λ l. p ++ l) (sym cut)
 
 pub no_front : (p line : List ℕ) → bytes_eq (take (length p) line) p ≡ false → (rest : List ℕ) → line ≢ p ++ rest
 no_front p line other rest e =

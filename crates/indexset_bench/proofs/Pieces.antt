@@ -65,11 +65,15 @@ module _ (r r1 r2 : Option (List ℕ)) (before after : List ℕ) (far : Stops r 
       subst (Consumes r r2) (sym (append_assoc before moves.piece ending) ∙ ap (λ l. l ++ ending) (sym moves.line))
       (Consumes-trans r r1 r2 before (moves.piece ++ ending) far.1 moves.read)
 
+  -- more of the line may come
+  pub stops_further : TakesPiece r1 r2 before after None → Stops r r2 after
+  stops_further moves = (HasNoEnd-moved [] moves, subst (Consumes r r2) (append-nil after) (Consumes-moved [] moves))
+
   Consumes-ended : Ends r1 r2 before after → Consumes r r2 after
   Consumes-ended ends = subst (Consumes r r2) (append-nil before ∙ sym ends.line) (Consumes-trans r r1 r2 before [] far.1 ends.read)
 
   pub reads_part : (part : Part) → TakesPiece r1 r2 before after (Some part) → Reads r r2 after part
-  reads_part Whole moves = (HasNoEnd-moved (10 ∷ []) moves, Consumes-moved (10 ∷ []) moves)
+  reads_part (Whole is_used_up) moves = (HasNoEnd-moved (10 ∷ []) moves, Consumes-moved (10 ∷ []) moves)
   reads_part Last taken =
       let ends = taken.0 in
       (subst HasNoEnd (sym ends.line) far.0, Consumes-ended ends, omega (arith, taken.1, ap length ends.line), at_end-after r r1 r2 before far.1 ends.at_end)

@@ -1,5 +1,5 @@
 -- How a run goes on, line by line.
-use Rattle.std.proofs.Common.{Option, ◌≡◌, ◌≢◌, ℕ, List, [], ◌∷◌, ◌++◌, refl, sym, ap, subst, ◌∙◌, arith, append_assoc, append-nil}
+use Rattle.std.proofs.Common.{Option, Bool, ◌≡◌, ◌≢◌, ℕ, List, [], ◌∷◌, ◌++◌, refl, sym, ap, subst, ◌∙◌, arith, append_assoc, append-nil}
 use Rattle.std.proofs.lemmas.List.Elements.{All-nil}
 use Rattle.std.specs.Io.KnownBytes.{Appends, Consumes, Keeps}
 use Rattle.std.proofs.KnownBytes.{Consumes-nil, Appends-nil, Consumes-trans, Appends-trans, Appends-kept}
@@ -26,6 +26,10 @@ pub record SoFar (reader reader' writer writer' : Option (List ℕ)) (set : List
 pub start : (r w : Option (List ℕ)) (set : List ℕ) → set ≡ [] → SoFar r r w w set
 unfolding IsWhole lines_of replies_of contents_of
 start r w set none = record { whole = []; is_whole = λ some. absurd (omega (arith, some)); read = Consumes-nil r; written = Appends-nil w; held = none }
+
+-- the writer was flushed
+pub flushed : (r r1 w w1 w2 : Option (List ℕ)) (set : List ℕ) → SoFar r r1 w w1 set → Keeps w1 w2 → SoFar r r1 w w2 set
+flushed r r1 w w1 w2 set far kept = record { whole = far.whole; is_whole = far.is_whole; read = far.read; written = Appends-kept w w1 w2 (text_of far.whole) far.written kept; held = far.held }
 
 -- nothing was read, and nothing answered
 pub nothing_read : (r w : Option (List ℕ)) → AnswersWholeLines IsLinePart r r w w
@@ -58,9 +62,9 @@ module _ (whole part line set : List ℕ) (is_whole : IsWhole whole) (one : line
 
 module _ (r r1 r2 w w1 w2 : Option (List ℕ)) (set line : List ℕ) (far : SoFar r r1 w w1 set) where
   -- a line that was answered
-  pub further : (part : Part) (passed set' : List ℕ) → part ≡ Whole → passed ≡ line → Reads r1 r2 line part
+  pub further : (part : Part) (is_used_up : Bool) (passed set' : List ℕ) → part ≡ Whole is_used_up → passed ≡ line → Reads r1 r2 line part
       → Appends w1 w2 (reply_line set passed) → set' ≡ contents_after set (meaning passed) → SoFar r r2 w w2 set'
-  further part passed set' is same reads told next =
+  further part is_used_up passed set' is same reads told next =
       let read = subst (Reads r1 r2 line) is reads in
       let one = lines_of-end line read.0 in
       let line_told = subst (λ l. Appends w1 w2 (reply_line set l)) same told in
@@ -96,6 +100,6 @@ module _ (r r1 r2 w w1 w2 : Option (List ℕ)) (set line : List ℕ) (far : SoFa
   }
 
   pub unanswered : (part : Part) → part ≢ End → Reads r1 r2 line part → Keeps w1 w2 → AnswersWholeLines IsLinePart r r2 w w2
-  unanswered Whole other reads kept = unanswered_rest (line ++ 10 ∷ []) (StopsAt-append line (10 ∷ []) 10 reads.0 (All-nil (λ x. x ≢ 10))) reads.1 kept
+  unanswered (Whole is_used_up) other reads kept = unanswered_rest (line ++ 10 ∷ []) (StopsAt-append line (10 ∷ []) 10 reads.0 (All-nil (λ x. x ≢ 10))) reads.1 kept
   unanswered Last other reads kept = unanswered_rest line (StopsAt-of_All line 10 reads.0) reads.1 kept
   unanswered End other reads kept = absurd (other refl)

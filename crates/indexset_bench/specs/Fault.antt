@@ -1,7 +1,9 @@
--- How a fault is told.
+-- How a fault is told, and which fault a refusal is.
 use Rattle.std.specs.Prelude.{ℕ, List, codes}
 use Rattle.indexset_bench.specs.declared.fault.RunFault.{RunFault}
 use Rattle.indexset_bench.specs.declared.fault.RunFault.TheVariants.{Memory, Numbers, Read, Write}
+use Rattle.indexset_core.specs.declared.refusal.Refusal.{Refusal}
+use Rattle.indexset_core.specs.declared.refusal.Refusal.TheVariants as refusal
 
 -- its exit status
 abbrev pub status_of : RunFault → ℕ
@@ -16,3 +18,8 @@ word_of Memory = codes "memory"
 word_of Numbers = codes "numbers"
 word_of Read = codes "read"
 word_of Write = codes "write"
+
+-- the fault of a run whose call was refused: a run meets want of memory and of numbers alone
+abbrev pub fault_of : Refusal → RunFault
+fault_of refusal.Numbers = Numbers
+fault_of other = Memory

@@ -7,7 +7,7 @@ use Rattle.indexset_bench.specs.Lines.{HasNoEnd}
 
 -- bytes went from the reader: a line and its end, or the last line, or none
 abbrev pub Reads : Option (List ℕ) → Option (List ℕ) → List ℕ → Part → Type 0
-Reads old new line Whole = HasNoEnd line × Consumes old new (line ++ 10 ∷ [])
+Reads old new line (Whole is_used_up) = HasNoEnd line × Consumes old new (line ++ 10 ∷ [])
 Reads old new line Last = HasNoEnd line × Consumes old new line × (0 < length line) × OnSome old (IsAtEnd new)
 Reads old new line End = (line ≡ []) × Consumes old new [] × OnSome old (IsAtEnd new)
 
@@ -31,6 +31,6 @@ pub record Ends (old new : Option (List ℕ)) (before after : List ℕ) : Type 0
 -- the line went on by a piece, or to its end
 abbrev pub TakesPiece : Option (List ℕ) → Option (List ℕ) → List ℕ → List ℕ → Option Part → Type 0
 TakesPiece old new before after None = Moves old new before after []
-TakesPiece old new before after (Some Whole) = Moves old new before after (10 ∷ [])
+TakesPiece old new before after (Some (Whole is_used_up)) = Moves old new before after (10 ∷ [])
 TakesPiece old new before after (Some Last) = Ends old new before after × (0 < length before)
 TakesPiece old new before after (Some End) = Ends old new before after × (before ≡ [])

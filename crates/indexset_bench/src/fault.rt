@@ -1,5 +1,9 @@
 //! What ends a run before its input does.
 
+use indexset_core::refusal::Refusal;
+use std::error::Error;
+use std::fmt;
+
 /// What ends a run before its input does.
 #[derive(Clone, Copy, Debug, PartialEq, Eq)]
 pub enum RunFault {
@@ -38,6 +42,33 @@ impl RunFault {
             RunFault::Numbers => "numbers",
             RunFault::Read => "read",
             RunFault::Write => "write",
+        }
+    }
+}
+
+impl fmt::Display for RunFault {
+    ghost use Rattle.std.specs.Prelude.{Some};
+    ghost use Rattle.indexset_bench.specs.Fault.{word_of};
+
+    ghost output = { λ fault. Some (word_of fault) };
+
+    fn fmt<W: fmt::Write>(&self, f: &mut fmt::Formatter<W>) -> fmt::Result {
+        f.write_str(self.word())
+    }
+}
+
+impl Error for RunFault {}
+
+impl From<Refusal> for RunFault {
+    ghost use Rattle.std.specs.Prelude.{◌≡◌};
+    ghost use Rattle.indexset_bench.specs.Fault.{fault_of};
+
+    ghost from_gives = { λ refusal fault. fault ≡ fault_of refusal };
+
+    fn from(refusal: Refusal) -> RunFault {
+        match refusal {
+            Refusal::Numbers => RunFault::Numbers,
+            _ => RunFault::Memory,
         }
     }
 }

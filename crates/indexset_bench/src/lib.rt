@@ -5,6 +5,8 @@ mod command;
 mod fault;
 pub mod laws;
 mod line;
+pub mod logged;
+pub mod logged_run;
 mod program;
 pub mod replica;
 mod reply;

@@ -1,40 +1,54 @@
 //! Lines of a reader.
 
-ghost use Rattle.std.specs.Prelude.{◌⊎◌, ◌≡◌, ◌==◌, ◌+◌, ◌<◌, length, vec_len, vec_capacity, false, Ok, Err, IfOk, IfErr, IfSome, OnErr, OnSome, IsTrue};
+ghost use Rattle.std.specs.Prelude.{◌⊎◌, ◌≡◌, ◌≢◌, ◌==◌, ◌+◌, ◌<◌, length, vec_len, vec_capacity, false, Ok, Err, IfOk, IfErr, IfSome, OnErr, OnSome, IsTrue};
 ghost use Rattle.std.specs.List.{position, position_or_len};
 ghost use Rattle.std.specs.Io.KnownBytes.{IsAtEnd, Keeps};
 ghost use Rattle.indexset_bench.specs.Lines.{HasNoEnd};
 ghost use Rattle.indexset_bench.specs.Reading.{Reads, Stops, TakesPiece};
 
 use crate::fault::RunFault;
-use std::io::{BufRead, ErrorKind};
+use std::io::{BufRead, ErrorKind, Write};
 
 /// What a read of a line found.
 #[derive(Clone, Copy, Debug, PartialEq, Eq)]
 pub enum Part {
-    /// A line and its end.
-    Whole,
+    /// A line and its end. Where the reader's buffer is used up, the next look may read.
+    Whole { is_used_up: bool },
     /// A line without an end, the last.
     Last,
     /// Nothing is left.
     End,
 }
 
-/// Reads the next line, without its end.
-pub fn next_line<R: BufRead>(reader: &mut R, line: &mut Vec<u8>) -> Result<Part, RunFault>
+/// Reads the next line, without its end. Within the line, the writer is flushed before more is read.
+pub fn next_line<R: BufRead, W: Write>(
+    reader: &mut R,
+    writer: &mut W,
+    line: &mut Vec<u8>,
+) -> Result<Part, RunFault>
     ensures ok { IfOk result (Reads (R.remaining reader.old) (R.remaining reader.new)
         line.new.items) }
     ensures err { OnErr result (Stops (R.remaining reader.old) (R.remaining reader.new)
         line.new.items) }
-    ensures fault { IfErr result (λ fault. (fault ≡ RunFault.Memory) ⊎ (fault ≡ RunFault.Read)) }
+    ensures unwritten { Keeps (W.contents writer.old) (W.contents writer.new) }
+    ensures numbers_fit { result ≢ Err RunFault.Numbers }
 {
     line.clear();
     for _ in 0..u64::MAX {
         if let Some(part) = take_piece(reader, line)? {
             return Ok(part);
         }
+        flush(writer)?;
     }
     Err(RunFault::Read)
+}
+
+/// Passes on what the writer holds back.
+pub fn flush<W: Write>(writer: &mut W) -> Result<(), RunFault>
+    ensures unwritten { Keeps (W.contents writer.old) (W.contents writer.new) }
+    ensures fault { IfErr result (λ fault. fault ≡ RunFault.Write) }
+{
+    writer.flush().map_err(|_| RunFault::Write)
 }
 
 /// Moves to the line what the reader shows of it. Answers nothing where more of the line may come.
@@ -73,8 +87,9 @@ fn take_piece<R: BufRead>(reader: &mut R, line: &mut Vec<u8>) -> Result<Option<P
         return Err(RunFault::Memory);
     }
     if is_whole {
+        let is_used_up = len + 1 == shown.len();
         reader.consume(len + 1);
-        Ok(Some(Part::Whole))
+        Ok(Some(Part::Whole { is_used_up }))
     } else {
         reader.consume(len);
         Ok(None)

@@ -11,13 +11,14 @@ ghost use Rattle.indexset_bench.specs.Text.{reply_line, text_of};
 
 use crate::command::parse;
 use crate::fault::RunFault;
-use crate::line::{Part, is_at_end, next_line};
+use crate::line::{Part, flush, is_at_end, next_line};
 use crate::reply::perform;
 use indexset_set::BTreeSet;
 use std::alloc::Global;
 use std::io::{BufRead, Write};
 
-/// Answers each line of the reader on the writer, over a set that starts empty.
+/// Answers each line of the reader on the writer, over a set that starts empty. The writer is flushed
+/// where the reader's buffer is used up, so that each reply is out before more is waited for.
 ///
 /// A fault ends the run at once, and the first fault is told. A line past the first 2^64 - 1 is a
 /// fault of the reader. After a failed write nothing is said of what was written.
@@ -49,13 +50,12 @@ pub fn run<R: BufRead, W: Write>(
     ensures numbers_fit { result ≢ Err RunFault.Numbers }
 {
     let answered = answer_lines(alloc, reader, writer);
-    match writer.flush() {
-        Ok(()) => answered,
-        Err(_) => answered.and(Err(RunFault::Write)),
-    }
+    let flushed = flush(writer);
+    answered.and(flushed)
 }
 
-/// Answers each line, and leaves the writer to be flushed.
+/// Answers each line. The writer is flushed before each look at the reader that may read, and is left
+/// to be flushed at the end.
 fn answer_lines<R: BufRead, W: Write>(
     alloc: Global,
     reader: &mut R,
@@ -72,11 +72,16 @@ fn answer_lines<R: BufRead, W: Write>(
         (W.contents writer.old) (W.contents writer.new) }
     ensures numbers_fit { result ≢ Err RunFault.Numbers }
 {
-    let mut set = BTreeSet::new(alloc).map_err(|_| RunFault::Memory)?;
+    let mut set = BTreeSet::new(alloc)?;
     let mut line = Vec::new(alloc);
     for _ in 0..u64::MAX {
-        match next_line(reader, &mut line)? {
-            Part::Whole => answer_line(writer, &mut set, &line)?,
+        match next_line(reader, writer, &mut line)? {
+            Part::Whole { is_used_up } => {
+                answer_line(writer, &mut set, &line)?;
+                if is_used_up {
+                    flush(writer)?;
+                }
+            }
             Part::Last => return answer_line(writer, &mut set, &line),
             Part::End => return Ok(()),
         }
@@ -103,6 +108,6 @@ fn answer_line<W: Write>(
     ensures only_new { result ≡ Err RunFault.Memory → AddsNew (items set.old) (meaning line.now) }
     ensures fault { IfErr result (λ fault. (fault ≡ RunFault.Memory) ⊎ (fault ≡ RunFault.Write)) }
 {
-    let reply = perform(set, parse(line)).map_err(|_| RunFault::Memory)?;
+    let reply = perform(set, parse(line))?;
     writer.writeln(reply).map_err(|_| RunFault::Write)
 }

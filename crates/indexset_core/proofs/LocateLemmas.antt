@@ -4,7 +4,7 @@ use Rattle.std.specs.List.{All, AllWithin, HoldsAt, position_or_len}
 use Rattle.std.specs.Ordering.{is_lt, is_eq}
 use Rattle.std.proofs.lemmas.List.{get_or_append_left, get_or-append-add, get_or_default, get_or-map, length-map}
 use Rattle.std.proofs.lemmas.List.Sums.{sum_by-append, position_or_len_is, prefix_len_stops}
-use Rattle.std.proofs.lemmas.Option.{slice_get_read, slice_get_past}
+use Rattle.std.proofs.lemmas.Option.{slice_get_read}
 use Rattle.std.proofs.lemmas.Bool.{false≢true, cases_lt}
 use Rattle.indexset_core.specs.Nodes.{joined, node_lengths, ends_less, equal_at, node_for, node_at}
 use Rattle.indexset_core.specs.Parted.{IsParted, less_count}

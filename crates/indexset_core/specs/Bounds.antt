@@ -1,5 +1,5 @@
 -- Parts of a list between two bounds, by a comparison or by positions.
-use Rattle.std.specs.Prelude.{ℕ, Bool, true, ◌&&◌, List, length, filter}
+use Rattle.std.specs.Prelude.{ℕ, Bool, true, false, ◌&&◌, List, length, filter}
 use Rattle.std.specs.List.{between}
 use Rattle.std.specs.Ordering.{is_lt, is_le, is_gt, is_ge, nat_cmp}
 use Rattle.std.specs.Range.Bound.{start_index, end_index}
@@ -8,6 +8,12 @@ use Rattle.std.specs.declared.ops.Bound.{Bound}
 use Rattle.std.specs.declared.ops.Bound.TheVariants.{Included, Excluded, Unbounded}
 
 module _ {T : Type 0} (cmp : T → T → Ordering) where
+  -- x stands before the start
+  abbrev pub is_before : Bound T → T → Bool
+  is_before (Included v) x = is_lt (cmp x v)
+  is_before (Excluded v) x = is_le (cmp x v)
+  is_before Unbounded x = false
+
   -- x is not before the start
   abbrev pub is_from_start : Bound T → T → Bool
   is_from_start (Included v) x = is_ge (cmp x v)

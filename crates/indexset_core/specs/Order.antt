@@ -41,7 +41,7 @@ equal_element cmp l v = find (λ x. is_eq (cmp x v)) l
 abbrev pub lower_element : {T : Type 0} → (T → T → Ordering) → List T → T → Option T
 lower_element cmp l v = find (λ x. not (is_lt (cmp x v))) l
 
--- v in its place, for any equal element
+-- v where it belongs, replacing any equal element
 unfoldable pub put : {T : Type 0} → (T → T → Ordering) → List T → T → List T
 put cmp l v = below cmp l v ++ v ∷ above cmp l v
 

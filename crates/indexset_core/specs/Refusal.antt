@@ -1,8 +1,9 @@
--- The numbers by which refusals are known.
-use Rattle.std.specs.Prelude.{ℕ}
+-- The numbers by which refusals are known, and their texts.
+use Rattle.std.specs.Prelude.{ℕ, List, codes}
 use Rattle.indexset_core.specs.declared.refusal.Refusal.{Refusal}
 use Rattle.indexset_core.specs.declared.refusal.Refusal.TheVariants.{Memory, Numbers, Empty, TooLarge, Unsorted, Overlaps, PairNumber, Gap, NoSuchNode, IndexOutside, ValueDiffers, WouldBeEmpty, OutOfOrder, BadSplit}
 
+-- its number
 abbrev pub number_of : Refusal → ℕ
 number_of Memory = 1
 number_of Numbers = 2
@@ -18,3 +19,20 @@ number_of ValueDiffers = 14
 number_of WouldBeEmpty = 15
 number_of OutOfOrder = 16
 number_of BadSplit = 17
+
+-- its text
+abbrev pub message_of : Refusal → List ℕ
+message_of Memory = codes "memory was refused"
+message_of Numbers = codes "too few numbers are left"
+message_of Empty = codes "the node has no item"
+message_of TooLarge = codes "the node has too many items"
+message_of Unsorted = codes "the node is not ascending"
+message_of Overlaps = codes "the node overlaps another"
+message_of PairNumber = codes "a pair in the node has the greatest number"
+message_of Gap = codes "the event's number is not the next"
+message_of NoSuchNode = codes "no node has the event's last item"
+message_of IndexOutside = codes "the event's index is outside its node"
+message_of ValueDiffers = codes "another item stands at the event's index"
+message_of WouldBeEmpty = codes "the event would empty a node"
+message_of OutOfOrder = codes "the event would break the order"
+message_of BadSplit = codes "the event would cut off an empty part"

@@ -1,5 +1,5 @@
-//! An item put into a list or taken out of it, by one move of the items behind it.
-ghost use Rattle.std.specs.Prelude.{◌≡◌, ◌<◌, ◌≤◌, length, insert, remove, slice_index_or, vec_len, vec_capacity};
+//! Items put into a list or taken out of it, or moved on to another, without memory.
+ghost use Rattle.std.specs.Prelude.{◌≡◌, ◌+◌, ◌-◌, ◌<◌, ◌≤◌, ◌++◌, length, take, drop, insert, remove, slice_index_or, vec_len, vec_capacity};
 
 /// Puts an item at an index of a list that has room.
 pub fn insert_item<T>(items: &mut Vec<T>, index: usize, item: T)
@@ -21,4 +21,17 @@ pub fn remove_item<T>(items: &mut Vec<T>, index: usize) -> T
 {
     items.as_mut_slice()[index..].rotate_left(1);
     items.take_last()
+}
+
+/// Moves the items from an index on behind those of another list that has room for them.
+pub fn move_tail<T: Drop>(items: &mut Vec<T>, index: usize, other: &mut Vec<T>)
+    requires within { index ≤ length items.old.items }
+    requires room { vec_len other.old + (length items.old.items - index) ≤ vec_capacity other.old }
+    ensures left { items.new.items ≡ take index items.old.items }
+    ensures moved { other.new.items ≡ other.old.items ++ drop index items.old.items }
+    ensures capacity { vec_capacity items.new ≡ vec_capacity items.old }
+{
+    for item in items.drain(index..) {
+        other.push_reserved(item);
+    }
 }

@@ -2,6 +2,8 @@
 ghost use Rattle.std.specs.Prelude.{◌≡◌};
 
 use std::alloc::AllocError;
+use std::error::Error;
+use std::fmt;
 
 /// Why a call was refused. Where several reasons apply, the one that its call's contract names is given.
 #[derive(Clone, Copy, Debug, PartialEq, Eq)]
@@ -62,14 +64,63 @@ impl Refusal {
     }
 }
 
-/// What a refused call was given, handed back, and why it was refused.
-#[derive(Debug, Drop)]
+impl fmt::Display for Refusal {
+    ghost use Rattle.std.specs.Prelude.{Some};
+    ghost use Rattle.indexset_core.specs.Refusal.{message_of};
+
+    ghost output = { λ refusal. Some (message_of refusal) };
+
+    fn fmt<W: fmt::Write>(&self, f: &mut fmt::Formatter<W>) -> fmt::Result {
+        f.write_str(match self {
+            Refusal::Memory => "memory was refused",
+            Refusal::Numbers => "too few numbers are left",
+            Refusal::Empty => "the node has no item",
+            Refusal::TooLarge => "the node has too many items",
+            Refusal::Unsorted => "the node is not ascending",
+            Refusal::Overlaps => "the node overlaps another",
+            Refusal::PairNumber => "a pair in the node has the greatest number",
+            Refusal::Gap => "the event's number is not the next",
+            Refusal::NoSuchNode => "no node has the event's last item",
+            Refusal::IndexOutside => "the event's index is outside its node",
+            Refusal::ValueDiffers => "another item stands at the event's index",
+            Refusal::WouldBeEmpty => "the event would empty a node",
+            Refusal::OutOfOrder => "the event would break the order",
+            Refusal::BadSplit => "the event would cut off an empty part",
+        })
+    }
+}
+
+impl Error for Refusal {}
+
+/// What a refused call was given, handed back, and why it was refused. It is shown by its cause alone.
+#[derive(Drop)]
 pub struct Refused<X> {
     /// What was given, as it was.
     pub value: X,
     /// Why it was refused.
     pub cause: Refusal,
 }
+
+impl<X> fmt::Debug for Refused<X> {
+    fn fmt<W: fmt::Write>(&self, f: &mut fmt::Formatter<W>) -> fmt::Result {
+        f.debug_struct("Refused")
+            .field("cause", &self.cause)
+            .finish_non_exhaustive()
+    }
+}
+
+impl<X> fmt::Display for Refused<X> {
+    ghost use Rattle.std.specs.Prelude.{Some};
+    ghost use Rattle.indexset_core.specs.Refusal.{message_of};
+
+    ghost output = { λ refused. Some (message_of refused.cause) };
+
+    fn fmt<W: fmt::Write>(&self, f: &mut fmt::Formatter<W>) -> fmt::Result {
+        fmt::Display::fmt(&self.cause, f)
+    }
+}
+
+impl<X: Drop> Error for Refused<X> {}
 
 impl From<AllocError> for Refusal {
     ghost use Rattle.std.specs.Prelude.{◌≡◌};

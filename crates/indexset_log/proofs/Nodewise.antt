@@ -12,8 +12,8 @@ use Rattle.indexset_core.specs.Nodes.{joined}
 use Rattle.indexset_log.specs.Nodes.{last_of, is_filled}
 use Rattle.indexset_log.specs.Replay.{step_plain, replay_plain}
 use Rattle.indexset_log.specs.Table.{node_events, replace_events, removing_events}
-use Rattle.indexset_log.proofs.Ups.{Each, each-append, last-append, filled-append, up-left, up-right, Cut, around, parts-put, parts-without, parts-rank, parts-has_equal}
-use Rattle.indexset_log.proofs.Steps.{At, at_cut, insert_step, remove_step, remove_node_step, create_step}
+use Rattle.indexset_log.proofs.Ups.{Each, each-append, last-append, filled-append, up-left, up-right, Ruled, around, parts-put, parts-without, parts-rank, parts-has_equal}
+use Rattle.indexset_log.proofs.Steps.{At, at_ruled, insert_step, remove_step, remove_node_step, create_step}
 
 pub replay_more : {T : Type 0} (cmp : T → T → Ordering) (ns : List (List T)) (e : ChangeEventUnassigned T) (es : List (ChangeEventUnassigned T)) (r : List (List T)) → step_plain cmp ns e ≡ Some r → replay_plain cmp ns (e ∷ es) ≡ replay_plain cmp r es
 replay_more cmp ns e es r h = rw h refl
@@ -63,26 +63,26 @@ module _ {T : Type 0} (cmp : T → T → Ordering) (o : IsTotalOrder cmp) (v : T
       place_is : rank cmp (l ++ x ∷ r) v ≡ length l
       place_is = parts-rank cmp o l (x ∷ []) r v low (same, tt) high
 
-      -- E5, E6
+      -- replacing a last or an inner item
       pub two_events : 1 ≤ length l + length r → node_events cmp (l ++ x ∷ r) v ≡ RemoveAt (last_of (l ++ x ∷ r) v) x (length l) ∷ InsertAt (last_of (l ++ r) v) v (length l) ∷ []
       unfolding node_events
       two_events some = rw present_is (replace_as l x r place_is some)
 
-      -- E4
+      -- replacing an only item
       pub only_events : (l ≡ []) → (r ≡ []) → node_events cmp (l ++ x ∷ r) v ≡ RemoveNode x ∷ CreateNode v ∷ []
       unfolding node_events replace_events
       only_events none past =
           let only : eqb (length (l ++ x ∷ r)) 1 ≡ true = eq-eqb _ _ (long ∙ rw (none, past) refl) in
           rw (present_is, place_is, get_or-append_seam l x r v, only) refl
 
-      -- E8
+      -- removal of an only item
       pub only_removing : (l ≡ []) → (r ≡ []) → removing_events cmp (l ++ x ∷ r) v ≡ RemoveNode x ∷ []
       unfolding removing_events
       only_removing none past =
           let only : eqb (length (l ++ x ∷ r)) 1 ≡ true = eq-eqb _ _ (long ∙ rw (none, past) refl) in
           rw (present_is, place_is, get_or-append_seam l x r v, only) refl
 
-      -- E7
+      -- removal from several
       pub one_removing : 1 ≤ length l + length r → removing_events cmp (l ++ x ∷ r) v ≡ RemoveAt (last_of (l ++ x ∷ r) x) x (length l) ∷ []
       unfolding removing_events
       one_removing some =
@@ -118,19 +118,19 @@ module _ {T : Type 0} (cmp : T → T → Ordering) (o : IsTotalOrder cmp) (v : T
 
     -- the event of a removal
     abbrev pub Removes : List T → Type 0
-    Removes n = At cmp o b n a → Cut cmp (b ++ (kept (without cmp n v) ++ a)) × (replay_plain cmp (b ++ n ∷ a) (removing_events cmp n v) ≡ Some (b ++ (kept (without cmp n v) ++ a)))
+    Removes n = At cmp o b n a → Ruled cmp (b ++ (kept (without cmp n v) ++ a)) × (replay_plain cmp (b ++ n ∷ a) (removing_events cmp n v) ≡ Some (b ++ (kept (without cmp n v) ++ a)))
 
     kept_is : (n : List T) → is_filled n ≡ true → kept n ≡ n ∷ []
     kept_is [] full = absurd (false≢true full)
     kept_is (x ∷ n) full = refl
 
     removes_absent : (l r : List T) → Each (λ x. cmp x v ≡ Less) l → Each (λ x. cmp v x ≡ Less) r → Removes (l ++ r)
-    removes_absent l r low high at = rw (parts-without cmp o l [] r v low tt high, absent_removing l r low high, kept_is (l ++ r) at.here) (at_cut cmp o b (l ++ r) a at, refl)
+    removes_absent l r low high at = rw (parts-without cmp o l [] r v low tt high, absent_removing l r low high, kept_is (l ++ r) at.here) (at_ruled cmp o b (l ++ r) a at, refl)
 
     removes_one : (l : List T) (x : T) (r : List T) → Each (λ x. cmp x v ≡ Less) l → cmp x v ≡ Equal → Each (λ x. cmp v x ≡ Less) r → 1 ≤ length l + length r → is_filled (l ++ r) ≡ true → Removes (l ++ x ∷ r)
     removes_one l x r low same high some full at =
         let gone = remove_step cmp o b a l x r x at full in
-        rw (parts-without cmp o l (x ∷ []) r v low (same, tt) high, one_removing l r low high x same some, kept_is (l ++ r) full) (at_cut cmp o b (l ++ r) a gone.0, rw gone.1 refl)
+        rw (parts-without cmp o l (x ∷ []) r v low (same, tt) high, one_removing l r low high x same some, kept_is (l ++ r) full) (at_ruled cmp o b (l ++ r) a gone.0, rw gone.1 refl)
 
     removes_present : (l : List T) (x : T) (r : List T) → Each (λ x. cmp x v ≡ Less) l → cmp x v ≡ Equal → Each (λ x. cmp v x ≡ Less) r → Removes (l ++ x ∷ r)
     removes_present l x (z ∷ r) low same high at = removes_one l x (z ∷ r) low same high (omega arith) (filled-append l z r) at

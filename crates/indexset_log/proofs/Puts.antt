@@ -1,7 +1,5 @@
 -- What a put makes of lawful nodes, as the code meets it.
-use Rattle.std.proofs.Common.{◌≡◌, ◌≢◌, ℕ, zero, suc, ◌+◌, ◌-◌, ◌/◌, ◌<◌, ◌≤◌, Bool, true, false, cond, if◌then◌else◌, ◌&&◌, List, [], ◌∷◌, ◌++◌, length, map, get_or, set, insert, take, drop, slice_get, eqb, Option, Some, None, is_some, is_ok, Ordering, refl, ap, sym, ◌∙◌, subst, arith, append_assoc, length-append}
-use Rattle.std.proofs.Common.{nat_eq}
-use Rattle.std.proofs.lemmas.Bool.Decides.{nat_tests}
+use Rattle.std.proofs.Common.{◌≡◌, ◌≢◌, ℕ, zero, suc, ◌+◌, ◌-◌, ◌/◌, ◌<◌, ◌≤◌, Bool, true, false, cond, if◌then◌else◌, ◌&&◌, List, [], ◌∷◌, ◌++◌, length, map, get_or, set, insert, take, drop, slice_get, eqb, Option, Some, None, is_some, is_ok, Ordering, refl, ap, sym, ◌∙◌, subst, arith, append_assoc, length-append, nat_eq}
 use Rattle.std.specs.Cmp.{IsTotalOrder}
 use Rattle.std.specs.List.{find, splice}
 use Rattle.std.specs.Option.{option_or}
@@ -11,7 +9,7 @@ use Rattle.std.proofs.lemmas.List.{length-map, map-append, take-append-drop}
 use Rattle.std.proofs.lemmas.List.Folds.{find-append}
 use Rattle.std.proofs.lemmas.Option.{get_or_from_slice_get}
 use Rattle.std.proofs.Math.Seq.{get_or-append_seam}
-use Rattle.indexset_core.specs.Nodes.{joined, node_at}
+use Rattle.indexset_core.specs.Nodes.{joined, node_at, IsLawful}
 use Rattle.indexset_core.specs.Order.{IsAscending, put, keep, has_equal, equal_element, rank, IsFoundAt, IsGapFor}
 use Rattle.indexset_core.proofs.CallerLemmas.{is_some-find, joined-append, found_has_equal, gap_has_equal, found_rank, gap_rank, has_equal_found, parted_by_item}
 use Rattle.indexset_log.specs.declared.aim.Aim.{Aim}
@@ -19,29 +17,29 @@ use Rattle.indexset_log.specs.declared.change.ChangeEvent.{ChangeEvent}
 use Rattle.indexset_log.specs.declared.change.ChangeEventUnassigned.{ChangeEventUnassigned}
 use Rattle.indexset_log.specs.declared.change.ChangeEventUnassigned.TheVariants.{InsertAt, RemoveAt, CreateNode, RemoveNode, SplitNode}
 use Rattle.indexset_log.specs.Aim.{IsAim}
-use Rattle.indexset_log.specs.Edits.{with_cut, with_room, put_into_target}
-use Rattle.indexset_log.specs.Nodes.{is_filled, last_of, IsLawful}
+use Rattle.indexset_log.specs.Edits.{with_halved, with_room, put_into_target}
+use Rattle.indexset_log.specs.Nodes.{is_filled, last_of}
 use Rattle.indexset_log.specs.Replay.{replay, numbered_from, assigned}
-use Rattle.indexset_log.specs.Table.{target, half_of, part_for, is_past, cut_events, node_events, replace_events, target_events, put_events, checked_put_events}
-use Rattle.indexset_log.proofs.Ups.{Each, each-map, Up, up-left, up-right, Cut, cut_true, true_cut, greater, around, parts-put, parts-has_equal}
-use Rattle.indexset_log.proofs.Steps.{cut_at, insert_at, splice_at, filled_length}
-use Rattle.indexset_log.proofs.Replays.{all_each, each_all, length_filled, set_seam, ne_from, aim, target_at}
+use Rattle.indexset_log.specs.Table.{target, half_of, part_for, is_past, halving_events, node_events, replace_events, target_events, put_events, checked_put_events}
+use Rattle.indexset_log.proofs.Ups.{Each, each-map, Up, up-left, up-right, Ruled, greater, around, parts-put, parts-has_equal, each_all, filled_length, length_filled, ascends, lawful_from, lawful_ruled, lawful_bounded}
+use Rattle.indexset_log.proofs.Steps.{ruled_at, insert_at, splice_at}
+use Rattle.indexset_log.proofs.Replays.{set_seam, ne_from, aim, target_at}
 use Rattle.indexset_log.proofs.Theorem.{numbered_replay, put_to, up_node, put_events_some, set_view}
 use Rattle.indexset_log.proofs.Rooms.{Roomy, roomy, Makes, target_makes}
 use Rattle.indexset_log.proofs.Takes.{at_place}
-use Rattle.indexset_log.proofs.Views.{ascends, node_is, length_view}
+use Rattle.indexset_log.proofs.Views.{node_is, length_view, lawful_small}
 
--- a node cut in two, as the code does it
-cut_seam : {X : Type 0} (b : List X) (n : X) (a : List X) (l r : X) → insert (set (b ++ n ∷ a) (length b) l) (length b + 1) r ≡ b ++ l ∷ r ∷ a
-cut_seam b n a l r =
+-- a node halved, as the code does it
+halved_seam : {X : Type 0} (b : List X) (n : X) (a : List X) (l r : X) → insert (set (b ++ n ∷ a) (length b) l) (length b + 1) r ≡ b ++ l ∷ r ∷ a
+halved_seam b n a l r =
     let made : insert ((b ++ l ∷ []) ++ a) (length (b ++ l ∷ [])) r ≡ (b ++ l ∷ []) ++ r ∷ a = insert_at (b ++ l ∷ []) a r in
     let long : length (b ++ l ∷ []) ≡ length b + 1 = length-append b (l ∷ []) in
     rw (set_seam b n a l) (subst (λ k. insert (b ++ l ∷ a) k r ≡ b ++ l ∷ r ∷ a) long (subst (λ q. insert q (length (b ++ l ∷ [])) r ≡ b ++ l ∷ r ∷ a) (append_assoc b (l ∷ []) a) (made ∙ append_assoc b (l ∷ []) (r ∷ a))))
 
-pub cut_view : {X Y : Type 0} (f : X → Y) (xs : List X) (k : ℕ) (n l r : X) → slice_get xs k ≡ Some n → map f (insert (set xs k l) (k + 1) r) ≡ splice (map f xs) k (k + 1) (f l ∷ f r ∷ [])
-cut_view f xs k n l r at = at_place (λ q j n. map f (insert (set q j l) (j + 1) r) ≡ splice (map f q) j (j + 1) (f l ∷ f r ∷ []))
+pub halved_view : {X Y : Type 0} (f : X → Y) (xs : List X) (k : ℕ) (n l r : X) → slice_get xs k ≡ Some n → map f (insert (set xs k l) (k + 1) r) ≡ splice (map f xs) k (k + 1) (f l ∷ f r ∷ [])
+halved_view f xs k n l r at = at_place (λ q j n. map f (insert (set q j l) (j + 1) r) ≡ splice (map f q) j (j + 1) (f l ∷ f r ∷ []))
     (λ b n a.
-    rw (cut_seam b n a l r, map-append f b (l ∷ r ∷ a), map-append f b (n ∷ a))
+    rw (halved_seam b n a l r, map-append f b (l ∷ r ∷ a), map-append f b (n ∷ a))
     (sym (subst (λ j. splice (map f b ++ f n ∷ map f a) j (j + 1) (f l ∷ f r ∷ []) ≡ map f b ++ f l ∷ f r ∷ map f a) (length-map b f) (splice_at (map f b) (f n) (map f a) (f l ∷ f r ∷ [])))))
     xs k n at
 
@@ -55,18 +53,18 @@ numbered-append s (x ∷ xs) ys =
 pub two_written : {T : Type 0} (s : ℕ) (old mid new : List (ChangeEvent T)) (k : ℕ) (e f : ChangeEventUnassigned T) → mid ≡ old ++ assigned s e ∷ [] → k ≡ s + 1 → new ≡ mid ++ assigned k f ∷ [] → new ≡ old ++ numbered_from s (e ∷ f ∷ [])
 two_written s old mid new k e f first next second = second ∙ rw (first, next) (append_assoc old (assigned s e ∷ []) (assigned (s + 1) f ∷ []))
 
--- the event of a cut, and none
+-- the event of a halving, and none
 module _ {T : Type 0} (size s : ℕ) (n : List T) (v : T) where
-  pub cut_written : (name : T) (items : List (ChangeEvent T)) → eqb (length n) size ≡ true → name ≡ last_of n v → items ≡ assigned s (SplitNode name (length n / 2)) ∷ [] → items ≡ numbered_from s (cut_events size n v)
-  cut_written name items full same made = made ∙ rw (full, same) refl
+  pub halving_written : (name : T) (items : List (ChangeEvent T)) → eqb (length n) size ≡ true → name ≡ last_of n v → items ≡ assigned s (SplitNode name (length n / 2)) ∷ [] → items ≡ numbered_from s (halving_events size n v)
+  halving_written name items full same made = made ∙ rw (full, same) refl
 
-  pub cut_one : eqb (length n) size ≡ true → length (cut_events size n v) ≡ 1
-  cut_one full = rw full refl
+  pub halving_one : eqb (length n) size ≡ true → length (halving_events size n v) ≡ 1
+  halving_one full = rw full refl
 
-  pub whole_none : eqb (length n) size ≡ false → cut_events size n v ≡ []
+  pub whole_none : eqb (length n) size ≡ false → halving_events size n v ≡ []
   whole_none part = rw part refl
 
-pub half_and : {T : Type 0} (cut past : Bool) (n : List T) → half_of cut (cut && past) n ≡ half_of cut past n
+pub half_and : {T : Type 0} (full past : Bool) (n : List T) → half_of full (full && past) n ≡ half_of full past n
 half_and true past n = refl
 half_and false past n = refl
 
@@ -122,18 +120,18 @@ module _ {T : Type 0} (cmp : T → T → Ordering) (o : IsTotalOrder cmp) (v : T
   or_none (Some x) = refl
 
   -- an equal item stands in the target
-  pub equal_in_target : (ns : List (List T)) → Cut cmp ns → is_filled ns ≡ true → equal_element cmp (joined ns) v ≡ equal_element cmp (node_at ns (target cmp ns v)) v
-  equal_in_target [] cut some = absurd (false≢true some)
-  equal_in_target (n ∷ ns) cut some =
+  pub equal_in_target : (ns : List (List T)) → Ruled cmp ns → is_filled ns ≡ true → equal_element cmp (joined ns) v ≡ equal_element cmp (node_at ns (target cmp ns v)) v
+  equal_in_target [] ruled some = absurd (false≢true some)
+  equal_in_target (n ∷ ns) ruled some =
       let p : T → Bool = λ x. is_eq (cmp x v) in
-      aim cmp o v (λ q. Cut cmp q → equal_element cmp (joined q) v ≡ equal_element cmp (node_at q (target cmp q v)) v)
-      (λ b n a low high stop cut.
-      let at = cut_at cmp o b n a cut in
+      aim cmp o v (λ q. Ruled cmp q → equal_element cmp (joined q) v ≡ equal_element cmp (node_at q (target cmp q v)) v)
+      (λ b n a low high stop ruled.
+      let at = ruled_at cmp o b n a ruled in
       let before : find p (joined b) ≡ None = find_no (joined b) (each-map _ _ (λ x e. ap is_eq e) (joined b) low) in
       let after : find p (joined a) ≡ None = find_no (joined a) (each-map _ _ (λ x e. ap is_eq (greater cmp o x v e)) (joined a) high) in
       rw (target_at cmp o v b n a at low stop, get_or-append_seam b n a [], joined-append b (n ∷ a))
       (find-append p (joined b) (n ++ joined a) ∙ rw before (find-append p n (joined a) ∙ rw after (or_none (find p n)))))
-      n ns cut cut
+      n ns ruled ruled
 
   -- all of a put, for the code
   module _ (size : ℕ) (two : 2 ≤ size) (ns : List (List T)) (law : IsLawful cmp size ns) (a : Aim) (h : IsAim cmp size ns v a) where
@@ -141,13 +139,13 @@ module _ {T : Type 0} (cmp : T → T → Ordering) (o : IsTotalOrder cmp) (v : T
     some = length_filled ns (omega (arith, h.node_in))
 
     r : Roomy cmp o v size ns (node_at ns (target cmp ns v)) (target cmp ns v) (with_room cmp size ns v)
-    r = roomy cmp o v size two ns (true_cut cmp ns law.nodes) (all_each _ ns law.small) some
+    r = roomy cmp o v size two ns (lawful_ruled cmp size ns law) (lawful_bounded cmp size ns law) some
 
     made : Makes cmp o v size ns (target_events cmp size (node_at ns (target cmp ns v)) v) (put_into_target cmp (with_room cmp size ns v) v) (put cmp (joined ns) v)
-    made = target_makes cmp o v size two ns (true_cut cmp ns law.nodes) (all_each _ ns law.small) some
+    made = target_makes cmp o v size two ns (lawful_ruled cmp size ns law) (lawful_bounded cmp size ns law) some
 
-    pub room_is : (if a.cut then with_cut ns a.node else ns) ≡ with_room cmp size ns v
-    room_is = rw (h.cut_is, h.node_is) refl
+    pub room_is : (if a.full then with_halved ns a.node else ns) ≡ with_room cmp size ns v
+    room_is = rw (h.full_is, h.node_is) refl
 
     pub place_is : a.node + cond a.right 1 0 ≡ target cmp (with_room cmp size ns v) v
     place_is = let d = r in rw (h.right_is, h.node_is) (sym d.place)
@@ -158,40 +156,40 @@ module _ {T : Type 0} (cmp : T → T → Ordering) (o : IsTotalOrder cmp) (v : T
     pub part_is : node_at (with_room cmp size ns v) (target cmp (with_room cmp size ns v) v) ≡ part_for cmp size (node_at ns a.node) v
     part_is = let d = r in rw h.node_is d.part
 
-    pub half_is : half_of a.cut a.right (node_at ns a.node) ≡ part_for cmp size (node_at ns a.node) v
-    half_is = rw (h.cut_is, h.right_is) (half_and (eqb (length (node_at ns a.node)) size) (is_past cmp (take (length (node_at ns a.node) / 2) (node_at ns a.node)) v) (node_at ns a.node))
+    pub half_is : half_of a.full a.right (node_at ns a.node) ≡ part_for cmp size (node_at ns a.node) v
+    half_is = rw (h.full_is, h.right_is) (half_and (eqb (length (node_at ns a.node)) size) (is_past cmp (take (length (node_at ns a.node) / 2) (node_at ns a.node)) v) (node_at ns a.node))
 
     pub part_up : IsAscending cmp (part_for cmp size (node_at ns a.node) v)
-    part_up = let d = r in subst (IsAscending cmp) part_is (ascends cmp _ (up_node cmp (with_room cmp size ns v) (target cmp (with_room cmp size ns v) v) d.cut))
+    part_up = let d = r in subst (IsAscending cmp) part_is (ascends cmp _ (up_node cmp (with_room cmp size ns v) (target cmp (with_room cmp size ns v) v) d.ruled))
 
     pub part_some : 1 ≤ length (part_for cmp size (node_at ns a.node) v)
-    part_some = let d = r in let cut : Cut cmp (with_room cmp size ns v) = d.cut in subst (λ q. 1 ≤ length q) part_is (filled_length _ (each_all _ (with_room cmp size ns v) cut.filled (target cmp (with_room cmp size ns v) v) [] place_in))
+    part_some = let d = r in let ruled : Ruled cmp (with_room cmp size ns v) = d.ruled in subst (λ q. 1 ≤ length q) part_is (filled_length _ (each_all _ (with_room cmp size ns v) ruled.filled (target cmp (with_room cmp size ns v) v) [] place_in))
 
-    pub events_count : length (target_events cmp size (node_at ns a.node) v) ≡ cond a.cut 1 0 + cond (is_ok a.at) 2 1
+    pub events_count : length (target_events cmp size (node_at ns a.node) v) ≡ cond a.full 1 0 + cond (is_ok a.at) 2 1
     unfolding target_events
     events_count =
         let n = node_at ns a.node in
         let part = part_for cmp size n v in
-        let cuts : length (cut_events size n v) ≡ cond a.cut 1 0 = rw h.cut_is (cut_count n) in
+        let halvings : length (halving_events size n v) ≡ cond a.full 1 0 = rw h.full_is (halving_count n) in
         let puts : length (node_events cmp part v) ≡ cond (is_ok a.at) 2 1 = node_count part ∙ ap (λ b. cond b 2 1) (sym (has_equal_found cmp part v a.at h.found h.gap)) in
-        length-append (cut_events size n v) (node_events cmp part v) ∙ rw (cuts, puts) refl
+        length-append (halving_events size n v) (node_events cmp part v) ∙ rw (halvings, puts) refl
       where
-        cut_count : (n : List T) → length (cut_events size n v) ≡ cond (eqb (length n) size) 1 0
-        cut_count n = elim (eqb (length n) size) as (λ t. length (if t then SplitNode (last_of n v) (length n / 2) ∷ [] else []) ≡ cond t 1 0) [
+        halving_count : (n : List T) → length (halving_events size n v) ≡ cond (eqb (length n) size) 1 0
+        halving_count n = elim (eqb (length n) size) as (λ t. length (if t then SplitNode (last_of n v) (length n / 2) ∷ [] else []) ≡ cond t 1 0) [
           | true ↦ refl
           | false ↦ refl
         ]
 
-    pub target_length : length (target_events cmp size (node_at ns a.node) v) ≡ length (cut_events size (node_at ns a.node) v) + length (node_events cmp (part_for cmp size (node_at ns a.node) v) v)
+    pub target_length : length (target_events cmp size (node_at ns a.node) v) ≡ length (halving_events size (node_at ns a.node) v) + length (node_events cmp (part_for cmp size (node_at ns a.node) v) v)
     unfolding target_events
-    target_length = length-append (cut_events size (node_at ns a.node) v) (node_events cmp (part_for cmp size (node_at ns a.node) v) v)
+    target_length = length-append (halving_events size (node_at ns a.node) v) (node_events cmp (part_for cmp size (node_at ns a.node) v) v)
 
-    pub target_numbered : (s : ℕ) → numbered_from s (target_events cmp size (node_at ns a.node) v) ≡ numbered_from s (cut_events size (node_at ns a.node) v) ++ numbered_from (s + length (cut_events size (node_at ns a.node) v)) (node_events cmp (part_for cmp size (node_at ns a.node) v) v)
+    pub target_numbered : (s : ℕ) → numbered_from s (target_events cmp size (node_at ns a.node) v) ≡ numbered_from s (halving_events size (node_at ns a.node) v) ++ numbered_from (s + length (halving_events size (node_at ns a.node) v)) (node_events cmp (part_for cmp size (node_at ns a.node) v) v)
     unfolding target_events
-    target_numbered s = numbered-append s (cut_events size (node_at ns a.node) v) (node_events cmp (part_for cmp size (node_at ns a.node) v) v)
+    target_numbered s = numbered-append s (halving_events size (node_at ns a.node) v) (node_events cmp (part_for cmp size (node_at ns a.node) v) v)
 
     pub put_lawful : IsLawful cmp size (put_into_target cmp (with_room cmp size ns v) v)
-    put_lawful = let d = made in record { nodes = cut_true cmp _ d.cut; small = each_all _ _ d.small }
+    put_lawful = let d = made in lawful_from cmp size _ d.ruled d.small
 
     pub put_replay : (s : ℕ) → replay cmp ns (numbered_from s (target_events cmp size (node_at ns a.node) v)) ≡ Some (put_into_target cmp (with_room cmp size ns v) v)
     put_replay s = let d = made in rw h.node_is (numbered_replay cmp ns s (target_events cmp size (node_at ns (target cmp ns v)) v) ∙ d.replayed)
@@ -206,27 +204,27 @@ module _ {T : Type 0} (cmp : T → T → Ordering) (o : IsTotalOrder cmp) (v : T
     put_joined = let d = made in d.holds
 
     pub element_is : equal_element cmp (part_for cmp size (node_at ns a.node) v) v ≡ equal_element cmp (joined ns) v
-    element_is = let d = r in ap (λ q. equal_element cmp q v) (sym part_is) ∙ (sym (equal_in_target (with_room cmp size ns v) d.cut d.some) ∙ ap (λ q. equal_element cmp q v) d.same)
+    element_is = let d = r in ap (λ q. equal_element cmp q v) (sym part_is) ∙ (sym (equal_in_target (with_room cmp size ns v) d.ruled d.some) ∙ ap (λ q. equal_element cmp q v) d.same)
 
     pub put_count : length (joined (put_into_target cmp (with_room cmp size ns v) v)) ≡ length (joined ns) + cond (is_ok a.at) 0 1
     put_count =
-        let cut = true_cut cmp ns law.nodes in
+        let ruled = lawful_ruled cmp size ns law in
         let part = part_for cmp size (node_at ns a.node) v in
         let test : T → Bool = λ x. is_eq (cmp x v) in
         let whole : has_equal cmp (joined ns) v ≡ is_ok a.at = sym (is_some-find test (joined ns)) ∙ (ap is_some (sym element_is) ∙ (is_some-find test part ∙ sym (has_equal_found cmp part v a.at h.found h.gap))) in
-        rw put_joined (put_length_is (joined ns) cut.up ∙ rw whole refl)
+        rw put_joined (put_length_is (joined ns) ruled.up ∙ rw whole refl)
 
-    pub cut_two : a.cut ≡ true → 2 ≤ length (node_at ns a.node)
-    cut_two e = omega (arith, eqb-true (length (node_at ns a.node)) size (sym h.cut_is ∙ e))
+    pub full_two : a.full ≡ true → 2 ≤ length (node_at ns a.node)
+    full_two e = omega (arith, eqb-true (length (node_at ns a.node)) size (sym h.full_is ∙ e))
 
-    pub whole_room : a.cut ≡ false → length (node_at ns a.node) < size
-    whole_room e = omega (arith, ne_from (length (node_at ns a.node)) size (eqb-false (length (node_at ns a.node)) size (sym h.cut_is ∙ e)) (law.small a.node [] h.node_in))
+    pub whole_room : a.full ≡ false → length (node_at ns a.node) < size
+    whole_room e = omega (arith, ne_from (length (node_at ns a.node)) size (eqb-false (length (node_at ns a.node)) size (sym h.full_is ∙ e)) (lawful_small cmp size ns law a.node h.node_in))
 
-    pub whole_left : a.cut ≡ false → a.right ≡ false
-    whole_left e = h.right_is ∙ ap (λ b. b && is_past cmp (take (length (node_at ns a.node) / 2) (node_at ns a.node)) v) (sym h.cut_is ∙ e)
+    pub whole_left : a.full ≡ false → a.right ≡ false
+    whole_left e = h.right_is ∙ ap (λ b. b && is_past cmp (take (length (node_at ns a.node) / 2) (node_at ns a.node)) v) (sym h.full_is ∙ e)
 
     -- the nodes as the code holds them after it made room
-    module _ {N : Type 0} (f : N → List T) (items : List N) (held : map f items ≡ (if a.cut then with_cut ns a.node else ns)) (p : ℕ) (place : p ≡ a.node + cond a.right 1 0) where
+    module _ {N : Type 0} (f : N → List T) (items : List N) (held : map f items ≡ (if a.full then with_halved ns a.node else ns)) (p : ℕ) (place : p ≡ a.node + cond a.right 1 0) where
       sees : map f items ≡ with_room cmp size ns v
       sees = held ∙ room_is
 
@@ -245,7 +243,7 @@ module _ {T : Type 0} (cmp : T → T → Ordering) (o : IsTotalOrder cmp) (v : T
           set_view f items ms p m (put cmp (node_at ms p) v) sees (e ∙ ap (λ q. put cmp q v) (node_is f items ms p n sees spot_in is)) ∙ ap (λ k. set ms k (put cmp (node_at ms k) v)) aims
 
 -- the half of an ascending node is ascending
-pub half_up : {T : Type 0} (cmp : T → T → Ordering) (cut right : Bool) (n : List T) → Up cmp n → Up cmp (half_of cut right n)
+pub half_up : {T : Type 0} (cmp : T → T → Ordering) (full right : Bool) (n : List T) → Up cmp n → Up cmp (half_of full right n)
 half_up cmp false right n up = up
 half_up cmp true true n up = up-right cmp (take (length n / 2) n) (drop (length n / 2) n) (subst (Up cmp) (sym (take-append-drop (length n / 2) n)) up)
 half_up cmp true false n up = up-left cmp (take (length n / 2) n) (drop (length n / 2) n) (subst (Up cmp) (sym (take-append-drop (length n / 2) n)) up)
@@ -256,12 +254,6 @@ last_of_take [] i x v lt e = absurd (omega arith)
 last_of_take (y ∷ []) zero x v lt e = sym e
 last_of_take (y ∷ z ∷ n) zero x v lt e = sym e
 last_of_take (y ∷ n) (suc i) x v lt e = last_of_take n i x y (omega arith) e
-
-pub test_is : (a b : ℕ) → nat_eq a b ≡ eqb a b
-test_is a b = elim (eqb a b) as (λ t. eqb a b ≡ t → nat_eq a b ≡ t) [
-  | true ↦ λ e. let same : a ≡ b = eqb-true a b e in grind (arith, nat_tests)
-  | false ↦ λ e. let other : a ≡ b → ⊥ = eqb-false a b e in grind (arith, nat_tests)
-] refl
 
 module _ {T : Type 0} (cmp : T → T → Ordering) (size : ℕ) (ns : List (List T)) (v : T) where
   pub aimed_events : (a : Aim) → IsAim cmp size ns v a → put_events cmp size ns v ≡ target_events cmp size (node_at ns a.node) v

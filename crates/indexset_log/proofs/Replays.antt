@@ -14,26 +14,13 @@ use Rattle.indexset_core.proofs.CallerLemmas.{joined-append}
 use Rattle.indexset_log.specs.Nodes.{last_of, is_filled}
 use Rattle.indexset_log.specs.Replay.{reaches, step_plain, replay_plain}
 use Rattle.indexset_log.specs.Table.{target, node_events, target_events, put_events, removing_events, removal_events, is_past}
-use Rattle.indexset_log.proofs.Ups.{Each, each-append, each-left, each-right, each-map, each_last, ends_by, filled-append, Up, up-left, up-right, up-between, Cut, lesser, equal_below, upto_last, around, parts-put, parts-without, put-within, without-within}
-use Rattle.indexset_log.proofs.Steps.{At, at_cut, cut_at, place_at, unreached, create_step, split_step}
+use Rattle.indexset_log.proofs.Ups.{Each, each-append, each-left, each-right, each-map, each_last, ends_by, filled-append, Up, up-left, up-right, up-between, Ruled, lesser, equal_below, upto_last, around, parts-put, parts-without, put-within, without-within}
+use Rattle.indexset_log.proofs.Steps.{At, at_ruled, ruled_at, place_at, unreached, create_step, split_step}
 use Rattle.indexset_log.proofs.Nodewise.{kept, puts, removes}
-
-pub all_each : {X : Type 0} (P : X → Type 0) (xs : List X) → All P xs → Each P xs
-all_each P [] h = tt
-all_each P (x ∷ xs) h = (h 0 x (omega arith), all_each P xs (λ k d lt. h (suc k) d (omega arith)))
-
-pub each_all : {X : Type 0} (P : X → Type 0) (xs : List X) → Each P xs → All P xs
-each_all P [] h k d lt = absurd (omega arith)
-each_all P (x ∷ xs) h zero d lt = h.0
-each_all P (x ∷ xs) h (suc k) d lt = each_all P xs h.1 k d (omega arith)
 
 pub set_seam : {X : Type 0} (b : List X) (n : X) (a : List X) (x : X) → set (b ++ n ∷ a) (length b) x ≡ b ++ x ∷ a
 set_seam [] n a x = refl
 set_seam (y ∷ b) n a x = ap (λ q. y ∷ q) (set_seam b n a x)
-
-pub length_filled : {X : Type 0} (xs : List X) → 1 ≤ length xs → is_filled xs ≡ true
-length_filled [] h = absurd (omega arith)
-length_filled (x ∷ xs) h = refl
 
 pub ne_from : (a b : ℕ) → (a ≡ b → ⊥) → a ≤ b → a < b
 ne_from a b h le = grind arith
@@ -90,15 +77,15 @@ module _ {T : Type 0} (cmp : T → T → Ordering) (o : IsTotalOrder cmp) (v : T
   -- the nodes around the target
   pub aim : (P : List (List T) → Type 0)
       → ((b : List (List T)) (n : List T) (a : List (List T)) → Each (λ x. cmp x v ≡ Less) (joined b) → Each (λ x. cmp v x ≡ Less) (joined a) → (reaches cmp v n ≡ true) ⊎ (a ≡ []) → P (b ++ n ∷ a))
-      → (n : List T) (ns : List (List T)) → Cut cmp (n ∷ ns) → P (n ∷ ns)
-  aim P hit n [] cut = hit [] n [] tt tt (inr refl)
-  aim P hit n (m ∷ ns) cut =
-      let filled = cut.filled in
+      → (n : List T) (ns : List (List T)) → Ruled cmp (n ∷ ns) → P (n ∷ ns)
+  aim P hit n [] ruled = hit [] n [] tt tt (inr refl)
+  aim P hit n (m ∷ ns) ruled =
+      let filled = ruled.filled in
       elim (reaches cmp v n) as (λ t. reaches cmp v n ≡ t → P (n ∷ m ∷ ns)) [
-        | true ↦ λ e. hit [] n (m ∷ ns) tt (over_rest n (joined (m ∷ ns)) filled.0 cut.up (reaching n filled.0 e)) (inl e)
+        | true ↦ λ e. hit [] n (m ∷ ns) tt (over_rest n (joined (m ∷ ns)) filled.0 ruled.up (reaching n filled.0 e)) (inl e)
         | false ↦ λ e.
-            let low = upto_last cmp o n v v (up-left cmp n (joined (m ∷ ns)) cut.up) (not_reaching n filled.0 e) in
-            aim (λ q. P (n ∷ q)) (λ b c a below above stop. hit (n ∷ b) c a (each-append _ n (joined b) low below) above stop) m ns (record { filled = filled.1; up = up-right cmp n (joined (m ∷ ns)) cut.up })
+            let low = upto_last cmp o n v v (up-left cmp n (joined (m ∷ ns)) ruled.up) (not_reaching n filled.0 e) in
+            aim (λ q. P (n ∷ q)) (λ b c a below above stop. hit (n ∷ b) c a (each-append _ n (joined b) low below) above stop) m ns (record { filled = filled.1; up = up-right cmp n (joined (m ∷ ns)) ruled.up })
       ] refl
 
   pub target_at : (b : List (List T)) (n : List T) (a : List (List T)) → At cmp o b n a → Each (λ x. cmp x v ≡ Less) (joined b) → (reaches cmp v n ≡ true) ⊎ (a ≡ []) → target cmp (b ++ n ∷ a) v ≡ length b
@@ -136,7 +123,7 @@ module _ {T : Type 0} (cmp : T → T → Ordering) (o : IsTotalOrder cmp) (v : T
     pub record Done (ns : List (List T)) (es : List (ChangeEventUnassigned T)) (list : List T) : Type 0 where
       pub after : List (List T)
       pub replayed : replay_plain cmp ns es ≡ Some after
-      pub cut : Cut cmp after
+      pub ruled : Ruled cmp after
       pub small : Small after
       pub holds : joined after ≡ list
 
@@ -148,44 +135,44 @@ module _ {T : Type 0} (cmp : T → T → Ordering) (o : IsTotalOrder cmp) (v : T
     kept_small [] h = tt
     kept_small (x ∷ n) h = (h, tt)
 
-    -- E7 to E9
-    pub removal_done : (ns : List (List T)) → Cut cmp ns → Small ns → Done ns (removal_events cmp ns v) (without cmp (joined ns) v)
+    -- a removal
+    pub removal_done : (ns : List (List T)) → Ruled cmp ns → Small ns → Done ns (removal_events cmp ns v) (without cmp (joined ns) v)
     unfolding removal_events
-    removal_done [] cut small = record {
+    removal_done [] ruled small = record {
       after = [];
       replayed = rw (nothing_removing) refl;
-      cut = cut;
+      ruled = ruled;
       small = tt;
       holds = sym (parts-without cmp o [] [] [] v tt tt tt);
     }
-    removal_done (n ∷ ns) cut small =
-        aim (λ q. Cut cmp q → Small q → Done q (removal_events cmp q v) (without cmp (joined q) v))
-        (λ b n a low high stop cut small.
-        let at = cut_at cmp o b n a cut in
+    removal_done (n ∷ ns) ruled small =
+        aim (λ q. Ruled cmp q → Small q → Done q (removal_events cmp q v) (without cmp (joined q) v))
+        (λ b n a low high stop ruled small.
+        let at = ruled_at cmp o b n a ruled in
         let rest : Small (n ∷ a) = each-right _ b (n ∷ a) small in
         let did = removes cmp o v b a low high n at in
         rw (target_at b n a at low stop, get_or-append_seam b n a []) (record {
           after = b ++ (kept (without cmp n v) ++ a);
           replayed = did.1;
-          cut = did.0;
+          ruled = did.0;
           small = each-append _ b (kept (without cmp n v) ++ a) (each-left _ b (n ∷ a) small) (each-append _ (kept (without cmp n v)) a (kept_small (without cmp n v) (omega (arith, without_length n (up-left cmp n (joined a) (up-right cmp (joined b) (n ++ joined a) at.up)), rest.0))) rest.1);
           holds = rw (joined-append b (kept (without cmp n v) ++ a), kept_joined (without cmp n v) a, joined-append b (n ∷ a), without-within cmp o (joined b) n (joined a) v low high) refl;
         }))
-        n ns cut cut small
+        n ns ruled ruled small
 
-    -- E3 to E6 at a place of the list
+    -- a put that halves nothing, at a place of the list
     pub record Placed (ns : List (List T)) (p : ℕ) (n : List T) : Type 0 where
       pub replayed : replay_plain cmp ns (node_events cmp n v) ≡ Some (set ns p (put cmp n v))
-      pub cut : Cut cmp (set ns p (put cmp n v))
+      pub ruled : Ruled cmp (set ns p (put cmp n v))
       pub small : Small (set ns p (put cmp n v))
       pub holds : joined (set ns p (put cmp n v)) ≡ put cmp (joined ns) v
 
-    pub put_set : (ns : List (List T)) → Cut cmp ns → Small ns → is_filled ns ≡ true → length (get_or ns (target cmp ns v) []) < size → Placed ns (target cmp ns v) (get_or ns (target cmp ns v) [])
-    put_set [] cut small some room = absurd (false≢true some)
-    put_set (n ∷ ns) cut small some room =
-        aim (λ q. Cut cmp q → Small q → length (get_or q (target cmp q v) []) < size → Placed q (target cmp q v) (get_or q (target cmp q v) []))
-        (λ b n a low high stop cut small room.
-        let at = cut_at cmp o b n a cut in
+    pub put_set : (ns : List (List T)) → Ruled cmp ns → Small ns → is_filled ns ≡ true → length (get_or ns (target cmp ns v) []) < size → Placed ns (target cmp ns v) (get_or ns (target cmp ns v) [])
+    put_set [] ruled small some room = absurd (false≢true some)
+    put_set (n ∷ ns) ruled small some room =
+        aim (λ q. Ruled cmp q → Small q → length (get_or q (target cmp q v) []) < size → Placed q (target cmp q v) (get_or q (target cmp q v) []))
+        (λ b n a low high stop ruled small room.
+        let at = ruled_at cmp o b n a ruled in
         let rest : Small (n ∷ a) = each-right _ b (n ∷ a) small in
         let is = target_at b n a at low stop in
         let node : get_or (b ++ n ∷ a) (target cmp (b ++ n ∷ a) v) [] ≡ n = rw is (get_or-append_seam b n a []) in
@@ -196,8 +183,8 @@ module _ {T : Type 0} (cmp : T → T → Ordering) (o : IsTotalOrder cmp) (v : T
         subst (λ k. Placed (b ++ n ∷ a) k (get_or (b ++ n ∷ a) k [])) (sym is)
         (subst (λ k. Placed (b ++ n ∷ a) (length b) k) (sym (get_or-append_seam b n a [])) (record {
           replayed = did.1 ∙ ap Some (sym made);
-          cut = subst (Cut cmp) (sym made) (at_cut cmp o b (put cmp n v) a did.0);
+          ruled = subst (Ruled cmp) (sym made) (at_ruled cmp o b (put cmp n v) a did.0);
           small = subst Small (sym made) (each-append _ b (put cmp n v ∷ a) (each-left _ b (n ∷ a) small) (here, rest.1));
           holds = ap joined made ∙ rw (joined-append b (put cmp n v ∷ a), joined-append b (n ∷ a), put-within cmp o (joined b) n (joined a) v low high) refl;
         })))
-        n ns cut cut small room
+        n ns ruled ruled small room

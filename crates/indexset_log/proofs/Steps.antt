@@ -14,7 +14,7 @@ use Rattle.indexset_core.specs.Nodes.{joined}
 use Rattle.indexset_core.proofs.CallerLemmas.{joined-append}
 use Rattle.indexset_log.specs.Nodes.{last_of, is_filled}
 use Rattle.indexset_log.specs.Replay.{has_name, node_named, at_named, reaches, edit, step_plain}
-use Rattle.indexset_log.proofs.Ups.{Each, each-append, each-left, each-right, each-map, each_last, ends_by, last_any, filled-append, Up, up-between, up_drop, up_cross, up_put, Cut, cut_true, greater}
+use Rattle.indexset_log.proofs.Ups.{Each, each-append, each-left, each-right, each-map, each_last, ends_by, last_any, filled-append, Up, up-between, up_drop, up_cross, up_put, Ruled, greater, filled_length, ruled_tested}
 
 -- the first place that passes, by the parts around it
 pub place_at : {X : Type 0} (p : X → Bool) (b : List X) (n : X) (a : List X) → Each (λ x. p x ≡ false) b → p n ≡ true → position_or_len p (b ++ n ∷ a) ≡ length b
@@ -28,10 +28,6 @@ place_none p (x ∷ b) hb = rw hb.0 (omega (arith, place_none p b hb.1))
 pub place_seam : {X : Type 0} (p : X → Bool) (b a : List X) → Each (λ x. p x ≡ false) b → Each (λ x. p x ≡ true) a → position_or_len p (b ++ a) ≡ length b
 place_seam p b [] hb ha = rw (append-nil b) (place_none p b hb)
 place_seam p b (n ∷ a) hb ha = place_at p b n a hb ha.0
-
-pub filled_length : {X : Type 0} (xs : List X) → is_filled xs ≡ true → 1 ≤ length xs
-filled_length [] full = absurd (false≢true full)
-filled_length (x ∷ xs) full = omega arith
 
 pub position_at : {X : Type 0} (p : X → Bool) (b : List X) (n : X) (a : List X) → Each (λ x. p x ≡ false) b → p n ≡ true → position p (b ++ n ∷ a) ≡ Some (length b)
 position_at p b n a hb hn =
@@ -56,14 +52,14 @@ module _ {T : Type 0} (cmp : T → T → Ordering) (o : IsTotalOrder cmp) where
     pub after : Each (λ c. is_filled c ≡ true) a
     pub up : Up cmp (joined b ++ (n ++ joined a))
 
-  pub at_cut : (b : List (List T)) (n : List T) (a : List (List T)) → At b n a → Cut cmp (b ++ n ∷ a)
-  at_cut b n a h = record {
+  pub at_ruled : (b : List (List T)) (n : List T) (a : List (List T)) → At b n a → Ruled cmp (b ++ n ∷ a)
+  at_ruled b n a h = record {
     filled = each-append _ b (n ∷ a) h.before (h.here, h.after);
     up = rw (joined-append b (n ∷ a)) h.up;
   }
 
-  pub cut_at : (b : List (List T)) (n : List T) (a : List (List T)) → Cut cmp (b ++ n ∷ a) → At b n a
-  cut_at b n a h =
+  pub ruled_at : (b : List (List T)) (n : List T) (a : List (List T)) → Ruled cmp (b ++ n ∷ a) → At b n a
+  ruled_at b n a h =
       let rest : Each (λ c. is_filled c ≡ true) (n ∷ a) = each-right _ b (n ∷ a) h.filled in
       record {
         before = each-left _ b (n ∷ a) h.filled;
@@ -103,24 +99,24 @@ module _ {T : Type 0} (cmp : T → T → Ordering) (o : IsTotalOrder cmp) where
   named_parts b n a d f parts h e = rw (named_at b n a d h, get_or-append_seam b n a [], e, splice_at b n a parts) refl
 
   -- an edit that leaves a list of nodes is a step
-  pub edit_step : (ns : List (List T)) (e : ChangeEventUnassigned T) (r : List (List T)) → edit cmp ns e ≡ Some r → Cut cmp r → step_plain cmp ns e ≡ Some r
+  pub edit_step : (ns : List (List T)) (e : ChangeEventUnassigned T) (r : List (List T)) → edit cmp ns e ≡ Some r → Ruled cmp r → step_plain cmp ns e ≡ Some r
   unfolding step_plain
-  edit_step ns e r h c = rw (h, cut_true cmp r c) refl
+  edit_step ns e r h c = rw (h, ruled_tested cmp r c) refl
 
   module _ (b : List (List T)) (a : List (List T)) where
     -- the joining around a place in the node
     regroup : (l r : List T) → joined b ++ ((l ++ r) ++ joined a) ≡ (joined b ++ l) ++ (r ++ joined a)
     regroup l r = simp append_assoc
 
-    pub remove_node_step : (n : List T) (d : T) → At b n a → Cut cmp (b ++ a) × (step_plain cmp (b ++ n ∷ a) (RemoveNode (last_of n d)) ≡ Some (b ++ a))
+    pub remove_node_step : (n : List T) (d : T) → At b n a → Ruled cmp (b ++ a) × (step_plain cmp (b ++ n ∷ a) (RemoveNode (last_of n d)) ≡ Some (b ++ a))
     remove_node_step n d h =
-        let now : Cut cmp (b ++ a) = record {
+        let now : Ruled cmp (b ++ a) = record {
           filled = each-append _ b a h.before h.after;
           up = rw (joined-append b a) (up_cross cmp (joined b) n (joined a) h.up);
         } in
         (now, edit_step _ _ _ (named_parts b n a d (λ n. Some []) [] h refl) now)
 
-    pub create_step : (v : T) → Cut cmp (b ++ a) → Each (λ x. cmp x v ≡ Less) (joined b) → Each (λ x. cmp v x ≡ Less) (joined a) → At b (v ∷ []) a × (step_plain cmp (b ++ a) (CreateNode v) ≡ Some (b ++ (v ∷ []) ∷ a))
+    pub create_step : (v : T) → Ruled cmp (b ++ a) → Each (λ x. cmp x v ≡ Less) (joined b) → Each (λ x. cmp v x ≡ Less) (joined a) → At b (v ∷ []) a × (step_plain cmp (b ++ a) (CreateNode v) ≡ Some (b ++ (v ∷ []) ∷ a))
     create_step v h low high =
         let before = each-left _ b a h.filled in
         let after = each-right _ b a h.filled in
@@ -131,7 +127,7 @@ module _ {T : Type 0} (cmp : T → T → Ordering) (o : IsTotalOrder cmp) where
           up = up_put cmp (joined b) v (joined a) low high (subst (Up cmp) (joined-append b a) h.up);
         } in
         let place : position_or_len (reaches cmp v) (b ++ a) ≡ length b = place_seam (reaches cmp v) b a (unreached v b before low) (reached v a after high) in
-        (now, edit_step _ _ _ (rw place (ap Some (insert_at b a (v ∷ [])))) (at_cut b (v ∷ []) a now))
+        (now, edit_step _ _ _ (rw place (ap Some (insert_at b a (v ∷ [])))) (at_ruled b (v ∷ []) a now))
 
     pub insert_step : (l r : List T) (v d : T) → At b (l ++ r) a → Each (λ x. cmp x v ≡ Less) (joined b ++ l) → Each (λ x. cmp v x ≡ Less) (r ++ joined a) → At b (l ++ v ∷ r) a × (step_plain cmp (b ++ (l ++ r) ∷ a) (InsertAt (last_of (l ++ r) d) v (length l)) ≡ Some (b ++ (l ++ v ∷ r) ∷ a))
     insert_step l r v d h low high =
@@ -142,7 +138,7 @@ module _ {T : Type 0} (cmp : T → T → Ordering) (o : IsTotalOrder cmp) where
           up = rw (regroup l (v ∷ r)) (up_put cmp (joined b ++ l) v (r ++ joined a) low high (subst (Up cmp) (regroup l r) h.up));
         } in
         let fits : leb (length l) (length (l ++ r)) ≡ true = le-leb _ _ (rw (length-append l r) (omega arith)) in
-        (now, edit_step _ _ _ (named_parts b (l ++ r) a d (λ n. if leb (length l) (length n) then Some (insert n (length l) v ∷ []) else None) ((l ++ v ∷ r) ∷ []) h (rw (fits, insert_at l r v) refl)) (at_cut b (l ++ v ∷ r) a now))
+        (now, edit_step _ _ _ (named_parts b (l ++ r) a d (λ n. if leb (length l) (length n) then Some (insert n (length l) v ∷ []) else None) ((l ++ v ∷ r) ∷ []) h (rw (fits, insert_at l r v) refl)) (at_ruled b (l ++ v ∷ r) a now))
 
     pub remove_step : (l : List T) (x : T) (r : List T) (d : T) → At b (l ++ x ∷ r) a → is_filled (l ++ r) ≡ true → At b (l ++ r) a × (step_plain cmp (b ++ (l ++ x ∷ r) ∷ a) (RemoveAt (last_of (l ++ x ∷ r) d) x (length l)) ≡ Some (b ++ (l ++ r) ∷ a))
     remove_step l x r d h full =
@@ -155,11 +151,11 @@ module _ {T : Type 0} (cmp : T → T → Ordering) (o : IsTotalOrder cmp) where
         let some : 1 ≤ length l + length r = omega (arith, filled_length (l ++ r) full, length-append l r) in
         let long : leb 2 (length (l ++ x ∷ r)) ≡ true = le-leb _ _ (rw (length-append l (x ∷ r)) (omega arith)) in
         let inside : ltb (length l) (length (l ++ x ∷ r)) ≡ true = lt-ltb _ _ (rw (length-append l (x ∷ r)) (omega arith)) in
-        (now, edit_step _ _ _ (named_parts b (l ++ x ∷ r) a d (λ n. if (leb 2 (length n) && ltb (length l) (length n)) && is_eq (cmp (get_or n (length l) x) x) then Some (remove n (length l) ∷ []) else None) ((l ++ r) ∷ []) h (rw (long, inside, get_or-append_seam l x r x, tied_itself o x, remove_at l x r) refl)) (at_cut b (l ++ r) a now))
+        (now, edit_step _ _ _ (named_parts b (l ++ x ∷ r) a d (λ n. if (leb 2 (length n) && ltb (length l) (length n)) && is_eq (cmp (get_or n (length l) x) x) then Some (remove n (length l) ∷ []) else None) ((l ++ r) ∷ []) h (rw (long, inside, get_or-append_seam l x r x, tied_itself o x, remove_at l x r) refl)) (at_ruled b (l ++ r) a now))
 
-    pub split_step : (l r : List T) (d : T) → At b (l ++ r) a → is_filled l ≡ true → is_filled r ≡ true → Cut cmp (b ++ l ∷ r ∷ a) × (step_plain cmp (b ++ (l ++ r) ∷ a) (SplitNode (last_of (l ++ r) d) (length l)) ≡ Some (b ++ l ∷ r ∷ a))
+    pub split_step : (l r : List T) (d : T) → At b (l ++ r) a → is_filled l ≡ true → is_filled r ≡ true → Ruled cmp (b ++ l ∷ r ∷ a) × (step_plain cmp (b ++ (l ++ r) ∷ a) (SplitNode (last_of (l ++ r) d) (length l)) ≡ Some (b ++ l ∷ r ∷ a))
     split_step l r d h left right =
-        let now : Cut cmp (b ++ l ∷ r ∷ a) = record {
+        let now : Ruled cmp (b ++ l ∷ r ∷ a) = record {
           filled = each-append _ b (l ∷ r ∷ a) h.before (left, (right, h.after));
           up = rw (joined-append b (l ∷ r ∷ a), sym (append_assoc l r (joined a))) h.up;
         } in

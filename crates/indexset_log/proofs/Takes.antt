@@ -1,31 +1,29 @@
 -- What a removal makes of lawful nodes.
-use Rattle.std.proofs.Common.{◌≡◌, ℕ, zero, suc, ◌+◌, ◌<◌, ◌≤◌, ◌||◌, Bool, true, false, if◌then◌else◌, List, [], ◌∷◌, ◌++◌, length, set, remove, slice_get, eqb, Option, Some, None, Ordering, refl, ap, sym, ◌∙◌, subst, arith, length-append}
+use Rattle.std.proofs.Common.{◌≡◌, ℕ, zero, suc, ◌+◌, ◌<◌, ◌≤◌, ◌||◌, Bool, true, false, if◌then◌else◌, List, [], ◌∷◌, ◌++◌, length, set, remove, slice_get, eqb, Option, Some, None, Ordering, refl, ap, sym, ◌∙◌, subst, arith, length-append, map, nat_lt}
 use Rattle.std.specs.Cmp.{IsTotalOrder}
 use Rattle.std.specs.List.{list_any}
 use Rattle.std.specs.Ordering.{is_eq}
 use Rattle.std.proofs.lemmas.Bool.{false≢true, eq-eqb, ne_eqb, eqb-true, eqb-false}
 use Rattle.std.proofs.lemmas.List.{nil_from_length}
 use Rattle.std.proofs.lemmas.Option.{get_or_from_slice_get, slice_get-get_or}
-use Rattle.indexset_core.specs.Nodes.{joined, node_at}
+use Rattle.indexset_core.specs.Nodes.{joined, node_at, IsLawful}
 use Rattle.indexset_core.specs.Order.{has_equal, equal_element}
 use Rattle.indexset_core.proofs.CallerLemmas.{is_some-find, joined-append, found_has_equal, found_rank, parted_by_item, offset-le}
 use Rattle.indexset_log.specs.declared.change.ChangeEvent.{ChangeEvent}
 use Rattle.indexset_log.specs.declared.change.ChangeEventUnassigned.TheVariants.{RemoveNode, RemoveAt}
-use Rattle.std.proofs.Common.{map, nat_lt}
 use Rattle.std.proofs.lemmas.Bool.Decides.{nat_tests}
 use Rattle.std.below.core.specs.declared.int.u64.TheConstants.{MAX}
 use Rattle.indexset_core.specs.declared.refusal.Refusal.TheVariants.{Memory, Numbers}
 use Rattle.indexset_log.specs.Tree.{refusal_for}
 use Rattle.indexset_log.specs.Edits.{with_taken}
 use Rattle.indexset_log.specs.Located.{IsFoundIn}
-use Rattle.indexset_log.specs.Nodes.{is_filled, last_of, IsLawful}
+use Rattle.indexset_log.specs.Nodes.{is_filled, last_of}
 use Rattle.indexset_log.specs.Replay.{replay, replay_plain, numbered_from, assigned}
 use Rattle.indexset_log.specs.Table.{target, taking_events, removal_events, removing_events}
-use Rattle.indexset_log.proofs.Ups.{each-append, each-left, each-right, Cut, cut_true, true_cut}
-use Rattle.indexset_log.proofs.Steps.{At, at_cut, cut_at, remove_step, remove_node_step, remove_at}
-use Rattle.indexset_log.proofs.Replays.{Small, all_each, each_all, length_filled, set_seam}
+use Rattle.indexset_log.proofs.Ups.{each-append, each-left, each-right, Ruled, length_filled, ascends, lawful_from, lawful_ruled, lawful_bounded}
+use Rattle.indexset_log.proofs.Steps.{At, at_ruled, ruled_at, remove_step, remove_node_step, remove_at}
+use Rattle.indexset_log.proofs.Replays.{Small, set_seam}
 use Rattle.indexset_log.proofs.Theorem.{numbered_replay, up_node}
-use Rattle.indexset_log.proofs.Views.{ascends}
 
 -- a list seen around the item at a place
 pub at_place : {X : Type 0} (P : List X → ℕ → X → Type 0) → ((b : List X) (x : X) (a : List X) → P (b ++ x ∷ a) (length b) x) → (xs : List X) (k : ℕ) (x : X) → slice_get xs k ≡ Some x → P xs k x
@@ -43,7 +41,7 @@ module _ {T : Type 0} (cmp : T → T → Ordering) (o : IsTotalOrder cmp) (v : T
   -- the events lead to the nodes without the item, which are lawful, and it alone is gone
   pub record Taken (ns : List (List T)) (k : ℕ) (n : List T) (i : ℕ) (x : T) : Type 0 where
     pub replayed : replay_plain cmp ns (taking_events n i x) ≡ Some (if eqb (length n) 1 then remove ns k else set ns k (remove n i))
-    pub cut : Cut cmp (if eqb (length n) 1 then remove ns k else set ns k (remove n i))
+    pub ruled : Ruled cmp (if eqb (length n) 1 then remove ns k else set ns k (remove n i))
     pub small : Small cmp o v size (if eqb (length n) 1 then remove ns k else set ns k (remove n i))
     pub count : length (joined (if eqb (length n) 1 then remove ns k else set ns k (remove n i))) + 1 ≡ length (joined ns)
 
@@ -61,7 +59,7 @@ module _ {T : Type 0} (cmp : T → T → Ordering) (o : IsTotalOrder cmp) (v : T
             let count : length (joined (b ++ a)) ≡ length (joined b) + length (joined a) = ap (λ q. length q) (joined-append b a) ∙ length-append (joined b) (joined a) in
             record {
               replayed = rw (e, remove_at b (l ++ x ∷ r) a) (subst (λ n. replay_plain cmp (b ++ n ∷ a) (taking_events (x ∷ []) 0 x) ≡ Some (b ++ a)) whole (rw did.1 refl));
-              cut = rw (e, remove_at b (l ++ x ∷ r) a) did.0;
+              ruled = rw (e, remove_at b (l ++ x ∷ r) a) did.0;
               small = rw (e, remove_at b (l ++ x ∷ r) a) (each-append _ b a sb sa);
               count = rw (e, remove_at b (l ++ x ∷ r) a) (omega (arith, count, all, long, one));
             }
@@ -74,7 +72,7 @@ module _ {T : Type 0} (cmp : T → T → Ordering) (o : IsTotalOrder cmp) (v : T
             let count : length (joined (b ++ (l ++ r) ∷ a)) ≡ length (joined b) + (length l + length r + length (joined a)) = ap (λ q. length q) (joined-append b ((l ++ r) ∷ a)) ∙ (length-append (joined b) ((l ++ r) ++ joined a) ∙ omega (arith, length-append (l ++ r) (joined a), length-append l r)) in
             record {
               replayed = rw (e, made, did.1) refl;
-              cut = rw (e, made) (at_cut cmp o b (l ++ r) a did.0);
+              ruled = rw (e, made) (at_ruled cmp o b (l ++ r) a did.0);
               small = rw (e, made) (each-append _ b ((l ++ r) ∷ a) sb (omega (arith, length-append l r, long), sa));
               count = rw (e, made) (omega (arith, count, all));
             }
@@ -84,22 +82,22 @@ module _ {T : Type 0} (cmp : T → T → Ordering) (o : IsTotalOrder cmp) (v : T
       some_left zero h = absurd (h refl)
       some_left (suc n) h = omega arith
 
-  taken : (ns : List (List T)) (k : ℕ) (n : List T) → slice_get ns k ≡ Some n → (i : ℕ) (x : T) → slice_get n i ≡ Some x → Cut cmp ns → Small cmp o v size ns → Taken ns k n i x
-  taken ns k n at = at_place (λ q j m. (i : ℕ) (x : T) → slice_get m i ≡ Some x → Cut cmp q → Small cmp o v size q → Taken q j m i x)
-      (λ b m a i x here cut small.
-      at_place (λ m i x. Cut cmp (b ++ m ∷ a) → Small cmp o v size (b ++ m ∷ a) → Taken (b ++ m ∷ a) (length b) m i x)
-      (λ l x r cut small.
+  taken : (ns : List (List T)) (k : ℕ) (n : List T) → slice_get ns k ≡ Some n → (i : ℕ) (x : T) → slice_get n i ≡ Some x → Ruled cmp ns → Small cmp o v size ns → Taken ns k n i x
+  taken ns k n at = at_place (λ q j m. (i : ℕ) (x : T) → slice_get m i ≡ Some x → Ruled cmp q → Small cmp o v size q → Taken q j m i x)
+      (λ b m a i x here ruled small.
+      at_place (λ m i x. Ruled cmp (b ++ m ∷ a) → Small cmp o v size (b ++ m ∷ a) → Taken (b ++ m ∷ a) (length b) m i x)
+      (λ l x r ruled small.
       let rest : Small cmp o v size ((l ++ x ∷ r) ∷ a) = each-right _ b ((l ++ x ∷ r) ∷ a) small in
-      taken_at b l x r a (cut_at cmp o b (l ++ x ∷ r) a cut) (each-left _ b ((l ++ x ∷ r) ∷ a) small) rest.1 rest.0)
-      m i x here cut small)
+      taken_at b l x r a (ruled_at cmp o b (l ++ x ∷ r) a ruled) (each-left _ b ((l ++ x ∷ r) ∷ a) small) rest.1 rest.0)
+      m i x here ruled small)
       ns k n at
 
   module _ (ns : List (List T)) (law : IsLawful cmp size ns) (k i : ℕ) (x : T) (inside : k < length ns) (here : slice_get (node_at ns k) i ≡ Some x) where
     did : Taken ns k (node_at ns k) i x
-    did = taken ns k (node_at ns k) (slice_get-get_or ns k [] inside) i x here (true_cut cmp ns law.nodes) (all_each _ ns law.small)
+    did = taken ns k (node_at ns k) (slice_get-get_or ns k [] inside) i x here (lawful_ruled cmp size ns law) (lawful_bounded cmp size ns law)
 
     pub taken_lawful : IsLawful cmp size (with_taken ns k i)
-    taken_lawful = let d = did in record { nodes = cut_true cmp _ d.cut; small = each_all _ _ d.small }
+    taken_lawful = let d = did in lawful_from cmp size _ d.ruled d.small
 
     pub taken_count : length (joined (with_taken ns k i)) + 1 ≡ length (joined ns)
     taken_count = let d = did in d.count
@@ -112,7 +110,7 @@ module _ {T : Type 0} (cmp : T → T → Ordering) (o : IsTotalOrder cmp) (v : T
   unfolding removal_events removing_events
   found_events ns law k i x f here =
       let n = node_at ns k in
-      let parted = parted_by_item cmp o n (ascends cmp n (up_node cmp ns k (true_cut cmp ns law.nodes))) v in
+      let parted = parted_by_item cmp o n (ascends cmp n (up_node cmp ns k (lawful_ruled cmp size ns law))) v in
       rw (← f.node_is, found_has_equal cmp n v i f.here, found_rank cmp n v i f.here parted, get_or_from_slice_get n i x v here) refl
 
   none_left : (p : T → Bool) (xs ys : List T) → list_any p (xs ++ ys) ≡ false → (list_any p xs ≡ false) × (list_any p ys ≡ false)

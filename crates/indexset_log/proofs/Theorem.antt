@@ -1,23 +1,21 @@
 -- Replay of the numbered events of the table, from any lawful nodes.
-use Rattle.std.proofs.Common.{◌≡◌, ℕ, zero, suc, ◌+◌, ◌<◌, ◌≤◌, true, false, if◌then◌else◌, List, [], ◌∷◌, length, get_or, Option, Some, None, Ordering, option_and_then, refl, ap, sym, ◌∙◌, subst, arith}
+use Rattle.std.proofs.Common.{◌≡◌, ℕ, zero, suc, ◌+◌, ◌<◌, ◌≤◌, true, false, if◌then◌else◌, List, [], ◌∷◌, length, get_or, Option, Some, None, Ordering, option_and_then, refl, ap, sym, ◌∙◌, subst, arith, ◌≢◌, ◌-◌, set, insert, map, Result, Ok, Err, IfOk, OnOk}
 use Rattle.std.specs.Cmp.{IsTotalOrder}
 use Rattle.std.proofs.lemmas.List.{map-set}
 use Rattle.std.proofs.lemmas.Bool.{false≢true}
 use Rattle.std.specs.List.{slice_get}
 use Rattle.std.proofs.lemmas.Option.{get_or_from_slice_get, slice_get-get_or}
-use Rattle.indexset_log.specs.Table.{target}
-use Rattle.std.proofs.Common.{◌≢◌, ◌-◌, set, insert, map, Result, Ok, Err, IfOk, OnOk}
+use Rattle.indexset_log.specs.Table.{target, put_events, checked_put_events, removal_events, target_events, node_events, replace_events}
 use Rattle.indexset_core.specs.Order.{rank, has_equal, put, keep, without}
 use Rattle.indexset_log.specs.declared.change.ChangeEvent.{ChangeEvent}
 use Rattle.indexset_log.specs.declared.change.ChangeEventUnassigned.{ChangeEventUnassigned}
 use Rattle.indexset_log.specs.declared.change.ChangeEventUnassigned.TheVariants.{InsertAt, RemoveAt, CreateNode, RemoveNode, SplitNode}
-use Rattle.indexset_core.specs.Nodes.{joined}
-use Rattle.indexset_log.specs.Nodes.{are_nodes, last_of, is_filled, IsLawful}
+use Rattle.indexset_core.specs.Nodes.{joined, IsLawful}
+use Rattle.indexset_log.specs.Nodes.{are_nodes, last_of, is_filled}
 use Rattle.indexset_log.specs.Replay.{step_plain, replay_plain, replay, numbered_from, assigned, unassigned, event_number, IsNumberedFrom}
-use Rattle.indexset_log.specs.Table.{put_events, checked_put_events, removal_events, target_events, node_events, replace_events}
 use Rattle.indexset_log.proofs.Steps.{create_step, insert_at}
-use Rattle.indexset_log.proofs.Ups.{last_answer, parts-put, parts-rank, parts-has_equal, around, Up, up-left, up-right, Cut, cut_true, true_cut}
-use Rattle.indexset_log.proofs.Replays.{Done, removal_done, all_each, each_all}
+use Rattle.indexset_log.proofs.Ups.{last_answer, parts-put, parts-rank, parts-has_equal, around, Up, up-left, up-right, Ruled, each_all, lawful_from, lawful_ruled, lawful_bounded}
+use Rattle.indexset_log.proofs.Replays.{Done, removal_done}
 use Rattle.indexset_log.proofs.Rooms.{put_makes}
 use Rattle.indexset_log.specs.Edits.{with_put}
 
@@ -48,6 +46,9 @@ numbered_is s [] i lt d = absurd (omega arith)
 numbered_is s (e ∷ es) zero lt d = number_on s e ∙ omega arith
 numbered_is s (e ∷ es) (suc i) lt d = numbered_is (s + 1) es i (omega arith) d ∙ omega arith
 
+pub numbered_on : {T : Type 0} (s : ℕ) (es : List (ChangeEventUnassigned T)) (items : List (ChangeEvent T)) → items ≡ numbered_from s es → IsNumberedFrom s items
+numbered_on s es items e = rw e (numbered_is s es)
+
 -- the numbered events are replayed, to lawful nodes that hold the list
 pub record Replays {T : Type 0} (cmp : T → T → Ordering) (size : ℕ) (ns : List (List T)) (es : List (ChangeEvent T)) (list : List T) : Type 0 where
   pub after : List (List T)
@@ -60,17 +61,17 @@ module _ {T : Type 0} (cmp : T → T → Ordering) (o : IsTotalOrder cmp) (size 
   replays_from es list d = record {
     after = d.after;
     replayed = numbered_replay cmp ns s es ∙ d.replayed;
-    lawful = record { nodes = cut_true cmp d.after d.cut; small = each_all _ d.after d.small };
+    lawful = lawful_from cmp size d.after d.ruled d.small;
     holds = d.holds;
   }
 
   pub put_replays : Replays cmp size ns (numbered_from s (put_events cmp size ns v)) (put cmp (joined ns) v)
   put_replays =
-      let d = put_makes cmp o v size two ns (true_cut cmp ns law.nodes) (all_each _ ns law.small) in
-      replays_from _ _ (record { after = with_put cmp size ns v; replayed = d.replayed; cut = d.cut; small = d.small; holds = d.holds })
+      let d = put_makes cmp o v size two ns (lawful_ruled cmp size ns law) (lawful_bounded cmp size ns law) in
+      replays_from _ _ (record { after = with_put cmp size ns v; replayed = d.replayed; ruled = d.ruled; small = d.small; holds = d.holds })
 
   pub removal_replays : Replays cmp size ns (numbered_from s (removal_events cmp ns v)) (without cmp (joined ns) v)
-  removal_replays = replays_from _ _ (removal_done cmp o v size ns (true_cut cmp ns law.nodes) (all_each _ ns law.small))
+  removal_replays = replays_from _ _ (removal_done cmp o v size ns (lawful_ruled cmp size ns law) (lawful_bounded cmp size ns law))
 
   pub checked_put_replays : Replays cmp size ns (numbered_from s (checked_put_events cmp size ns v)) (keep cmp (joined ns) v)
   unfolding checked_put_events keep
@@ -91,8 +92,7 @@ module _ {T : Type 0} (cmp : T → T → Ordering) (size : ℕ) (v : T) where
   three_at_most ns = grind (arith, two_at_most)
 
 pub none_lawful : {T : Type 0} (cmp : T → T → Ordering) (size : ℕ) → IsLawful cmp size []
-unfolding are_nodes
-none_lawful cmp size = record { nodes = refl; small = λ k d lt. absurd (omega arith) }
+none_lawful cmp size = lawful_from cmp size [] (record { filled = tt; up = tt }) tt
 
 -- nodes that the table's events lead to hold the list
 module _ {T : Type 0} (cmp : T → T → Ordering) (o : IsTotalOrder cmp) (size : ℕ) (two : 2 ≤ size) (ns : List (List T)) (law : IsLawful cmp size ns) (v : T) (s : ℕ) (r : List (List T)) where
@@ -137,7 +137,7 @@ pub on_ok_map : {A E : Type 0} (r : Result A E) {P Q : Type 0} → OnOk r P → 
 on_ok_map (Ok x) p f = f p
 on_ok_map (Err e) p f = tt
 
--- E1 whole
+-- the first put
 module _ {T : Type 0} (cmp : T → T → Ordering) (o : IsTotalOrder cmp) (v : T) (s : ℕ) (ns after : List (List T)) (none : ns ≡ []) (made : after ≡ (v ∷ []) ∷ []) where
   pub first_replay : (es : List (ChangeEvent T)) → es ≡ numbered_from s (CreateNode v ∷ []) → replay cmp ns es ≡ Some after
   first_replay es e = rw (none, made, e, numbered_replay cmp [] s (CreateNode v ∷ [])) (subst (λ q. replay_plain cmp [] q ≡ Some ((v ∷ []) ∷ [])) (put_events_none cmp 2 v [] refl) (first_replayed cmp o 2 v))
@@ -145,16 +145,16 @@ module _ {T : Type 0} (cmp : T → T → Ordering) (o : IsTotalOrder cmp) (v : T
   pub first_contents : joined after ≡ put cmp (joined ns) v
   first_contents = rw (none, made) (sym (parts-put cmp o [] [] [] v tt tt tt))
 
-pub up_node : {T : Type 0} (cmp : T → T → Ordering) (ns : List (List T)) (k : ℕ) → Cut cmp ns → Up cmp (get_or ns k [])
-up_node cmp [] k cut = tt
-up_node cmp (n ∷ ns) zero cut = up-left cmp n (joined ns) cut.up
-up_node cmp (n ∷ ns) (suc k) cut = let filled = cut.filled in up_node cmp ns k (record { filled = filled.1; up = up-right cmp n (joined ns) cut.up })
+pub up_node : {T : Type 0} (cmp : T → T → Ordering) (ns : List (List T)) (k : ℕ) → Ruled cmp ns → Up cmp (get_or ns k [])
+up_node cmp [] k ruled = tt
+up_node cmp (n ∷ ns) zero ruled = up-left cmp n (joined ns) ruled.up
+up_node cmp (n ∷ ns) (suc k) ruled = let filled = ruled.filled in up_node cmp ns k (record { filled = filled.1; up = up-right cmp n (joined ns) ruled.up })
 
 pub set_view : {T N : Type 0} (f : N → List T) (items : List N) (nodes : List (List T)) (k : ℕ) (x : N) (y : List T) → map f items ≡ nodes → f x ≡ y → map f (set items k x) ≡ set nodes k y
 set_view f items nodes k x y same e = map-set f items k x ∙ rw (same, e) refl
 
-pub filled_node : {T : Type 0} (cmp : T → T → Ordering) (ns : List (List T)) (k : ℕ) → Cut cmp ns → k < length ns → is_filled (get_or ns k []) ≡ true
-filled_node cmp ns k cut lt = each_all (λ n. is_filled n ≡ true) ns cut.filled k [] lt
+pub filled_node : {T : Type 0} (cmp : T → T → Ordering) (ns : List (List T)) (k : ℕ) → Ruled cmp ns → k < length ns → is_filled (get_or ns k []) ≡ true
+filled_node cmp ns k ruled lt = each_all (λ n. is_filled n ≡ true) ns ruled.filled k [] lt
 
 pub no_last : {T : Type 0} (n : List T) → is_filled n ≡ true → slice_get n (length n - 1) ≡ None → ⊥
 no_last [] full h = false≢true full

@@ -1,5 +1,5 @@
--- Ascending vec_items, item by item.
-use Rattle.std.proofs.Common.{◌≡◌, Bool, true, false, not, cond, List, [], ◌∷◌, ◌++◌, ◌&&◌, length, Ordering, refl, ap, sym, ◌∙◌, subst, arith, append_assoc}
+-- Ascending lists, item by item.
+use Rattle.std.proofs.Common.{◌≡◌, ℕ, zero, suc, ◌+◌, ◌≤◌, All, Bool, true, false, not, cond, List, [], ◌∷◌, ◌++◌, ◌&&◌, length, Ordering, refl, ap, sym, ◌∙◌, subst, arith, append_assoc, ◌-◌, get_or}
 use Rattle.std.specs.declared.cmp.Ordering.TheVariants.{Less, Equal, Greater}
 use Rattle.std.specs.List.{list_all, list_any, filter, count_by}
 use Rattle.std.proofs.lemmas.List.Sums.{sum_by-cons}
@@ -8,15 +8,41 @@ use Rattle.std.proofs.lemmas.List.{append-nil}
 use Rattle.std.specs.Ordering.{ordering_reverse, is_lt, is_eq, is_gt}
 use Rattle.std.specs.Cmp.{IsTotalOrder}
 use Rattle.std.proofs.lemmas.Bool.{false≢true}
-use Rattle.indexset_core.specs.Order.{below, above, put, without, has_equal, rank}
+use Rattle.indexset_core.specs.Order.{IsAscending, below, above, put, without, has_equal, rank}
 use Rattle.indexset_core.proofs.CallerLemmas.{less_from, ends_last}
-use Rattle.std.proofs.Common.{◌-◌, get_or}
-use Rattle.indexset_core.specs.Nodes.{joined, ends_less}
+use Rattle.indexset_core.specs.Nodes.{joined, node_lengths, ends_less, IsNodeList, IsLawful}
 use Rattle.indexset_log.specs.Nodes.{last_of, is_filled, is_ascending, are_nodes}
 
 abbrev pub Each : {T : Type 0} → (T → Type 0) → List T → Type 0
 Each P [] = Unit {0}
 Each P (x ∷ xs) = P x × Each P xs
+
+pub all_each : {X : Type 0} (P : X → Type 0) (xs : List X) → All P xs → Each P xs
+all_each P [] h = tt
+all_each P (x ∷ xs) h = (h 0 x (omega arith), all_each P xs (λ k d lt. h (suc k) d (omega arith)))
+
+pub each_all : {X : Type 0} (P : X → Type 0) (xs : List X) → Each P xs → All P xs
+each_all P [] h k d lt = absurd (omega arith)
+each_all P (x ∷ xs) h zero d lt = h.0
+each_all P (x ∷ xs) h (suc k) d lt = each_all P xs h.1 k d (omega arith)
+
+pub filled_length : {X : Type 0} (xs : List X) → is_filled xs ≡ true → 1 ≤ length xs
+filled_length [] full = absurd (false≢true full)
+filled_length (x ∷ xs) full = omega arith
+
+pub length_filled : {X : Type 0} (xs : List X) → 1 ≤ length xs → is_filled xs ≡ true
+length_filled [] h = absurd (omega arith)
+length_filled (x ∷ xs) h = refl
+
+-- what holds of the lengths of nodes holds of the nodes
+pub nodes_each : {T : Type 0} (P : ℕ → Type 0) (ns : List (List T)) → All P (node_lengths ns) → Each (λ n. P (length n)) ns
+nodes_each P [] h = tt
+nodes_each P (n ∷ ns) h = (h 0 0 (omega arith), nodes_each P ns (λ k d lt. h (suc k) d (omega arith)))
+
+pub each_nodes : {T : Type 0} (P : ℕ → Type 0) (ns : List (List T)) → Each (λ n. P (length n)) ns → All P (node_lengths ns)
+each_nodes P [] h k d lt = absurd (omega arith)
+each_nodes P (n ∷ ns) h zero d lt = h.0
+each_nodes P (n ∷ ns) h (suc k) d lt = each_nodes P ns h.1 k d (omega arith)
 
 module _ {T : Type 0} (P : T → Type 0) where
   pub each-append : (xs ys : List T) → Each P xs → Each P ys → Each P (xs ++ ys)
@@ -130,6 +156,16 @@ module _ {T : Type 0} (cmp : T → T → Ordering) where
         | false ↦ λ e k. absurd (false≢true k)
       ] refl h
 
+  pub ascends : (l : List T) → Up l → IsAscending cmp l
+  ascends [] h a b d lt inside = absurd (omega arith)
+  ascends (x ∷ xs) h a zero d lt inside = absurd (omega arith)
+  ascends (x ∷ xs) h zero (suc b) d lt inside = each_all _ xs h.0 b d (omega arith)
+  ascends (x ∷ xs) h (suc a) (suc b) d lt inside = ascends xs h.1 a b d (omega arith) (omega arith)
+
+  pub rises : (l : List T) → IsAscending cmp l → Up l
+  rises [] h = tt
+  rises (x ∷ xs) h = (all_each (λ y. cmp x y ≡ Less) xs (λ k d lt. h 0 (suc k) d (omega arith) (omega arith)), rises xs (λ a b d lt inside. h (suc a) (suc b) d (omega arith) (omega arith)))
+
   pub up-left : (xs ys : List T) → Up (xs ++ ys) → Up xs
   up-left [] ys h = tt
   up-left (x ∷ xs) ys h = (each-left _ xs ys h.0, up-left xs ys h.1)
@@ -156,22 +192,51 @@ module _ {T : Type 0} (cmp : T → T → Ordering) where
   up_put [] v ys low high h = (high, h)
   up_put (x ∷ xs) v ys low high h = (each-append _ xs (v ∷ ys) (each-left _ xs ys h.0) (low.0, each-right _ xs ys h.0), up_put xs v ys low.1 high h.1)
 
-  -- the nodes of a list
-  pub record Cut (ns : List (List T)) : Type 0 where
+  -- the rule of node lists, item by item
+  pub record Ruled (ns : List (List T)) : Type 0 where
     pub filled : Each (λ n. is_filled n ≡ true) ns
     pub up : Up (joined ns)
 
-  pub cut_true : (ns : List (List T)) → Cut ns → are_nodes cmp ns ≡ true
-  unfolding are_nodes
-  cut_true ns h = rw (all_from_each is_filled ns h.filled) (up_true (joined ns) h.up)
+  pub ruled_nodes : (ns : List (List T)) → Ruled ns → IsNodeList cmp ns
+  ruled_nodes ns h = record {
+    filled = each_nodes (λ n. 1 ≤ n) ns (each-map _ _ filled_length ns h.filled);
+    ascending = ascends (joined ns) h.up;
+  }
 
-  pub true_cut : (ns : List (List T)) → are_nodes cmp ns ≡ true → Cut ns
+  pub nodes_ruled : (ns : List (List T)) → IsNodeList cmp ns → Ruled ns
+  nodes_ruled ns h = record {
+    filled = each-map _ _ length_filled ns (nodes_each (λ n. 1 ≤ n) ns h.filled);
+    up = rises (joined ns) h.ascending;
+  }
+
+  -- the test of node lists
+  pub ruled_tested : (ns : List (List T)) → Ruled ns → are_nodes cmp ns ≡ true
   unfolding are_nodes
-  true_cut ns h =
-      elim (list_all is_filled ns) as (λ b. list_all is_filled ns ≡ b → (b && is_ascending cmp (joined ns)) ≡ true → Cut ns) [
+  ruled_tested ns h = rw (all_from_each is_filled ns h.filled) (up_true (joined ns) h.up)
+
+  pub tested_ruled : (ns : List (List T)) → are_nodes cmp ns ≡ true → Ruled ns
+  unfolding are_nodes
+  tested_ruled ns h =
+      elim (list_all is_filled ns) as (λ b. list_all is_filled ns ≡ b → (b && is_ascending cmp (joined ns)) ≡ true → Ruled ns) [
         | true ↦ λ e k. record { filled = each_from_all is_filled ns e; up = true_up (joined ns) k }
         | false ↦ λ e k. absurd (false≢true k)
       ] refl h
+
+  pub nodes_tested : (ns : List (List T)) → IsNodeList cmp ns → are_nodes cmp ns ≡ true
+  nodes_tested ns h = ruled_tested ns (nodes_ruled ns h)
+
+  pub tested_nodes : (ns : List (List T)) → are_nodes cmp ns ≡ true → IsNodeList cmp ns
+  tested_nodes ns h = ruled_nodes ns (tested_ruled ns h)
+
+  module _ (size : ℕ) (ns : List (List T)) where
+    pub lawful_from : Ruled ns → Each (λ n. length n ≤ size) ns → IsLawful cmp size ns
+    lawful_from rule small = record { nodes = ruled_nodes ns rule; bounded = each_nodes (λ n. n ≤ size) ns small }
+
+    pub lawful_ruled : IsLawful cmp size ns → Ruled ns
+    lawful_ruled law = nodes_ruled ns law.nodes
+
+    pub lawful_bounded : IsLawful cmp size ns → Each (λ n. length n ≤ size) ns
+    lawful_bounded law = nodes_each (λ n. n ≤ size) ns law.bounded
 
   module _ (o : IsTotalOrder cmp) where
     pub greater : (x v : T) → cmp v x ≡ Less → cmp x v ≡ Greater

@@ -8,15 +8,13 @@ use Rattle.std.specs.Ordering.{is_lt, is_eq}
 use Rattle.std.proofs.lemmas.Bool.{cases_lt}
 use Rattle.std.proofs.lemmas.List.{get_or-map, length-map}
 use Rattle.std.proofs.lemmas.Option.{slice_get_past}
-use Rattle.indexset_core.specs.Nodes.{joined, node_lengths, node_at, node_for, ends_less, equal_at}
+use Rattle.indexset_core.specs.Nodes.{joined, node_lengths, node_at, node_for, ends_less, equal_at, IsLawful, IsNodeList}
 use Rattle.indexset_core.specs.Order.{IsAscending, has_equal, equal_element, rank}
 use Rattle.indexset_core.specs.Parted.{IsParted, less_count}
 use Rattle.indexset_core.proofs.CallerLemmas.{located_found, located_gap, found_equal, gap_equal, is_some-find, get_in_node, place_for, ends_for, parted_node, parted_by_item, gap_has_equal}
 use Rattle.indexset_log.specs.Located.{located, IsFoundIn}
-use Rattle.indexset_log.specs.Nodes.{is_filled, IsLawful}
-use Rattle.indexset_log.proofs.Ups.{Each, Up, true_cut}
-use Rattle.indexset_log.proofs.Steps.{filled_length}
-use Rattle.indexset_log.proofs.Replays.{each_all, length_filled}
+use Rattle.indexset_log.specs.Nodes.{is_filled}
+use Rattle.indexset_log.proofs.Ups.{Each, Up, each_all, lawful_ruled, filled_length, length_filled, lawful_bounded}
 use Rattle.indexset_log.proofs.Theorem.{no_last}
 
 -- the nodes as the code holds them: f tells the list of each
@@ -44,27 +42,19 @@ node_is f items nodes k n same lt is = sym (view_at f items k n lt is []) ∙ ap
 pub length_view : {T N : Type 0} (f : N → List T) (items : List N) (nodes : List (List T)) → map f items ≡ nodes → length nodes ≡ length items
 length_view f items nodes same = ap (λ q. length q) (sym same) ∙ length-map items f
 
-pub lens_from : {T : Type 0} (ns : List (List T)) → Each (λ n. is_filled n ≡ true) ns → All (λ n. 1 ≤ n) (node_lengths ns)
-lens_from [] h k d lt = absurd (omega arith)
-lens_from (n ∷ ns) h zero d lt = filled_length n h.0
-lens_from (n ∷ ns) h (suc k) d lt = lens_from ns h.1 k d (omega arith)
-
 module _ {T : Type 0} (cmp : T → T → Ordering) where
-  pub ascends : (l : List T) → Up cmp l → IsAscending cmp l
-  ascends [] h a b d lt inside = absurd (omega arith)
-  ascends (x ∷ xs) h a zero d lt inside = absurd (omega arith)
-  ascends (x ∷ xs) h zero (suc b) d lt inside = each_all _ xs h.0 b d (omega arith)
-  ascends (x ∷ xs) h (suc a) (suc b) d lt inside = ascends xs h.1 a b d (omega arith) (omega arith)
-
   module _ (size : ℕ) (ns : List (List T)) (law : IsLawful cmp size ns) where
     pub lawful_filled : All (λ n. 1 ≤ n) (node_lengths ns)
-    lawful_filled = let cut = true_cut cmp ns law.nodes in lens_from ns cut.filled
+    lawful_filled = let nodes : IsNodeList cmp ns = law.nodes in nodes.filled
 
     pub lawful_small : (k : ℕ) → k < length ns → length (node_at ns k) ≤ size
-    lawful_small k lt = law.small k [] lt
+    lawful_small k lt = each_all _ ns (lawful_bounded cmp size ns law) k [] lt
+
+    pub node_some : (k : ℕ) → k < length ns → 1 ≤ length (node_at ns k)
+    node_some k lt = let rule = lawful_ruled cmp size ns law in filled_length _ (each_all (λ n. is_filled n ≡ true) ns rule.filled k [] lt)
 
     pub lawful_ascends : IsAscending cmp (joined ns)
-    lawful_ascends = let cut = true_cut cmp ns law.nodes in ascends (joined ns) cut.up
+    lawful_ascends = let nodes : IsNodeList cmp ns = law.nodes in nodes.ascending
 
     pub lawful_parted : IsTotalOrder cmp → (v : T) → IsParted (λ x. cmp x v) (joined ns)
     lawful_parted o v = parted_by_item cmp o (joined ns) lawful_ascends v

@@ -1,5 +1,5 @@
 -- What calls make of the nodes.
-use Rattle.std.specs.Prelude.{ℕ, ◌+◌, ◌/◌, length, List, [], ◌∷◌, if◌then◌else◌, eqb, take, drop, set, remove}
+use Rattle.std.specs.Prelude.{ℕ, ◌+◌, ◌/◌, length, List, [], ◌∷◌, if◌then◌else◌, ◌==◌, take, drop, set, remove}
 use Rattle.std.specs.declared.cmp.Ordering.{Ordering}
 use Rattle.std.specs.List.{splice}
 use Rattle.indexset_core.specs.Nodes.{node_at}
@@ -8,23 +8,23 @@ use Rattle.indexset_log.specs.Nodes.{is_filled}
 use Rattle.indexset_log.specs.Table.{target}
 
 module _ {T : Type 0} where
-  -- the nodes with the one at place k cut in half
-  abbrev pub with_cut : List (List T) → ℕ → List (List T)
-  with_cut ns k =
+  -- the nodes with the one at place k halved
+  abbrev pub with_halved : List (List T) → ℕ → List (List T)
+  with_halved ns k =
       let half = length (node_at ns k) / 2 in
       splice ns k (k + 1) (take half (node_at ns k) ∷ drop half (node_at ns k) ∷ [])
 
   -- the nodes without the item at place i of the node at place k: an emptied node goes too
   abbrev pub with_taken : List (List T) → ℕ → ℕ → List (List T)
-  with_taken ns k i = if eqb (length (node_at ns k)) 1 then remove ns k else set ns k (remove (node_at ns k) i)
+  with_taken ns k i = if length (node_at ns k) == 1 then remove ns k else set ns k (remove (node_at ns k) i)
 
   -- the nodes with v put into its target
   abbrev pub put_into_target : (T → T → Ordering) → List (List T) → T → List (List T)
   put_into_target cmp ns v = set ns (target cmp ns v) (put cmp (node_at ns (target cmp ns v)) v)
 
-  -- the nodes that v is put into: a full target is cut first
+  -- the nodes that v is put into: a full target is halved first
   abbrev pub with_room : (T → T → Ordering) → ℕ → List (List T) → T → List (List T)
-  with_room cmp size ns v = if eqb (length (node_at ns (target cmp ns v))) size then with_cut ns (target cmp ns v) else ns
+  with_room cmp size ns v = if length (node_at ns (target cmp ns v)) == size then with_halved ns (target cmp ns v) else ns
 
   -- the nodes after a put
   abbrev pub with_put : (T → T → Ordering) → ℕ → List (List T) → T → List (List T)

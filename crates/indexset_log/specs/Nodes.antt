@@ -1,5 +1,5 @@
--- Lists of nodes.
-use Rattle.std.specs.Prelude.{◌≡◌, ℕ, ◌≤◌, length, Bool, true, false, List, [], ◌∷◌, ◌&&◌, All}
+-- Tests of nodes.
+use Rattle.std.specs.Prelude.{Bool, true, false, List, [], ◌∷◌, ◌&&◌}
 use Rattle.std.specs.declared.cmp.Ordering.{Ordering}
 use Rattle.std.specs.Ordering.{is_lt}
 use Rattle.std.specs.List.{list_all}
@@ -20,11 +20,6 @@ abbrev pub is_ascending : {T : Type 0} → (T → T → Ordering) → List T →
 is_ascending cmp [] = true
 is_ascending cmp (x ∷ xs) = list_all (λ y. is_lt (cmp x y)) xs && is_ascending cmp xs
 
--- no node is empty, and the joining is ascending
+-- whether no node is empty, and the joining is ascending: the test of `IsNodeList`
 unfoldable pub are_nodes : {T : Type 0} → (T → T → Ordering) → List (List T) → Bool
 are_nodes cmp ns = list_all is_filled ns && is_ascending cmp (joined ns)
-
--- besides, no node holds more than the given size
-pub record IsLawful {T : Type 0} (cmp : T → T → Ordering) (size : ℕ) (ns : List (List T)) : Type 0 where
-  pub nodes : are_nodes cmp ns ≡ true
-  pub small : All (λ n. length n ≤ size) ns

@@ -1,5 +1,5 @@
 -- The events of a change, without numbers.
-use Rattle.std.specs.Prelude.{ℕ, ◌+◌, ◌-◌, ◌/◌, length, Bool, List, [], ◌∷◌, ◌++◌, if◌then◌else◌, eqb, get_or, take, drop}
+use Rattle.std.specs.Prelude.{ℕ, ◌+◌, ◌-◌, ◌/◌, length, Bool, List, [], ◌∷◌, ◌++◌, if◌then◌else◌, ◌==◌, get_or, take, drop}
 use Rattle.std.specs.declared.cmp.Ordering.{Ordering}
 use Rattle.std.specs.Ordering.{is_gt}
 use Rattle.indexset_core.specs.Order.{rank, has_equal}
@@ -12,16 +12,16 @@ use Rattle.indexset_log.specs.Nodes.{is_filled, last_of}
 abbrev pub target : {T : Type 0} → (T → T → Ordering) → List (List T) → T → ℕ
 target cmp ns v = node_for (λ x. cmp x v) ns
 
--- E4, E5, E6: v in the place of the equal item
+-- replacing an only item, a last item, an inner item: v in the place of the equal item
 unfoldable pub replace_events : {T : Type 0} → (T → T → Ordering) → List T → T → List (ChangeEventUnassigned T)
 replace_events cmp n v =
     let i = rank cmp n v in
     let old = get_or n i v in
-    if eqb (length n) 1 then RemoveNode old ∷ CreateNode v ∷ []
-    else if eqb (i + 1) (length n) then RemoveAt (last_of n v) old i ∷ InsertAt (get_or n (i - 1) v) v i ∷ []
+    if length n == 1 then RemoveNode old ∷ CreateNode v ∷ []
+    else if i + 1 == length n then RemoveAt (last_of n v) old i ∷ InsertAt (get_or n (i - 1) v) v i ∷ []
     else RemoveAt (last_of n v) old i ∷ InsertAt (last_of n v) v i ∷ []
 
--- E3 to E6
+-- a plain insert, or one of these
 unfoldable pub node_events : {T : Type 0} → (T → T → Ordering) → List T → T → List (ChangeEventUnassigned T)
 node_events cmp n v = if has_equal cmp n v then replace_events cmp n v else InsertAt (last_of n v) v (rank cmp n v) ∷ []
 
@@ -29,40 +29,40 @@ node_events cmp n v = if has_equal cmp n v then replace_events cmp n v else Inse
 abbrev pub is_past : {T : Type 0} → (T → T → Ordering) → List T → T → Bool
 is_past cmp n v = is_gt (cmp v (last_of n v))
 
--- a node that stays whole, or the half of one that is cut
+-- a node that stays whole, or the half of a full one
 abbrev pub half_of : {T : Type 0} → Bool → Bool → List T → List T
-half_of cut right n = if cut then (if right then drop (length n / 2) n else take (length n / 2) n) else n
+half_of full right n = if full then (if right then drop (length n / 2) n else take (length n / 2) n) else n
 
--- the part of the target that v goes into: a full node is cut in half
+-- the part of the target that v goes into: a full node is halved first
 abbrev pub part_for : {T : Type 0} → (T → T → Ordering) → ℕ → List T → T → List T
-part_for cmp size n v = half_of (eqb (length n) size) (is_past cmp (take (length n / 2) n) v) n
+part_for cmp size n v = half_of (length n == size) (is_past cmp (take (length n / 2) n) v) n
 
--- E2
-abbrev pub cut_events : {T : Type 0} → ℕ → List T → T → List (ChangeEventUnassigned T)
-cut_events size n v = if eqb (length n) size then SplitNode (last_of n v) (length n / 2) ∷ [] else []
+-- a put into a full node: the node is halved first
+abbrev pub halving_events : {T : Type 0} → ℕ → List T → T → List (ChangeEventUnassigned T)
+halving_events size n v = if length n == size then SplitNode (last_of n v) (length n / 2) ∷ [] else []
 
--- E2 to E6
+-- a put where there are nodes
 unfoldable pub target_events : {T : Type 0} → (T → T → Ordering) → ℕ → List T → T → List (ChangeEventUnassigned T)
-target_events cmp size n v = cut_events size n v ++ node_events cmp (part_for cmp size n v) v
+target_events cmp size n v = halving_events size n v ++ node_events cmp (part_for cmp size n v) v
 
--- E1 to E6
+-- a put: the first one makes a node
 unfoldable pub put_events : {T : Type 0} → (T → T → Ordering) → ℕ → List (List T) → T → List (ChangeEventUnassigned T)
 put_events cmp size ns v = if is_filled ns then target_events cmp size (node_at ns (target cmp ns v)) v else CreateNode v ∷ []
 
--- E9, else E1 to E6
+-- a checked put: nothing changes where an equal item is there
 unfoldable pub checked_put_events : {T : Type 0} → (T → T → Ordering) → ℕ → List (List T) → T → List (ChangeEventUnassigned T)
 checked_put_events cmp size ns v = if has_equal cmp (joined ns) v then [] else put_events cmp size ns v
 
--- E7, E8: the item x at place i of a node goes
+-- removal, removal of an only item: the item x at place i of a node goes
 abbrev pub taking_events : {T : Type 0} → List T → ℕ → T → List (ChangeEventUnassigned T)
-taking_events n i x = if eqb (length n) 1 then RemoveNode x ∷ [] else RemoveAt (last_of n x) x i ∷ []
+taking_events n i x = if length n == 1 then RemoveNode x ∷ [] else RemoveAt (last_of n x) x i ∷ []
 
--- E7, E8 and E9 in a node
+-- the removal of the item equal to v from a node: nothing changes where there is none
 unfoldable pub removing_events : {T : Type 0} → (T → T → Ordering) → List T → T → List (ChangeEventUnassigned T)
 removing_events cmp n v =
     let i = rank cmp n v in
     if has_equal cmp n v then taking_events n i (get_or n i v) else []
 
--- E7 to E9
+-- a removal
 unfoldable pub removal_events : {T : Type 0} → (T → T → Ordering) → List (List T) → T → List (ChangeEventUnassigned T)
 removal_events cmp ns v = removing_events cmp (node_at ns (target cmp ns v)) v

@@ -4,8 +4,7 @@ use Rattle.std.below.core.specs.declared.int.u64.TheConstants.{MAX}
 use Rattle.indexset_core.specs.declared.refusal.Refusal.{Refusal}
 use Rattle.indexset_core.specs.declared.refusal.Refusal.TheVariants.{Memory, Numbers}
 use Rattle.std.specs.declared.cmp.Ordering.{Ordering}
-use Rattle.indexset_core.specs.Nodes.{joined}
-use Rattle.indexset_log.specs.Nodes.{IsLawful}
+use Rattle.indexset_core.specs.Nodes.{joined, IsLawful}
 
 -- its nodes, their greatest size, and the number of the next event
 pub record Tree (T : Type 0) : Type 0 where

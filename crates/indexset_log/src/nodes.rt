@@ -3,19 +3,19 @@ ghost use Rattle.std.specs.Prelude.{◌≡◌, ◌+◌, ◌/◌, ◌<◌, ◌≤
 ghost use Rattle.std.specs.List.{HoldsAt};
 ghost use Rattle.indexset_core.specs.Nodes.{node_at};
 ghost use Rattle.indexset_core.specs.Order.{IsAscending, IsFoundAt, IsGapFor, put, equal_element};
-ghost use Rattle.indexset_log.specs.Edits.{with_cut};
+ghost use Rattle.indexset_log.specs.Edits.{with_halved};
 ghost use Rattle.indexset_log.specs.Table.{half_of};
 
 use crate::aim::Aim;
 use indexset_core::node::NodeLike;
 use indexset_core::refusal::Refusal;
 
-/// A node that stays whole, or the half of one that is cut.
-pub(crate) fn part_of<T>(items: &[T], cut: bool, right: bool) -> &[T]
-    ensures { result.now ≡ half_of cut right items.now }
+/// A node that stays whole, or the half of one that is full.
+pub(crate) fn part_of<T>(items: &[T], full: bool, right: bool) -> &[T]
+    ensures { result.now ≡ half_of full right items.now }
 {
     let half = items.len() / 2;
-    if !cut {
+    if !full {
         return items;
     }
     if right {
@@ -25,14 +25,14 @@ pub(crate) fn part_of<T>(items: &[T], cut: bool, right: bool) -> &[T]
     }
 }
 
-/// Cuts a node in half. A refused call leaves the vec_items as they are.
-pub(crate) fn cut_at<T: Ord + Drop, Node: NodeLike<T>>(
+/// Halves a node. A refused call leaves the items as they are.
+pub(crate) fn halve_at<T: Ord + Drop, Node: NodeLike<T>>(
     nodes: &mut Vec<Node>,
     place: usize,
 ) -> Result<(), Refusal>
     requires place { place < length nodes.old.items }
     requires two { 2 ≤ length (node_at (map Node.list nodes.old.items) place) }
-    ensures nodes { OnOk result (map Node.list nodes.new.items ≡ with_cut (map Node.list nodes.old.items) place) }
+    ensures nodes { OnOk result (map Node.list nodes.new.items ≡ with_halved (map Node.list nodes.old.items) place) }
     ensures left_room { OnOk result (HoldsAt (λ n. length (Node.list n) < Node.room n) nodes.new.items place) }
     ensures right_room { OnOk result (HoldsAt (λ n. length (Node.list n) < Node.room n) nodes.new.items (place + 1)) }
     ensures refusal { IfErr result (λ e. e ≡ Refusal.Memory) }
@@ -47,24 +47,24 @@ pub(crate) fn cut_at<T: Ord + Drop, Node: NodeLike<T>>(
     }
 }
 
-/// Makes room where an item goes, and answers its node: a full node is cut in half. A refused call
-/// leaves the vec_items as they are.
+/// Makes room where an item goes, and answers its node: a full node is halved. A refused call
+/// leaves the items as they are.
 pub(crate) fn make_room<T: Ord + Drop, Node: NodeLike<T>>(
     nodes: &mut Vec<Node>,
     aim: &Aim,
 ) -> Result<usize, Refusal>
     requires place { aim.now.node < length nodes.old.items }
-    requires two { (aim.now.cut ≡ true) → 2 ≤ length (node_at (map Node.list nodes.old.items) aim.now.node) }
-    requires most { (aim.now.cut ≡ false) → length (node_at (map Node.list nodes.old.items) aim.now.node) < Node.most }
-    requires right { (aim.now.cut ≡ false) → aim.now.right ≡ false }
-    ensures nodes { OnOk result (map Node.list nodes.new.items ≡ (if aim.now.cut then with_cut (map Node.list nodes.old.items) aim.now.node else map Node.list nodes.old.items)) }
+    requires two { (aim.now.full ≡ true) → 2 ≤ length (node_at (map Node.list nodes.old.items) aim.now.node) }
+    requires most { (aim.now.full ≡ false) → length (node_at (map Node.list nodes.old.items) aim.now.node) < Node.most }
+    requires right { (aim.now.full ≡ false) → aim.now.right ≡ false }
+    ensures nodes { OnOk result (map Node.list nodes.new.items ≡ (if aim.now.full then with_halved (map Node.list nodes.old.items) aim.now.node else map Node.list nodes.old.items)) }
     ensures place { IfOk result (λ place. place ≡ aim.now.node + cond aim.now.right 1 0) }
     ensures room { IfOk result (λ place. is_err aim.now.at ≡ true → HoldsAt (λ n. length (Node.list n) < Node.room n) nodes.new.items place) }
     ensures refusal { IfErr result (λ e. e ≡ Refusal.Memory) }
     ensures err { OnErr result (map Node.list nodes.new.items ≡ map Node.list nodes.old.items) }
 {
-    if aim.cut {
-        cut_at(nodes, aim.node)?;
+    if aim.full {
+        halve_at(nodes, aim.node)?;
         return Ok(if aim.right { aim.node + 1 } else { aim.node });
     }
     if aim.at.is_err() {

@@ -7,6 +7,7 @@ ghost use Rattle.indexset_core.specs.Order.{has_equal, equal_element};
 ghost use Rattle.indexset_core.specs.Parted.{IsParted};
 ghost use Rattle.indexset_log.specs.Located.{located, IsFoundIn};
 
+mod attach;
 mod put;
 mod remove;
 
@@ -108,6 +109,11 @@ impl<T: Ord + Clone + Drop, Node: NodeLike<T>> BTreeSet<T, Node> {
         ensures { result ≡ self.now.size }
     {
         self.size
+    }
+
+    /// The allocator that it keeps. (The Rust crate's tree keeps none.)
+    pub fn allocator(&self) -> &Global {
+        self.nodes.allocator()
     }
 
     /// Where the probe finds what it seeks, by two binary searches: the node and the offset in it.

@@ -1,7 +1,7 @@
 -- What a written value leaves of the pairs of a map.
 use Rattle.std.proofs.Common.{◌≡◌, ℕ, zero, suc, ◌<◌, ◌≤◌, true, false, List, [], ◌∷◌, length, Ordering, Some, None, slice_get, refl, ap, sym, ◌∙◌, arith}
 use Rattle.std.specs.Option.{option_map, option_map_or}
-use Rattle.std.specs.List.{insert, slice_set}
+use Rattle.std.specs.List.{insert, remove, slice_set}
 use Rattle.std.proofs.lemmas.List.Edits.{length-insert}
 use Rattle.indexset_core.specs.declared.pair.Pair.{Pair}
 use Rattle.indexset_core.specs.Nodes.{node_lengths}
@@ -42,6 +42,17 @@ module _ {K V : Type 0} where
   set_there [] i w lt = absurd (omega arith)
   set_there (p ∷ l) zero w lt = refl
   set_there (p ∷ l) (suc i) w lt = ap (λ t. option_map (λ q. q.value) (slice_get t (suc i))) (sym (set_cons p l i w)) ∙ set_there l i w (omega arith)
+
+  -- a write of a value leaves its key, and goes with the pair
+  pub set_key : (l : List (Pair K V)) (i : ℕ) (w : V) → option_map (λ p. p.key) (slice_get (set_value_at l i w) i) ≡ option_map (λ p. p.key) (slice_get l i)
+  set_key [] i w = refl
+  set_key (p ∷ l) zero w = refl
+  set_key (p ∷ l) (suc i) w = ap (λ t. option_map (λ q. q.key) (slice_get t (suc i))) (sym (set_cons p l i w)) ∙ set_key l i w
+
+  pub set_removed : (l : List (Pair K V)) (i : ℕ) (w : V) → remove (set_value_at l i w) i ≡ remove l i
+  set_removed [] i w = refl
+  set_removed (p ∷ l) zero w = refl
+  set_removed (p ∷ l) (suc i) w = ap (λ t. remove t (suc i)) (sym (set_cons p l i w)) ∙ ap (λ t. p ∷ t) (set_removed l i w)
 
   -- a write of the value of a pair that was just put
   at_insert : (l : List (Pair K V)) (i : ℕ) (k : K) (v w : V) → i ≤ length l → set_value_at (insert l i (pair k v)) i w ≡ insert l i (pair k w)

@@ -13,6 +13,7 @@ pub mod iter;
 pub mod iter_mut;
 mod lookup;
 mod make;
+pub mod values_mut;
 
 use indexset_core::pair::Pair;
 use indexset_core::probe::ByKey;

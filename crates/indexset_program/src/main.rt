@@ -17,7 +17,7 @@ fn main(rt: HostRuntime) -> ExitCode {
     match serve(&rt) {
         Ok(()) => ExitCode::SUCCESS,
         Err(fault) => {
-            let _ = eprintln!(&rt; "{}", fault.word());
+            let _ = eprintln!(&rt; "{fault}");
             ExitCode::from(fault.status())
         }
     }

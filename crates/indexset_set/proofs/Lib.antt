@@ -1,3 +1,5 @@
+pub mod CompareLemmas
+pub mod MergeLemmas
 pub mod SetAlgebraLaws
 pub mod SetAlgebraLemmas
 pub mod SetBulkLemmas

@@ -1,4 +1,4 @@
--- What the algebra of two ascending vec_items gives, by its elements.
+-- What the algebra of two ascending lists gives, by its elements.
 use Rattle.std.proofs.Common.{◌≡◌, zero, suc, ◌+◌, ◌⊎◌, inl, inr, Bool, true, false, not, cond, ◌&&◌, ◌||◌, if◌then◌else◌, List, [], ◌∷◌, ◌++◌, length, take, drop, filter, Ordering, refl, ap, sym, ◌∙◌, subst, arith}
 use Rattle.std.specs.declared.cmp.Ordering.TheVariants.{Less, Equal, Greater}
 use Rattle.std.specs.Cmp.{IsTotalOrder}
@@ -12,7 +12,9 @@ use Rattle.std.proofs.lemmas.Bool.{false≢true}
 use Rattle.indexset_core.specs.Order.{IsAscending, IsGapFor, below, above, rank, has_equal, keep, put}
 use Rattle.indexset_set.specs.SetAlgebra.{union, intersection, difference, symmetric_difference}
 use Rattle.indexset_core.proofs.CallerLemmas.{parted_by_item, gap_at, gap_put, gap_ascending}
-use Rattle.indexset_set.proofs.SetAlgebraLemmas.{up_from, ascending_from, union_none, union_alone, union_at_Less, union_at_Equal, union_at_Greater, intersection_none, intersection_at_Less, intersection_at_Equal, intersection_at_Greater}
+use Rattle.indexset_set.specs.Merge.{merged}
+use Rattle.indexset_set.proofs.MergeLemmas.{lefts_merged, rights_merged, read_counts}
+use Rattle.indexset_set.proofs.SetAlgebraLemmas.{union_read, intersection_read}
 
 or_left : (a b : Bool) → (a || b) ≡ false → a ≡ false
 or_left true b h = h
@@ -210,29 +212,6 @@ module _ {T : Type 0} (cmp : T → T → Ordering) (o : IsTotalOrder cmp) where
       union_members (difference cmp l r) (difference cmp r l) (difference_ascending cmp l r up) x ∙ (λ k. difference_members l r x k || difference_members r l x k)
 
   -- how long both are
-  abbrev Sums : List T → List T → Type 0
-  Sums l r = length (union cmp l r) + length (intersection cmp l r) ≡ length l + length r
-
-  module _ (x : T) (xs : List T) (up : IsAscending cmp (x ∷ xs)) (rest : (r : List T) → IsAscending cmp r → Sums xs r) where
-    tail : (y : T) (ys : List T) → IsAscending cmp (y ∷ ys) → IsAscending cmp ys
-    tail y ys h = ascending_from cmp ys (up_from cmp (y ∷ ys) h).1
-
-    long : {a b : List T} → a ≡ b → length a ≡ length b
-    long e = ap (λ (l : List T). length l) e
-
-    sums_at : (r : List T) → IsAscending cmp r → Sums (x ∷ xs) r
-    sums_at [] vp = omega (arith, long (union_none cmp o (x ∷ xs)), long (intersection_none cmp o (x ∷ xs)))
-    sums_at (y ∷ ys) vp =
-        elim (cmp x y) as (λ a. cmp x y ≡ a → Sums (x ∷ xs) (y ∷ ys)) [
-          | Less ↦ λ k. omega (arith, long (union_at_Less cmp o (x ∷ xs) xs (y ∷ ys) ys x y refl refl up vp k), long (intersection_at_Less cmp o (x ∷ xs) xs (y ∷ ys) ys x y refl refl up vp k), rest (y ∷ ys) vp)
-          | Equal ↦ λ k. omega (arith, long (union_at_Equal cmp o (x ∷ xs) xs (y ∷ ys) ys x y refl refl up vp k), long (intersection_at_Equal cmp o (x ∷ xs) xs (y ∷ ys) ys x y refl refl up vp k), rest ys (tail y ys vp))
-          | Greater ↦ λ k. omega (arith, long (union_at_Greater cmp o (x ∷ xs) xs (y ∷ ys) ys x y refl refl up vp k), long (intersection_at_Greater cmp o (x ∷ xs) xs (y ∷ ys) ys x y refl refl up vp k), sums_at ys (tail y ys vp))
-        ] refl
-
-  none_first : (r : List T) → length (intersection cmp [] r) ≡ 0
-  unfolding intersection
-  none_first r = refl
-
-  pub lengths_sum : (l r : List T) → IsAscending cmp l → IsAscending cmp r → Sums l r
-  lengths_sum [] r up vp = omega (arith, ap (λ (l : List T). length l) (union_alone cmp o r (up_from cmp r vp)), none_first r)
-  lengths_sum (x ∷ xs) r up vp = sums_at x xs up (λ r vp. lengths_sum xs r (ascending_from cmp xs (up_from cmp (x ∷ xs) up).1) vp) r vp
+  pub lengths_sum : (l r : List T) → IsAscending cmp l → IsAscending cmp r → length (union cmp l r) + length (intersection cmp l r) ≡ length l + length r
+  lengths_sum l r up vp =
+      rw (← union_read cmp o l r up vp, ← intersection_read cmp o l r up vp) (rw (lefts_merged, rights_merged) at (read_counts (merged cmp l r)))

@@ -1,5 +1,5 @@
--- One turn of a walk along two ascending vec_items.
-use Rattle.std.proofs.Common.{◌≡◌, zero, suc, Option, None, Some, is_some, Bool, true, false, not, cond, ◌&&◌, if◌then◌else◌, List, [], ◌∷◌, ◌++◌, filter, Ordering, refl, ap, sym, ◌∙◌, subst, arith}
+-- Two ascending lists as sets, by their first items, and as they are read off the merged list.
+use Rattle.std.proofs.Common.{◌≡◌, zero, suc, Option, None, Some, is_some, Bool, true, false, not, cond, ◌&&◌, if◌then◌else◌, List, [], ◌∷◌, ◌++◌, filter, map, Ordering, refl, ap, sym, ◌∙◌, subst, arith}
 use Rattle.std.specs.declared.cmp.Ordering.TheVariants.{Less, Equal, Greater}
 use Rattle.std.specs.Cmp.{IsTotalOrder}
 use Rattle.std.specs.List.{All, AllByRecursion, fold, list_all}
@@ -9,7 +9,12 @@ use Rattle.std.proofs.lemmas.Cmp.{tied_back}
 use Rattle.std.proofs.lemmas.List.Kept.{AllPairs-cons}
 use Rattle.std.proofs.lemmas.Bool.{false≢true}
 use Rattle.indexset_core.specs.Order.{IsAscending, below, above, has_equal, keep, put}
+use Rattle.std.specs.List.{cons_option}
+use Rattle.indexset_set.specs.declared.set.algebra.merge.Side.{Side}
+use Rattle.indexset_set.specs.declared.set.algebra.merge.Side.TheVariants.{Left, Right, Both}
+use Rattle.indexset_set.specs.Merge.{read, merged, of_either, of_both, of_left_alone, of_one_alone}
 use Rattle.indexset_set.specs.SetAlgebra.{union, intersection, difference, symmetric_difference}
+use Rattle.indexset_set.proofs.MergeLemmas.{merged_by, read_all, read_none}
 
 module _ {T : Type 0} (cmp : T → T → Ordering) where
   -- x is below each of l
@@ -140,6 +145,10 @@ module _ {T : Type 0} (cmp : T → T → Ordering) where
     intersection_none [] = refl
     intersection_none (x ∷ xs) = intersection_none xs
 
+    pub intersection_first : (r : List T) → intersection cmp [] r ≡ []
+    unfolding intersection
+    intersection_first r = refl
+
     pub intersection_under : (x : T) (l r : List T) → IsUnder x r → intersection cmp (x ∷ l) r ≡ intersection cmp l r
     unfolding intersection
     intersection_under x l r h = filter_without (has_equal cmp r) x l (under_none x r h)
@@ -201,92 +210,74 @@ module _ {T : Type 0} (cmp : T → T → Ordering) where
     apart_front y l r h g =
         rw (difference_over y l r h, difference_under y r l h) (union_front y (difference cmp l r) (difference cmp r l) (under_difference y l r h) (under_difference y r l g))
 
--- one turn, where both vec_items have a first element
-module _ {T : Type 0} (cmp : T → T → Ordering) (o : IsTotalOrder cmp) (xs us ys vs : List T) (x y : T) (a : xs ≡ x ∷ us) (b : ys ≡ y ∷ vs) (up : IsAscending cmp xs) (vp : IsAscending cmp ys) where
-  left_rest : IsUnder cmp x us
-  left_rest = (up_from cmp (x ∷ us) (subst (IsAscending cmp) a up)).0
-
-  right_rest : IsUnder cmp y vs
-  right_rest = (up_from cmp (y ∷ vs) (subst (IsAscending cmp) b vp)).0
-
-  left_under : cmp x y ≡ Less → IsUnder cmp x ys
-  left_under k = subst (IsUnder cmp x) (sym b) (under_less cmp o x y vs k right_rest)
-
-  right_under : cmp x y ≡ Greater → IsUnder cmp y xs
-  right_under k = subst (IsUnder cmp y) (sym a) (under_less cmp o y x us (turned cmp o x y k) left_rest)
-
-  pub union_at_Less : cmp x y ≡ Less → union cmp xs ys ≡ x ∷ union cmp us ys
-  union_at_Less k = ap (λ l. union cmp l ys) a ∙ union_behind cmp o x us ys (left_under k)
-
-  pub union_at_Equal : cmp x y ≡ Equal → union cmp xs ys ≡ x ∷ union cmp us vs
-  union_at_Equal k = ap (λ l. union cmp l ys) a ∙ (ap (λ l. union cmp (x ∷ us) l) b ∙ union_same cmp o x y us vs k right_rest)
-
-  pub union_at_Greater : cmp x y ≡ Greater → union cmp xs ys ≡ y ∷ union cmp xs vs
-  union_at_Greater k = ap (λ l. union cmp xs l) b ∙ union_front cmp o y xs vs (right_under k) right_rest
-
-  pub intersection_at_Less : cmp x y ≡ Less → intersection cmp xs ys ≡ intersection cmp us ys
-  intersection_at_Less k = ap (λ l. intersection cmp l ys) a ∙ intersection_under cmp o x us ys (left_under k)
-
-  pub intersection_at_Equal : cmp x y ≡ Equal → intersection cmp xs ys ≡ x ∷ intersection cmp us vs
-  intersection_at_Equal k = ap (λ l. intersection cmp l ys) a ∙ (ap (λ l. intersection cmp (x ∷ us) l) b ∙ intersection_same cmp o x y us vs k left_rest)
-
-  pub intersection_at_Greater : cmp x y ≡ Greater → intersection cmp xs ys ≡ intersection cmp xs vs
-  intersection_at_Greater k = ap (λ l. intersection cmp xs l) b ∙ intersection_over cmp o y xs vs (right_under k)
-
-  pub difference_at_Less : cmp x y ≡ Less → difference cmp xs ys ≡ x ∷ difference cmp us ys
-  difference_at_Less k = ap (λ l. difference cmp l ys) a ∙ difference_under cmp o x us ys (left_under k)
-
-  pub difference_at_Equal : cmp x y ≡ Equal → difference cmp xs ys ≡ difference cmp us vs
-  difference_at_Equal k = ap (λ l. difference cmp l ys) a ∙ (ap (λ l. difference cmp (x ∷ us) l) b ∙ difference_same cmp o x y us vs k left_rest)
-
-  pub difference_at_Greater : cmp x y ≡ Greater → difference cmp xs ys ≡ difference cmp xs vs
-  difference_at_Greater k = ap (λ l. difference cmp xs l) b ∙ difference_over cmp o y xs vs (right_under k)
-
-  pub apart_at_Less : cmp x y ≡ Less → symmetric_difference cmp xs ys ≡ x ∷ symmetric_difference cmp us ys
-  apart_at_Less k = ap (λ l. symmetric_difference cmp l ys) a ∙ apart_under cmp o x us ys (left_under k)
-
-  pub apart_at_Equal : cmp x y ≡ Equal → symmetric_difference cmp xs ys ≡ symmetric_difference cmp us vs
-  apart_at_Equal k = ap (λ l. symmetric_difference cmp l ys) a ∙ (ap (λ l. symmetric_difference cmp (x ∷ us) l) b ∙ apart_same cmp o x y us vs k left_rest right_rest)
-
-  pub apart_at_Greater : cmp x y ≡ Greater → symmetric_difference cmp xs ys ≡ y ∷ symmetric_difference cmp xs vs
-  apart_at_Greater k = ap (λ l. symmetric_difference cmp xs l) b ∙ apart_front cmp o y xs vs (right_under k) right_rest
-
--- where one list is empty
+-- a reading of merged lists is a list of two ascending ones, if it is at each first item
 module _ {T : Type 0} (cmp : T → T → Ordering) where
-  module _ {A : Type 0} (shows : A → T) where
-    pub takes_along : {s s' t t' : List T} (r : Option A) → s ≡ s' → t ≡ t' → TakesFirst shows s r t → TakesFirst shows s' r t'
-    takes_along None a b h = (sym a ∙ h.0, sym b ∙ h.1)
-    takes_along (Some x) a b h = sym a ∙ (h ∙ ap (λ l. shows x ∷ l) b)
-
-    pub takes_ascending : (s t : List T) (r : Option A) → TakesFirst shows s r t → IsAscending cmp s → IsAscending cmp t
-    takes_ascending s t None h up = subst (IsAscending cmp) (h.0 ∙ sym h.1) up
-    takes_ascending s t (Some x) h up = ascending_from cmp t (up_from cmp (shows x ∷ t) (subst (IsAscending cmp) h up)).1
+  pub record Reads (f : Side T → Option T) (whole : List T → List T → List T) : Type 0 where
+    pub left_ended : (r : List T) → Up cmp r → read f (map Right r) ≡ whole [] r
+    pub right_ended : (l : List T) → read f (map Left l) ≡ whole l []
+    pub at_left : (x : T) (l r : List T) → IsUnder cmp x r → cons_option (f (Left x)) (whole l r) ≡ whole (x ∷ l) r
+    pub at_both : (x y : T) (l r : List T) → cmp x y ≡ Equal → IsUnder cmp x l → IsUnder cmp y r → cons_option (f (Both x y)) (whole l r) ≡ whole (x ∷ l) (y ∷ r)
+    pub at_right : (y : T) (l r : List T) → IsUnder cmp y l → IsUnder cmp y r → cons_option (f (Right y)) (whole l r) ≡ whole l (y ∷ r)
 
   module _ (o : IsTotalOrder cmp) where
-    pub union_left : (xs ys : List T) → ys ≡ [] → xs ≡ union cmp xs ys
-    union_left xs ys e = rw e (sym (union_none cmp o xs))
+    abbrev pub IsWhole : (Side T → Option T) → (List T → List T → List T) → List T → List T → List (Side T) → Type 0
+    IsWhole f whole l r m = Up cmp l → Up cmp r → read f m ≡ whole l r
 
-    pub union_right : (xs ys : List T) → xs ≡ [] → IsAscending cmp ys → ys ≡ union cmp xs ys
-    union_right xs ys e up = rw e (sym (union_alone cmp o ys (up_from cmp ys up)))
+    pub merged_reads : (f : Side T → Option T) (whole : List T → List T → List T) → Reads f whole → (l r : List T) → IsWhole f whole l r (merged cmp l r)
+    merged_reads f whole reads =
+        merged_by cmp (IsWhole f whole) (λ r up vp. reads.left_ended r vp) (λ l up vp. reads.right_ended l)
+        (λ x xs y ys m e rest up vp. ap (cons_option (f (Left x))) (rest up.1 vp) ∙ reads.at_left x xs (y ∷ ys) (under_less cmp o x y ys e vp.0))
+        (λ x xs y ys m e rest up vp. ap (cons_option (f (Both x y))) (rest up.1 vp.1) ∙ reads.at_both x y xs ys e up.0 vp.0)
+        (λ x xs y ys m e rest up vp. ap (cons_option (f (Right y))) (rest up vp.1) ∙ reads.at_right y (x ∷ xs) ys (under_less cmp o y x xs (turned cmp o x y e) up.0) vp.0)
 
-    pub intersection_left : (xs ys : List T) → xs ≡ [] → intersection cmp xs ys ≡ []
-    unfolding intersection
-    intersection_left xs ys e = rw e refl
+    union_reads : Reads of_either (union cmp)
+    union_reads = record {
+      left_ended = λ r up. read_all of_either Right (λ y. refl) r ∙ sym (union_alone cmp o r up);
+      right_ended = λ l. read_all of_either Left (λ x. refl) l ∙ sym (union_none cmp o l);
+      at_left = λ x l r h. sym (union_behind cmp o x l r h);
+      at_both = λ x y l r e h g. sym (union_same cmp o x y l r e g);
+      at_right = λ y l r h g. sym (union_front cmp o y l r h g);
+    }
 
-    pub intersection_right : (xs ys : List T) → ys ≡ [] → intersection cmp xs ys ≡ []
-    intersection_right xs ys e = rw e (intersection_none cmp o xs)
+    intersection_reads : Reads of_both (intersection cmp)
+    intersection_reads = record {
+      left_ended = λ r up. read_none of_both Right (λ y. refl) r ∙ sym (intersection_first cmp o r);
+      right_ended = λ l. read_none of_both Left (λ x. refl) l ∙ sym (intersection_none cmp o l);
+      at_left = λ x l r h. sym (intersection_under cmp o x l r h);
+      at_both = λ x y l r e h g. sym (intersection_same cmp o x y l r e h);
+      at_right = λ y l r h g. sym (intersection_over cmp o y l r h);
+    }
 
-    pub difference_left : (xs ys : List T) → xs ≡ [] → difference cmp xs ys ≡ []
-    difference_left xs ys e = rw e (difference_first cmp o ys)
+    difference_reads : Reads of_left_alone (difference cmp)
+    difference_reads = record {
+      left_ended = λ r up. read_none of_left_alone Right (λ y. refl) r ∙ sym (difference_first cmp o r);
+      right_ended = λ l. read_all of_left_alone Left (λ x. refl) l ∙ sym (difference_none cmp o l);
+      at_left = λ x l r h. sym (difference_under cmp o x l r h);
+      at_both = λ x y l r e h g. sym (difference_same cmp o x y l r e h);
+      at_right = λ y l r h g. sym (difference_over cmp o y l r h);
+    }
 
-    pub difference_right : (xs ys : List T) → ys ≡ [] → difference cmp xs ys ≡ xs
-    difference_right xs ys e = rw e (difference_none cmp o xs)
+    apart_reads : Reads of_one_alone (symmetric_difference cmp)
+    apart_reads = record {
+      left_ended = λ r up. read_all of_one_alone Right (λ y. refl) r ∙ sym (apart_alone cmp o r up);
+      right_ended = λ l. read_all of_one_alone Left (λ x. refl) l ∙ sym (apart_none cmp o l);
+      at_left = λ x l r h. sym (apart_under cmp o x l r h);
+      at_both = λ x y l r e h g. sym (apart_same cmp o x y l r e h g);
+      at_right = λ y l r h g. sym (apart_front cmp o y l r h g);
+    }
 
-    pub apart_left : (xs ys : List T) → ys ≡ [] → xs ≡ symmetric_difference cmp xs ys
-    apart_left xs ys e = rw e (sym (apart_none cmp o xs))
+    module _ (l r : List T) (up : IsAscending cmp l) (vp : IsAscending cmp r) where
+      pub union_read : read of_either (merged cmp l r) ≡ union cmp l r
+      union_read = merged_reads of_either (union cmp) union_reads l r (up_from cmp l up) (up_from cmp r vp)
 
-    pub apart_right : (xs ys : List T) → xs ≡ [] → IsAscending cmp ys → ys ≡ symmetric_difference cmp xs ys
-    apart_right xs ys e up = rw e (sym (apart_alone cmp o ys (up_from cmp ys up)))
+      pub intersection_read : read of_both (merged cmp l r) ≡ intersection cmp l r
+      intersection_read = merged_reads of_both (intersection cmp) intersection_reads l r (up_from cmp l up) (up_from cmp r vp)
+
+      pub difference_read : read of_left_alone (merged cmp l r) ≡ difference cmp l r
+      difference_read = merged_reads of_left_alone (difference cmp) difference_reads l r (up_from cmp l up) (up_from cmp r vp)
+
+      pub apart_read : read of_one_alone (merged cmp l r) ≡ symmetric_difference cmp l r
+      apart_read = merged_reads of_one_alone (symmetric_difference cmp) apart_reads l r (up_from cmp l up) (up_from cmp r vp)
 
 -- a walk of what passes p, asked once, tells whether all pass q
 module _ {T A : Type 0} (shows : A → T) (p q : T → Bool) (other : (x : T) → q x ≡ not (p x)) where
@@ -323,8 +314,8 @@ not_not false = refl
 module _ {T A : Type 0} (cmp : T → T → Ordering) (shows : A → T) (l r w t : List T) (s : Option A) (b : Bool) where
   pub subset_told : w ≡ difference cmp l r → TakesFirst shows w s t → is_some s ≡ not b → b ≡ list_all (has_equal cmp r) l
   unfolding difference
-  subset_told e h told = asked_once shows (λ x. not (has_equal cmp r x)) (has_equal cmp r) (λ x. not_not (has_equal cmp r x)) l t s b (takes_along cmp shows s e refl h) told
+  subset_told e h told = asked_once shows (λ x. not (has_equal cmp r x)) (has_equal cmp r) (λ x. not_not (has_equal cmp r x)) l t s b (subst (λ v. TakesFirst shows v s t) e h) told
 
   pub disjoint_told : w ≡ intersection cmp l r → TakesFirst shows w s t → is_some s ≡ not b → b ≡ list_all (λ x. not (has_equal cmp r x)) l
   unfolding intersection
-  disjoint_told e h told = asked_once shows (has_equal cmp r) (λ x. not (has_equal cmp r x)) (λ x. refl) l t s b (takes_along cmp shows s e refl h) told
+  disjoint_told e h told = asked_once shows (has_equal cmp r) (λ x. not (has_equal cmp r x)) (λ x. refl) l t s b (subst (λ v. TakesFirst shows v s t) e h) told

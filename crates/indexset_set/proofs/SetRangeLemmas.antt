@@ -1,37 +1,18 @@
--- The part of a list that two bounds cut out.
-use Rattle.std.proofs.Common.{◌≡◌, ℕ, zero, suc, ◌+◌, ◌-◌, ◌<◌, ◌≤◌, min, Bool, true, false, not, ◌&&◌, List, [], ◌∷◌, length, get_or, take, drop, filter, map, Ordering, refl, ap, sym, inl, inr, ◌∙◌, subst, arith}
-use Rattle.std.specs.declared.cmp.Ordering.TheVariants.{Less, Equal, Greater}
+-- The part of a list between two positions.
+use Rattle.std.proofs.Common.{◌≡◌, ℕ, zero, suc, ◌+◌, ◌-◌, ◌<◌, ◌≤◌, min, Bool, true, false, ◌&&◌, List, [], ◌∷◌, length, take, drop, filter, map, refl, ap, sym, inl, inr, ◌∙◌, subst, arith}
 use Rattle.std.specs.declared.ops.Bound.{Bound}
 use Rattle.std.specs.declared.ops.Bound.TheVariants.{Included, Excluded, Unbounded}
-use Rattle.std.specs.List.{AllWithin, count_by, enumerate_from, between}
-use Rattle.std.specs.Ordering.{is_lt, is_le, is_gt, is_ge, nat_cmp}
+use Rattle.std.specs.List.{enumerate_from, between}
+use Rattle.std.specs.Ordering.{nat_cmp}
 use Rattle.std.specs.Range.Bound.{start_index, end_index}
-use Rattle.std.specs.Cmp.{IsTotalOrder}
 use Rattle.std.proofs.Math.ListN.{drop_of_length-le, length-drop}
 use Rattle.std.proofs.lemmas.List.{take_all}
-use Rattle.std.proofs.lemmas.Cmp.{alike_right}
-use Rattle.std.proofs.lemmas.Bool.{false≢true, cases_lt}
+use Rattle.std.proofs.lemmas.Bool.{cases_lt}
 use Rattle.std.proofs.lemmas.Bool.Decides.{nat_tests}
-use Rattle.indexset_core.specs.Bounds.{is_from_start, is_up_to_end, is_at_position, are_ordered, in_range, in_positions}
-use Rattle.indexset_set.specs.SetRanges.{is_before}
-use Rattle.indexset_core.specs.Order.{IsAscending, IsFoundAt, IsGapFor}
-use Rattle.indexset_core.proofs.CallerLemmas.{parted_by_item, found_after, Parts, count_parts, count_parted, front-is_lt, front-is_le}
+use Rattle.indexset_core.specs.Bounds.{is_from_start, is_up_to_end, is_at_position, in_positions}
 
 module _ {T : Type 0} where
-  -- what passes is n elements from place i on
-  filter_part : (r : T → Bool) (l : List T) (i n : ℕ) → i + n ≤ length l → AllWithin (λ x. r x ≡ false) l 0 i → AllWithin (λ x. r x ≡ true) l i (i + n) → AllWithin (λ x. r x ≡ false) l (i + n) (length l) → filter r l ≡ take n (drop i l)
-  filter_part r [] zero zero le before inside after = refl
-  filter_part r [] zero (suc n) le before inside after = refl
-  filter_part r [] (suc i) zero le before inside after = refl
-  filter_part r [] (suc i) (suc n) le before inside after = refl
-  filter_part r (x ∷ xs) zero zero le before inside after =
-      rw (after 0 x (omega arith) (omega arith)) (filter_part r xs 0 0 (omega arith) (λ k d low high. absurd (omega arith)) (λ k d low high. absurd (omega arith)) (λ k d low high. after (suc k) d (omega arith) (omega arith)))
-  filter_part r (x ∷ xs) zero (suc n) le before inside after =
-      rw (inside 0 x (omega arith) (omega arith)) (ap (λ ys. x ∷ ys) (filter_part r xs 0 n (omega arith) (λ k d low high. absurd (omega arith)) (λ k d low high. inside (suc k) d (omega arith) (omega arith)) (λ k d low high. after (suc k) d (omega arith) (omega arith))))
-  filter_part r (x ∷ xs) (suc i) n le before inside after =
-      rw (before 0 x (omega arith) (omega arith)) (filter_part r xs i n (omega arith) (λ k d low high. before (suc k) d (omega arith) (omega arith)) (λ k d low high. inside (suc k) d (omega arith) (omega arith)) (λ k d low high. after (suc k) d (omega arith) (omega arith)))
-
-  -- the same of what passes by its position, counted from k
+  -- what passes by its position is n elements from place i on, counted from k
   positions_part : (r : ℕ → Bool) (l : List T) (k i n : ℕ) → i + n ≤ length l → ((m : ℕ) → m < i → r (k + m) ≡ false) → ((m : ℕ) → i ≤ m → m < i + n → r (k + m) ≡ true) → ((m : ℕ) → i + n ≤ m → m < length l → r (k + m) ≡ false)
       → map (λ p. p.1) (filter (λ p. r p.0) (enumerate_from k l)) ≡ take n (drop i l)
   positions_part r [] k zero zero le before inside after = refl
@@ -47,125 +28,6 @@ module _ {T : Type 0} where
   positions_part r (x ∷ xs) k (suc i) n le before inside after =
       let here : r k ≡ false = subst (λ m. r m ≡ false) {x = k + 0} (omega arith) (before 0 (omega arith)) in
       rw here (positions_part r xs (k + 1) i n (omega arith) (λ m h. subst (λ q. r q ≡ false) {x = k + suc m} (omega arith) (before (suc m) (omega arith))) (λ m low high. subst (λ q. r q ≡ true) {x = k + suc m} (omega arith) (inside (suc m) (omega arith) (omega arith))) (λ m low high. subst (λ q. r q ≡ false) {x = k + suc m} (omega arith) (after (suc m) (omega arith) (omega arith))))
-
-  -- where p passes the front up to i, and q the front up to j
-  module _ (p q : T → Bool) (l : List T) (i j : ℕ) (ps : Parts p l i) (qs : Parts q l j) where
-    -- q passes where p does
-    pub parts_le : ((x : T) → p x ≡ true → q x ≡ true) → i ≤ j
-    parts_le weaker = elim (cases_lt j i) [
-      | inl lt ↦ absurd (stops (omega (arith, ps.inside)) lt)
-      | inr ge ↦ ge
-    ]
-      where
-        stops : j < length l → j < i → ⊥
-        stops inside lt = first l inside (λ d. weaker _ (ps.before j d (omega arith) lt)) (λ d. qs.after j d (omega arith) inside)
-          where
-            first : (xs : List T) → j < length xs → ((d : T) → q (get_or l j d) ≡ true) → ((d : T) → q (get_or l j d) ≡ false) → ⊥
-            first [] h pass fail = absurd (omega arith)
-            first (x ∷ xs) h pass fail = false≢true (sym (fail x) ∙ pass x)
-
-    pub parts_between : i ≤ j → filter (λ x. not (p x) && q x) l ≡ between i j l
-    parts_between le = filter_part (λ x. not (p x) && q x) l i (j - i) (omega (arith, qs.inside)) (λ k d low high. rw (ps.before k d low high) refl)
-        (λ k d low high. rw (ps.after k d low (omega (arith, qs.inside)), qs.before k d (omega arith) (omega arith)) refl)
-        (λ k d low high. rw (ps.after k d (omega arith) high, qs.after k d (omega arith) high) refl)
-
-module _ {T : Type 0} (cmp : T → T → Ordering) (o : IsTotalOrder cmp) where
-  before_less : (x a b : T) → (r s : Ordering) → cmp x a ≡ r → cmp a b ≡ s → is_lt r ≡ true → is_le s ≡ true → is_lt (cmp x b) ≡ true
-  before_less x a b Less Less e f h g = ap is_lt (o.trans x a b e f)
-  before_less x a b Less Equal e f h g = ap is_lt (sym (alike_right o a b x f) ∙ e)
-  before_less x a b Less Greater e f h g = absurd (false≢true g)
-  before_less x a b Equal s e f h g = absurd (false≢true h)
-  before_less x a b Greater s e f h g = absurd (false≢true h)
-
-  up_to_less : (x a b : T) → (r : Ordering) → cmp x a ≡ r → cmp a b ≡ Less → is_le r ≡ true → is_lt (cmp x b) ≡ true
-  up_to_less x a b Less e f h = ap is_lt (o.trans x a b e f)
-  up_to_less x a b Equal e f h = ap is_lt (o.congr x a b e ∙ f)
-  up_to_less x a b Greater e f h = absurd (false≢true h)
-
-  up_to_up_to : (x a b : T) → (r s : Ordering) → cmp x a ≡ r → cmp a b ≡ s → is_le r ≡ true → is_le s ≡ true → is_le (cmp x b) ≡ true
-  up_to_up_to x a b Less Less e f h g = ap is_le (o.trans x a b e f)
-  up_to_up_to x a b Less Equal e f h g = ap is_le (sym (alike_right o a b x f) ∙ e)
-  up_to_up_to x a b Equal s e f h g = ap is_le (o.congr x a b e) ∙ (ap is_le f ∙ g)
-  up_to_up_to x a b Less Greater e f h g = absurd (false≢true g)
-  up_to_up_to x a b Greater s e f h g = absurd (false≢true h)
-
-  le_from : (a : Ordering) → is_lt a ≡ true → is_le a ≡ true
-  le_from Less h = refl
-  le_from Equal h = absurd (false≢true h)
-  le_from Greater h = absurd (false≢true h)
-
-  less_is : (a : Ordering) → is_lt a ≡ true → a ≡ Less
-  less_is Less h = refl
-  less_is Equal h = absurd (false≢true h)
-  less_is Greater h = absurd (false≢true h)
-
-  not_less : (a : Ordering) → not (is_lt a) ≡ is_ge a
-  not_less Less = refl
-  not_less Equal = refl
-  not_less Greater = refl
-
-  not_le : (a : Ordering) → not (is_le a) ≡ is_gt a
-  not_le Less = refl
-  not_le Equal = refl
-  not_le Greater = refl
-
-  -- what is before the start is not past the end
-  ordered_weaker : (start end : Bound T) → are_ordered cmp start end ≡ true → (x : T) → is_before cmp start x ≡ true → is_up_to_end cmp end x ≡ true
-  ordered_weaker (Included a) (Included b) h x e = le_from _ (before_less x a b _ _ refl refl e h)
-  ordered_weaker (Included a) (Excluded b) h x e = before_less x a b _ _ refl refl e h
-  ordered_weaker (Included a) Unbounded h x e = refl
-  ordered_weaker (Excluded a) (Included b) h x e = up_to_up_to x a b _ _ refl refl e h
-  ordered_weaker (Excluded a) (Excluded b) h x e = up_to_less x a b _ refl (less_is _ h) e
-  ordered_weaker (Excluded a) Unbounded h x e = refl
-  ordered_weaker Unbounded end h x e = absurd (false≢true e)
-
-  not_before : (start : Bound T) (x : T) → not (is_before cmp start x) ≡ is_from_start cmp start x
-  not_before (Included a) x = not_less (cmp x a)
-  not_before (Excluded a) x = not_le (cmp x a)
-  not_before Unbounded x = refl
-
-  module _ (l : List T) (up : IsAscending cmp l) where
-    none_parts : Parts (λ x. false) l (count_by (λ x. false) l)
-    none_parts = rw (count_parted (λ (x : T). false) l 0 (omega arith) (λ k d low high. absurd (omega arith)) (λ k d low high. refl)) (record { inside = omega arith; before = λ k d low high. absurd (omega arith); after = λ k d low high. refl })
-
-    all_parts : Parts (λ x. true) l (count_by (λ x. true) l)
-    all_parts = rw (count_parted (λ (x : T). true) l (length l) (omega arith) (λ k d low high. refl) (λ k d low high. absurd (omega arith))) (record { inside = omega arith; before = λ k d low high. refl; after = λ k d low high. absurd (omega arith) })
-
-    before_parts : (start : Bound T) → Parts (is_before cmp start) l (count_by (is_before cmp start) l)
-    before_parts (Included a) = count_parts is_lt front-is_lt (λ x. cmp x a) l (parted_by_item cmp o l up a)
-    before_parts (Excluded a) = count_parts is_le front-is_le (λ x. cmp x a) l (parted_by_item cmp o l up a)
-    before_parts Unbounded = none_parts
-
-    up_to_parts : (end : Bound T) → Parts (is_up_to_end cmp end) l (count_by (is_up_to_end cmp end) l)
-    up_to_parts (Included a) = count_parts is_le front-is_le (λ x. cmp x a) l (parted_by_item cmp o l up a)
-    up_to_parts (Excluded a) = count_parts is_lt front-is_lt (λ x. cmp x a) l (parted_by_item cmp o l up a)
-    up_to_parts Unbounded = all_parts
-
-    module _ (start end : Bound T) (ordered : are_ordered cmp start end ≡ true) (i j : ℕ) (from : i ≡ count_by (is_before cmp start) l) (to : j ≡ count_by (is_up_to_end cmp end) l) where
-      pub range_order : i ≤ j
-      range_order = rw (from, to) (parts_le (is_before cmp start) (is_up_to_end cmp end) l _ _ (before_parts start) (up_to_parts end) (ordered_weaker start end ordered))
-
-      pub range_is : between i j l ≡ in_range cmp l start end
-      range_is =
-          sym (parts_between (is_before cmp start) (is_up_to_end cmp end) l i j (rw from (before_parts start)) (rw to (up_to_parts end)) range_order)
-          ∙ ap (λ (r : T → Bool). filter r l) (λ k x. not_before start x k && is_up_to_end cmp end x)
-
--- how many are below v or equal to it
-module _ {T : Type 0} (cmp : T → T → Ordering) (l : List T) (v : T) (i : ℕ) where
-  pub found_not_above : IsTotalOrder cmp → IsAscending cmp l → IsFoundAt cmp l v i → count_by (λ x. is_le (cmp x v)) l ≡ i + 1
-  found_not_above o up f = count_parted (λ x. is_le (cmp x v)) l (i + 1) (omega (arith, f.inside)) (λ k d low high. elim (cases_lt k i) [
-    | inl lt ↦ ap is_le (f.below_before k d low lt)
-    | inr ge ↦ let e : k ≡ i = omega arith in rw e (ap is_le (f.equal d))
-  ]) (λ k d low high. ap is_le (found_after cmp l v i o up f k d (omega arith) high))
-
-  pub gap_not_above : IsGapFor cmp l v i → count_by (λ x. is_le (cmp x v)) l ≡ i
-  gap_not_above gap = count_parted (λ x. is_le (cmp x v)) l i gap.inside (λ k d low high. ap is_le (gap.below_before k d low high)) (λ k d low high. ap is_le (gap.above_after k d low high))
-
-pub count_no : {T : Type 0} (l : List T) → 0 ≡ count_by (λ x. false) l
-count_no l = sym (count_parted (λ x. false) l 0 (omega arith) (λ k d low high. absurd (omega arith)) (λ k d low high. refl))
-
-pub count_each : {T : Type 0} (l : List T) → length l ≡ count_by (λ x. true) l
-count_each l = sym (count_parted (λ x. true) l (length l) (omega arith) (λ k d low high. refl) (λ k d low high. absurd (omega arith)))
 
 -- positions
 from_no : (start : Bound ℕ) (m : ℕ) → m < start_index start → is_from_start nat_cmp start m ≡ false

@@ -1,3 +1,4 @@
+pub mod Merge
 pub mod SetAlgebra
 pub mod SetCursor
 pub mod SetLends

@@ -1,16 +1,27 @@
--- What a cursor shows.
-use Rattle.std.specs.Prelude.{ℕ, List}
-use Rattle.std.specs.declared.cmp.Ord as ord
-use Rattle.std.specs.declared.cmp.PartialEq as eq
-use Rattle.std.specs.declared.cmp.PartialOrd as partial
-use Rattle.indexset_spine.specs.Cut.{items}
-use Rattle.indexset_set.specs.declared.set.cursor.Cursor.{Cursor}
+-- A cursor in a list: it stands at a position, or at the end place, which is the length.
+use Rattle.std.specs.Prelude.{ℕ, ◌+◌, ◌-◌, ◌==◌, List, length, min, Option, None, refl, slice_get, if◌then◌else◌}
+use Rattle.std.specs.Coded.{Coded, code_by, coded×, coded_ℕ, coded_list}
 
-module _ {T : Type 0} {g : ord.Ghosts T} {g' : eq.Ghosts T} {g'' : partial.Ghosts T} where
-  -- the elements of its set
-  abbrev pub cursor_items : Cursor T g g' g'' → List T
-  cursor_items c = items c.set.now
+pub record Standing (X : Type 0) : Type 0 where
+  pub list : List X
+  pub position : ℕ
 
-  -- where it stands
-  abbrev pub cursor_position : Cursor T g g' g'' → ℕ
-  cursor_position c = c.position
+module _ {X : Type 0} where
+  abbrev pub standing_code : Coded X → Coded (Standing X)
+  standing_code c = code_by (List X × ℕ) (coded× (coded_list c) coded_ℕ) (λ s. (s.list, s.position)) (λ p. record { list = p.0; position = p.1 }) (λ _. refl)
+
+  -- at the position, or at the end place where there is none
+  abbrev pub standing_at : List X → ℕ → Standing X
+  standing_at l i = record { list = l; position = min i (length l) }
+
+  -- one on, and from the end place the first position
+  abbrev pub one_on : Standing X → Standing X
+  one_on s = record { list = s.list; position = if s.position == length s.list then 0 else s.position + 1 }
+
+  -- one back, and from the first position the end place
+  abbrev pub one_back : Standing X → Standing X
+  one_back s = record { list = s.list; position = if s.position == 0 then length s.list else s.position - 1 }
+
+  -- the item there, and none at the end place
+  abbrev pub item_at : Standing X → Option X
+  item_at s = slice_get s.list s.position

@@ -1,5 +1,5 @@
 -- What an edit at a place does to the joined list, and that the nodes stay a cut.
-use Rattle.std.proofs.Common.{◌≡◌, ℕ, suc, ◌+◌, ◌-◌, ◌/◌, ◌<◌, ◌≤◌, ◌==◌, true, false, List, [], ◌∷◌, ◌++◌, length, take, drop, slice_set, slice_get, if◌then◌else◌, nat_lt, ◌&&◌, refl, sym, ap, ◌∙◌, subst, arith, length-append, add-one, length-take, length-drop}
+use Rattle.std.proofs.Common.{◌≡◌, ℕ, Bool, suc, ◌+◌, ◌-◌, ◌/◌, ◌<◌, ◌≤◌, ◌==◌, true, false, List, [], ◌∷◌, ◌++◌, length, take, drop, slice_set, slice_get, if◌then◌else◌, nat_lt, ◌&&◌, refl, sym, ap, ◌∙◌, subst, arith, length-append, add-one, length-take, length-drop}
 use Rattle.std.proofs.lemmas.Bool.Decides.{nat_tests}
 use Rattle.std.proofs.lemmas.List.{append-nil, length-map, get_or-map, length-set, set-append_left, set-append_right, take-append-drop, length-take-le, set_split, nil_from_length}
 use Rattle.std.proofs.lemmas.List.Edits.{length-insert, length-remove, insert-append_left, insert-append_right, remove-append_left, remove-append_right}
@@ -70,28 +70,47 @@ module _ {X : Type 0} where
   node_filled ns k size h more is =
       subst (λ m. 1 ≤ m) (get_or-map len ns k [] 0 h) (is.filled (omega (arith, length-node_lengths ns)) k 0 (omega (arith, length-node_lengths ns)))
 
-  -- the items of what stands for a node that v goes into
-  joined_parts : (size : ℕ) (n : List X) (o : ℕ) (v : X) → o ≤ length n → joined (parts_with size n o v) ≡ insert n o v
+  -- what stands for a node that v goes into, by its three cases
+  parts_cases : (P : List (List X) → Type 0) (size : ℕ) (n : List X) (o : ℕ) (v : X)
+      → (length n < size → P (insert n o v ∷ []))
+      → (size ≤ length n → length n / 2 < o → P (take (length n / 2) n ∷ insert (drop (length n / 2) n) (o - length n / 2) v ∷ []))
+      → (size ≤ length n → o ≤ length n / 2 → P (insert (take (length n / 2) n) o v ∷ drop (length n / 2) n ∷ []))
+      → P (parts_with size n o v)
   unfolding parts_with
+  parts_cases P size n o v room right left =
+      let half = length n / 2 in
+      let cut : (b : Bool) → nat_lt half o ≡ b → size ≤ length n → P (if b then take half n ∷ insert (drop half n) (o - half) v ∷ [] else insert (take half n) o v ∷ drop half n ∷ []) =
+      elim [ true ↦ λ e full. right full (grind (arith, nat_tests)) | false ↦ λ e full. left full (grind (arith, nat_tests)) ] in
+      let all : (b : Bool) → nat_lt (length n) size ≡ b → P (if b then insert n o v ∷ [] else if nat_lt half o then take half n ∷ insert (drop half n) (o - half) v ∷ [] else insert (take half n) o v ∷ drop half n ∷ []) =
+      elim [ true ↦ λ e. room (grind (arith, nat_tests)) | false ↦ λ e. cut (nat_lt half o) refl (grind (arith, nat_tests)) ] in
+      all (nat_lt (length n) size) refl
+
+  joined_parts : (size : ℕ) (n : List X) (o : ℕ) (v : X) → o ≤ length n → joined (parts_with size n o v) ≡ insert n o v
   joined_parts size n o v h =
       let half : ℕ = length n / 2 in
-      let within : half ≤ length n = omega arith in
-      let long : length (take half n) ≡ half = length-take-le half n within in
-      elim (nat_lt (length n) size) as (λ b. nat_lt (length n) size ≡ b → joined (if b then insert n o v ∷ [] else if nat_lt half o then take half n ∷ insert (drop half n) (o - half) v ∷ [] else insert (take half n) o v ∷ drop half n ∷ []) ≡ insert n o v) [
-        | true ↦ λ _. append-nil (insert n o v)
-        | false ↦ λ _. elim (nat_lt half o) as (λ b. nat_lt half o ≡ b → joined (if b then take half n ∷ insert (drop half n) (o - half) v ∷ [] else insert (take half n) o v ∷ drop half n ∷ []) ≡ insert n o v) [
-          | true ↦ λ e.
-              let above : half < o = grind (arith, nat_tests) in
-              ap (λ l. take half n ++ l) (append-nil (insert (drop half n) (o - half) v))
-              ∙ (sym (insert-append_right (take half n) (drop half n) half o v long (omega arith))
-              ∙ ap (λ l. insert l o v) (take-append-drop half n))
-          | false ↦ λ e.
-              let upto : o ≤ half = grind (arith, nat_tests) in
-              ap (λ l. insert (take half n) o v ++ l) (append-nil (drop half n))
-              ∙ (sym (insert-append_left (take half n) (drop half n) o v (omega arith))
-              ∙ ap (λ l. insert l o v) (take-append-drop half n))
-        ] refl
-      ] refl
+      let whole = ap (λ l. insert l o v) (take-append-drop half n) in
+      parts_cases (λ ps. joined ps ≡ insert n o v) size n o v (λ _. append-nil (insert n o v))
+      (λ _ above.
+      let long : length (take half n) ≡ half = length-take-le half n (omega arith) in
+      ap (λ l. take half n ++ l) (append-nil (insert (drop half n) (o - half) v)) ∙ (sym (insert-append_right (take half n) (drop half n) half o v long (omega arith)) ∙ whole))
+      (λ _ upto. ap (λ l. insert (take half n) o v ++ l) (append-nil (drop half n)) ∙ (sym (insert-append_left (take half n) (drop half n) o v (omega (arith, length-take half n))) ∙ whole))
+
+  parts_lengths : (size : ℕ) (n : List X) (o : ℕ) (v : X) → 2 ≤ size → length n ≤ size → o ≤ length n → All (λ m. (1 ≤ m) × (m ≤ size)) (node_lengths (parts_with size n o v))
+  parts_lengths size n o v two bounded h =
+      let half : ℕ = length n / 2 in
+      let Fits : ℕ → Type 0 = λ m. (1 ≤ m) × (m ≤ size) in
+      let front = length-take half n in let rest = length-drop half n in
+      parts_cases (λ ps. All Fits (node_lengths ps)) size n o v
+      (λ room. let more = length-insert n o v h in all_one Fits (length (insert n o v)) (omega arith, omega arith))
+      (λ full above.
+      let more = length-insert (drop half n) (o - half) v (omega arith) in
+      all_two Fits (length (take half n)) (length (insert (drop half n) (o - half) v)) (omega arith, omega arith) (omega arith, omega arith))
+      (λ full upto.
+      let more = length-insert (take half n) o v (omega arith) in
+      all_two Fits (length (insert (take half n) o v)) (length (drop half n)) (omega arith, omega arith) (omega arith, omega arith))
+
+  parts_some : (size : ℕ) (n : List X) (o : ℕ) (v : X) → 1 ≤ length (parts_with size n o v)
+  parts_some size n o v = parts_cases (λ ps. 1 ≤ length ps) size n o v (λ _. omega arith) (λ _ _. omega arith) (λ _ _. omega arith)
 
   pub joined_inserted : (size : ℕ) (ns : List (List X)) (s : Spot) (v : X) → IsSpot ns s → joined (with_inserted size ns s v) ≡ insert (joined ns) (position_of ns s) v
   unfolding with_inserted
@@ -102,67 +121,16 @@ module _ {X : Type 0} where
       ∙ (sym (insert_mid fs n bs s.offset v h.offset_in)
       ∙ ap (λ l. insert l (position_of ns s) v) (sym (joined_around ns s.node h.node_in))))
 
-  parts_bounded : (size : ℕ) (n : List X) (o : ℕ) (v : X) → 2 ≤ size → length n ≤ size → o ≤ length n → All (λ m. m ≤ size) (node_lengths (parts_with size n o v))
-  unfolding parts_with
-  parts_bounded size n o v two bounded h =
-      let half : ℕ = length n / 2 in
-      let P : ℕ → Type 0 = λ m. m ≤ size in
-      elim (nat_lt (length n) size) as (λ b. nat_lt (length n) size ≡ b → All P (node_lengths (if b then insert n o v ∷ [] else if nat_lt half o then take half n ∷ insert (drop half n) (o - half) v ∷ [] else insert (take half n) o v ∷ drop half n ∷ []))) [
-        | true ↦ λ e.
-            let short : length n < size = grind (arith, nat_tests) in
-            all_one P (length (insert n o v)) (omega (arith, length-insert n o v h))
-        | false ↦ λ e.
-            let full : length n ≡ size = grind (arith, nat_tests) in
-            elim (nat_lt half o) as (λ b. nat_lt half o ≡ b → All P (node_lengths (if b then take half n ∷ insert (drop half n) (o - half) v ∷ [] else insert (take half n) o v ∷ drop half n ∷ []))) [
-              | true ↦ λ e.
-                  let above : half < o = grind (arith, nat_tests) in
-                  let rest = length-drop half n in
-                  all_two P (length (take half n)) (length (insert (drop half n) (o - half) v)) (omega (arith, length-take half n)) (omega (arith, length-insert (drop half n) (o - half) v (omega arith)))
-              | false ↦ λ e.
-                  let upto : o ≤ half = grind (arith, nat_tests) in
-                  let front = length-take half n in
-                  all_two P (length (insert (take half n) o v)) (length (drop half n)) (omega (arith, length-insert (take half n) o v (omega arith))) (omega (arith, length-drop half n))
-            ] refl
-      ] refl
-
-  parts_filled : (size : ℕ) (n : List X) (o : ℕ) (v : X) → 2 ≤ size → length n ≤ size → o ≤ length n → All (λ m. 1 ≤ m) (node_lengths (parts_with size n o v))
-  unfolding parts_with
-  parts_filled size n o v two bounded h =
-      let half : ℕ = length n / 2 in
-      let P : ℕ → Type 0 = λ m. 1 ≤ m in
-      elim (nat_lt (length n) size) as (λ b. nat_lt (length n) size ≡ b → All P (node_lengths (if b then insert n o v ∷ [] else if nat_lt half o then take half n ∷ insert (drop half n) (o - half) v ∷ [] else insert (take half n) o v ∷ drop half n ∷ []))) [
-        | true ↦ λ e. all_one P (length (insert n o v)) (omega (arith, length-insert n o v h))
-        | false ↦ λ e.
-            let full : length n ≡ size = grind (arith, nat_tests) in
-            elim (nat_lt half o) as (λ b. nat_lt half o ≡ b → All P (node_lengths (if b then take half n ∷ insert (drop half n) (o - half) v ∷ [] else insert (take half n) o v ∷ drop half n ∷ []))) [
-              | true ↦ λ e.
-                  let rest = length-drop half n in
-                  all_two P (length (take half n)) (length (insert (drop half n) (o - half) v)) (omega (arith, length-take half n)) (omega (arith, length-insert (drop half n) (o - half) v (omega arith)))
-              | false ↦ λ e.
-                  let upto : o ≤ half = grind (arith, nat_tests) in
-                  let front = length-take half n in
-                  all_two P (length (insert (take half n) o v)) (length (drop half n)) (omega (arith, length-insert (take half n) o v (omega arith))) (omega (arith, length-drop half n))
-            ] refl
-      ] refl
-
-  parts_some : (size : ℕ) (n : List X) (o : ℕ) (v : X) → 1 ≤ length (parts_with size n o v)
-  unfolding parts_with
-  parts_some size n o v =
-      let half : ℕ = length n / 2 in
-      elim (nat_lt (length n) size) as (λ b. 1 ≤ length (if b then insert n o v ∷ [] else if nat_lt half o then take half n ∷ insert (drop half n) (o - half) v ∷ [] else insert (take half n) o v ∷ drop half n ∷ [])) [
-        | true ↦ omega arith
-        | false ↦ elim (nat_lt half o) as (λ b. 1 ≤ length (if b then take half n ∷ insert (drop half n) (o - half) v ∷ [] else insert (take half n) o v ∷ drop half n ∷ [])) [ true ↦ omega arith | false ↦ omega arith ]
-      ]
-
   pub cut_inserted : (size : ℕ) (ns : List (List X)) (s : Spot) (v : X) → IsSpot ns s → IsCut (node_lengths ns) size → IsCut (node_lengths (with_inserted size ns s v)) size
   unfolding with_inserted
   cut_inserted size ns s v h is =
       let n = node_at ns s.node in let ps = parts_with size n s.offset v in
       let bounded : length n ≤ size = node_bounded ns s.node size h.node_in is in
+      let lengths = parts_lengths size n s.offset v is.two bounded h.offset_in in
       let inside : s.node < length (node_lengths ns) = omega (arith, h.node_in, length-node_lengths ns) in
       let some : 1 ≤ length (splice (node_lengths ns) s.node (s.node + 1) (node_lengths ps)) =
       omega (arith, parts_some size n s.offset v, length-node_lengths ps, length-append (take s.node (node_lengths ns)) (node_lengths ps ++ drop (s.node + 1) (node_lengths ns)), length-append (node_lengths ps) (drop (s.node + 1) (node_lengths ns))) in
-      rw (node_lengths-splice ns ps s.node (s.node + 1)) (cut_splice (node_lengths ns) (node_lengths ps) s.node size inside is some (parts_bounded size n s.offset v is.two bounded h.offset_in) (λ more. parts_filled size n s.offset v is.two bounded h.offset_in))
+      rw (node_lengths-splice ns ps s.node (s.node + 1)) (cut_splice (node_lengths ns) (node_lengths ps) s.node size inside is some (λ i d lt. (lengths i d lt).1) (λ _ i d lt. (lengths i d lt).0))
 
   pub spine_of : (ns : List (List X)) (size total : ℕ) → IsCut (node_lengths ns) size → total ≡ length (joined ns) → IsSpine (node_lengths ns) size total
   spine_of ns size total is e = record { is_cut = is; total_is = e ∙ length-joined ns }

@@ -1,14 +1,13 @@
 -- Places in a list that is cut into nodes.
-use Rattle.std.proofs.Common.{◌≡◌, ℕ, zero, suc, ◌+◌, ◌-◌, ◌<◌, ◌≤◌, List, [], ◌∷◌, ◌++◌, length, sum, take, get_or, slice_set, slice_get, Option, Some, unwrap_or, nat_lt, max, Bool, true, false, if◌then◌else◌, refl, sym, ap, ◌∙◌, arith, length-append, add-one, subst}
-use Rattle.std.proofs.lemmas.List.{length-set, set-append_left, set-append_right, get_or-take, take-take}
-use Rattle.std.proofs.lemmas.Option.{slice_get_read, unwrap_or-slice_get}
+use Rattle.std.proofs.Common.{◌≡◌, ℕ, zero, suc, ◌+◌, ◌-◌, ◌<◌, ◌≤◌, List, [], ◌∷◌, ◌++◌, length, sum, take, get_or, slice_set, slice_get, Some, nat_lt, max, Bool, true, false, if◌then◌else◌, refl, sym, ap, ◌∙◌, arith, length-append, subst}
+use Rattle.std.proofs.lemmas.List.{length-set, set-append_left, set-append_right}
 use Rattle.std.proofs.lemmas.List.Sums.{sum_by-cons}
 use Rattle.std.proofs.lemmas.Bool.Decides.{nat_tests}
 use Rattle.std.specs.List.{All}
 use Rattle.std.specs.declared.vec.Vec.{Vec}
 use Rattle.std.specs.Vec.{with_item}
 use Rattle.indexset_spine.specs.declared.spot.Spot.{Spot}
-use Rattle.indexset_core.proofs.CallerLemmas.{length-joined, node_lengths-set, slice_get-left, slice_get-right}
+use Rattle.indexset_core.proofs.CallerLemmas.{length-joined, node_lengths-set}
 use Rattle.indexset_spine.proofs.VecNodes.{length-vec_items, vec_items-set, node_read, item_read}
 use Rattle.indexset_core.specs.Nodes.{joined, node_lengths}
 use Rattle.indexset_spine.specs.Cut.{Cut, cut, with_item_at, IsCut, IsSpine, items, set_joined, vec_items, IsItemSpot, position_of}

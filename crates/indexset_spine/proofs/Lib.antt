@@ -6,7 +6,6 @@ pub mod CutSplits
 pub mod EditSteps
 pub mod IterLemmas
 pub mod RemoveSteps
-pub mod RetainNodes
 pub mod RetainSteps
 pub mod SpineReads
 pub mod SplitSteps

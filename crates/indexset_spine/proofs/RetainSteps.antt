@@ -1,40 +1,32 @@
--- A closure that is asked at each item in turn, over vec_items that stand one after another.
-use Rattle.std.proofs.Common.{◌≡◌, ℕ, ◌+◌, ◌<◌, ◌≤◌, Bool, true, false, not, cond, filter, ◌==◌, vec_len, List, [], ◌∷◌, ◌++◌, length, take, drop, get_or, set, inl, inr, swap, refl, sym, ap, ◌∙◌, subst, arith, append_assoc, append-nil}
-use Rattle.std.proofs.lemmas.List.{length-set, get_or-set_same, take-set, take-set-le, take_more_set, drop-set-lt, drop_more, drop_all}
+-- A closure that is asked at each item in turn, in one node after another.
+use Rattle.std.proofs.Common.{◌≡◌, ℕ, suc, ◌+◌, ◌<◌, ◌≤◌, Bool, true, false, not, cond, filter, ◌==◌, List, [], ◌∷◌, ◌++◌, length, take, drop, get_or, set, swap, refl, sym, ap, ◌∙◌, subst, arith, append_assoc, append-nil, length-append}
+use Rattle.std.proofs.lemmas.List.{length-set, get_or-set_same, take-set-le, take_more_set, drop-set-lt, drop_more, drop_all}
+use Rattle.std.proofs.lemmas.List.Elements.{All-cons}
 use Rattle.std.proofs.lemmas.Grind.{drop_more_same}
 use Rattle.std.proofs.lemmas.List.Edits.{swap_is}
-use Rattle.std.proofs.lemmas.Bool.{cases_lt}
+use Rattle.std.specs.List.{All}
 use Rattle.std.specs.List.Retain.{RetainsInTurn}
 use Rattle.std.specs.declared.vec.Vec.{Vec}
-use Rattle.indexset_spine.specs.Cut.{vec_items}
-use Rattle.indexset_spine.specs.Edits.{RetainsUpTo, without_all_emptied, or_one_empty}
+use Rattle.indexset_core.specs.Nodes.{joined, node_lengths}
+use Rattle.indexset_spine.specs.Cut.{IsCut, IsSpine, vec_items}
+use Rattle.indexset_spine.specs.Edits.{RetainsTo, RetainsEach, RetainsNodes, or_one_empty, without_all_emptied}
+use Rattle.indexset_spine.proofs.CutEdits.{spine_of}
+use Rattle.indexset_spine.proofs.CutSplits.{joined_all_emptied, cut_all_emptied}
 
-module _ {X : Type 0} (ys : List X) (k i : ℕ) (y : X) (le : k ≤ i) (lt : i < length ys) where
+-- y changes places with the first item that went, the k-th
+module _ {X : Type 0} (ys : List X) (k i : ℕ) (y : X) (below : k < i) (lt : i < length ys) where
   abbrev zs : List X
   zs = set ys i y
 
   swapped : set (set zs k (get_or zs i y)) i (get_or zs k y) ≡ swap zs k i
   swapped = swap_is zs k i y (omega (arith, length-set ys i y)) (omega (arith, length-set ys i y))
 
-  long : length zs ≡ length ys
-  long = length-set ys i y
-
-  -- after the swap y stands behind the first k
   take-swapped : take (k + 1) (swap zs k i) ≡ take k ys ++ y ∷ []
   take-swapped =
-      let there : get_or zs i y ≡ y = get_or-set_same ys i y y lt in
-      rw (← swapped) (elim (cases_lt k i) [
-        | inl below ↦
-            take-set-le (k + 1) (set zs k (get_or zs i y)) i (get_or zs k y) (omega arith)
-            ∙ (take_more_set zs k (get_or zs i y) (omega (arith, long))
-            ∙ (ap (λ l. l ++ get_or zs i y ∷ []) (take-set-le k ys i y le) ∙ ap (λ x. take k ys ++ x ∷ []) there))
-        | inr above ↦
-            let same : i ≡ k = omega arith in
-            subst (λ j. take (k + 1) (set (set zs k (get_or zs i y)) j (get_or zs k y)) ≡ take k ys ++ y ∷ []) (sym same)
-            (take_more_set (set zs k (get_or zs i y)) k (get_or zs k y) (omega (arith, long, length-set zs k (get_or zs i y)))
-            ∙ (ap (λ l. l ++ get_or zs k y ∷ []) (take-set zs k (get_or zs i y) ∙ take-set-le k ys i y le)
-            ∙ ap (λ x. take k ys ++ x ∷ []) (ap (λ j. get_or zs j y) (sym same) ∙ there)))
-      ])
+      rw (← swapped)
+      (take-set-le (k + 1) (set zs k (get_or zs i y)) i (get_or zs k y) (omega arith)
+      ∙ (take_more_set zs k (get_or zs i y) (omega (arith, length-set ys i y))
+      ∙ (ap (λ l. l ++ get_or zs i y ∷ []) (take-set-le k ys i y (omega arith)) ∙ ap (λ x. take k ys ++ x ∷ []) (get_or-set_same ys i y y lt))))
 
   drop-swapped : drop (i + 1) (swap zs k i) ≡ drop (i + 1) ys
   drop-swapped =
@@ -43,72 +35,124 @@ module _ {X : Type 0} (ys : List X) (k i : ℕ) (y : X) (le : k ≤ i) (lt : i <
       ∙ (drop-set-lt (i + 1) zs k (get_or zs i y) (omega arith) ∙ drop-set-lt (i + 1) ys i y (omega arith)))
 
 module _ {S X : Type 0} (R : S → X → Bool → S → X → Type 0) where
-  -- k items have stayed of the first i of xs, ys is xs from i on, and the calls go on at s
-  pub record KeptSoFar (first : S) (xs : List X) (s : S) (ys : List X) (k i : ℕ) : Type 0 where
+  -- the first i items of xs were asked, from `first` on to s, and the first k of ys are those that stay
+  pub record SiftedTo (first : S) (xs : List X) (s : S) (ys : List X) (k i : ℕ) : Type 0 where
     pub rest : drop i ys ≡ drop i xs
-    pub run : (more left : List X) → RetainsInTurn R s (drop i xs ++ more) left → RetainsInTurn R first (xs ++ more) (take k ys ++ left)
+    pub run : (left : List X) (t : S) → RetainsTo R s (drop i xs) left t → RetainsTo R first xs (take k ys ++ left) t
 
-  pub kept_none : (first : S) (xs : List X) → KeptSoFar first xs first xs 0 0
-  kept_none first xs = record { rest = refl; run = λ more left h. h }
+  pub sifted_none : (first : S) (xs : List X) → SiftedTo first xs first xs 0 0
+  sifted_none first xs = record { rest = refl; run = λ left t h. h }
 
-  pub kept_all : (first : S) (xs : List X) (s : S) (ys : List X) (k i : ℕ) → length xs ≤ i → KeptSoFar first xs s ys k i → RetainsUpTo R first xs (take k ys) s
-  kept_all first xs s ys k i ended h more left next = h.run more left (subst (λ l. RetainsInTurn R s (l ++ more) left) (sym (drop_all i xs ended)) next)
+  pub sifted_all : (first : S) (xs : List X) (s : S) (ys : List X) (k i : ℕ) → length xs ≤ i → SiftedTo first xs s ys k i → RetainsTo R first xs (take k ys) s
+  sifted_all first xs s ys k i ended h =
+      subst (λ l. RetainsTo R first xs l s) (append-nil (take k ys)) (h.run [] s (subst (λ l. RetainsTo R s l [] s) (sym (drop_all i xs ended)) (refl, refl)))
 
-  -- a turn at i, with k items kept so far, where the call left y and t
-  module _ (first : S) (xs : List X) (s t : S) (ys : List X) (k i : ℕ) (x y : X) (le : k ≤ i) (lt : i < length ys) (is : x ≡ get_or ys i x) (h : KeptSoFar first xs s ys k i) where
+  -- a call at i that left y and t
+  module _ (first : S) (xs : List X) (s t : S) (ys : List X) (k i : ℕ) (x y : X) (le : k ≤ i) (lt : i < length ys) (is : x ≡ get_or ys i x) (h : SiftedTo first xs s ys k i) where
     here : drop i xs ≡ x ∷ drop (i + 1) xs
-    here =
-        let rest : drop (i + 1) ys ≡ drop (i + 1) xs = drop_more_same ys xs i h.rest in
-        sym h.rest ∙ (drop_more ys i x lt ∙ (ap (λ z. z ∷ drop (i + 1) ys) (sym is) ∙ ap (λ l. x ∷ l) rest))
+    here = sym h.rest ∙ (drop_more ys i x lt ∙ (ap (λ z. z ∷ drop (i + 1) ys) (sym is) ∙ ap (λ l. x ∷ l) (drop_more_same ys xs i h.rest)))
 
-    -- the calls from i on, after one that answered b
-    turn : (b : Bool) → R s x b t y → (more left : List X) → RetainsInTurn R t (drop (i + 1) xs ++ more) left → RetainsInTurn R first (xs ++ more) (take k ys ++ cond b (y ∷ left) left)
-    turn b called more left next =
-        h.run more (cond b (y ∷ left) left) (subst (λ l. RetainsInTurn R s (l ++ more) (cond b (y ∷ left) left)) (sym here) (b, t, y, called, left, next, refl))
+    sifted_more : (b : Bool) → R s x b t y → (us : List X) (j : ℕ) → drop (i + 1) us ≡ drop (i + 1) ys → take j us ≡ take k ys ++ cond b (y ∷ []) [] → SiftedTo first xs t us j (i + 1)
+    sifted_more b called us j behind front =
+        let shape : (b : Bool) (left : List X) → cond b (y ∷ []) [] ++ left ≡ cond b (y ∷ left) left = elim [ true ↦ λ _. refl | false ↦ λ _. refl ] in
+        record {
+          rest = behind ∙ drop_more_same ys xs i h.rest;
+          run = λ left last next.
+              let whole = h.run (cond b (y ∷ []) [] ++ left) last (subst (λ l. RetainsTo R s l (cond b (y ∷ []) [] ++ left) last) (sym here) (b, t, y, called, left, next, shape b left)) in
+              subst (λ l. RetainsTo R first xs l last) (sym (ap (λ l. l ++ left) front ∙ append_assoc (take k ys) (cond b (y ∷ []) []) left)) whole;
+        }
 
-    pub kept_more : R s x true t y → KeptSoFar first xs t (swap (set ys i y) k i) (k + 1) (i + 1)
-    kept_more called = record {
-      rest = drop-swapped ys k i y le lt ∙ drop_more_same ys xs i h.rest;
-      run = λ more left next. subst (λ l. RetainsInTurn R first (xs ++ more) l) (sym (ap (λ l. l ++ left) (take-swapped ys k i y le lt) ∙ append_assoc (take k ys) (y ∷ []) left)) (turn true called more left next);
-    }
+    pub sifted_out : R s x false t y → SiftedTo first xs t (set ys i y) k (i + 1)
+    sifted_out called = sifted_more false called (set ys i y) k (drop-set-lt (i + 1) ys i y (omega arith)) (take-set-le k ys i y le ∙ sym (append-nil (take k ys)))
 
-    pub left_more : R s x false t y → KeptSoFar first xs t (set ys i y) k (i + 1)
-    left_more called = record {
-      rest = drop-set-lt (i + 1) ys i y (omega arith) ∙ drop_more_same ys xs i h.rest;
-      run = λ more left next. subst (λ l. RetainsInTurn R first (xs ++ more) (l ++ left)) (sym (take-set-le k ys i y le)) (turn false called more left next);
-    }
+    pub sifted_stays : k ≡ i → R s x true t y → SiftedTo first xs t (set ys i y) (k + 1) (i + 1)
+    sifted_stays none called =
+        let front : take (i + 1) (set ys i y) ≡ take i ys ++ y ∷ [] = take_more_set ys i y lt in
+        sifted_more true called (set ys i y) (k + 1) (drop-set-lt (i + 1) ys i y (omega arith)) (subst (λ j. take (j + 1) (set ys i y) ≡ take j ys ++ y ∷ []) (sym none) front)
 
-  -- two runs, one after the other
-  pub runs_joined : (s t u : S) (xs ys xs' ys' : List X) → RetainsUpTo R s xs ys t → RetainsUpTo R t xs' ys' u → RetainsUpTo R s (xs ++ xs') (ys ++ ys') u
-  runs_joined s t u xs ys xs' ys' first second more left next =
-      rw (append_assoc xs xs' more, append_assoc ys ys' left) (first (xs' ++ more) (ys' ++ left) (second more left next))
+    pub sifted_moves : k < i → R s x true t y → SiftedTo first xs t (swap (set ys i y) k i) (k + 1) (i + 1)
+    sifted_moves below called = sifted_more true called (swap (set ys i y) k i) (k + 1) (drop-swapped ys k i y below lt) (take-swapped ys k i y below lt)
 
-  pub run_none : (s : S) → RetainsUpTo R s [] [] s
-  run_none s more left next = next
+  shorter : (s t : S) (xs ys : List X) → RetainsTo R s xs ys t → length ys ≤ length xs
+  shorter s t [] ys h = omega (arith, ap (λ (l : List X). length l) h.0)
+  shorter s t (x ∷ xs) ys (b, u, y, called, us, more, is) =
+      let tail = shorter u t xs us more in
+      let few : (b : Bool) → length (cond b (y ∷ us) us) ≤ suc (length xs) = elim [ true ↦ omega arith | false ↦ omega arith ] in
+      omega (arith, few b, ap (λ (l : List X). length l) is)
 
-  -- a run to the end of the items
-  pub run_whole : (s t : S) (xs ys : List X) → RetainsUpTo R s xs ys t → RetainsInTurn R s xs ys
-  run_whole s t xs ys run = subst (λ l. RetainsInTurn R s l ys) (append-nil xs) (subst (λ l. RetainsInTurn R s (xs ++ []) l) (append-nil ys) (run [] [] refl))
+  joins : (s t : S) (xs ys more left : List X) → RetainsTo R s xs ys t → RetainsInTurn R t more left → RetainsInTurn R s (xs ++ more) (ys ++ left)
+  joins s t [] ys more left h next = subst (λ l. RetainsInTurn R s more (l ++ left)) (sym h.0) (subst (λ u. RetainsInTurn R u more left) h.1 next)
+  joins s t (x ∷ xs) ys more left (b, u, y, called, us, tail, is) next =
+      let split : (b : Bool) → cond b (y ∷ us) us ++ left ≡ cond b (y ∷ (us ++ left)) (us ++ left) = elim [ true ↦ refl | false ↦ refl ] in
+      (b, u, y, called, us ++ left, joins u t xs us more left tail next, ap (λ l. l ++ left) is ∙ split b)
 
--- the nodes that are not empty, as the code holds them
-module _ {X Z : Type 0} where
-  abbrev filled : Vec X Z → Bool
-  filled v = not (vec_len v == 0)
+  -- what each node keeps, joined, is what the joined list keeps
+  each_joined : (s : S) (ns ms : List (List X)) → RetainsEach R s ns ms → RetainsInTurn R s (joined ns) (joined ms)
+  each_joined s [] ms h = ap joined h
+  each_joined s (n ∷ ns) ms (m, t, here, ls, more, is) =
+      subst (λ l. RetainsInTurn R s (n ++ joined ns) (joined l)) (sym is) (joins s t n m (joined ns) (joined ls) here (each_joined t ns ls more))
 
-  pub vec_items-filter : (vs : List (Vec X Z)) → vec_items (filter (λ v. not (vec_len v == 0)) vs) ≡ filter (λ n. not (length n == 0)) (vec_items vs)
-  vec_items-filter [] = refl
-  vec_items-filter (v ∷ vs) =
-      let both : (b : Bool) → vec_items (cond (not b) (v ∷ filter filled vs) (filter filled vs)) ≡ cond (not b) (v.items ∷ filter (λ n. not (length n == 0)) (vec_items vs)) (filter (λ n. not (length n == 0)) (vec_items vs)) =
-      elim [ true ↦ vec_items-filter vs | false ↦ ap (λ l. v.items ∷ l) (vec_items-filter vs) ] in
-      subst (λ (n : ℕ). vec_items (cond (not (n == 0)) (v ∷ filter filled vs) (filter filled vs)) ≡ cond (not (length v.items == 0)) (v.items ∷ filter (λ n. not (length n == 0)) (vec_items vs)) (filter (λ n. not (length n == 0)) (vec_items vs)))
-      (sym v.ok.0) (both (length v.items == 0))
+  each_shorter : (s : S) (ns ms : List (List X)) → RetainsEach R s ns ms → length (joined ms) ≤ length (joined ns)
+  each_shorter s [] ms h = omega (arith, ap (λ l. length (joined l)) h)
+  each_shorter s (n ∷ ns) ms (m, t, here, ls, more, is) =
+      omega (arith, shorter s t n m here, each_shorter t ns ls more, ap (λ l. length (joined l)) is, length-append n (joined ns), length-append m (joined ls))
 
-  pub none_left : (ws : List (Vec X Z)) (v : Vec X Z) (ns : List (List X)) → vec_items ws ≡ filter (λ n. not (length n == 0)) ns → length ws ≡ 0 → v.items ≡ [] → vec_items (ws ++ v ∷ []) ≡ without_all_emptied ns
+  each_low : (size : ℕ) (s : S) (ns ms : List (List X)) → RetainsEach R s ns ms → All (λ n. n ≤ size) (node_lengths ns) → All (λ n. n ≤ size) (node_lengths ms)
+  each_low size s [] ms h low = rw h low
+  each_low size s (n ∷ ns) ms (m, t, here, ls, more, is) low =
+      let first : length n ≤ size = low 0 0 (omega arith) in
+      rw is (All-cons (λ n. n ≤ size) (length m) (node_lengths ls) (omega (arith, first, shorter s t n m here)) (each_low size t ns ls more (λ i d lt. low (suc i) d (omega arith))))
+
+-- the nodes as the code holds them
+module _ {S X Z C : Type 0} (R : S → X → Bool → S → X → Type 0) (G : C → Vec X Z → Bool → C → Vec X Z → Type 0) (state : C → S) where
+  abbrev some_in : List X → Bool
+  some_in n = not (length n == 0)
+
+  -- a call at a node asks at each of its items, and answers whether one is left
+  abbrev AsksNode : Type 0
+  AsksNode = (c : C) (v : Vec X Z) (b : Bool) (d : C) (w : Vec X Z) → G c v b d w → RetainsTo R (state c) v.items w.items (state d) × (b ≡ some_in w.items)
+
+  record KeepsSome (s : S) (vs ws : List (Vec X Z)) : Type 0 where
+    each : List (List X)
+    run : RetainsEach R s (vec_items vs) each
+    left : vec_items ws ≡ filter some_in each
+
+  keeps_some : AsksNode → (c : C) (vs ws : List (Vec X Z)) → RetainsInTurn G c vs ws → KeepsSome (state c) vs ws
+  keeps_some asks c [] ws h = record { each = []; run = refl; left = ap vec_items h }
+  keeps_some asks c (v ∷ vs) ws (b, d, w, called, us, more, is) =
+      let said = asks c v b d w called in
+      let later = keeps_some asks d vs us more in
+      let parts : (b : Bool) → vec_items (cond b (w ∷ us) us) ≡ cond b (w.items ∷ filter some_in later.each) (filter some_in later.each) =
+      elim [ true ↦ ap (λ l. w.items ∷ l) later.left | false ↦ later.left ] in
+      record {
+        each = w.items ∷ later.each;
+        run = (w.items, state d, said.0, later.each, later.run, refl);
+        left = ap vec_items is ∙ (parts b ∙ ap (λ b. cond b (w.items ∷ filter some_in later.each) (filter some_in later.each)) said.1);
+      }
+
+  pub all_emptied : AsksNode → (c : C) (vs ws : List (Vec X Z)) → RetainsInTurn G c vs ws → length ws ≡ 0 → (v : Vec X Z) → v.items ≡ [] → RetainsNodes R (state c) (vec_items vs) (vec_items (ws ++ v ∷ []))
   unfolding without_all_emptied
-  none_left [] v ns same none empty = ap (λ n. n ∷ []) empty ∙ ap or_one_empty same
-  none_left (w ∷ ws) v ns same none empty = absurd (omega arith)
+  all_emptied asks c vs [] h none v empty =
+      let ask = keeps_some asks c vs [] h in
+      record { each = ask.each; run = ask.run; left = ap (λ n. n ∷ []) empty ∙ ap or_one_empty ask.left }
+  all_emptied asks c vs (w ∷ ws) h none v empty = absurd (omega arith)
 
-  pub some_left : (ws : List (Vec X Z)) (ns : List (List X)) → vec_items ws ≡ filter (λ n. not (length n == 0)) ns → 0 < length ws → vec_items ws ≡ without_all_emptied ns
+  pub some_kept : AsksNode → (c : C) (vs ws : List (Vec X Z)) → RetainsInTurn G c vs ws → 0 < length ws → RetainsNodes R (state c) (vec_items vs) (vec_items ws)
   unfolding without_all_emptied
-  some_left [] ns same some = absurd (omega arith)
-  some_left (w ∷ ws) ns same some = ap or_one_empty same
+  some_kept asks c vs [] h some = absurd (omega arith)
+  some_kept asks c vs (w ∷ ws) h some =
+      let ask = keeps_some asks c vs (w ∷ ws) h in
+      record { each = ask.each; run = ask.run; left = ap or_one_empty ask.left }
+
+-- the nodes of a spine, once each kept its own
+module _ {S X : Type 0} (R : S → X → Bool → S → X → Type 0) (s : S) (ns ms : List (List X)) (h : RetainsNodes R s ns ms) where
+  pub nodes_joined : RetainsInTurn R s (joined ns) (joined ms)
+  nodes_joined = rw (h.left, joined_all_emptied h.each) (each_joined R s ns h.each h.run)
+
+  pub nodes_shorter : length (joined ms) ≤ length (joined ns)
+  nodes_shorter = rw (h.left, joined_all_emptied h.each) (each_shorter R s ns h.each h.run)
+
+  pub nodes_spine : (size total : ℕ) → IsCut (node_lengths ns) size → total ≡ length (joined ms) → IsSpine (node_lengths ms) size total
+  nodes_spine size total is e =
+      let low = each_low R size s ns h.each h.run is.bounded in
+      spine_of ms size total (rw h.left (cut_all_emptied h.each size is.two low)) e

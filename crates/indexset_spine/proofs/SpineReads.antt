@@ -1,59 +1,71 @@
 -- What the code reads of a spine, and where its searches end.
-use Rattle.std.proofs.Common.{◌≡◌, ℕ, ◌+◌, ◌-◌, ◌<◌, ◌≤◌, List, [], length, get_or, take, slice_get, Some, None, Ordering, sym, ap, ◌∙◌, arith, subst}
+use Rattle.std.proofs.Common.{◌≡◌, ℕ, ◌+◌, ◌-◌, ◌<◌, ◌≤◌, false, List, [], length, get_or, take, Option, Ordering, inl, inr, sym, ap, ◌∙◌, arith, subst}
 use Rattle.std.specs.List.{All}
-use Rattle.std.specs.Ordering.{is_lt}
+use Rattle.std.specs.Option.{option_map_or}
+use Rattle.std.specs.Ordering.{is_lt, is_eq}
+use Rattle.std.proofs.lemmas.Bool.{cases_lt}
 use Rattle.std.proofs.lemmas.List.{get_or-map, length-map}
 use Rattle.std.proofs.lemmas.Option.{slice_get_past}
 use Rattle.std.specs.declared.vec.Vec.{Vec}
-use Rattle.indexset_core.specs.Nodes.{joined, node_lengths, ends_less, node_for, node_at}
+use Rattle.indexset_core.specs.Nodes.{joined, node_lengths, ends_less, equal_at, node_for, node_at}
 use Rattle.indexset_core.specs.Parted.{IsParted, less_count}
 use Rattle.indexset_core.proofs.CallerLemmas as nodes
-use Rattle.indexset_core.proofs.CallerLemmas.{place_for, ends_for}
+use Rattle.indexset_core.proofs.CallerLemmas.{ends_for, get_in_node, parted_node, place_for}
 use Rattle.indexset_spine.specs.Cut.{Cut, cut, IsCut, items, vec_items}
-use Rattle.indexset_spine.proofs.VecNodes.{length-vec_items, node_read, item_read}
+use Rattle.indexset_spine.proofs.VecNodes.{length-vec_items, node_read}
 
-module _ {X Z : Type 0} (answer : X → Ordering) where
-  pub node_some : (vs : List (Vec X Z)) (k : ℕ) (v : Vec X Z) → k < length vs → v ≡ get_or vs k v → All (λ n. 1 ≤ n) (node_lengths (vec_items vs)) → 1 ≤ length v.items
-  node_some = nodes.node_some answer (λ v. v.items)
+-- a node that the search reads, where none is empty
+module _ {X Z : Type 0} (answer : X → Ordering) (vs : List (Vec X Z)) (k : ℕ) (v : Vec X Z) (lt : k < length vs) (at : v ≡ get_or vs k v) (filled : All (λ n. 1 ≤ n) (node_lengths (vec_items vs))) where
+  pub node_some : 1 ≤ length v.items
+  node_some = nodes.node_some answer (λ v. v.items) vs k v lt at filled
 
-  pub node_ends : (vs : List (Vec X Z)) (k : ℕ) (v : Vec X Z) (x : X) → k < length vs → v ≡ get_or vs k v → 1 ≤ length v.items → x ≡ get_or v.items (length v.items - 1) x → (d : List X) → ends_less answer (get_or (vec_items vs) k d) ≡ is_lt (answer x)
-  node_ends = nodes.node_ends answer (λ v. v.items)
+  pub node_ends : (x : X) → x ≡ get_or v.items (length v.items - 1) x → (d : List X) → ends_less answer (get_or (vec_items vs) k d) ≡ is_lt (answer x)
+  node_ends x is = nodes.node_ends answer (λ v. v.items) vs k v x lt at node_some is
 
--- what the code reads of a spine
-module _ {X Z : Type 0} (vs : List (Vec X Z)) (size : ℕ) (s : Cut X) (view : cut (vec_items vs) size ≡ s) (is : IsCut (node_lengths (vec_items vs)) size) where
-  pub spine_filled : 2 ≤ length s.nodes → All (λ n. 1 ≤ n) (node_lengths s.nodes)
-  spine_filled two = rw (← view) (is.filled (omega (arith, length-map (vec_items vs) (λ n. length n), ap (λ (t : Cut X). length t.nodes) view)))
+-- n is the node of the spine s that the answers name, the k-th
+pub record NodeFound {X : Type 0} (answer : X → Ordering) (s : Cut X) (k : ℕ) (n : List X) : Type 0 where
+  pub cut : IsCut (node_lengths s.nodes) s.size
+  pub named : k ≡ node_for answer s.nodes
+  pub inside : k < length s.nodes
+  pub node : node_at s.nodes k ≡ n
 
-  pub spine_some : 1 ≤ length s.nodes
-  spine_some = omega (arith, is.some, length-map (vec_items vs) (λ n. length n), ap (λ (t : Cut X). length t.nodes) view)
+pub read_node : {X Z : Type 0} (vs : List (Vec X Z)) (size : ℕ) (s : Cut X) → cut (vec_items vs) size ≡ s → IsCut (node_lengths (vec_items vs)) size
+    → (answer : X → Ordering) (k : ℕ) (v : Vec X Z) → k ≡ node_for answer (vec_items vs) → v ≡ get_or vs k v → NodeFound answer s k v.items
+read_node {X} vs size s view is answer k v found at =
+    let inside : k < length vs = omega (arith, found, is.some, length-vec_items vs, length-map (vec_items vs) (λ n. length n)) in
+    subst (λ (t : Cut X). NodeFound answer t k v.items) view (record { cut = is; named = found; inside = omega (arith, inside, length-vec_items vs); node = node_read vs k v inside at [] })
 
-  module _ (answer : X → Ordering) (k : ℕ) (found : k ≡ node_for answer (vec_items vs)) where
-    pub node_inside : k < length vs
-    node_inside = omega (arith, found, is.some, length-vec_items vs, length-map (vec_items vs) (λ n. length n))
+module _ {X : Type 0} (answer : X → Ordering) (s : Cut X) (k : ℕ) (n : List X) (h : NodeFound answer s k n) where
+  pub node_within : length n ≤ s.size
+  node_within =
+      let long = length-map s.nodes (λ n. length n) in
+      let here : get_or (node_lengths s.nodes) k 0 ≡ length (node_at s.nodes k) = get_or-map (λ n. length n) s.nodes k [] 0 h.inside in
+      omega (arith, here, ap (λ (l : List X). length l) h.node, h.cut.bounded k 0 (omega (arith, h.inside, long)))
 
-    pub node_named : k ≡ node_for answer s.nodes
-    node_named = found ∙ ap (λ (t : Cut X). node_for answer t.nodes) view
+  module _ (parted : IsParted answer (items s)) where
+    pub node_parted : IsParted answer n
+    node_parted = rw (← h.node) (parted_node answer s.nodes k h.inside parted)
 
     -- the offset that a search of the node answers
-    module _ (parted : IsParted answer (items s)) (o : ℕ) (at : o ≡ less_count answer (node_at s.nodes k)) where
+    module _ (o : ℕ) (at : o ≡ less_count answer n) where
+      filled : 2 ≤ length s.nodes → All (λ n. 1 ≤ n) (node_lengths s.nodes)
+      filled two = h.cut.filled (omega (arith, two, length-map s.nodes (λ n. length n)))
+
+      some : 1 ≤ length s.nodes
+      some = omega (arith, h.inside)
+
       pub located : length (joined (take k s.nodes)) + o ≡ less_count answer (items s)
-      located = rw (at, node_named) (place_for answer s.nodes spine_some spine_filled parted)
+      located = rw (at, ← h.node, h.named) (place_for answer s.nodes some filled parted)
 
-      pub located_end : length (node_at s.nodes k) ≤ o → slice_get (items s) (length (joined (take k s.nodes)) + o) ≡ None
-      located_end le =
+      past : length n ≤ o → length (items s) ≤ length (joined (take k s.nodes)) + o
+      past le =
           let ends : length (node_at s.nodes k) ≤ less_count answer (node_at s.nodes k) → length (joined s.nodes) ≤ length (joined (take k s.nodes)) + less_count answer (node_at s.nodes k) =
-          rw node_named (ends_for answer s.nodes spine_some spine_filled parted) in
-          slice_get_past (items s) _ (omega (arith, ends (omega arith)))
+          rw h.named (ends_for answer s.nodes some filled parted) in
+          rw at ((rw h.node at ends) (rw at at le))
 
-  module _ (k : ℕ) (v : Vec X Z) (lt : k < length vs) (at : v ≡ get_or vs k v) where
-    pub node_is : node_at s.nodes k ≡ v.items
-    node_is = rw (← view) (node_read vs k v lt at [])
-
-    pub node_within : length v.items ≤ s.size
-    node_within =
-        let n = length-vec_items vs in
-        let here : get_or (node_lengths (vec_items vs)) k 0 ≡ length v.items = get_or-map (λ n. length n) (vec_items vs) k [] 0 (omega arith) ∙ ap (λ l. length l) (node_read vs k v lt at []) in
-        omega (arith, here, is.bounded k 0 (omega (arith, length-map (vec_items vs) (λ n. length n))), ap (λ (t : Cut X). t.size) view)
-
-    pub spine_read : (o : ℕ) (x : X) → o < length v.items → x ≡ get_or v.items o x → slice_get (items s) (length (joined (take k s.nodes)) + o) ≡ Some x
-    spine_read o x inside e = subst (λ (t : Cut X). slice_get (items t) (length (joined (take k t.nodes)) + o) ≡ Some x) view (item_read vs k o v x lt inside at e)
+      -- the item there is the same in the node and in the whole list
+      pub told : equal_at answer n o ≡ equal_at answer (items s) (length (joined (take k s.nodes)) + o)
+      told = ap (λ (r : Option X). option_map_or (λ x. is_eq (answer x)) r false) (elim (cases_lt o (length n)) [
+        | inl lt ↦ (rw h.node at (sym (get_in_node s.nodes k o h.inside (rw h.node lt))))
+        | inr ge ↦ slice_get_past n o ge ∙ sym (slice_get_past (items s) _ (past ge))
+      ])

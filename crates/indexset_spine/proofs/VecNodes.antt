@@ -1,5 +1,5 @@
 -- The nodes of a spine as the code holds them.
-use Rattle.std.proofs.Common.{◌≡◌, ℕ, ◌+◌, ◌<◌, List, [], length, take, get_or, slice_set, slice_get, Some}
+use Rattle.std.proofs.Common.{◌≡◌, ℕ, ◌+◌, ◌<◌, List, length, take, get_or, slice_set, slice_get, Some}
 use Rattle.std.proofs.lemmas.List.{get_or-take}
 use Rattle.std.proofs.Common.{◌∙◌}
 use Rattle.std.specs.List.{splice}

@@ -1,12 +1,9 @@
 -- A list that is cut into nodes.
-use Rattle.std.specs.Prelude.{◌≡◌, ℕ, ◌+◌, ◌-◌, ◌/◌, ◌<◌, ◌≤◌, ◌==◌, ◌&&◌, Bool, true, false, not, min, List, [], ◌∷◌, ◌++◌, length, map, sum, take, drop, refl, get_or, slice_get, slice_set, insert, remove, if◌then◌else◌, nat_lt}
-use Rattle.std.specs.List.{All, splice, position_or_len}
-use Rattle.std.specs.Option.{option_map_or}
+use Rattle.std.specs.Prelude.{◌≡◌, ℕ, ◌+◌, ◌-◌, ◌/◌, ◌<◌, ◌≤◌, ◌==◌, ◌&&◌, true, List, [], ◌∷◌, length, map, sum, take, drop, refl, slice_set, insert, remove, if◌then◌else◌, nat_lt}
+use Rattle.std.specs.List.{All, splice}
 use Rattle.std.specs.Coded.{Coded, code_by, coded×, coded_ℕ, coded_list}
-use Rattle.std.specs.Ordering.{is_lt, is_eq}
-use Rattle.std.specs.declared.cmp.Ordering.{Ordering}
 use Rattle.std.specs.declared.vec.Vec.{Vec}
-use Rattle.indexset_core.specs.Nodes.{joined, node_lengths, node_at}
+use Rattle.indexset_core.specs.Nodes.{joined, node_at}
 use Rattle.indexset_spine.specs.declared.spot.Spot.{Spot}
 
 -- the nodes, in order, and how many items each may hold at most

@@ -1,6 +1,5 @@
 -- What the steps of an edit do to the nodes.
-use Rattle.std.specs.Prelude.{ℕ, ◌+◌, ◌==◌, ◌&&◌, Bool, List, [], ◌∷◌, ◌++◌, length, not, filter, take, drop, slice_set, insert, remove, if◌then◌else◌, nat_lt}
-use Rattle.std.specs.List.Retain.{RetainsInTurn}
+use Rattle.std.specs.Prelude.{◌≡◌, ℕ, ◌+◌, ◌==◌, ◌&&◌, Bool, List, [], ◌∷◌, ◌++◌, length, not, cond, filter, take, drop, slice_set, insert, remove, if◌then◌else◌, nat_lt}
 use Rattle.indexset_spine.specs.declared.spot.Spot.{Spot}
 use Rattle.indexset_core.specs.Nodes.{node_at}
 
@@ -30,6 +29,18 @@ module _ {X : Type 0} where
   unfoldable pub right_nodes : List (List X) → Spot → List (List X)
   right_nodes ns s = without_emptied (drop s.offset (node_at ns s.node) ∷ drop (s.node + 1) ns) 0
 
-  -- calls by R over xs, from s on, kept ys and left t: whatever calls follow from t on, the two are one run
-  abbrev pub RetainsUpTo : {S : Type 0} → (S → X → Bool → S → X → Type 0) → S → List X → List X → S → Type 0
-  RetainsUpTo R s xs ys t = (more rest : List X) → RetainsInTurn R t more rest → RetainsInTurn R s (xs ++ more) (ys ++ rest)
+  -- R went over the items in turn, from s on to t, and ys has those of which it said true, as it left them
+  abbrev pub RetainsTo : {S : Type 0} → (S → X → Bool → S → X → Type 0) → S → List X → List X → S → Type 0
+  RetainsTo R s [] ys t = (ys ≡ []) × (t ≡ s)
+  RetainsTo {S} R s (x ∷ xs) ys t = (b : Bool) × (u : S) × (y : X) × R s x b u y × (zs : List X) × RetainsTo R u xs zs t × (ys ≡ cond b (y ∷ zs) zs)
+
+  -- the same over one node after another, each keeping its own
+  abbrev pub RetainsEach : {S : Type 0} → (S → X → Bool → S → X → Type 0) → S → List (List X) → List (List X) → Type 0
+  RetainsEach R s [] ms = ms ≡ []
+  RetainsEach {S} R s (n ∷ ns) ms = (m : List X) × (t : S) × RetainsTo R s n m t × (ls : List (List X)) × RetainsEach R t ns ls × (ms ≡ m ∷ ls)
+
+  -- and of these nodes the emptied ones went
+  pub record RetainsNodes {S : Type 0} (R : S → X → Bool → S → X → Type 0) (s : S) (ns ms : List (List X)) : Type 0 where
+    pub each : List (List X)
+    pub run : RetainsEach R s ns each
+    pub left : ms ≡ without_all_emptied each

@@ -1,6 +1,7 @@
 //! An owned walk of a spine from both ends.
-ghost use Rattle.std.specs.Prelude.{◌≡◌, length, List};
-ghost use Rattle.std.specs.Iterator.{at_most};
+ghost use Rattle.std.specs.Prelude.{◌≡◌, length, List, Some, IfSome};
+ghost use Rattle.std.specs.Iterator.{at_most, UpTo};
+ghost use Rattle.std.specs.Iterator.SizeHint.{IsWithinCount};
 ghost use Rattle.std.specs.Map.Iter.{TakesFirst, TakesLast};
 ghost use Rattle.indexset_core.specs.Nodes.{joined};
 ghost use Rattle.indexset_spine.specs.Cut.{vec_items};
@@ -50,9 +51,9 @@ impl<T> IntoIter<T> {
 impl<T: Drop> Iterator for IntoIter<T> {
     type Item = T;
 
-    ghost next_gives = { TakesFirst (λ x. x) };
-
     ghost remaining = { λ s. at_most (length s) };
+
+    ghost next_gives = { TakesFirst (λ x. x) };
 
     fn next(&mut self) -> Option<T> {
         loop {
@@ -70,7 +71,11 @@ impl<T: Drop> Iterator for IntoIter<T> {
         }
     }
 
-    fn size_hint(&self) -> (usize, Option<usize>) {
+    fn size_hint(&self) -> (usize, Option<usize>)
+        ensures value { result ≡ (length self.now, Some (length self.now)) }
+        ensures lower { IsWithinCount result.0 (at_most (length self.now)) }
+        ensures upper { IfSome result.1 (UpTo (at_most (length self.now))) }
+    {
         (self.left, Some(self.left))
     }
 }

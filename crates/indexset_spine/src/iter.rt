@@ -1,7 +1,8 @@
 //! A shared walk of a spine from both ends.
-ghost use Rattle.std.specs.Prelude.{◌≡◌, ◌+◌, ◌≤◌, length, List};
+ghost use Rattle.std.specs.Prelude.{◌≡◌, ◌+◌, ◌≤◌, length, List, Some, IfSome};
 ghost use Rattle.std.specs.List.{between};
-ghost use Rattle.std.specs.Iterator.{at_most};
+ghost use Rattle.std.specs.Iterator.{at_most, UpTo};
+ghost use Rattle.std.specs.Iterator.SizeHint.{IsWithinCount};
 ghost use Rattle.std.specs.Map.Iter.{TakesFirst, TakesLast, ShowsInOrder, ShowsInReverse, deref};
 ghost use Rattle.indexset_core.specs.Nodes.{joined};
 ghost use Rattle.indexset_spine.specs.Cut.{items, vec_items, IsItemSpot, position_of};
@@ -76,9 +77,9 @@ impl<'a, T> Iter<'a, T> {
 impl<'a, T> Iterator for Iter<'a, T> {
     type Item = &'a T;
 
-    ghost next_gives = { TakesFirst deref };
-
     ghost remaining = { λ s. at_most (length s) };
+
+    ghost next_gives = { TakesFirst deref };
 
     fn next(&mut self) -> Option<&'a T> {
         loop {
@@ -100,7 +101,11 @@ impl<'a, T> Iterator for Iter<'a, T> {
         }
     }
 
-    fn size_hint(&self) -> (usize, Option<usize>) {
+    fn size_hint(&self) -> (usize, Option<usize>)
+        ensures value { result ≡ (length self.now, Some (length self.now)) }
+        ensures lower { IsWithinCount result.0 (at_most (length self.now)) }
+        ensures upper { IfSome result.1 (UpTo (at_most (length self.now))) }
+    {
         (self.left, Some(self.left))
     }
 }

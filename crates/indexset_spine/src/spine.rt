@@ -86,7 +86,7 @@ impl<T> Spine<T> {
         let node = locate::node_by(self.nodes.as_slice(), probe);
         let items = self.nodes[node].as_slice();
         let offset = search::first_not_less(items, probe);
-        let found = offset < items.len() && probe.place(&items[offset]).is_eq();
+        let found = search::is_equal_at(items, offset, probe);
         Spot {
             node,
             offset,

@@ -11,6 +11,8 @@ mod program;
 #[cfg(test)]
 mod readme;
 #[cfg(test)]
+mod refusal;
+#[cfg(test)]
 mod run_set;
 #[cfg(test)]
 mod set;

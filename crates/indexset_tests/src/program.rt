@@ -1,8 +1,10 @@
 //! Worked examples of whole runs, and faults in mid-stream.
 
 use indexset_bench::{RunFault, run};
+use indexset_core::refusal::Refusal;
 use std::alloc::Global;
-use std::io::{self, BufReader, ErrorKind, Read, Write};
+use std::cell::Cell;
+use std::io::{self, BufReader, BufWriter, ErrorKind, Read, Write};
 use std::test::Fail;
 
 /// The text that a run over memory writes.
@@ -77,6 +79,91 @@ impl Write for Stuck {
     }
 }
 
+/// Counts the bytes that reach it.
+#[derive(Drop)]
+struct Screen<'a> {
+    shown: &'a Cell<usize>,
+}
+
+impl Write for Screen<'_> {
+    fn write(&mut self, buf: &[u8]) -> io::Result<usize> {
+        self.shown.set(self.shown.get().saturating_add(buf.len()));
+        Ok(buf.len())
+    }
+
+    fn flush(&mut self) -> io::Result<()> {
+        Ok(())
+    }
+}
+
+/// Gives a piece at a time, and before each notes how much the screen shows.
+#[derive(Drop)]
+struct Keyboard<'a> {
+    pieces: &'a [&'a [u8]],
+    shown: &'a Cell<usize>,
+    seen: Vec<usize>,
+}
+
+impl Read for Keyboard<'_> {
+    fn read(&mut self, buf: &mut [u8]) -> io::Result<usize> {
+        self.seen.push(self.shown.get())?;
+        let Some((piece, rest)) = self.pieces.split_first() else {
+            return Ok(0);
+        };
+        self.pieces = rest;
+        let mut piece: &[u8] = piece;
+        piece.read(buf)
+    }
+}
+
+#[test]
+fn shows_each_reply_before_it_waits_for_more(rt: HostRuntime) -> Result<(), Fail> {
+    let pieces: [&[u8]; 5] = [b"add 5\n", b"add 5\nra", b"nk 9\n", b"len\nhas 5\n", b"bad"];
+    let shown = Cell::new(0);
+    let mut keyboard = Keyboard {
+        pieces: &pieces,
+        shown: &shown,
+        seen: Vec::new(rt.alloc()),
+    };
+    let mut reader = BufReader::new(rt.alloc(), &mut keyboard)?;
+    let mut writer = BufWriter::new(rt.alloc(), Screen { shown: &shown })?;
+    assert_eq!(rt; run(rt.alloc(), &mut reader, &mut writer), Ok(()));
+    // new, old, 1, 1 and yes, bad: a look at the end of the input comes before and after the last.
+    assert_eq!(rt; keyboard.seen.as_slice(), [0, 4, 8, 10, 16, 16].as_slice());
+    assert_eq!(rt; shown.get(), 20);
+    Ok(())
+}
+
+#[test]
+fn answers_thousands_of_lines(rt: HostRuntime) -> Result<(), Fail> {
+    let mut input = Vec::new(rt.alloc());
+    let mut output = Vec::new(rt.alloc());
+    for n in 0..5000u64 {
+        writeln!(input, "add {n}")?;
+        writeln!(output, "new")?;
+    }
+    for n in 0..5000u64 {
+        writeln!(input, "at {n}")?;
+        writeln!(output, "{n}")?;
+    }
+    let mut reader = BufReader::new(rt.alloc(), input.as_slice())?;
+    let mut written: Vec<u8> = Vec::new(rt.alloc());
+    assert_eq!(rt; run(rt.alloc(), &mut reader, &mut written), Ok(()));
+    assert_eq!(rt; written.as_slice(), output.as_slice());
+    Ok(())
+}
+
+#[test]
+fn answers_a_line_of_a_megabyte(rt: HostRuntime) -> Result<(), Fail> {
+    let mut input = vec![in rt.alloc(); b'9'; 1_000_000]?;
+    input.extend_from_slice(b"\nlen\n")?;
+    let mut reader = BufReader::new(rt.alloc(), input.as_slice())?;
+    let mut written: Vec<u8> = Vec::new(rt.alloc());
+    assert_eq!(rt; run(rt.alloc(), &mut reader, &mut written), Ok(()));
+    assert_eq!(rt; written.as_slice(), b"bad\n0\n".as_slice());
+    Ok(())
+}
+
 #[test]
 fn answers_each_line(rt: HostRuntime) -> Result<(), Fail> {
     let cases: [(&[u8], &[u8]); 5] = [
@@ -145,18 +232,17 @@ fn tells_a_failed_write(rt: HostRuntime) -> Result<(), Fail> {
 
 #[test]
 fn tells_the_first_fault(rt: HostRuntime) -> Result<(), Fail> {
-    let bytes = b"add 5\n".as_slice();
-    let kind = ErrorKind::BrokenPipe;
-    let mut reader = BufReader::new(rt.alloc(), Failing { bytes, kind })?;
-    assert_eq!(rt;
-        run(rt.alloc(), &mut reader, &mut Stuck),
-        Err(RunFault::Read)
-    );
+    let cases: [(&[u8], RunFault); 2] = [(b"", RunFault::Read), (b"add 5\n", RunFault::Write)];
+    for (bytes, fault) in cases {
+        let kind = ErrorKind::BrokenPipe;
+        let mut reader = BufReader::new(rt.alloc(), Failing { bytes, kind })?;
+        assert_eq!(rt; run(rt.alloc(), &mut reader, &mut Stuck), Err(fault));
+    }
     Ok(())
 }
 
 #[test]
-fn tells_faults_by_status_and_word(rt: HostRuntime) {
+fn tells_faults_by_status_and_word(rt: HostRuntime) -> Result<(), Fail> {
     let told = [
         (RunFault::Memory, 1, "memory"),
         (RunFault::Numbers, 2, "numbers"),
@@ -166,5 +252,10 @@ fn tells_faults_by_status_and_word(rt: HostRuntime) {
     for (fault, status, word) in told {
         assert_eq!(rt; fault.status(), status);
         assert_eq!(rt; fault.word(), word);
+        let shown = format!(in rt.alloc(); "{fault}")?;
+        assert_eq!(rt; shown.as_str(), word);
     }
+    assert_eq!(rt; RunFault::from(Refusal::Memory), RunFault::Memory);
+    assert_eq!(rt; RunFault::from(Refusal::Numbers), RunFault::Numbers);
+    Ok(())
 }

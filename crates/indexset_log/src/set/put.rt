@@ -4,7 +4,7 @@ ghost use Rattle.indexset_core.specs.Nodes.{joined, node_at};
 ghost use Rattle.indexset_core.specs.Order.{IsAscending, IsFoundAt, IsGapFor, put, keep, has_equal, equal_element};
 ghost use Rattle.indexset_log.specs.Aim.{IsAim};
 ghost use Rattle.indexset_log.specs.Edits.{with_room, put_into_target};
-ghost use Rattle.indexset_log.specs.Replay.{replay, numbered_from};
+ghost use Rattle.indexset_log.specs.Replay.{replay, numbered_from, IsNumberedFrom};
 ghost use Rattle.indexset_log.specs.Table.{put_events, checked_put_events, target_events, node_events};
 ghost use Rattle.indexset_log.specs.Tree.{refusal_for};
 ghost use Rattle.indexset_log.specs.declared.change.ChangeEventUnassigned.TheVariants.{CreateNode};
@@ -28,6 +28,7 @@ impl<T: Ord + Clone + Drop, Node: NodeLike<T>> BTreeSet<T, Node> {
         ensures answer { IfOk result (λ r. r.0 ≡ equal_element T.cmp (joined self.old.nodes) value) }
         ensures contents { OnOk result (joined self.new.nodes ≡ put T.cmp (joined self.old.nodes) value) }
         ensures events { IfOk result (λ r. r.1.items ≡ numbered_from self.old.next (put_events T.cmp self.old.size self.old.nodes value)) }
+        ensures numbered { IfOk result (λ r. IsNumberedFrom self.old.next r.1.items) }
         ensures replay { IfOk result (λ r. replay T.cmp self.old.nodes r.1.items ≡ Some self.new.nodes) }
         ensures few { length (put_events T.cmp self.old.size self.old.nodes value) ≤ 3 }
         ensures size { self.new.size ≡ self.old.size }
@@ -53,14 +54,18 @@ impl<T: Ord + Clone + Drop, Node: NodeLike<T>> BTreeSet<T, Node> {
         ensures answer { IfOk result (λ r. is_none r ≡ has_equal T.cmp (joined self.old.nodes) value) }
         ensures contents { OnOk result (joined self.new.nodes ≡ keep T.cmp (joined self.old.nodes) value) }
         ensures events { IfOk result (λ r. IfSome r (λ events. events.items ≡ numbered_from self.old.next (checked_put_events T.cmp self.old.size self.old.nodes value))) }
+        ensures numbered { IfOk result (λ r. IfSome r (λ events. IsNumberedFrom self.old.next events.items)) }
         ensures replay { OnOk result (replay T.cmp self.old.nodes (numbered_from self.old.next (checked_put_events T.cmp self.old.size self.old.nodes value)) ≡ Some self.new.nodes) }
         ensures size { self.new.size ≡ self.old.size }
         ensures next { OnOk result (self.new.next ≡ self.old.next + length (checked_put_events T.cmp self.old.size self.old.nodes value)) }
+        ensures fits { OnOk result (self.old.next + length (checked_put_events T.cmp self.old.size self.old.nodes value) ≤ u64.MAX) }
         ensures refusal { IfErr result (λ e. e.cause ≡ refusal_for self.old.next (length (checked_put_events T.cmp self.old.size self.old.nodes value))) }
         ensures no_event { has_equal T.cmp (joined self.old.nodes) value ≡ true → IsOk result }
         ensures given_back { IfErr result (λ e. e.value ≡ value) }
         ensures unchanged { OnErr result (self.new ≡ self.old) }
     {
+        // The counter is a u64, so no number is wanting where none is used up.
+        let _next = self.next;
         if self.contains(&value) {
             return Ok(None);
         }
@@ -174,13 +179,13 @@ impl<T: Ord + Clone + Drop, Node: NodeLike<T>> BTreeSet<T, Node> {
     {
         let node = node_by(self.nodes.as_slice(), &mut ByItem::new(value));
         let items = self.nodes[node].iter().as_slice();
-        let cut = items.len() == self.size;
-        let right = cut && value.cmp(&items[items.len() / 2 - 1]).is_gt();
+        let full = items.len() == self.size;
+        let right = full && value.cmp(&items[items.len() / 2 - 1]).is_gt();
         Aim {
             node,
-            cut,
+            full,
             right,
-            at: search::find(part_of(items, cut, right), value),
+            at: search::find(part_of(items, full, right), value),
         }
     }
 
@@ -194,13 +199,13 @@ impl<T: Ord + Clone + Drop, Node: NodeLike<T>> BTreeSet<T, Node> {
     {
         let mut log = Log::new(*self.nodes.allocator(), self.next);
         let items = self.nodes[aim.node].iter().as_slice();
-        if aim.cut {
+        if aim.full {
             log.add(ChangeEventUnassigned::SplitNode {
                 max_value: items[items.len() - 1].clone()?,
                 split_index: items.len() / 2,
             })?;
         }
-        add_put(&mut log, part_of(items, aim.cut, aim.right), &aim.at, value)?;
+        add_put(&mut log, part_of(items, aim.full, aim.right), &aim.at, value)?;
         Ok(log.events)
     }
 

@@ -3,7 +3,7 @@ ghost use Rattle.std.specs.Prelude.{◌≡◌, ◌+◌, ◌<◌, ◌≤◌, [], 
 ghost use Rattle.indexset_core.specs.Nodes.{joined, node_at};
 ghost use Rattle.indexset_core.specs.Order.{without, equal_element};
 ghost use Rattle.indexset_log.specs.Edits.{with_taken};
-ghost use Rattle.indexset_log.specs.Replay.{replay, numbered_from};
+ghost use Rattle.indexset_log.specs.Replay.{replay, numbered_from, IsNumberedFrom};
 ghost use Rattle.indexset_log.specs.Table.{taking_events, removal_events};
 ghost use Rattle.indexset_log.specs.Tree.{refusal_for};
 
@@ -20,6 +20,7 @@ impl<T: Ord + Clone + Drop, Node: NodeLike<T>> BTreeSet<T, Node> {
         ensures answer { IfOk result (λ r. r.0 ≡ equal_element T.cmp (joined self.old.nodes) value.now) }
         ensures contents { OnOk result (joined self.new.nodes ≡ without T.cmp (joined self.old.nodes) value.now) }
         ensures events { IfOk result (λ r. r.1.items ≡ numbered_from self.old.next (removal_events T.cmp self.old.nodes value.now)) }
+        ensures numbered { IfOk result (λ r. IsNumberedFrom self.old.next r.1.items) }
         ensures replay { IfOk result (λ r. replay T.cmp self.old.nodes r.1.items ≡ Some self.new.nodes) }
         ensures size { self.new.size ≡ self.old.size }
         ensures next { OnOk result (self.new.next ≡ self.old.next + length (removal_events T.cmp self.old.nodes value.now)) }
@@ -49,6 +50,7 @@ impl<T: Ord + Clone + Drop, Node: NodeLike<T>> BTreeSet<T, Node> {
         ensures item { IfOk result (λ r. slice_get (node_at self.old.nodes node) offset ≡ Some r.0) }
         ensures nodes { OnOk result (self.new.nodes ≡ with_taken self.old.nodes node offset) }
         ensures events { IfOk result (λ r. r.1.items ≡ numbered_from self.old.next (taking_events (node_at self.old.nodes node) offset r.0)) }
+        ensures numbered { IfOk result (λ r. IsNumberedFrom self.old.next r.1.items) }
         ensures replay { IfOk result (λ r. replay T.cmp self.old.nodes r.1.items ≡ Some self.new.nodes) }
         ensures size { self.new.size ≡ self.old.size }
         ensures next { OnOk result (self.new.next ≡ self.old.next + 1) }

@@ -4,18 +4,19 @@ ghost use Rattle.std.specs.List.{list_all};
 ghost use Rattle.std.specs.Map.Iter.{ShowsInOrder, deref};
 ghost use Rattle.indexset_spine.specs.Cut.{items};
 ghost use Rattle.indexset_core.specs.Order.{IsAscending, has_equal};
+ghost use Rattle.indexset_set.specs.Merge.{merged};
 ghost use Rattle.indexset_set.specs.SetAlgebra.{difference, intersection, symmetric_difference, union};
 
 mod difference_walk;
 mod intersection_walk;
-mod peeked;
+mod merge;
 mod symmetric_walk;
 mod union_walk;
 
 use super::BTreeSet;
 pub use difference_walk::Difference;
 pub use intersection_walk::Intersection;
-use peeked::{Peeked, Sides};
+use merge::Merge;
 pub use symmetric_walk::SymmetricDifference;
 pub use union_walk::Union;
 
@@ -26,7 +27,7 @@ impl<T: Ord> BTreeSet<T> {
         ensures runs { ShowsInOrder (deref {X = T}) }
     {
         Union {
-            sides: self.beside(other),
+            merge: self.merge(other),
         }
     }
 
@@ -36,7 +37,7 @@ impl<T: Ord> BTreeSet<T> {
         ensures runs { ShowsInOrder (deref {X = T}) }
     {
         Intersection {
-            sides: self.beside(other),
+            merge: self.merge(other),
         }
     }
 
@@ -46,7 +47,7 @@ impl<T: Ord> BTreeSet<T> {
         ensures runs { ShowsInOrder (deref {X = T}) }
     {
         Difference {
-            sides: self.beside(other),
+            merge: self.merge(other),
         }
     }
 
@@ -56,7 +57,7 @@ impl<T: Ord> BTreeSet<T> {
         ensures runs { ShowsInOrder (deref {X = T}) }
     {
         SymmetricDifference {
-            sides: self.beside(other),
+            merge: self.merge(other),
         }
     }
 
@@ -81,25 +82,13 @@ impl<T: Ord> BTreeSet<T> {
         self.intersection(other).next().is_none()
     }
 
-    // Both sets, to be walked side by side.
-    fn beside<'a>(&'a self, other: &'a BTreeSet<T>) -> Sides<'a, T>
-        ensures left { result.left ≡ items self.now }
-        ensures right { result.right ≡ items other.now }
-        ensures left_ascending { IsAscending T.cmp result.left }
-        ensures right_ascending { IsAscending T.cmp result.right }
+    // The elements of both sets, merged.
+    fn merge<'a>(&'a self, other: &'a BTreeSet<T>) -> Merge<'a, T>
+        ensures rest { result ≡ merged T.cmp (items self.now) (items other.now) }
+        ensures left { IsAscending T.cmp (items self.now) }
+        ensures right { IsAscending T.cmp (items other.now) }
         ensures runs { ShowsInOrder (deref {X = T}) }
     {
-        Sides {
-            left: self.peeked(),
-            right: other.peeked(),
-        }
-    }
-
-    fn peeked(&self) -> Peeked<'_, T>
-        ensures rest { result ≡ items self.now }
-        ensures ascending { IsAscending T.cmp result }
-        ensures runs { ShowsInOrder (deref {X = T}) }
-    {
-        Peeked::new(self.spine.iter())
+        Merge::new(self.spine.iter(), other.spine.iter())
     }
 }

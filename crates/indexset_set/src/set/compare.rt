@@ -15,16 +15,7 @@ impl<T: Ord> PartialEq for BTreeSet<T> {
     ghost laws = { on_per items (lists_per T.PartialEq.laws) };
 
     fn eq(&self, other: &BTreeSet<T>) -> bool {
-        if self.spine.len() != other.spine.len() {
-            return false;
-        }
-        let (mut left, mut right) = (self.spine.iter(), other.spine.iter());
-        while let Some(a) = left.next() {
-            if !a.eq(right.next().unwrap()) {
-                return false;
-            }
-        }
-        true
+        self.spine.len() == other.spine.len() && self.spine.iter().eq(other.spine.iter())
     }
 }
 
@@ -52,20 +43,7 @@ impl<T: Ord> Ord for BTreeSet<T> {
     ghost matches_eq = { λ s t. lists_ties T.cmp T.matches_eq (items s) (items t) };
 
     fn cmp(&self, other: &BTreeSet<T>) -> Ordering {
-        let (mut left, mut right) = (self.spine.iter(), other.spine.iter());
-        while let Some(a) = left.next() {
-            let Some(b) = right.next() else {
-                return Ordering::Greater;
-            };
-            match a.cmp(b) {
-                Ordering::Equal => {}
-                unequal => return unequal,
-            }
-        }
-        match right.next() {
-            Some(_) => Ordering::Less,
-            None => Ordering::Equal,
-        }
+        self.spine.iter().cmp(other.spine.iter())
     }
 }
 

@@ -1,6 +1,7 @@
 //! Walks of a set from both ends.
-ghost use Rattle.std.specs.Prelude.{◌≡◌, length, List};
-ghost use Rattle.std.specs.Iterator.{at_most};
+ghost use Rattle.std.specs.Prelude.{◌≡◌, length, List, IfSome, Some};
+ghost use Rattle.std.specs.Iterator.{UpTo, at_most};
+ghost use Rattle.std.specs.Iterator.SizeHint.{IsWithinCount};
 ghost use Rattle.std.specs.Map.Iter.{TakesFirst, TakesLast, ShowsInOrder, ShowsInReverse, GivesInOrder, GivesInReverse, deref};
 ghost use Rattle.indexset_spine.specs.Cut.{items};
 
@@ -51,13 +52,17 @@ impl<'a, T> Iterator for Iter<'a, T> {
 
     ghost next_gives = { TakesFirst deref };
 
-    ghost remaining = { λ s. at_most (length s) };
+    ghost remaining = { λ rest. at_most (length rest) };
 
     fn next(&mut self) -> Option<&'a T> {
         self.rest.next()
     }
 
-    fn size_hint(&self) -> (usize, Option<usize>) {
+    fn size_hint(&self) -> (usize, Option<usize>)
+        ensures lower { IsWithinCount result.0 (at_most (length self.now)) }
+        ensures upper { IfSome result.1 (UpTo (at_most (length self.now))) }
+        ensures exact { result ≡ (length self.now, Some (length self.now)) }
+    {
         self.rest.size_hint()
     }
 }

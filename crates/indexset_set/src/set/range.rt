@@ -4,9 +4,8 @@ ghost use Rattle.std.specs.List.{count_by};
 ghost use Rattle.std.specs.Map.Iter.{ShowsInOrder, ShowsInReverse, deref};
 ghost use Rattle.std.specs.Ordering.{is_le};
 ghost use Rattle.std.specs.Range.Bound.{bound_map, start_index, end_index};
-ghost use Rattle.indexset_core.specs.Bounds.{are_ordered, in_range, in_positions, is_up_to_end};
+ghost use Rattle.indexset_core.specs.Bounds.{are_ordered, in_range, in_positions, is_before, is_up_to_end};
 ghost use Rattle.indexset_spine.specs.Cut.{items};
-ghost use Rattle.indexset_set.specs.SetRanges.{is_before};
 
 use super::BTreeSet;
 use super::iter::Iter;

@@ -6,12 +6,13 @@ ghost use Rattle.indexset_spine.specs.Edits.{left_nodes, right_nodes};
 use super::Spine;
 use super::remove::drop_if_empty;
 use crate::spot::Spot;
+use indexset_core::moves::move_tail;
 use indexset_core::refusal::Refusal;
 use std::mem;
 
 impl<T: Drop> Spine<T> {
-    /// Takes out the items from a place on, as a spine of the same size. A refused call changes
-    /// nothing.
+    /// Takes out the items from a spot on, as a spine of the same size. All memory is asked for before
+    /// an item moves; a refused call changes nothing.
     pub fn split_off(&mut self, spot: Spot) -> Result<Spine<T>, Refusal>
         requires { IsSpot self.old.nodes spot }
         ensures nodes { OnOk result (self.new.nodes ≡ left_nodes self.old.nodes spot) }
@@ -43,35 +44,27 @@ fn split_nodes<T: Drop>(nodes: &mut Vec<Vec<T>>, spot: Spot) -> Result<Vec<Vec<T
     ensures refusal { IfErr result (λ e. e ≡ Refusal.Memory) }
     ensures err { OnErr result (vec_items nodes.new.items ≡ vec_items nodes.old.items) }
 {
-    let mut right = nodes.split_off(spot.node)?;
-    match take_front(&mut right[0], spot.offset) {
-        Ok(front) => {
-            nodes.push_reserved(front);
-            drop_if_empty(nodes, spot.node);
-            drop_if_empty(&mut right, 0);
-            Ok(right)
-        }
-        Err(refusal) => {
-            // The list has kept its room.
-            match nodes.append(&mut right) {
-                Ok(()) => Err(refusal),
-                Err(_) => unreachable!(),
-            }
-        }
-    }
+    let alloc = *nodes.allocator();
+    let mut right = Vec::with_capacity(alloc, nodes.len() - spot.node)?;
+    let back = take_back(&mut nodes[spot.node], spot.offset)?;
+    right.push_reserved(back);
+    move_tail(nodes, spot.node + 1, &mut right);
+    drop_if_empty(nodes, spot.node);
+    drop_if_empty(&mut right, 0);
+    Ok(right)
 }
 
-// Takes out the items before an offset. A refused call leaves the node as it is.
-fn take_front<T>(node: &mut Vec<T>, offset: usize) -> Result<Vec<T>, Refusal>
+// Takes out the items from an offset on. A refused call leaves the node as it is.
+fn take_back<T>(node: &mut Vec<T>, offset: usize) -> Result<Vec<T>, Refusal>
     requires { offset ≤ length node.old.items }
-    ensures front { IfOk result (λ front. front.items ≡ take offset node.old.items) }
-    ensures rest { OnOk result (node.new.items ≡ drop offset node.old.items) }
+    ensures front { OnOk result (node.new.items ≡ take offset node.old.items) }
+    ensures back { IfOk result (λ back. back.items ≡ drop offset node.old.items) }
     ensures refusal { IfErr result (λ e. e ≡ Refusal.Memory) }
     ensures err { OnErr result (node.new.items ≡ node.old.items) }
 {
     if offset == 0 {
-        return Ok(Vec::new(*node.allocator()));
+        let empty = Vec::new(*node.allocator());
+        return Ok(mem::replace(node, empty));
     }
-    let rest = node.split_off(offset)?;
-    Ok(mem::replace(node, rest))
+    Ok(node.split_off(offset)?)
 }

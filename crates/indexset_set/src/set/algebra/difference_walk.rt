@@ -1,31 +1,26 @@
-//! The walk of what the first of two sets has alone.
+//! The walk of what one set has and another has not.
 ghost use Rattle.std.specs.Prelude.{◌≡◌, length};
 ghost use Rattle.std.specs.Iterator.{at_most};
 ghost use Rattle.std.specs.Map.Iter.{TakesFirst, deref};
-ghost use Rattle.indexset_core.specs.Order.{IsAscending};
-ghost use Rattle.indexset_set.specs.SetAlgebra.{difference};
+ghost use Rattle.indexset_set.specs.Merge.{of_left_alone, read};
 
-use super::peeked::Sides;
-use std::cmp::Ordering;
+use super::merge::{Merge, Side};
 use std::iter::FusedIterator;
 use std::marker::Model;
 
 /// The elements of one set that are left of those that have no equal one in another.
 #[derive(Drop)]
 pub struct Difference<'a, T: Ord> {
-    pub(super) sides: Sides<'a, T>,
+    pub(super) merge: Merge<'a, T>,
 }
 
 impl<'a, T: Ord> Model for Difference<'a, T> {
     ghost use Rattle.std.specs.Prelude.{List};
-    ghost use Rattle.indexset_core.specs.Order.{IsAscending};
-    ghost use Rattle.indexset_set.specs.SetAlgebra.{difference};
+    ghost use Rattle.indexset_set.specs.Merge.{of_left_alone, read};
 
     ghost Value = { List T };
 
-    ghost view = { λ s. difference T.cmp s.sides.left s.sides.right };
-
-    ghost invariant = { λ s. IsAscending T.cmp s.sides.left × IsAscending T.cmp s.sides.right };
+    ghost view = { λ walk. read of_left_alone walk.merge };
 }
 
 impl<'a, T: Ord> Iterator for Difference<'a, T> {
@@ -33,39 +28,16 @@ impl<'a, T: Ord> Iterator for Difference<'a, T> {
 
     ghost next_gives = { TakesFirst deref };
 
-    ghost remaining = { λ s. at_most (length s) };
+    ghost remaining = { λ rest. at_most (length rest) };
 
     fn next(&mut self) -> Option<&'a T> {
-        next_in_left(&mut self.sides)
+        while self.merge.has_left() {
+            if let Side::Left(x) = self.merge.next()? {
+                return Some(x);
+            }
+        }
+        None
     }
 }
 
 impl<'a, T: Ord> FusedIterator for Difference<'a, T> {}
-
-// The next left one that has no equal one on the right.
-fn next_in_left<'a, T: Ord>(s: &mut Sides<'a, T>) -> Option<&'a T>
-    requires left { IsAscending T.cmp s.old.left }
-    requires right { IsAscending T.cmp s.old.right }
-    ensures left { IsAscending T.cmp s.new.left }
-    ensures right { IsAscending T.cmp s.new.right }
-    ensures takes { TakesFirst deref (difference T.cmp s.old.left s.old.right) result (difference T.cmp s.new.left s.new.right) }
-{
-    loop {
-        let x = s.left.peek()?;
-        let Some(y) = s.right.peek() else {
-            s.left.advance();
-            return Some(x);
-        };
-        match x.cmp(y) {
-            Ordering::Less => {
-                s.left.advance();
-                return Some(x);
-            }
-            Ordering::Equal => {
-                s.left.advance();
-                s.right.advance();
-            }
-            Ordering::Greater => s.right.advance(),
-        }
-    }
-}

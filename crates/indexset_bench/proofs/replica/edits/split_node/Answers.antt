@@ -1,6 +1,6 @@
-use Rattle.std.proofs.Common.{◌≡◌, ◌<◌, ◌≤◌, length, refl, arith, sym, ap, ◌∙◌}
+use Rattle.std.proofs.Common.{◌≡◌, refl, arith, sym, ◌∙◌}
 use Rattle.std.proofs.lemmas.Result.{err_from_is_err_and}
-use Rattle.indexset_log.proofs.CallerLemmas.{cut_view}
+use Rattle.indexset_log.proofs.CallerLemmas.{halved_view}
 use Rattle.indexset_bench.proofs.ReplicaEdits.{absent_split, held, held_at, split_edit, split_past, split_start}
 use Rattle.indexset_bench.proofs.replica.edits.split_node.Goals as goal
 use Rattle.indexset_bench.proofs.replica.edits.split_node.Goals.{then-split_index-eq0-via-then-split_index-eq0, then-split_index-eq0-via-else-split_index-eq0+then-split_index-len}
@@ -55,4 +55,4 @@ returns-clause-done g c =
     let read = rw c.in_ok-reserve.ensures.items at c.index_mut-node.ensures.value in
     let same : m.items ≡ n.items = sym (held cmp (λ v. v.items) vs c.args.name.now c.in_ok-place.place named m read) ∙ node in
     let here = held_at cmp (λ v. v.items) vs c.args.name.now c.in_ok-place.place named n c.index.ensures in
-    rw (c.insert_item.ensures.items, c.in_ok-reserve.ensures.items, cut_view (λ v. v.items) vs c.in_ok-place.place n c.split_off.new.self c.in_ok-rest.rest here, c.in_ok-rest.ensures.items, c.in_ok-rest.ensures.tail, same) edit
+    rw (c.insert_item.ensures.items, c.in_ok-reserve.ensures.items, halved_view (λ v. v.items) vs c.in_ok-place.place n c.split_off.new.self c.in_ok-rest.rest here, c.in_ok-rest.ensures.items, c.in_ok-rest.ensures.tail, same) edit

@@ -1,16 +1,16 @@
-use Rattle.std.proofs.Common.{◌≡◌, ◌≤◌, ◌<◌, ◌-◌, ◌/◌, ◌&&◌, suc, true, false, Bool, length, map, take, eqb, nat_eq, get_or, arith, ap, subst, ◌∙◌, IfOk, IfErr}
+use Rattle.std.proofs.Common.{◌≡◌, ◌≤◌, ◌<◌, ◌-◌, ◌/◌, ◌&&◌, suc, true, false, Bool, length, map, take, eqb, nat_eq, get_or, arith, ap, subst, refl, ◌∙◌, IfOk, IfErr}
 use Rattle.std.proofs.lemmas.Bool.{eq-eqb, ne_eqb}
 use Rattle.std.specs.Ordering.{is_gt}
 use Rattle.indexset_core.specs.Nodes.{node_at, node_for}
 use Rattle.indexset_core.specs.Order.{IsFoundAt, IsGapFor}
 use Rattle.indexset_log.specs.Nodes.{last_of}
 use Rattle.indexset_log.specs.Table.{part_for, is_past}
-use Rattle.indexset_log.proofs.Puts.{half_up, half_and, last_of_take, test_is}
+use Rattle.indexset_log.proofs.Puts.{half_up, half_and, last_of_take}
 use Rattle.indexset_log.proofs.Theorem.{up_node}
-use Rattle.indexset_log.proofs.Ups.{true_cut}
-use Rattle.indexset_log.proofs.Views.{lawful_filled, lawful_parted, node_is, length_view, ascends}
+use Rattle.indexset_log.proofs.Ups.{ascends, lawful_ruled}
+use Rattle.indexset_log.proofs.Views.{lawful_filled, lawful_parted, node_is, length_view}
 use Rattle.indexset_log.proofs.set.BTreeSet.aim_in_target.Goals as goal
-use Rattle.indexset_log.proofs.set.BTreeSet.aim_in_target.Goals.{then-cut, else-cut}
+use Rattle.indexset_log.proofs.set.BTreeSet.aim_in_target.Goals.{then-full, else-full}
 
 pub node_by-node-requires-clause-filled : goal.node_by-node-requires-clause-filled
 node_by-node-requires-clause-filled g c = rw c.as_slice.ensures.value (lawful_filled g.T.Ord.cmp c.self.inside.size _ c.self.invariant.lawful)
@@ -32,7 +32,7 @@ find-requires g c =
     let node : list c.index.result.now ≡ node_at nodes k = node_is list items nodes k c.index.result.now same inside c.index.ensures in
     let held : c.as_slice-items.result.now ≡ node_at nodes k = c.as_slice-items.ensures.value ∙ (c.iter.ensures ∙ node) in
     let law = rw same at c.self.invariant.lawful in
-    rw (c.part_of.ensures, held) (ascends cmp _ (half_up cmp _ c.if-cut.right (node_at nodes k) (up_node cmp nodes k (true_cut cmp nodes law.nodes))))
+    rw (c.part_of.ensures, held) (ascends cmp _ (half_up cmp _ c.if-full.right (node_at nodes k) (up_node cmp nodes k (lawful_ruled cmp _ nodes law))))
 
 pub returns : goal.returns
 returns g c =
@@ -51,26 +51,26 @@ returns g c =
     let node : list c.index.result.now ≡ n = node_is list items nodes k c.index.result.now same inside c.index.ensures in
     let held : c.as_slice-items.result.now ≡ n = c.as_slice-items.ensures.value ∙ (c.iter.ensures ∙ node) in
     let past : Bool = is_past cmp (take (length n / 2) n) v in
-    let cut : nat_eq (length c.as_slice-items.result.now) c.self.inside.size ≡ eqb (length n) c.args.self.now.size = rw (held, size) (test_is (length n) c.args.self.now.size) in
-    let right : c.if-cut.right ≡ (eqb (length n) c.args.self.now.size && past) =
-    elim c.if-cut.branch [
-      | then-cut w ↦
-          let full : eqb (length n) c.args.self.now.size ≡ true = eq-eqb _ _ (rw (held, size) at w.if-cut.true) in
+    let full : nat_eq (length c.as_slice-items.result.now) c.self.inside.size ≡ eqb (length n) c.args.self.now.size = rw (held, size) refl in
+    let right : c.if-full.right ≡ (eqb (length n) c.args.self.now.size && past) =
+    elim c.if-full.branch [
+      | then-full w ↦
+          let full : eqb (length n) c.args.self.now.size ≡ true = eq-eqb _ _ (rw (held, size) at w.if-full.true) in
           let x = w.index-items-items.result in
-          let two : 2 ≤ length n = omega (arith, rw (held, size) at w.if-cut.true, size, c.self.invariant.two) in
+          let two : 2 ≤ length n = omega (arith, rw (held, size) at w.if-full.true, size, c.self.invariant.two) in
           let some : 1 ≤ length n / 2 = omega arith in
           let read : x ≡ get_or n (length n / 2 - 1) x = rw held at w.index-items-items.is in
           let last : last_of (take (length n / 2) n) v ≡ x = subst (λ j. last_of (take j n) v ≡ x) {x = suc (length n / 2 - 1)} {y = length n / 2} (omega arith) (last_of_take n (length n / 2 - 1) x v (omega arith) read) in
           rw (full, last) (w.right-is ∙ (w.is_gt-right.ensures ∙ ap is_gt w.cmp.ensures))
-      | else-cut w ↦
-          let not_full : eqb (length n) c.args.self.now.size ≡ false = ne_eqb _ _ (rw (held, size) at w.if-cut.false) in
-          rw not_full (w.right-is ∙ (cut ∙ not_full))
+      | else-full w ↦
+          let not_full : eqb (length n) c.args.self.now.size ≡ false = ne_eqb _ _ (rw (held, size) at w.if-full.false) in
+          rw not_full (w.right-is ∙ (full ∙ not_full))
     ] in
-    let half : c.part_of.result.now ≡ part_for cmp c.args.self.now.size n v = c.part_of.ensures ∙ rw (held, size, test_is (length n) c.args.self.now.size, right) (half_and (eqb (length n) c.args.self.now.size) past n) in
+    let half : c.part_of.result.now ≡ part_for cmp c.args.self.now.size n v = c.part_of.ensures ∙ rw (held, size, right) (half_and (eqb (length n) c.args.self.now.size) past n) in
     record {
       node_in = omega (arith, inside, long);
       node_is = at;
-      cut_is = cut;
+      full_is = full;
       right_is = right;
       found = subst (λ q. IfOk c.find.result (IsFoundAt cmp q v)) half c.find.ensures.found;
       gap = subst (λ q. IfErr c.find.result (IsGapFor cmp q v)) half c.find.ensures.absent;

@@ -1,6 +1,5 @@
 use Rattle.std.proofs.Common.{◌≡◌, ◌≤◌, [], length, map, arith, ap, ◌∙◌}
-use Rattle.indexset_core.specs.Nodes.{joined}
-use Rattle.indexset_log.specs.Nodes.{IsLawful}
+use Rattle.indexset_core.specs.Nodes.{joined, IsLawful}
 use Rattle.indexset_log.specs.Replay.{numbered_from}
 use Rattle.indexset_log.specs.Table.{put_events}
 use Rattle.indexset_log.proofs.Puts.{aimed_events, put_replay, put_joined}

@@ -1,9 +1,8 @@
 use Rattle.std.proofs.Common.{◌≡◌, ◌≤◌, ◌+◌, true, false, cond, not, if◌then◌else◌, is_ok, map, set, arith, ap, refl, ◌∙◌}
-use Rattle.indexset_core.specs.Nodes.{node_at}
-use Rattle.indexset_log.specs.Edits.{with_cut, with_room, put_into_target}
-use Rattle.indexset_log.specs.Nodes.{IsLawful}
+use Rattle.indexset_core.specs.Nodes.{node_at, IsLawful}
+use Rattle.indexset_log.specs.Edits.{with_halved, with_room, put_into_target}
 use Rattle.indexset_log.specs.Table.{part_for}
-use Rattle.indexset_log.proofs.Puts.{events_count, spot_in, spot_part, spot_after, part_up, put_lawful, put_count, element_is}
+use Rattle.indexset_log.proofs.Puts.{events_count, spot_in, spot_part, spot_after, part_up, put_lawful, put_count, element_is, whole_room}
 use Rattle.indexset_log.proofs.set.BTreeSet.put_at.Goals as goal
 use Rattle.indexset_log.proofs.set.BTreeSet.put_at.Goals.{then-is_err-2, else-is_err-2}
 
@@ -25,6 +24,22 @@ overflow_add-self g c =
     let count = events_count cmp o v size two nodes law a h in
     record { fits = omega (arith, c.requires.fits, count, c.count.ensures, next) }
 
+pub make_room-requires-clause-most : goal.make_room-requires-clause-most
+make_room-requires-clause-most g c =
+    let cmp = g.T.Ord.cmp in
+    let o = g.met.T.Ord.total in
+    let list = g.Node.NodeLike.list in
+    let nodes = c.args.self.now.nodes in
+    let size = c.args.self.now.size in
+    let v = c.args.value in
+    let a = c.args.aim in
+    let h = c.requires.aim in
+    let same : map list c.self.inside.nodes.items ≡ nodes = ap (λ t. t.nodes) c.self.view_is in
+    let sized : c.self.inside.size ≡ size = ap (λ t. t.size) c.self.view_is in
+    let law : IsLawful cmp size nodes = rw (same, sized) at c.self.invariant.lawful in
+    let two : 2 ≤ size = rw sized at c.self.invariant.two in
+    λ e. rw same (omega (arith, whole_room cmp o v size two nodes law a h e, sized, c.self.invariant.within))
+
 pub index_mut-requires : goal.index_mut-requires
 index_mut-requires g c =
     let cmp = g.T.Ord.cmp in
@@ -41,7 +56,7 @@ index_mut-requires g c =
     let law : IsLawful cmp size nodes = rw (same, sized) at c.self.invariant.lawful in
     let two : 2 ≤ size = rw sized at c.self.invariant.two in
     let items = c.make_room.new.nodes.items in
-    let held : map list items ≡ (if a.cut then with_cut nodes a.node else nodes) = rw same at c.in-Ok.ensures.nodes in
+    let held : map list items ≡ (if a.full then with_halved nodes a.node else nodes) = rw same at c.in-Ok.ensures.nodes in
     let place : c.in-Ok.place ≡ a.node + cond a.right 1 0 = c.in-Ok.ensures.place in
     let after = c.if-is_err-2.self-inside in
     let told : (after.nodes ≡ c.make_room.new.nodes) × (after.size ≡ c.self.inside.size) × (after.len ≡ c.self.inside.len + cond (is_ok a.at) 0 1) × (after.next ≡ c.self.inside.next + c.count.result) =
@@ -71,7 +86,7 @@ put_in-requires-clause-ascending g c =
     let law : IsLawful cmp size nodes = rw (same, sized) at c.self.invariant.lawful in
     let two : 2 ≤ size = rw sized at c.self.invariant.two in
     let items = c.make_room.new.nodes.items in
-    let held : map list items ≡ (if a.cut then with_cut nodes a.node else nodes) = rw same at c.in-Ok.ensures.nodes in
+    let held : map list items ≡ (if a.full then with_halved nodes a.node else nodes) = rw same at c.in-Ok.ensures.nodes in
     let place : c.in-Ok.place ≡ a.node + cond a.right 1 0 = c.in-Ok.ensures.place in
     let after = c.if-is_err-2.self-inside in
     let told : (after.nodes ≡ c.make_room.new.nodes) × (after.size ≡ c.self.inside.size) × (after.len ≡ c.self.inside.len + cond (is_ok a.at) 0 1) × (after.next ≡ c.self.inside.next + c.count.result) =
@@ -102,7 +117,7 @@ put_in-requires-clause-found g c =
     let law : IsLawful cmp size nodes = rw (same, sized) at c.self.invariant.lawful in
     let two : 2 ≤ size = rw sized at c.self.invariant.two in
     let items = c.make_room.new.nodes.items in
-    let held : map list items ≡ (if a.cut then with_cut nodes a.node else nodes) = rw same at c.in-Ok.ensures.nodes in
+    let held : map list items ≡ (if a.full then with_halved nodes a.node else nodes) = rw same at c.in-Ok.ensures.nodes in
     let place : c.in-Ok.place ≡ a.node + cond a.right 1 0 = c.in-Ok.ensures.place in
     let after = c.if-is_err-2.self-inside in
     let told : (after.nodes ≡ c.make_room.new.nodes) × (after.size ≡ c.self.inside.size) × (after.len ≡ c.self.inside.len + cond (is_ok a.at) 0 1) × (after.next ≡ c.self.inside.next + c.count.result) =
@@ -133,7 +148,7 @@ put_in-requires-clause-gap g c =
     let law : IsLawful cmp size nodes = rw (same, sized) at c.self.invariant.lawful in
     let two : 2 ≤ size = rw sized at c.self.invariant.two in
     let items = c.make_room.new.nodes.items in
-    let held : map list items ≡ (if a.cut then with_cut nodes a.node else nodes) = rw same at c.in-Ok.ensures.nodes in
+    let held : map list items ≡ (if a.full then with_halved nodes a.node else nodes) = rw same at c.in-Ok.ensures.nodes in
     let place : c.in-Ok.place ≡ a.node + cond a.right 1 0 = c.in-Ok.ensures.place in
     let after = c.if-is_err-2.self-inside in
     let told : (after.nodes ≡ c.make_room.new.nodes) × (after.size ≡ c.self.inside.size) × (after.len ≡ c.self.inside.len + cond (is_ok a.at) 0 1) × (after.next ≡ c.self.inside.next + c.count.result) =
@@ -164,7 +179,7 @@ invariant_of-self g c =
     let law : IsLawful cmp size nodes = rw (same, sized) at c.self.invariant.lawful in
     let two : 2 ≤ size = rw sized at c.self.invariant.two in
     let items = c.make_room.new.nodes.items in
-    let held : map list items ≡ (if a.cut then with_cut nodes a.node else nodes) = rw same at c.in-Ok.ensures.nodes in
+    let held : map list items ≡ (if a.full then with_halved nodes a.node else nodes) = rw same at c.in-Ok.ensures.nodes in
     let place : c.in-Ok.place ≡ a.node + cond a.right 1 0 = c.in-Ok.ensures.place in
     let after = c.if-is_err-2.self-inside in
     let told : (after.nodes ≡ c.make_room.new.nodes) × (after.size ≡ c.self.inside.size) × (after.len ≡ c.self.inside.len + cond (is_ok a.at) 0 1) × (after.next ≡ c.self.inside.next + c.count.result) =
@@ -201,7 +216,7 @@ returns-after-is_err-2-clause-answer g c =
     let law : IsLawful cmp size nodes = rw (same, sized) at c.self.invariant.lawful in
     let two : 2 ≤ size = rw sized at c.self.invariant.two in
     let items = c.make_room.new.nodes.items in
-    let held : map list items ≡ (if a.cut then with_cut nodes a.node else nodes) = rw same at c.in-Ok.ensures.nodes in
+    let held : map list items ≡ (if a.full then with_halved nodes a.node else nodes) = rw same at c.in-Ok.ensures.nodes in
     let place : c.in-Ok.place ≡ a.node + cond a.right 1 0 = c.in-Ok.ensures.place in
     let after = c.if-is_err-2.self-inside in
     let told : (after.nodes ≡ c.make_room.new.nodes) × (after.size ≡ c.self.inside.size) × (after.len ≡ c.self.inside.len + cond (is_ok a.at) 0 1) × (after.next ≡ c.self.inside.next + c.count.result) =
@@ -232,7 +247,7 @@ returns-after-is_err-2-clause-nodes g c =
     let law : IsLawful cmp size nodes = rw (same, sized) at c.self.invariant.lawful in
     let two : 2 ≤ size = rw sized at c.self.invariant.two in
     let items = c.make_room.new.nodes.items in
-    let held : map list items ≡ (if a.cut then with_cut nodes a.node else nodes) = rw same at c.in-Ok.ensures.nodes in
+    let held : map list items ≡ (if a.full then with_halved nodes a.node else nodes) = rw same at c.in-Ok.ensures.nodes in
     let place : c.in-Ok.place ≡ a.node + cond a.right 1 0 = c.in-Ok.ensures.place in
     let after = c.if-is_err-2.self-inside in
     let told : (after.nodes ≡ c.make_room.new.nodes) × (after.size ≡ c.self.inside.size) × (after.len ≡ c.self.inside.len + cond (is_ok a.at) 0 1) × (after.next ≡ c.self.inside.next + c.count.result) =

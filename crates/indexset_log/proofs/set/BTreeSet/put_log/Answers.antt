@@ -1,13 +1,11 @@
 use Rattle.std.proofs.Common.{◌≡◌, ◌≤◌, ◌-◌, ◌+◌, true, false, length, eqb, map, arith, ap, sym, ◌∙◌, slice_get, Some}
-use Rattle.indexset_core.specs.Nodes.{node_at}
+use Rattle.indexset_core.specs.Nodes.{node_at, IsLawful}
 use Rattle.indexset_core.proofs.CallerLemmas.{read_item}
-use Rattle.indexset_log.specs.Nodes.{IsLawful}
 use Rattle.indexset_log.specs.Replay.{numbered_from}
-use Rattle.indexset_log.specs.Table.{cut_events, part_for}
-use Rattle.indexset_log.proofs.Puts.{events_count, target_length, target_numbered, half_is, part_up, part_some, cut_written, cut_one, whole_none}
+use Rattle.indexset_log.specs.Table.{halving_events, part_for}
+use Rattle.indexset_log.proofs.Puts.{events_count, target_length, target_numbered, half_is, part_up, part_some, halving_written, halving_one, whole_none}
 use Rattle.indexset_log.proofs.Theorem.{last_some, filled_node}
-use Rattle.indexset_log.proofs.Steps.{filled_length}
-use Rattle.indexset_log.proofs.Ups.{true_cut}
+use Rattle.indexset_log.proofs.Ups.{filled_length, lawful_ruled}
 use Rattle.indexset_log.proofs.Views.{node_is, length_view}
 use Rattle.indexset_log.proofs.set.BTreeSet.put_log.Goals as goal
 use Rattle.indexset_log.proofs.set.BTreeSet.put_log.Goals.{then-aim+in_ok-clone+in_ok-add, else-aim}
@@ -141,17 +139,17 @@ add_put-requires-clause-fits g c =
     let node : list c.index.result.now ≡ n = node_is list items nodes a.node c.index.result.now same (omega (arith, h.node_in, length_view list items nodes same)) c.index.ensures in
     let held : c.as_slice-items.result.now ≡ n = c.as_slice-items.ensures.value ∙ (c.iter.ensures ∙ node) in
     let half : c.part_of.result.now ≡ part_for cmp size n v = c.part_of.ensures ∙ rw held (half_is cmp o v size two nodes law a h) in
-    let logged : (c.if-aim.log.events.items ≡ numbered_from c.args.self.now.next (cut_events size n v)) × (c.if-aim.log.next ≡ c.args.self.now.next + length (cut_events size n v)) =
+    let logged : (c.if-aim.log.events.items ≡ numbered_from c.args.self.now.next (halving_events size n v)) × (c.if-aim.log.next ≡ c.args.self.now.next + length (halving_events size n v)) =
     elim c.if-aim.branch [
       | then-aim+in_ok-clone+in_ok-add w ↦
-          let full : eqb (length n) size ≡ true = sym h.cut_is ∙ w.if-aim.true in
+          let full : eqb (length n) size ≡ true = sym h.full_is ∙ w.if-aim.true in
           let y = w.index-items-items.result in
-          let some : 1 ≤ length n = omega (arith, filled_length n (filled_node cmp nodes a.node (true_cut cmp nodes law.nodes) h.node_in)) in
+          let some : 1 ≤ length n = omega (arith, filled_length n (filled_node cmp nodes a.node (lawful_ruled cmp size nodes law) h.node_in)) in
           let last : slice_get n (length n - 1) ≡ Some y = read_item n (length n - 1) y (omega (arith, some)) (rw held at w.index-items-items.is) in
           let name = c.requires.clones _ _ w.in_ok-clone.ensures.cases ∙ sym (last_some n v y last) in
-          rw w.log-is (cut_written size c.args.self.now.next n v _ _ full name (rw (c.new-log.ensures.events, c.new-log.ensures.next, next, held) at w.in_ok-add.ensures.events), rw (cut_one size c.args.self.now.next n v full) (w.in_ok-add.ensures.next ∙ ap (λ k. k + 1) (c.new-log.ensures.next ∙ next)))
+          rw w.log-is (halving_written size c.args.self.now.next n v _ _ full name (rw (c.new-log.ensures.events, c.new-log.ensures.next, next, held) at w.in_ok-add.ensures.events), rw (halving_one size c.args.self.now.next n v full) (w.in_ok-add.ensures.next ∙ ap (λ k. k + 1) (c.new-log.ensures.next ∙ next)))
       | else-aim w ↦
-          let part : eqb (length n) size ≡ false = sym h.cut_is ∙ w.if-aim.false in
+          let part : eqb (length n) size ≡ false = sym h.full_is ∙ w.if-aim.false in
           rw (w.log-is, whole_none size c.args.self.now.next n v part) (c.new-log.ensures.events, c.new-log.ensures.next ∙ (next ∙ omega arith))
     ] in
     rw (half, logged.1) (omega (arith, fits, target_length cmp o v size two nodes law a h))
@@ -176,17 +174,17 @@ returns-clause-events g c =
     let node : list c.index.result.now ≡ n = node_is list items nodes a.node c.index.result.now same (omega (arith, h.node_in, length_view list items nodes same)) c.index.ensures in
     let held : c.as_slice-items.result.now ≡ n = c.as_slice-items.ensures.value ∙ (c.iter.ensures ∙ node) in
     let half : c.part_of.result.now ≡ part_for cmp size n v = c.part_of.ensures ∙ rw held (half_is cmp o v size two nodes law a h) in
-    let logged : (c.if-aim.log.events.items ≡ numbered_from c.args.self.now.next (cut_events size n v)) × (c.if-aim.log.next ≡ c.args.self.now.next + length (cut_events size n v)) =
+    let logged : (c.if-aim.log.events.items ≡ numbered_from c.args.self.now.next (halving_events size n v)) × (c.if-aim.log.next ≡ c.args.self.now.next + length (halving_events size n v)) =
     elim c.if-aim.branch [
       | then-aim+in_ok-clone+in_ok-add w ↦
-          let full : eqb (length n) size ≡ true = sym h.cut_is ∙ w.if-aim.true in
+          let full : eqb (length n) size ≡ true = sym h.full_is ∙ w.if-aim.true in
           let y = w.index-items-items.result in
-          let some : 1 ≤ length n = omega (arith, filled_length n (filled_node cmp nodes a.node (true_cut cmp nodes law.nodes) h.node_in)) in
+          let some : 1 ≤ length n = omega (arith, filled_length n (filled_node cmp nodes a.node (lawful_ruled cmp size nodes law) h.node_in)) in
           let last : slice_get n (length n - 1) ≡ Some y = read_item n (length n - 1) y (omega (arith, some)) (rw held at w.index-items-items.is) in
           let name = c.requires.clones _ _ w.in_ok-clone.ensures.cases ∙ sym (last_some n v y last) in
-          rw w.log-is (cut_written size c.args.self.now.next n v _ _ full name (rw (c.new-log.ensures.events, c.new-log.ensures.next, next, held) at w.in_ok-add.ensures.events), rw (cut_one size c.args.self.now.next n v full) (w.in_ok-add.ensures.next ∙ ap (λ k. k + 1) (c.new-log.ensures.next ∙ next)))
+          rw w.log-is (halving_written size c.args.self.now.next n v _ _ full name (rw (c.new-log.ensures.events, c.new-log.ensures.next, next, held) at w.in_ok-add.ensures.events), rw (halving_one size c.args.self.now.next n v full) (w.in_ok-add.ensures.next ∙ ap (λ k. k + 1) (c.new-log.ensures.next ∙ next)))
       | else-aim w ↦
-          let part : eqb (length n) size ≡ false = sym h.cut_is ∙ w.if-aim.false in
+          let part : eqb (length n) size ≡ false = sym h.full_is ∙ w.if-aim.false in
           rw (w.log-is, whole_none size c.args.self.now.next n v part) (c.new-log.ensures.events, c.new-log.ensures.next ∙ (next ∙ omega arith))
     ] in
     rw (target_numbered cmp o v size two nodes law a h c.args.self.now.next, ← logged.0, ← logged.1, ← half) c.in_ok-add_put.ensures.events

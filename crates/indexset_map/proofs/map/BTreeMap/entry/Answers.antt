@@ -1,6 +1,7 @@
-use Rattle.std.proofs.Common.{refl, Some, None, Bool, sym, ap, if◌then◌else◌}
+use Rattle.std.proofs.Common.{refl, Some, None, Bool, sym, ap, ◌∙◌, if◌then◌else◌, unwrap_or}
 use Rattle.std.specs.Option.{option_map}
-use Rattle.indexset_core.proofs.CallerLemmas.{key_pair, key_no_pair, key_absent, key_there}
+use Rattle.indexset_core.proofs.CallerLemmas.{key_absent, key_inside, key_no_pair, key_pair, key_there}
+use Rattle.indexset_map.proofs.EntryLemmas.{shown_key}
 use Rattle.indexset_map.proofs.KeyLemmas.{put_found, without_found, without_absent}
 use Rattle.indexset_map.proofs.map.BTreeMap.entry.Goals as goal
 
@@ -18,6 +19,15 @@ returns-clause-value g c = sym (ap (option_map (λ p. p.value)) (key_no_pair g.K
 
 pub returns-clause-update : goal.returns-clause-update
 returns-clause-update g c = λ w. refl
+
+pub returns-in-Ok-clause-key : goal.returns-in-Ok-clause-key
+returns-in-Ok-clause-key g c =
+    let found = (c.in-Ok.ensures {u = tt}).found in
+    shown_key c.args.self.now.pairs c.in-Ok.index c.args.key (key_inside g.K.Ord.cmp _ _ c.in-Ok.index found)
+    ∙ ap (λ o. Some (unwrap_or (option_map (λ p. p.key) o) c.args.key)) (sym (key_pair g.K.Ord.cmp _ _ c.in-Ok.index found))
+
+pub returns-clause-key : goal.returns-clause-key
+returns-clause-key g c = sym (ap (λ o. Some (unwrap_or (option_map (λ p. p.key) o) c.args.key)) (key_no_pair g.K.Ord.cmp _ _ (c.in-Err.ensures {u = tt}).absent))
 
 pub returns-in-Ok-clause-missing : goal.returns-in-Ok-clause-missing
 returns-in-Ok-clause-missing g c = sym (ap (λ (b : Bool). if b then None else Some c.args.key) (key_there g.K.Ord.cmp _ _ c.in-Ok.index (c.in-Ok.ensures {u = tt}).found))

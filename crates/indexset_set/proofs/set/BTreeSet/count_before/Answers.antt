@@ -1,5 +1,5 @@
 use Rattle.indexset_spine.specs.Cut.{items}
-use Rattle.indexset_set.proofs.SetRangeLemmas.{count_no}
+use Rattle.indexset_core.proofs.CallerLemmas.{count_no}
 use Rattle.indexset_set.proofs.set.BTreeSet.count_before.Goals as goal
 
 pub returns-in-Unbounded : goal.returns-in-Unbounded

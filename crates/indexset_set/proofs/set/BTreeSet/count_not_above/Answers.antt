@@ -1,6 +1,6 @@
 use Rattle.std.proofs.Common.{◌∙◌, sym, ap, ◌+◌, arith, length}
 use Rattle.indexset_spine.specs.Cut.{items}
-use Rattle.indexset_set.proofs.SetRangeLemmas.{found_not_above, gap_not_above}
+use Rattle.indexset_core.proofs.CallerLemmas.{found_not_above, gap_not_above}
 use Rattle.indexset_set.proofs.set.BTreeSet.count_not_above.Goals as goal
 
 pub overflow_add-result : goal.overflow_add-result

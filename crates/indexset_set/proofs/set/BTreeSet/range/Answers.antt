@@ -1,5 +1,5 @@
 use Rattle.std.proofs.Common.{◌∙◌}
-use Rattle.indexset_set.proofs.SetRangeLemmas.{range_order, range_is}
+use Rattle.indexset_core.proofs.CallerLemmas.{range_order, range_is}
 use Rattle.indexset_set.proofs.set.BTreeSet.range.Goals as goal
 
 pub iter_between-requires-clause-order : goal.iter_between-requires-clause-order

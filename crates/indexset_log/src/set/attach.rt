@@ -1,0 +1,101 @@
+//! Whole nodes taken in.
+ghost use Rattle.std.specs.Prelude.{◌≡◌, ◌+◌, ◌≤◌, length, None, IfOk, OnOk, IfErr, OnErr, IsOk};
+ghost use Rattle.std.specs.List.{position_or_len};
+ghost use Rattle.std.specs.Option.{unwrap_or};
+ghost use Rattle.indexset_core.specs.Nodes.{joined};
+ghost use Rattle.indexset_core.specs.Order.{IsAscending};
+ghost use Rattle.indexset_log.specs.Attach.{attach_index, attached, attach_refusal};
+ghost use Rattle.indexset_log.specs.Nodes.{is_ascending};
+ghost use Rattle.indexset_log.specs.Replay.{reaches};
+
+use super::BTreeSet;
+use crate::locate::node_by;
+use indexset_core::node::NodeLike;
+use indexset_core::probe::ByItem;
+use indexset_core::refusal::{Refusal, Refused};
+
+impl<T: Ord + Clone + Drop, Node: NodeLike<T>> BTreeSet<T, Node> {
+    /// Takes a whole node in, in its place among the others. No event is given, and no number is used
+    /// up. A node is refused by the first of these that holds: it is `Empty`; it is `TooLarge`, with
+    /// more items than the node size; it is `Unsorted`, not strictly ascending; it `Overlaps`, where
+    /// it does not lie wholly before, after or between two neighbouring nodes. Want of `Memory` comes
+    /// after all others. A refused call hands the node back and changes nothing.
+    pub fn attach_node(&mut self, node: Node) -> Result<(), Refused<Node>>
+        ensures nodes { OnOk result (self.new.nodes ≡ attached T.cmp self.old.nodes (Node.list node)) }
+        ensures ascending { OnOk result (IsAscending T.cmp (joined self.new.nodes)) }
+        ensures count { OnOk result (length (joined self.new.nodes) ≡ length (joined self.old.nodes) + length (Node.list node)) }
+        ensures good { IsOk result → attach_refusal T.cmp self.old.size self.old.nodes (Node.list node) ≡ None }
+        ensures refusal { IfErr result (λ e. e.cause ≡ unwrap_or (attach_refusal T.cmp self.old.size self.old.nodes (Node.list node)) Refusal.Memory) }
+        ensures given_back { IfErr result (λ e. e.value ≡ node) }
+        ensures size { self.new.size ≡ self.old.size }
+        ensures next { self.new.next ≡ self.old.next }
+        ensures unchanged { OnErr result (self.new ≡ self.old) }
+    {
+        let place = match self.attach_place(&node) {
+            Ok(place) => place,
+            Err(cause) => return Err(Refused { value: node, cause }),
+        };
+        let count = node.len();
+        match self.nodes.insert(place, node) {
+            Ok(()) => {
+                self.len += count;
+                Ok(())
+            }
+            Err(refused) => Err(Refused {
+                value: refused.value,
+                cause: Refusal::Memory,
+            }),
+        }
+    }
+
+    // Where a node goes among the others, if it may.
+    fn attach_place(&self, node: &Node) -> Result<usize, Refusal>
+        ensures place { IfOk result (λ place. place ≡ attach_index T.cmp self.now.nodes (Node.list node.now)) }
+        ensures good { OnOk result (attach_refusal T.cmp self.now.size self.now.nodes (Node.list node.now) ≡ None) }
+        ensures fits { OnOk result (length (joined self.now.nodes) + length (Node.list node.now) ≤ usize.MAX) }
+        ensures refusal { IfErr result (λ e. e ≡ unwrap_or (attach_refusal T.cmp self.now.size self.now.nodes (Node.list node.now)) Refusal.Memory) }
+    {
+        let items = node.iter().as_slice();
+        let Some(first) = items.first() else {
+            return Err(Refusal::Empty);
+        };
+        if items.len() > self.size {
+            return Err(Refusal::TooLarge);
+        }
+        if !is_ascending(items) {
+            return Err(Refusal::Unsorted);
+        }
+        let place = self.nodes_below(first);
+        if place < self.nodes.len() {
+            let next = self.nodes[place].iter().as_slice();
+            if !items[items.len() - 1].cmp(&next[0]).is_lt() {
+                return Err(Refusal::Overlaps);
+            }
+        }
+        if items.len() > usize::MAX - self.len {
+            return Err(Refusal::Memory);
+        }
+        Ok(place)
+    }
+
+    // How many nodes end below an item.
+    fn nodes_below(&self, value: &T) -> usize
+        ensures { result ≡ position_or_len (reaches T.cmp value.now) self.now.nodes }
+    {
+        if self.nodes.is_empty() {
+            return 0;
+        }
+        let node = node_by(self.nodes.as_slice(), &mut ByItem::new(value));
+        match self.nodes[node].max() {
+            Some(last) if last.cmp(value).is_lt() => node + 1,
+            _ => node,
+        }
+    }
+}
+
+// Whether each item is below the next.
+fn is_ascending<T: Ord>(items: &[T]) -> bool
+    ensures { result ≡ is_ascending T.cmp items.now }
+{
+    items.is_sorted_by(|item, next| item.cmp(next).is_lt())
+}

@@ -1,0 +1,29 @@
+-- A walk that lends one value a call, without its key.
+use Rattle.std.specs.Prelude.{[], Option}
+use Rattle.std.specs.Borrow.{Fml, RattleType, MutBor, LendsIf}
+use Rattle.std.specs.declared.cmp.Ord as ord
+use Rattle.std.specs.declared.cmp.PartialEq as eq
+use Rattle.std.specs.declared.cmp.PartialOrd as partial
+use mir.Syntax.{named}
+use Rattle.indexset_map.specs.Walk.{after_first, before_last}
+use Rattle.indexset_map.specs.declared.map.iter_mut.IterMut.{IterMut}
+use Rattle.indexset_map.specs.declared.map.values_mut.ValuesMut.{ValuesMut}
+use Rattle.indexset_map.specs.contracts.map.values_mut.ValuesMut.{the_row}
+
+module _ {K V : Type 0} {g : ord.Ghosts K} {g' : eq.Ghosts K} {g'' : partial.Ghosts K} where
+  -- the walk over the pairs at the same positions
+  abbrev pub values_walk : ValuesMut K V g g' g'' → IterMut K V g g' g''
+  values_walk s = record { map = s.map; front = s.front; back = s.back; within = s.within }
+
+  -- the walk over the values at the same positions
+  abbrev pub values_of : IterMut K V g g' g'' → ValuesMut K V g g' g''
+  values_of s = record { map = s.map; front = s.front; back = s.back; within = s.within }
+
+module _ (K V : RattleType) {g : ord.Ghosts K.Denot} {g' : eq.Ghosts K.Denot} {g'' : partial.Ghosts K.Denot} (s : MutBor (ValuesMut K.Denot V.Denot g g' g'')) where
+  -- once the borrow r ends, the walk is past its first value, which is the last one written through r; at `None` it stays
+  abbrev pub lends_next_value : Option (MutBor V.Denot) → Fml
+  lends_next_value r = LendsIf (the_row (record { mir = named 1; lft = [] }) K V g g' g'' (record {})) V s r (λ w. values_of (after_first (values_walk s.now) w)) s.now
+
+  -- the same at the last value
+  abbrev pub lends_next_value_back : Option (MutBor V.Denot) → Fml
+  lends_next_value_back r = LendsIf (the_row (record { mir = named 1; lft = [] }) K V g g' g'' (record {})) V s r (λ w. values_of (before_last (values_walk s.now) w)) s.now

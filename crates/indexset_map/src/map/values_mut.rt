@@ -1,0 +1,75 @@
+//! A walk that lends the values of a map one at a time, without their keys.
+ghost use Rattle.std.specs.Prelude.{◌≡◌, ◌-◌, ◌<◌, ◌≤◌, Some, length, slice_get, MatchOption};
+ghost use Rattle.std.specs.Borrow.{sem};
+ghost use Rattle.std.specs.Option.{option_map};
+
+use super::BTreeMap;
+
+/// The values of a map that are left, each to write, from both ends.
+///
+/// ```
+/// let mut values = map.values_mut();
+/// while let Some(value) = values.next() {
+///     *value = value.saturating_add(10);
+/// }
+/// ```
+#[derive(Drop)]
+pub struct ValuesMut<'a, K: Ord, V> {
+    map: &'a mut BTreeMap<K, V>,
+    front: usize,
+    back: usize,
+    ghost within: { back ≤ length map.now.pairs },
+}
+
+impl<K: Ord, V> BTreeMap<K, V> {
+    ghost use Rattle.indexset_map.specs.Walk.{walk_back, walk_front, walk_map};
+    ghost use Rattle.indexset_map.specs.ValuesWalk.{values_walk};
+
+    /// The values in the order of their keys, each to write.
+    pub fn values_mut(&mut self) -> ValuesMut<'_, K, V>
+        ensures same_map { (walk_map (values_walk result)).ghost_name ≡ self.entry.ghost_name }
+        ensures unchanged { (walk_map (values_walk result)).now ≡ self.old }
+        ensures front { walk_front (values_walk result) ≡ 0 }
+        ensures back { walk_back (values_walk result) ≡ length self.old.pairs }
+    {
+        let back = self.len();
+        ValuesMut {
+            map: self,
+            front: 0,
+            back,
+        }
+    }
+}
+
+impl<'a, K: Ord, V> ValuesMut<'a, K, V> {
+    ghost use Rattle.indexset_map.specs.Walk.{walk_back, walk_front, walk_map};
+    ghost use Rattle.indexset_map.specs.ValuesWalk.{lends_next_value, lends_next_value_back, values_walk};
+
+    /// The next value, to write, where one is left.
+    pub fn next(&mut self) -> Option<&mut V>
+        ensures* writes_back { sem 𝓛 (lends_next_value K.row V.row self.entry result) }
+        ensures value { let s = values_walk self.old in MatchOption result (walk_back s ≤ walk_front s) (λ r. (walk_front s < walk_back s) × (option_map (λ p. p.value) (slice_get (walk_map s).now.pairs (walk_front s)) ≡ Some r.now)) }
+    {
+        if self.front < self.back {
+            let i = self.front;
+            self.front = i + 1;
+            Some(self.map.value_at_mut(i))
+        } else {
+            None
+        }
+    }
+
+    /// The last value that is left, to write.
+    pub fn next_back(&mut self) -> Option<&mut V>
+        ensures* writes_back { sem 𝓛 (lends_next_value_back K.row V.row self.entry result) }
+        ensures value { let s = values_walk self.old in MatchOption result (walk_back s ≤ walk_front s) (λ r. (walk_front s < walk_back s) × (option_map (λ p. p.value) (slice_get (walk_map s).now.pairs (walk_back s - 1)) ≡ Some r.now)) }
+    {
+        if self.front < self.back {
+            let i = self.back - 1;
+            self.back = i;
+            Some(self.map.value_at_mut(i))
+        } else {
+            None
+        }
+    }
+}

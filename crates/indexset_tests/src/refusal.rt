@@ -1,0 +1,41 @@
+//! How refusals are shown and passed on.
+
+use indexset_core::refusal::{Refusal, Refused};
+use std::alloc::Global;
+use std::error::Error;
+use std::test::Fail;
+
+/// What any error says.
+fn told<E: Error>(alloc: Global, error: E) -> Result<String, Fail> {
+    let text = format!(in alloc; "{error} ({error:?})")?;
+    Ok(text)
+}
+
+/// Passes a refusal's cause on by `?`.
+fn cause_of(value: Result<(), Refused<u64>>) -> Result<(), Refusal> {
+    value?;
+    Ok(())
+}
+
+#[test]
+fn shown_by_their_cause(rt: HostRuntime) -> Result<(), Fail> {
+    let gap = told(rt.alloc(), Refusal::Gap)?;
+    assert_eq!(rt; gap.as_str(), "the event's number is not the next (Gap)");
+    let refused = Refused {
+        value: 7u64,
+        cause: Refusal::Memory,
+    };
+    let text = told(rt.alloc(), refused)?;
+    assert_eq!(rt;
+        text.as_str(),
+        "memory was refused (Refused { cause: Memory, .. })"
+    );
+    Ok(())
+}
+
+#[test]
+fn passed_on_by_their_cause(rt: HostRuntime) {
+    let cause = Refusal::Numbers;
+    let refused = Err(Refused { value: 7, cause });
+    assert_eq!(rt; cause_of(refused), Err(Refusal::Numbers));
+}
