@@ -261,12 +261,12 @@ module _ {T : Type 0} (cmp : T → T → Ordering) (ns : List (List T)) (next : 
   unfolding apply_refusal
   refusal_law o rule = (
     λ none.
-    let number = else_none (not (event_number e == next)) Gap (if next == MAX then Some Numbers else misfit cmp ns (unassigned e)) none in
-    let last = else_none (next == MAX) Numbers (misfit cmp ns (unassigned e)) number.1 in
-    let made = edit_some cmp ns (unassigned e) last.1 in
-    let stepped = edited_step cmp o ns (unassigned e) made.0 rule (record { fits = last.1; edited = made.1 }) in
-    (eqb-true (event_number e) next (not-false _ number.0), eqb-false next MAX last.0, rw stepped refl),
+        let number = else_none (not (event_number e == next)) Gap (if next == MAX then Some Numbers else misfit cmp ns (unassigned e)) none in
+        let last = else_none (next == MAX) Numbers (misfit cmp ns (unassigned e)) number.1 in
+        let made = edit_some cmp ns (unassigned e) last.1 in
+        let stepped = edited_step cmp o ns (unassigned e) made.0 rule (record { fits = last.1; edited = made.1 }) in
+        (eqb-true (event_number e) next (not-false _ number.0), eqb-false next MAX last.0, rw stepped refl),
     λ h.
-    let made = some_is (step cmp ns e) h.2 in
-    misfit_refused h.0 h.1 ∙ step_fits cmp ns (unassigned e) made.0 made.1,
+        let made = some_is (step cmp ns e) h.2 in
+        misfit_refused h.0 h.1 ∙ step_fits cmp ns (unassigned e) made.0 made.1,
   )

@@ -3,6 +3,8 @@
 #![tactic(auto)]
 
 #[cfg(test)]
+mod logged_run;
+#[cfg(test)]
 mod node;
 #[cfg(test)]
 mod probe;
@@ -12,6 +14,8 @@ mod program;
 mod readme;
 #[cfg(test)]
 mod refusal;
+#[cfg(test)]
+mod replica;
 #[cfg(test)]
 mod run_set;
 #[cfg(test)]

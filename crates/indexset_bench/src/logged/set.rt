@@ -33,7 +33,9 @@ impl<T: Ord + Clone + Drop, Node: NodeLike<T>> Logged for BTreeSet<T, Node> {
     ghost use Rattle.indexset_bench.specs.LoggedSet.{logged_set_reply, logged_set_after, logged_set_events};
 
     type Item = T;
+
     type Command = LoggedSetCommand<T>;
+
     type Reply = LoggedSetReply<T>;
 
     ghost State = { List T };
