@@ -33,6 +33,9 @@ module _ {S C R : Type 0} {after : S → C → S} {reply : S → C → R} {s s' 
   pub count_of_replies : length replies + length rest ≡ length all
   count_of_replies = rw (far.told, length-scan after reply s done, ← far.given) (sym (length-append done rest))
 
+  pub count_of_done : length replies ≡ length done
+  count_of_done = rw far.told (length-scan after reply s done)
+
   -- one more command
   pub further : (c : C) (rest' : List C) (s'' : S) (replies' : List R) → rest ≡ c ∷ rest' → replies' ≡ replies ++ reply s' c ∷ [] → s'' ≡ after s' c → SoFar after reply s s'' (done ++ c ∷ []) rest' all replies'
   further c rest' s'' replies' next told held = record {

@@ -1,8 +1,11 @@
 pub mod CommandRuns
 pub mod Digits
 pub mod Lines
+pub mod LoggedRuns
+pub mod LoggedSets
 pub mod Meanings
 pub mod Pieces
+pub mod ReplicaAttach
 pub mod ReplicaEdits
 pub mod ReplicaNodes
 pub mod ReplicaSteps

@@ -191,6 +191,7 @@ module _ (make : ℕ → Command) (spelled : (n : ℕ) → spelling (make n) ≡
     where
       e : line ≡ word (make 0) ++ digits
       e = is_append (word (make 0)) line digits cut
+
       at : (o : Option ℕ) → IsNumberOf digits o → Means line (option_map make o)
       at (Some n) h = (e ∙ ap (λ ds. word (make 0) ++ ds) h.0 ∙ sym (spelled n), (fits n).0 h.1)
       at None h = λ c fit is.
@@ -200,12 +201,16 @@ module _ (make : ℕ → Command) (spelled : (n : ℕ) → spelling (make n) ≡
 
 pub added : Tells Add
 added = numbered Add (λ n. refl) (λ n. refl) (λ n. ((λ h. h), (λ h. h)))
+
 pub deleted : Tells Del
 deleted = numbered Del (λ n. refl) (λ n. refl) (λ n. ((λ h. h), (λ h. h)))
+
 pub asked : Tells Has
 asked = numbered Has (λ n. refl) (λ n. refl) (λ n. ((λ h. h), (λ h. h)))
+
 pub ranked : Tells Rank
 ranked = numbered Rank (λ n. refl) (λ n. refl) (λ n. ((λ h. h), (λ h. h)))
+
 pub placed_at : Tells At
 placed_at = numbered At (λ n. refl) (λ n. refl) (λ n. ((λ h. h), (λ h. h)))
 

@@ -15,7 +15,7 @@ use Rattle.indexset_log.specs.Nodes.{is_filled, last_of, is_ascending, are_nodes
 use Rattle.indexset_log.specs.Replay.{edit, has_name, node_named, reaches, step_plain}
 use Rattle.indexset_log.specs.declared.change.ChangeEventUnassigned.{ChangeEventUnassigned}
 use Rattle.indexset_log.specs.declared.change.ChangeEventUnassigned.TheVariants.{InsertAt, RemoveAt, CreateNode, RemoveNode, SplitNode}
-use Rattle.indexset_log.proofs.CallerLemmas.{Ruled, Each, Up, ruled_tested, node_is, tested_ruled}
+use Rattle.indexset_log.proofs.CallerLemmas.{node_is}
 use Rattle.indexset_bench.specs.Replica.{IsEdit, misfit}
 
 some_inj : {X : Type 0} {x y : X} → Some x ≡ Some y → x ≡ y
@@ -28,9 +28,6 @@ ne_eq Greater = refl
 
 remove_splice : {X : Type 0} (xs : List X) (p : ℕ) → remove xs p ≡ splice xs p (p + 1) []
 remove_splice xs p = rw add-one refl
-
-pub map_insert : {X Y : Type 0} (f : X → Y) (xs : List X) (k : ℕ) (x : X) → map f (insert xs k x) ≡ insert (map f xs) k (f x)
-map_insert f xs k x = map-append f (take k xs) (x ∷ drop k xs) ∙ rw (take-map f k xs, drop-map f k xs) refl
 
 set_splice : {X : Type 0} (xs : List X) (p : ℕ) (x : X) → p < length xs → set xs p x ≡ splice xs p (p + 1) (x ∷ [])
 set_splice xs p x lt = rw add-one (set_split xs p x lt)

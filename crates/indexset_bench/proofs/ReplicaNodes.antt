@@ -18,25 +18,28 @@ use Rattle.indexset_core.specs.Order.{IsAscending, IsFoundAt, IsGapFor, has_equa
 use Rattle.indexset_core.proofs.CallerLemmas.{found_has_equal, gap_has_equal, joined-append, joined-splice, joined_around, less_from, slice_get-right}
 use Rattle.indexset_log.specs.Nodes.{is_filled, last_of, is_ascending}
 use Rattle.indexset_log.specs.Replay.{has_name, node_named, reaches}
-use Rattle.indexset_log.proofs.CallerLemmas.{Ruled, Each, Up, all_each, ascends, at_place, each-append, each-left, each-map, each-right, each_all, each_last, filled_length, greater, last_some, lens_from, node_is, length_filled, not_reaching, over_rest, place_none, position_at, reached, reaching, true_up, unnamed, up-between, up-left, up-right, up_put, up_true, upto_last}
+use Rattle.indexset_log.proofs.CallerLemmas.{Ruled, Each, Up, ascends, at_place, each-append, each-left, each-map, each-right, each_all, each_last, filled_length, greater, last_some, node_is, length_filled, not_reaching, over_rest, place_none, position_at, reached, reaching, true_up, unnamed, up-between, up-left, up-right, up_put, up_true, upto_last, nodes_each}
 use Rattle.indexset_bench.specs.Replica.{first_item, is_between, last_item}
 
--- ---- the two ways to say that nodes are nodes
+pub filled_each : {T : Type 0} (ns : List (List T)) → All (λ n. 1 ≤ n) (node_lengths ns) → Each (λ n. is_filled n ≡ true) ns
+filled_each ns h = each-map _ _ (λ n. length_filled n) ns (nodes_each (λ n. 1 ≤ n) ns h)
 
-filled_each : {T : Type 0} (ns : List (List T)) → All (λ n. 1 ≤ n) (node_lengths ns) → Each (λ n. is_filled n ≡ true) ns
-filled_each [] h = tt
-filled_each (n ∷ ns) h = (length_filled n (h 0 0 (omega arith)), filled_each ns (λ k d lt. h (suc k) d (omega arith)))
+-- the first item from a place on is that of the node there
+pub next_is : {T : Type 0} (ns : List (List T)) → Each (λ n. is_filled n ≡ true) ns → (k : ℕ) → first_item (joined (drop k ns)) ≡ first_item (node_at ns k)
+next_is [] full zero = refl
+next_is [] full (suc k) = refl
+next_is ([] ∷ ns) full zero = absurd (false≢true full.0)
+next_is ((x ∷ n) ∷ ns) full zero = refl
+next_is (n ∷ ns) full (suc k) = next_is ns full.1 k
 
-module _ {T : Type 0} (cmp : T → T → Ordering) where
-  ups : (l : List T) → IsAscending cmp l → Up cmp l
-  ups [] h = tt
-  ups (x ∷ xs) h = (all_each (λ y. cmp x y ≡ Less) xs (λ k d lt. h 0 (suc k) d (omega arith) (omega arith)), ups xs (λ a b d lt inside. h (suc a) (suc b) d (omega arith) (omega arith)))
-
-  pub cut_of : (ns : List (List T)) → IsNodeList cmp ns → Ruled cmp ns
-  cut_of ns h = record { filled = filled_each ns h.filled; up = ups (joined ns) h.ascending }
-
-  pub list_of : (ns : List (List T)) → Ruled cmp ns → IsNodeList cmp ns
-  list_of ns h = record { filled = lens_from ns h.filled; ascending = ascends cmp (joined ns) h.up }
+pub none_next : {T : Type 0} (ns : List (List T)) → Each (λ n. is_filled n ≡ true) ns → (k : ℕ) → k ≤ length ns → first_item (node_at ns k) ≡ None → k ≡ length ns
+none_next [] full k within none = omega arith
+none_next ([] ∷ ns) full zero within none = absurd (false≢true full.0)
+none_next ((x ∷ n) ∷ ns) full zero within none = absurd (some_none none)
+  where
+    some_none : {X : Type 0} {x : X} → Some x ≡ None → ⊥
+    some_none e = cc
+none_next (n ∷ ns) full (suc k) within none = omega (arith, none_next ns full.1 k (omega arith) none)
 
 bool_same : (a b : Bool) → (a ≡ true → b ≡ true) → (b ≡ true → a ≡ true) → a ≡ b
 bool_same true b f g = sym (f refl)
@@ -120,20 +123,20 @@ module _ {T : Type 0} (cmp : T → T → Ordering) (o : IsTotalOrder cmp) (v : T
   pub parted : (P : List (List T) → ℕ → Type 0)
       → ((b a : List (List T)) → Each (λ x. cmp x v ≡ Less) (joined b) → Reached a → P (b ++ a) (length b))
       → (ns : List (List T)) → Ruled cmp ns → P ns (position_or_len (reaches cmp v) ns)
-  parted P hit [] cut = hit [] [] tt tt
-  parted P hit (n ∷ ns) cut =
+  parted P hit [] rule = hit [] [] tt tt
+  parted P hit (n ∷ ns) rule =
       elim (reaches cmp v n) as (λ t. reaches cmp v n ≡ t → P (n ∷ ns) (position_or_len (reaches cmp v) (n ∷ ns))) [
         | true ↦ λ e.
-            let stop = reaching cmp o v n cut.filled.0 e in
+            let stop = reaching cmp o v n rule.filled.0 e in
             let here : position_or_len (reaches cmp v) (n ∷ ns) ≡ 0 = rw e refl in
-            subst (λ k. P (n ∷ ns) k) (sym here) (hit [] (n ∷ ns) tt (e, stop, over_rest cmp o v n (joined ns) cut.filled.0 cut.up stop))
+            subst (λ k. P (n ∷ ns) k) (sym here) (hit [] (n ∷ ns) tt (e, stop, over_rest cmp o v n (joined ns) rule.filled.0 rule.up stop))
         | false ↦ λ e.
-            let low = upto_last cmp o n v v (up-left cmp n (joined ns) cut.up) (not_reaching cmp o v n cut.filled.0 e) in
+            let low = upto_last cmp o n v v (up-left cmp n (joined ns) rule.up) (not_reaching cmp o v n rule.filled.0 e) in
             let more : position_or_len (reaches cmp v) (n ∷ ns) ≡ suc (position_or_len (reaches cmp v) ns) = rw e (omega arith) in
             subst (λ k. P (n ∷ ns) k) (sym more)
             (parted (λ q k. P (n ∷ q) (suc k))
             (λ b a below on. hit (n ∷ b) a (each-append _ n (joined b) low below) on)
-            ns (record { filled = cut.filled.1; up = up-right cmp n (joined ns) cut.up }))
+            ns (record { filled = rule.filled.1; up = up-right cmp n (joined ns) rule.up }))
       ] refl
 
   all_reached : (a : List (List T)) → Each (λ n. is_filled n ≡ true) a → Reached a → Each (λ n. reaches cmp v n ≡ true) a
@@ -142,16 +145,16 @@ module _ {T : Type 0} (cmp : T → T → Ordering) (o : IsTotalOrder cmp) (v : T
 
   -- from that place on every node reaches v
   on_reached : (ns : List (List T)) → Ruled cmp ns → (j : ℕ) (d : List T) → position_or_len (reaches cmp v) ns ≤ j → j < length ns → reaches cmp v (get_or ns j d) ≡ true
-  on_reached ns cut =
+  on_reached ns rule =
       parted (λ q k. Each (λ n. is_filled n ≡ true) q → (j : ℕ) (d : List T) → k ≤ j → j < length q → reaches cmp v (get_or q j d) ≡ true)
       (λ b a low on full j d from inside.
       let full_on = all_reached a (each-right _ b a full) on in
       let size = length-append b a in
       rw (get_or-append_right b a j d from) (each_all _ a full_on (j - length b) d (omega arith)))
-      ns cut cut.filled
+      ns rule rule.filled
 
   -- the search over nodes as the code holds them
-  module _ {N : Type 0} (f : N → List T) (items : List N) (cut : Ruled cmp (map f items)) where
+  module _ {N : Type 0} (f : N → List T) (items : List N) (rule : Ruled cmp (map f items)) where
     read : (k : ℕ) (d : N) → k < length items → get_or (map f items) k (f d) ≡ f (get_or items k d)
     read k d lt = get_or-map f items k d (f d) lt
 
@@ -161,7 +164,7 @@ module _ {T : Type 0} (cmp : T → T → Ordering) (o : IsTotalOrder cmp) (v : T
         let long = length-map items f in
         elim (cases_lt j place) [
           | inl before ↦ rw (sym (read i d (omega arith)), fails_before_first (reaches cmp v) (map f items) i (f d) (omega arith)) refl
-          | inr from ↦ absurd (false≢true (rw (sym (read j d lt), on_reached (map f items) cut j (f d) from (omega arith)) at later))
+          | inr from ↦ absurd (false≢true (rw (sym (read j d lt), on_reached (map f items) rule j (f d) from (omega arith)) at later))
         ]
 
     pub place_is : (k : ℕ) → k ≤ length items → IsPartitionPoint (λ n. not (reaches cmp v (f n)) ≡ true) (λ n. not (reaches cmp v (f n)) ≡ false) items k → position_or_len (reaches cmp v) (map f items) ≡ k
@@ -181,20 +184,20 @@ module _ {T : Type 0} (cmp : T → T → Ordering) (o : IsTotalOrder cmp) (v : T
       (rw (full.0, greater cmp o _ v last) refl, unnamed_above a full.1 (each-right _ n (joined a) high))
 
   named_here : (ns : List (List T)) → Ruled cmp ns → let k = position_or_len (reaches cmp v) ns in k < length ns → has_name cmp v (node_at ns k) ≡ true → node_named cmp ns v ≡ Some k
-  named_here ns cut =
+  named_here ns rule =
       parted (λ q k. Each (λ n. is_filled n ≡ true) q → k < length q → has_name cmp v (node_at q k) ≡ true → node_named cmp q v ≡ Some k)
       (λ b a low on. here b a low)
-      ns cut cut.filled
+      ns rule rule.filled
     where
       here : (b a : List (List T)) → Each (λ x. cmp x v ≡ Less) (joined b) → Each (λ n. is_filled n ≡ true) (b ++ a) → length b < length (b ++ a) → has_name cmp v (node_at (b ++ a) (length b)) ≡ true → node_named cmp (b ++ a) v ≡ Some (length b)
       here b [] low full inside own = absurd (omega (arith, length-append b []))
       here b (n ∷ a) low full inside own = position_at (has_name cmp v) b n a (unnamed cmp o v b (each-left _ b (n ∷ a) full) low) (rw get_or-append_seam at own)
 
   named_not : (ns : List (List T)) → Ruled cmp ns → let k = position_or_len (reaches cmp v) ns in (k < length ns → has_name cmp v (node_at ns k) ≡ false) → node_named cmp ns v ≡ None
-  named_not ns cut =
+  named_not ns rule =
       parted (λ q k. Each (λ n. is_filled n ≡ true) q → (k < length q → has_name cmp v (node_at q k) ≡ false) → node_named cmp q v ≡ None)
       (λ b a low on. none b a low on)
-      ns cut cut.filled
+      ns rule rule.filled
     where
       nowhere : (q : List (List T)) → Each (λ n. has_name cmp v n ≡ false) q → node_named cmp q v ≡ None
       nowhere q h = rw (place_none (has_name cmp v) q h, le-ltb (length q) (length q) (omega arith)) refl
@@ -208,19 +211,19 @@ module _ {T : Type 0} (cmp : T → T → Ordering) (o : IsTotalOrder cmp) (v : T
           nowhere (b ++ n ∷ a) (each-append _ b (n ∷ a) (unnamed cmp o v b (each-left _ b (n ∷ a) full) low) (here, unnamed_above a rest.1 on.2))
 
   -- the same, as the code holds the nodes
-  module _ {N : Type 0} (f : N → List T) (items : List N) (cut : Ruled cmp (map f items)) (k : ℕ) (is : k ≡ position_or_len (reaches cmp v) (map f items)) where
+  module _ {N : Type 0} (f : N → List T) (items : List N) (rule : Ruled cmp (map f items)) (k : ℕ) (is : k ≡ position_or_len (reaches cmp v) (map f items)) where
     node_here : (n : N) → k < length items → n ≡ get_or items k n → node_at (map f items) (position_or_len (reaches cmp v) (map f items)) ≡ f n
     node_here n lt read = sym (node_is f items (map f items) k n refl lt read ∙ ap (λ j. node_at (map f items) j) is)
 
     pub named_when : (n : N) → k < length items → n ≡ get_or items k n → has_name cmp v (f n) ≡ true → node_named cmp (map f items) v ≡ Some k
     named_when n lt read own =
-        rw is (named_here (map f items) cut (omega (arith, is, length-map items f)) (rw (node_here n lt read) own))
+        rw is (named_here (map f items) rule (omega (arith, is, length-map items f)) (rw (node_here n lt read) own))
 
     pub unnamed_when : (n : N) → k < length items → n ≡ get_or items k n → has_name cmp v (f n) ≡ false → node_named cmp (map f items) v ≡ None
-    unnamed_when n lt read other = named_not (map f items) cut (λ _. rw (node_here n lt read) other)
+    unnamed_when n lt read other = named_not (map f items) rule (λ _. rw (node_here n lt read) other)
 
     pub unnamed_past : length items ≤ k → node_named cmp (map f items) v ≡ None
-    unnamed_past past = named_not (map f items) cut (λ inside. absurd (omega (arith, inside, is, length-map items f)))
+    unnamed_past past = named_not (map f items) rule (λ inside. absurd (omega (arith, inside, is, length-map items f)))
 
   -- ---- the item equal to a value
 
@@ -246,9 +249,9 @@ module _ {T : Type 0} (cmp : T → T → Ordering) (o : IsTotalOrder cmp) (v : T
   equal_in_node b (n ∷ a) low on = rw (get_or-append_seam, joined-append b (n ∷ a), has_equal-append (joined b) (n ++ joined a), none_low (joined b) low, has_equal-append n (joined a), none_high (joined a) on.2) (or-false (has_equal cmp n v))
 
   -- the same, as the code holds the nodes
-  module _ {N : Type 0} (f : N → List T) (items : List N) (cut : Ruled cmp (map f items)) (k : ℕ) (is : k ≡ position_or_len (reaches cmp v) (map f items)) where
+  module _ {N : Type 0} (f : N → List T) (items : List N) (rule : Ruled cmp (map f items)) (k : ℕ) (is : k ≡ position_or_len (reaches cmp v) (map f items)) where
     equal_here : has_equal cmp (joined (map f items)) v ≡ has_equal cmp (node_at (map f items) k) v
-    equal_here = rw is (parted (λ q j. has_equal cmp (joined q) v ≡ has_equal cmp (node_at q j) v) equal_in_node (map f items) cut)
+    equal_here = rw is (parted (λ q j. has_equal cmp (joined q) v ≡ has_equal cmp (node_at q j) v) equal_in_node (map f items) rule)
 
     pub equal_when : (n : N) → k < length items → n ≡ get_or items k n → has_equal cmp (joined (map f items)) v ≡ has_equal cmp (f n) v
     equal_when n lt read = equal_here ∙ ap (λ q. has_equal cmp q v) (sym (node_is f items (map f items) k n refl lt read))
@@ -293,17 +296,17 @@ module _ {T : Type 0} (cmp : T → T → Ordering) (o : IsTotalOrder cmp) (v : T
 
   -- a value put into a node, or into a node of its own
   pub fits_node : (ns : List (List T)) → Ruled cmp ns → (p : ℕ) → p < length ns → (i : ℕ) → let n = node_at ns p in is_ascending cmp (joined (splice ns p (p + 1) (insert n i v ∷ []))) ≡ is_between cmp (option_or (last_item (take i n)) (last_item (joined (take p ns)))) v (option_or (first_item (drop i n)) (first_item (joined (drop (p + 1) ns))))
-  fits_node ns cut p inside i =
+  fits_node ns rule p inside i =
       let n = node_at ns p in
       let b = joined (take p ns) in
       let a = joined (drop (p + 1) ns) in
       let whole : (b ++ take i n) ++ (drop i n ++ a) ≡ joined ns = append_assoc b (take i n) (drop i n ++ a) ∙ (ap (λ q. b ++ q) (sym (append_assoc (take i n) (drop i n) a) ∙ ap (λ q. q ++ a) (take-append-drop i n)) ∙ sym (joined_around ns p inside)) in
       let made : joined (splice ns p (p + 1) (insert n i v ∷ [])) ≡ (b ++ take i n) ++ v ∷ (drop i n ++ a) = joined-splice ns (insert n i v ∷ []) p (p + 1) ∙ simp (append_assoc, append-nil) in
-      rw made (between (b ++ take i n) (drop i n ++ a) (subst (Up cmp) (sym whole) cut.up) ∙ rw (last_item-append b (take i n), first_item-append (drop i n) a) refl)
+      rw made (between (b ++ take i n) (drop i n ++ a) (subst (Up cmp) (sym whole) rule.up) ∙ rw (last_item-append b (take i n), first_item-append (drop i n) a) refl)
 
   pub fits_alone : (ns : List (List T)) → Ruled cmp ns → (p : ℕ) → is_ascending cmp (joined (insert ns p (v ∷ []))) ≡ is_between cmp (last_item (joined (take p ns))) v (first_item (joined (drop p ns)))
-  fits_alone ns cut p =
+  fits_alone ns rule p =
       let b = joined (take p ns) in
       let a = joined (drop p ns) in
       let whole : b ++ a ≡ joined ns = sym (joined-append (take p ns) (drop p ns)) ∙ ap joined (take-append-drop p ns) in
-      rw (joined-append (take p ns) ((v ∷ []) ∷ drop p ns)) (between b a (subst (Up cmp) (sym whole) cut.up))
+      rw (joined-append (take p ns) ((v ∷ []) ∷ drop p ns)) (between b a (subst (Up cmp) (sym whole) rule.up))

@@ -16,7 +16,7 @@ use Rattle.indexset_log.specs.Replay.{at_named, edit, event_number, node_named, 
 use Rattle.indexset_log.specs.declared.change.ChangeEvent.{ChangeEvent}
 use Rattle.indexset_log.specs.declared.change.ChangeEventUnassigned.{ChangeEventUnassigned}
 use Rattle.indexset_log.specs.declared.change.ChangeEventUnassigned.TheVariants.{InsertAt, RemoveAt, CreateNode, RemoveNode, SplitNode}
-use Rattle.indexset_log.proofs.CallerLemmas.{At, Ruled, Each, Up, at_ruled, at_place, ruled_at, ruled_tested, each-append, each-left, each-right, edit_step, filled-append, length_filled, remove_at, remove_node_step, remove_step, splice_at, split_step, tested_ruled, true_up, up_true}
+use Rattle.indexset_log.proofs.CallerLemmas.{At, Ruled, Each, Up, at_ruled, at_place, ruled_at, each-append, each-left, each-right, edit_step, filled-append, length_filled, remove_at, remove_node_step, remove_step, splice_at, split_step, tested_ruled, true_up, up_true}
 use Rattle.indexset_bench.proofs.ReplicaEdits.{named_inside}
 use Rattle.indexset_bench.specs.Replica.{IsEdit, apply_refusal, disorder, in_named, misfit}
 
@@ -69,8 +69,8 @@ module _ {T : Type 0} (cmp : T → T → Ordering) where
 
   -- ---- nodes after an edit
 
-  ordered_cut : (r : List (List T)) → Each (λ n. is_filled n ≡ true) r → is_ascending cmp (joined r) ≡ true → Ruled cmp r
-  ordered_cut r full asc = record { filled = full; up = true_up cmp (joined r) asc }
+  ordered_ruled : (r : List (List T)) → Each (λ n. is_filled n ≡ true) r → is_ascending cmp (joined r) ≡ true → Ruled cmp r
+  ordered_ruled r full asc = record { filled = full; up = true_up cmp (joined r) asc }
 
   in_order : (r : List (List T)) → disorder cmp (Some r) ≡ None → is_ascending cmp (joined r) ≡ true
   in_order r =
@@ -107,47 +107,47 @@ module _ {T : Type 0} (cmp : T → T → Ordering) where
 
   module _ (o : IsTotalOrder cmp) where
     -- a node made into parts, whatever stands around it
-    parts_cut : (parts : List (List T)) (ns : List (List T)) (p : ℕ) (n : List T) → slice_get ns p ≡ Some n → ((b a : List (List T)) → At cmp o b n a → Ruled cmp (b ++ (parts ++ a))) → Ruled cmp ns → Ruled cmp (splice ns p (p + 1) parts)
-    parts_cut parts =
+    parts_ruled : (parts : List (List T)) (ns : List (List T)) (p : ℕ) (n : List T) → slice_get ns p ≡ Some n → ((b a : List (List T)) → At cmp o b n a → Ruled cmp (b ++ (parts ++ a))) → Ruled cmp ns → Ruled cmp (splice ns p (p + 1) parts)
+    parts_ruled parts =
         at_place (λ q j m. ((b a : List (List T)) → At cmp o b m a → Ruled cmp (b ++ (parts ++ a))) → Ruled cmp q → Ruled cmp (splice q j (j + 1) parts))
-        (λ b m a f cut. rw (splice_at b m a parts) (f b a (ruled_at cmp o b m a cut)))
+        (λ b m a f rule. rw (splice_at b m a parts) (f b a (ruled_at cmp o b m a rule)))
 
-    removed_cut : (n : List T) (i : ℕ) (x : T) → slice_get n i ≡ Some x → 2 ≤ length n → (b a : List (List T)) → At cmp o b n a → Ruled cmp (b ++ remove n i ∷ a)
-    removed_cut =
+    removed_ruled : (n : List T) (i : ℕ) (x : T) → slice_get n i ≡ Some x → 2 ≤ length n → (b a : List (List T)) → At cmp o b n a → Ruled cmp (b ++ remove n i ∷ a)
+    removed_ruled =
         at_place (λ q j y. 2 ≤ length q → (b a : List (List T)) → At cmp o b q a → Ruled cmp (b ++ remove q j ∷ a))
         (λ l x r two b a at.
         let some : is_filled (l ++ r) ≡ true = length_filled (l ++ r) (omega (arith, length-append l (x ∷ r), length-append l r)) in
         rw (remove_at l x r) (at_ruled cmp o b (l ++ r) a (remove_step cmp o b a l x r x at some).0))
 
-    split_cut : (n : List T) (k : ℕ) → 0 < k → k < length n → (b a : List (List T)) → At cmp o b n a → Ruled cmp (b ++ take k n ∷ drop k n ∷ a)
-    split_cut n k some inside b a at =
+    split_ruled : (n : List T) (k : ℕ) → 0 < k → k < length n → (b a : List (List T)) → At cmp o b n a → Ruled cmp (b ++ take k n ∷ drop k n ∷ a)
+    split_ruled n k some inside b a at =
         let whole : take k n ++ drop k n ≡ n = take-append-drop k n in
         let left : is_filled (take k n) ≡ true = length_filled (take k n) (rw (length-take k n) (omega arith)) in
         let right : is_filled (drop k n) ≡ true = length_filled (drop k n) (rw (length-drop k n) (omega arith)) in
         with_item n at.here (λ d. (split_step cmp o b a (take k n) (drop k n) d (subst (λ q. At cmp o b q a) (sym whole) at) left right).0)
 
-    pub edited_cut : (ns : List (List T)) (e : ChangeEventUnassigned T) (r : List (List T)) → Ruled cmp ns → IsEdit cmp ns e r → Ruled cmp r
+    pub edited_ruled : (ns : List (List T)) (e : ChangeEventUnassigned T) (r : List (List T)) → Ruled cmp ns → IsEdit cmp ns e r → Ruled cmp r
     unfolding misfit
-    edited_cut ns (CreateNode m) r cut h =
+    edited_ruled ns (CreateNode m) r rule h =
         let same : insert ns (position_or_len (reaches cmp m) ns) (m ∷ []) ≡ r = some_inj h.edited in
         let p = position_or_len (reaches cmp m) ns in
-        subst (Ruled cmp) same (ordered_cut (insert ns p (m ∷ [])) (full_around ns p p ((m ∷ []) ∷ []) cut.filled (refl, tt)) (in_order (insert ns p (m ∷ [])) h.fits))
-    edited_cut ns (RemoveNode m) r cut h =
+        subst (Ruled cmp) same (ordered_ruled (insert ns p (m ∷ [])) (full_around ns p p ((m ∷ []) ∷ []) rule.filled (refl, tt)) (in_order (insert ns p (m ∷ [])) h.fits))
+    edited_ruled ns (RemoveNode m) r rule h =
         let at = named_parts ns m (λ n. Some []) r h.edited in
         let none : [] ≡ at.1 = some_inj at.3 in
         let p = at.0 in
-        let made = parts_cut [] ns p (node_at ns p) (named_read ns m p at.2)
+        let made = parts_ruled [] ns p (node_at ns p) (named_read ns m p at.2)
         (λ b a here. with_item (node_at ns p) here.here (λ d. (remove_node_step cmp o b a (node_at ns p) d here).0))
-        cut in
+        rule in
         subst (Ruled cmp) (ap (splice ns p (p + 1)) none ∙ at.4) made
-    edited_cut ns (InsertAt m v i) r cut h =
+    edited_ruled ns (InsertAt m v i) r rule h =
         let at = named_parts ns m (λ n. if leb i (length n) then Some (insert n i v ∷ []) else None) r h.edited in
         let p = at.0 in
         let made = if_some (leb i (length (node_at ns p))) (insert (node_at ns p) i v ∷ []) at.1 at.3 in
         let same : splice ns p (p + 1) (insert (node_at ns p) i v ∷ []) ≡ r = ap (splice ns p (p + 1)) made.1 ∙ at.4 in
-        let full = full_around ns p (p + 1) (insert (node_at ns p) i v ∷ []) cut.filled (filled-append (take i (node_at ns p)) v (drop i (node_at ns p)), tt) in
-        ordered_cut r (subst (Each (λ n. is_filled n ≡ true)) same full) (insert_order ns m v i r h.fits h.edited)
-    edited_cut ns (RemoveAt m v i) r cut h =
+        let full = full_around ns p (p + 1) (insert (node_at ns p) i v ∷ []) rule.filled (filled-append (take i (node_at ns p)) v (drop i (node_at ns p)), tt) in
+        ordered_ruled r (subst (Each (λ n. is_filled n ≡ true)) same full) (insert_order ns m v i r h.fits h.edited)
+    edited_ruled ns (RemoveAt m v i) r rule h =
         let at = named_parts ns m (λ n. if (leb 2 (length n) && ltb i (length n)) && is_eq (cmp (get_or n i v) v) then Some (remove n i ∷ []) else None) r h.edited in
         let p = at.0 in
         let n = node_at ns p in
@@ -155,19 +155,19 @@ module _ {T : Type 0} (cmp : T → T → Ordering) where
         let tests = and_parts (leb 2 (length n) && ltb i (length n)) (is_eq (cmp (get_or n i v) v)) made.0 in
         let sizes = and_parts (leb 2 (length n)) (ltb i (length n)) tests.0 in
         let inside = ltb-true i (length n) sizes.1 in
-        let done = parts_cut (remove n i ∷ []) ns p n (named_read ns m p at.2) (removed_cut n i (get_or n i v) (slice_get-get_or n i v inside) (leb-true 2 (length n) sizes.0)) cut in
+        let done = parts_ruled (remove n i ∷ []) ns p n (named_read ns m p at.2) (removed_ruled n i (get_or n i v) (slice_get-get_or n i v inside) (leb-true 2 (length n) sizes.0)) rule in
         subst (Ruled cmp) (ap (splice ns p (p + 1)) made.1 ∙ at.4) done
-    edited_cut ns (SplitNode m k) r cut h =
+    edited_ruled ns (SplitNode m k) r rule h =
         let at = named_parts ns m (λ n. if ltb 0 k && ltb k (length n) then Some (take k n ∷ drop k n ∷ []) else None) r h.edited in
         let p = at.0 in
         let n = node_at ns p in
         let made = if_some (ltb 0 k && ltb k (length n)) (take k n ∷ drop k n ∷ []) at.1 at.3 in
         let tests = and_parts (ltb 0 k) (ltb k (length n)) made.0 in
-        let done = parts_cut (take k n ∷ drop k n ∷ []) ns p n (named_read ns m p at.2) (split_cut n k (ltb-true 0 k tests.0) (ltb-true k (length n) tests.1)) cut in
+        let done = parts_ruled (take k n ∷ drop k n ∷ []) ns p n (named_read ns m p at.2) (split_ruled n k (ltb-true 0 k tests.0) (ltb-true k (length n) tests.1)) rule in
         subst (Ruled cmp) (ap (splice ns p (p + 1)) made.1 ∙ at.4) done
 
     pub edited_step : (ns : List (List T)) (e : ChangeEventUnassigned T) (r : List (List T)) → Ruled cmp ns → IsEdit cmp ns e r → step_plain cmp ns e ≡ Some r
-    edited_step ns e r cut h = edit_step cmp o ns e r h.edited (edited_cut ns e r cut h)
+    edited_step ns e r rule h = edit_step cmp o ns e r h.edited (edited_ruled ns e r rule h)
 
   -- ---- an event that fits has an edit, and a step fits
 
@@ -239,8 +239,8 @@ module _ {T : Type 0} (cmp : T → T → Ordering) where
   step_fits ns e r h =
       let made = then_some (edit cmp ns e) (λ r. if are_nodes cmp r then Some r else None) r h in
       let nodes = if_some (are_nodes cmp made.0) made.0 r made.2 in
-      let cut = tested_ruled cmp made.0 nodes.0 in
-      fits_by ns e made.0 made.1 (up_true cmp (joined made.0) cut.up)
+      let rule = tested_ruled cmp made.0 nodes.0 in
+      fits_by ns e made.0 made.1 (up_true cmp (joined made.0) rule.up)
 
 -- ---- the number of an event, and what it does
 
@@ -259,14 +259,14 @@ module _ {T : Type 0} (cmp : T → T → Ordering) (ns : List (List T)) (next : 
 
   pub refusal_law : IsTotalOrder cmp → Ruled cmp ns → (apply_refusal cmp ns next e ≡ None) ↔ ((event_number e ≡ next) × (next ≢ MAX) × (is_some (step cmp ns e) ≡ true))
   unfolding apply_refusal
-  refusal_law o cut = (
+  refusal_law o rule = (
     λ none.
-    let number = else_none (not (event_number e == next)) Gap (if next == MAX then Some Numbers else misfit cmp ns (unassigned e)) none in
-    let last = else_none (next == MAX) Numbers (misfit cmp ns (unassigned e)) number.1 in
-    let made = edit_some cmp ns (unassigned e) last.1 in
-    let stepped = edited_step cmp o ns (unassigned e) made.0 cut (record { fits = last.1; edited = made.1 }) in
-    (eqb-true (event_number e) next (not-false _ number.0), eqb-false next MAX last.0, rw stepped refl),
+        let number = else_none (not (event_number e == next)) Gap (if next == MAX then Some Numbers else misfit cmp ns (unassigned e)) none in
+        let last = else_none (next == MAX) Numbers (misfit cmp ns (unassigned e)) number.1 in
+        let made = edit_some cmp ns (unassigned e) last.1 in
+        let stepped = edited_step cmp o ns (unassigned e) made.0 rule (record { fits = last.1; edited = made.1 }) in
+        (eqb-true (event_number e) next (not-false _ number.0), eqb-false next MAX last.0, rw stepped refl),
     λ h.
-    let made = some_is (step cmp ns e) h.2 in
-    misfit_refused h.0 h.1 ∙ step_fits cmp ns (unassigned e) made.0 made.1,
+        let made = some_is (step cmp ns e) h.2 in
+        misfit_refused h.0 h.1 ∙ step_fits cmp ns (unassigned e) made.0 made.1,
   )

@@ -1,6 +1,7 @@
 pub mod Command
 pub mod Fault
 pub mod Lines
+pub mod LoggedSet
 pub mod MapRun
 pub mod Reading
 pub mod Replica

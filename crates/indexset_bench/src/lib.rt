@@ -8,6 +8,8 @@ pub mod laws;
 mod line;
 pub mod map_run;
 mod perform;
+pub mod logged;
+pub mod logged_run;
 mod program;
 pub mod replica;
 mod reply;

@@ -1,9 +1,10 @@
 //! A copy of a tree's nodes that follows the tree by its events.
-ghost use Rattle.std.specs.Prelude.{◌≡◌, ◌≢◌, ◌+◌, ◌<◌, [], None, Some, OnOk, IfErr, OnErr, unwrap_or};
+ghost use Rattle.std.specs.Prelude.{◌≡◌, ◌+◌, [], length, None, Some, OnOk, IfErr, OnErr, unwrap_or};
 ghost use Rattle.indexset_core.specs.Nodes.{joined, IsNodeList};
 ghost use Rattle.indexset_core.specs.Order.{has_equal};
 ghost use Rattle.indexset_spine.specs.Cut.{vec_items};
 ghost use Rattle.indexset_bench.specs.Replica.{apply_refusal};
+ghost use Rattle.indexset_log.specs.Attach.{attached, attach_refusal};
 ghost use Rattle.indexset_log.specs.Replay.{step};
 
 mod edits;
@@ -69,6 +70,30 @@ impl<T: Ord + Clone + Drop> Replica<T> {
     {
         let place = places::first_reaching(self.nodes.as_slice(), value);
         place < self.nodes.len() && search::find(self.nodes[place].as_slice(), value).is_ok()
+    }
+
+    /// Takes a whole node in, in its place among the others. It is refused where it is empty, where it
+    /// is not strictly ascending, where it does not lie wholly before, after or between two
+    /// neighbouring nodes, and for want of memory: the first of these. A refused node is handed back,
+    /// and nothing changes. No number is used up.
+    pub fn attach(&mut self, node: Vec<T>) -> Result<(), Refused<Vec<T>>>
+        ensures nodes { OnOk result (self.new.nodes ≡ attached T.cmp self.old.nodes node.items) }
+        ensures good { OnOk result (attach_refusal T.cmp (length node.items) self.old.nodes node.items ≡ None) }
+        ensures refusal { IfErr result (λ e. e.cause ≡ unwrap_or (attach_refusal T.cmp (length node.items) self.old.nodes node.items) Refusal.Memory) }
+        ensures given_back { IfErr result (λ e. e.value ≡ node) }
+        ensures next { self.new.next ≡ self.old.next }
+        ensures unchanged { OnErr result (self.new ≡ self.old) }
+    {
+        match places::place_of_node(self.nodes.as_slice(), node.as_slice()) {
+            Ok(place) => match self.nodes.insert(place, node) {
+                Ok(()) => Ok(()),
+                Err(failed) => Err(Refused {
+                    value: failed.value,
+                    cause: Refusal::Memory,
+                }),
+            },
+            Err(cause) => Err(Refused { value: node, cause }),
+        }
     }
 
     /// Makes the event's change to the nodes, and waits for the next event. It is refused where the

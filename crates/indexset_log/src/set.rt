@@ -129,6 +129,11 @@ impl<T: Ord + Clone + Drop, Node: NodeLike<T>> BTreeSet<T, Node> {
         self.size
     }
 
+    /// The allocator that it keeps. (The Rust crate's tree keeps none.)
+    pub fn allocator(&self) -> &Global {
+        self.nodes.allocator()
+    }
+
     /// Where the probe finds what it seeks, by two binary searches: the node and the offset in it.
     /// Nothing is asked where there is no node.
     pub fn locate_by<P: Probe<T>>(&self, probe: &mut P) -> Result<(usize, usize), (usize, usize)>

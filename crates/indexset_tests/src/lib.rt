@@ -15,6 +15,8 @@ mod logged_walks;
 #[cfg(test)]
 mod map;
 #[cfg(test)]
+mod logged_run;
+#[cfg(test)]
 mod node;
 #[cfg(test)]
 mod paths;
@@ -28,6 +30,7 @@ mod readme;
 mod refusal;
 #[cfg(test)]
 mod run_map;
+mod replica;
 #[cfg(test)]
 mod run_set;
 #[cfg(test)]

@@ -1,10 +1,11 @@
 //! Where nodes and items stand in a replica.
-ghost use Rattle.std.specs.Prelude.{◌≡◌, ◌+◌, ◌<◌, ◌≤◌, Some, None, not, [], ◌∷◌, length, take, drop, insert, IfOk, IfErr};
+ghost use Rattle.std.specs.Prelude.{◌≡◌, ◌+◌, ◌<◌, ◌≤◌, Some, None, not, [], ◌∷◌, length, take, drop, insert, IfOk, OnOk, IfErr};
 ghost use Rattle.std.specs.Option.{option_copied};
 ghost use Rattle.std.specs.List.{All, position_or_len, splice};
 ghost use Rattle.indexset_core.specs.Nodes.{joined, node_at, node_lengths, IsNodeList};
 ghost use Rattle.indexset_spine.specs.Cut.{vec_items};
 ghost use Rattle.indexset_bench.specs.Replica.{first_item, is_between, last_item};
+ghost use Rattle.indexset_log.specs.Attach.{attach_index, attach_refusal};
 ghost use Rattle.indexset_log.specs.Nodes.{is_ascending};
 ghost use Rattle.indexset_log.specs.Replay.{has_name, node_named, reaches};
 
@@ -52,6 +53,30 @@ fn is_named<T: Ord>(node: &[T], name: &T) -> bool
         Some(last) => last.cmp(name).is_eq(),
         None => false,
     }
+}
+
+/// Where a whole node goes among the nodes, if it may.
+pub(super) fn place_of_node<T: Ord>(nodes: &[Vec<T>], node: &[T]) -> Result<usize, Refusal>
+    requires { IsNodeList T.cmp (vec_items nodes.now) }
+    ensures place { IfOk result (λ place. place ≡ attach_index T.cmp (vec_items nodes.now) node.now) }
+    ensures within { IfOk result (λ place. place ≤ length nodes.now) }
+    ensures nodes { IfOk result (λ place. IsNodeList T.cmp (insert (vec_items nodes.now) place node.now)) }
+    ensures good { OnOk result (attach_refusal T.cmp (length node.now) (vec_items nodes.now) node.now ≡ None) }
+    ensures refusal { IfErr result (λ e. attach_refusal T.cmp (length node.now) (vec_items nodes.now) node.now ≡ Some e) }
+{
+    let Some(first) = node.first() else {
+        return Err(Refusal::Empty);
+    };
+    if !node.is_sorted_by(|item, next| item.cmp(next).is_lt()) {
+        return Err(Refusal::Unsorted);
+    }
+    let place = first_reaching(nodes, first);
+    if let Some(next) = item_from(nodes, place) {
+        if !node[node.len() - 1].cmp(next).is_lt() {
+            return Err(Refusal::Overlaps);
+        }
+    }
+    Ok(place)
 }
 
 /// The last item of the nodes before a place.

@@ -1,8 +1,8 @@
 use Rattle.std.proofs.Common.{◌≡◌, ap, sym, subst, refl, ◌∙◌}
 use Rattle.std.proofs.lemmas.Result.{err_from_is_err_and}
 use Rattle.indexset_log.specs.Replay.{event_number}
-use Rattle.indexset_bench.proofs.ReplicaNodes.{cut_of, list_of}
-use Rattle.indexset_bench.proofs.ReplicaSteps.{edited_cut, edited_step, gap_refused, last_refused, misfit_refused}
+use Rattle.indexset_log.proofs.CallerLemmas.{nodes_ruled, ruled_nodes}
+use Rattle.indexset_bench.proofs.ReplicaSteps.{edited_ruled, edited_step, gap_refused, last_refused, misfit_refused}
 use Rattle.indexset_bench.proofs.replica.Replica.apply.Goals as goal
 
 pub returns-then-inner-self-clause-refusal : goal.returns-then-inner-self-clause-refusal
@@ -29,13 +29,13 @@ returns-in_err-carry_out-clause-refusal g c =
 pub invariant_of-self-2 : goal.invariant_of-self-2
 invariant_of-self-2 g c =
     let cmp = g.T.Ord.cmp in
-    list_of cmp _ (edited_cut cmp g.met.T.Ord.total _ _ _ (cut_of cmp _ c.self.invariant) c.in_ok-carry_out.ensures.done)
+    ruled_nodes cmp _ (edited_ruled cmp g.met.T.Ord.total _ _ _ (nodes_ruled cmp _ c.self.invariant) c.in_ok-carry_out.ensures.done)
 
 pub returns-clause-step : goal.returns-clause-step
 returns-clause-step g c =
     let cmp = g.T.Ord.cmp in
     let nodes = ap (λ t. t.nodes) c.self.view_is in
-    rw (sym nodes) (edited_step cmp g.met.T.Ord.total _ _ _ (cut_of cmp _ c.self.invariant) c.in_ok-carry_out.ensures.done)
+    rw (sym nodes) (edited_step cmp g.met.T.Ord.total _ _ _ (nodes_ruled cmp _ c.self.invariant) c.in_ok-carry_out.ensures.done)
 
 pub returns-clause-fits : goal.returns-clause-fits
 returns-clause-fits g c =

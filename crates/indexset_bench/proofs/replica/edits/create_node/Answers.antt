@@ -1,6 +1,7 @@
 use Rattle.std.proofs.Common.{map, refl, sym, ◌∙◌}
 use Rattle.std.proofs.lemmas.Result.{err_from_is_err_and}
-use Rattle.indexset_bench.proofs.ReplicaEdits.{create_disorder, create_edit, map_insert}
+use Rattle.indexset_log.proofs.CallerLemmas.{map_insert}
+use Rattle.indexset_bench.proofs.ReplicaEdits.{create_disorder, create_edit}
 use Rattle.indexset_bench.proofs.replica.edits.create_node.Goals as goal
 
 pub returns-then-not-fits_before-clause-refusal : goal.returns-then-not-fits_before-clause-refusal

@@ -1,4 +1,4 @@
-use Rattle.std.proofs.Common.{◌<◌, length, refl, arith, sym, ap, ◌∙◌}
+use Rattle.std.proofs.Common.{◌<◌, length, refl, arith, sym, ◌∙◌}
 use Rattle.std.proofs.lemmas.List.{map-set}
 use Rattle.std.proofs.lemmas.Result.{err_from_is_err_and}
 use Rattle.indexset_bench.proofs.ReplicaEdits.{absent_remove, held, remove_differs, remove_edit, remove_empty, remove_outside}

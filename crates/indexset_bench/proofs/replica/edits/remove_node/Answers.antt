@@ -1,4 +1,4 @@
-use Rattle.std.proofs.Common.{map, ◌∙◌}
+use Rattle.std.proofs.Common.{◌∙◌}
 use Rattle.std.proofs.lemmas.Result.{err_from_is_err_and}
 use Rattle.indexset_log.proofs.CallerLemmas.{map_remove}
 use Rattle.indexset_bench.proofs.ReplicaEdits.{absent_remove_node, remove_node_edit}

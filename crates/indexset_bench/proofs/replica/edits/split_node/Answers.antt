@@ -1,4 +1,4 @@
-use Rattle.std.proofs.Common.{◌≡◌, ◌<◌, ◌≤◌, length, refl, arith, sym, ap, ◌∙◌}
+use Rattle.std.proofs.Common.{◌≡◌, refl, arith, sym, ◌∙◌}
 use Rattle.std.proofs.lemmas.Result.{err_from_is_err_and}
 use Rattle.indexset_log.proofs.CallerLemmas.{halved_view}
 use Rattle.indexset_bench.proofs.ReplicaEdits.{absent_split, held, held_at, split_edit, split_past, split_start}

@@ -1,4 +1,4 @@
-use Rattle.std.proofs.Common.{◌≡◌, true, false, arith, sym, refl, ◌∙◌}
+use Rattle.std.proofs.Common.{◌≡◌, true, false, arith, ap, sym, refl, ◌∙◌}
 use Rattle.indexset_core.specs.Nodes.{joined}
 use Rattle.indexset_core.specs.Order.{has_equal}
 use Rattle.indexset_log.proofs.Puts.{keep_there, keep_absent, checked_there, checked_absent, checked_with_there, checked_with_absent}
@@ -93,3 +93,14 @@ returns-clause-refusal g c =
     let v = c.args.value in
     let absent : has_equal cmp (joined nodes) v ≡ false = sym c.aim-aim.ensures.present ∙ (sym c.finds_equal.ensures ∙ c.if-finds_equal.false) in
     rw (checked_absent cmp size nodes v absent) c.in-Err.ensures.refusal
+
+pub returns-then-contains-clause-fits : goal.returns-then-contains-clause-fits
+returns-then-contains-clause-fits g c =
+    let there : has_equal g.T.Ord.cmp (joined c.args.self.now.nodes) c.args.value ≡ true = sym c.contains.ensures ∙ c.if-contains.true in
+    let next = ap (λ t. t.next) c.self.view_is in
+    rw (checked_there g.T.Ord.cmp c.args.self.now.size c.args.self.now.nodes c.args.value there) (omega (arith, next))
+
+pub returns-in-Ok-clause-fits : goal.returns-in-Ok-clause-fits
+returns-in-Ok-clause-fits g c =
+    let absent : has_equal g.T.Ord.cmp (joined c.args.self.now.nodes) c.args.value ≡ false = sym c.contains.ensures ∙ c.if-contains.false in
+    rw (checked_absent g.T.Ord.cmp c.args.self.now.size c.args.self.now.nodes c.args.value absent) c.in-Ok.ensures.fits

@@ -1,0 +1,60 @@
+use Rattle.std.proofs.Common.{◌≡◌, ◌+◌, ◌++◌, length, Some, refl, ap, subst, sym, arith, length-append, rules, ◌∙◌}
+use Rattle.std.specs.Vec.Iter.{into_iter_items}
+use Rattle.indexset_bench.proofs.LoggedRuns.{LogSoFar, more_log, next_command, no_log}
+use Rattle.indexset_bench.proofs.SetRuns.{replies_to_first, held_after_first, count_of_replies, count_of_done, further}
+use Rattle.indexset_bench.proofs.logged_run.run_logged.Goals as goal
+
+pub loop-command-init : goal.loop-command-init
+loop-command-init g c =
+    let tree = g.L.Logged in
+    let start = c.args.tree.now in
+    record {
+      so_far = search rules;
+      log = rw (c.new-replies.ensures.items, c.new-events.ensures.items) (no_log g.L.Item.Ord.cmp (tree.nodes start) (tree.next start));
+      left = search rules;
+      size = refl;
+    }
+
+pub loop-command-preserved : goal.loop-command-preserved
+loop-command-preserved g c =
+    let tree = g.L.Logged in
+    let before = c.loop-command.invariant in
+    let next = c.in-Some.ensures.steps.0 in
+    let now = c.loop-command.tree in
+    let after = c.answer.new.tree in
+    let done = c.in_default.ensures in
+    let log = more_log g.L.Item.Ord.cmp (tree.nodes c.args.tree.now) (tree.next c.args.tree.now) (tree.nodes now) (tree.nodes after) (tree.next now) (tree.next after) (length c.loop-command.replies.items) c.loop-command.events.items c.answer.new.events.items (tree.events now c.in-Some.command) before.log done.events done.replay done.few done.next in
+    record {
+      so_far = further before.so_far c.in-Some.command (into_iter_items c.next.new.self) (tree.state after) c.answer.new.replies.items next done.told done.state;
+      log = subst (λ n. LogSoFar g.L.Item.Ord.cmp (tree.nodes c.args.tree.now) (tree.nodes after) (tree.next c.args.tree.now) (tree.next after) n c.answer.new.events.items) (sym (ap (λ q. length q) done.told ∙ length-append c.loop-command.replies.items _)) log;
+      left = omega (arith, ap length next);
+      size = cc;
+    }
+
+pub returns-in-Err-clause-replies : goal.returns-in-Err-clause-replies
+returns-in-Err-clause-replies g c = rw c.in-Err.ensures.untold (replies_to_first c.loop-command.invariant.so_far)
+
+pub returns-in-Err-clause-state : goal.returns-in-Err-clause-state
+returns-in-Err-clause-state g c =
+    rw (c.in-Err.ensures.untold, c.in-Err.ensures.unchanged) (held_after_first c.loop-command.invariant.so_far)
+
+pub returns-in-Err-clause-fewer : goal.returns-in-Err-clause-fewer
+returns-in-Err-clause-fewer g c =
+    omega (arith, ap length c.in-Err.ensures.untold, ap length c.in-Some.ensures.steps.0, count_of_replies c.loop-command.invariant.so_far)
+
+pub returns-in-Err-clause-refused : goal.returns-in-Err-clause-refused
+returns-in-Err-clause-refused g c = λ other.
+    let why = c.in-Err.ensures.refusal other in
+    let far = c.loop-command.invariant.so_far in
+    let next = next_command c.loop-command.yielded (into_iter_items c.next.new.self) c.args.commands.items c.in-Some.command (length c.answer.new.replies.items) (ap (λ r. c.loop-command.yielded ++ r) (sym c.in-Some.ensures.steps.0) ∙ far.given) (ap (λ q. length q) c.in-Err.ensures.untold ∙ count_of_done far) in
+    (why.0, rw (next, c.in-Err.ensures.unchanged) why.1)
+
+pub returns-clause-replies : goal.returns-clause-replies
+returns-clause-replies g c = replies_to_first c.loop-command.invariant.so_far
+
+pub returns-clause-state : goal.returns-clause-state
+returns-clause-state g c = held_after_first c.loop-command.invariant.so_far
+
+pub returns-clause-all : goal.returns-clause-all
+returns-clause-all g c =
+    omega (arith, c.in-None.ensures.steps.0, count_of_replies c.loop-command.invariant.so_far)

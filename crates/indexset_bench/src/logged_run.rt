@@ -1,0 +1,93 @@
+//! Lists of commands to a logged tree, the reply to each, and the events of all.
+ghost use Rattle.std.specs.Prelude.{◌≡◌, ◌≢◌, ◌+◌, ◌*◌, ◌≤◌, ◌<◌, ◌++◌, ◌∷◌, [], true, Some, OnOk, IfErr, OnErr, IfSome, OnSome, IfNone, IsSomeAnd, length, take, slice_get};
+ghost use Rattle.std.specs.List.{fold, scan};
+ghost use Rattle.indexset_log.specs.Replay.{replay, numbered_from, IsNumberedFrom};
+
+use crate::logged::Logged;
+use indexset_core::refusal::Refusal;
+use indexset_log::change::ChangeEvent;
+use std::alloc::Global;
+
+/// What a list of commands was answered, and the changes that it made.
+#[derive(Drop)]
+pub struct LogRun<L: Logged> {
+    /// The replies, in turn, to the commands before the refused one, or to all of them.
+    pub replies: Vec<L::Reply>,
+    /// The events of these commands, in order.
+    pub events: Vec<ChangeEvent<L::Item>>,
+    /// Why the run ended before its commands did, if it did.
+    pub refused: Option<Refusal>,
+}
+
+/// Carries out the commands in turn, and ends at the first that is refused: then the replies and the
+/// events are those of the commands before it, and the tree is as they left it.
+///
+/// Room for a reply and for three events is asked for before a command acts.
+pub fn run_logged<L: Logged>(alloc: Global, tree: &mut L, commands: Vec<L::Command>) -> LogRun<L>
+    requires { L.clones }
+
+    // The events lead from the nodes before the run to those after it.
+    ensures replay { replay L.Item.Ord.cmp (L.nodes tree.old) result.events.items ≡ Some (L.nodes tree.new) }
+    ensures numbered { IsNumberedFrom (L.next tree.old) result.events.items }
+    ensures next { L.next tree.new ≡ L.next tree.old + length result.events.items }
+    ensures few { length result.events.items ≤ 3 * length result.replies.items }
+
+    // The commands that were answered are the first ones, as many as there are replies.
+    ensures replies { result.replies.items ≡ scan L.after L.reply (L.state tree.old)
+        (take (length result.replies.items) commands.items) }
+    ensures state { L.state tree.new ≡ fold L.after (L.state tree.old)
+        (take (length result.replies.items) commands.items) }
+    ensures all { IfNone result.refused
+        (length result.replies.items ≡ length commands.items) }
+    ensures fewer { OnSome result.refused
+        (length result.replies.items < length commands.items) }
+    ensures refused { IfSome result.refused (λ e. e ≢ Refusal.Memory → (e ≡ Refusal.Numbers)
+        × IsSomeAnd (slice_get commands.items (length result.replies.items)) (λ command. L.lacks_numbers tree.new command ≡ true)) }
+    ensures size { L.size tree.new ≡ L.size tree.old }
+{
+    let mut replies = Vec::new(alloc);
+    let mut events = Vec::new(alloc);
+    for command in commands {
+        if let Err(refusal) = answer(tree, &mut replies, &mut events, command) {
+            return LogRun {
+                replies,
+                events,
+                refused: Some(refusal),
+            };
+        }
+    }
+    LogRun {
+        replies,
+        events,
+        refused: None,
+    }
+}
+
+/// Carries out a command, and adds the reply and the events to those before them. A refused one
+/// changes nothing.
+fn answer<L: Logged>(
+    tree: &mut L,
+    replies: &mut Vec<L::Reply>,
+    events: &mut Vec<ChangeEvent<L::Item>>,
+    command: L::Command,
+) -> Result<(), Refusal>
+    requires { L.clones }
+    ensures told { OnOk result (replies.new.items ≡ replies.old.items ++ L.reply (L.state tree.old) command ∷ []) }
+    ensures state { OnOk result (L.state tree.new ≡ L.after (L.state tree.old) command) }
+    ensures events { OnOk result (events.new.items ≡ events.old.items ++ numbered_from (L.next tree.old) (L.events tree.old command)) }
+    ensures replay { OnOk result (replay L.Item.Ord.cmp (L.nodes tree.old) (numbered_from (L.next tree.old) (L.events tree.old command)) ≡ Some (L.nodes tree.new)) }
+    ensures few { OnOk result (length (L.events tree.old command) ≤ 3) }
+    ensures next { OnOk result (L.next tree.new ≡ L.next tree.old + length (L.events tree.old command)) }
+    ensures size { L.size tree.new ≡ L.size tree.old }
+    ensures refusal { IfErr result (λ e. e ≢ Refusal.Memory → (e ≡ Refusal.Numbers) × (L.lacks_numbers tree.old command ≡ true)) }
+    ensures untold { OnErr result (replies.new.items ≡ replies.old.items) }
+    ensures no_event { OnErr result (events.new.items ≡ events.old.items) }
+    ensures unchanged { OnErr result (tree.new ≡ tree.old) }
+{
+    replies.reserve(1)?;
+    events.reserve(3)?;
+    let (reply, mut made) = tree.act(command)?;
+    replies.push_reserved(reply);
+    let _ = events.append(&mut made);
+    Ok(())
+}
