@@ -189,9 +189,4 @@ impl<T: Ord + Clone + Drop, Node: NodeLike<T>> BTreeSet<T, Node> {
             Err(_) => None,
         }
     }
-
-    /// The allocator of the nodes.
-    pub(crate) fn allocator(&self) -> Global {
-        *self.nodes.allocator()
-    }
 }

@@ -40,7 +40,7 @@ impl<K: Ord + Clone + Drop, V: Clone + Drop, Node: NodeLike<Pair<K, V>>> BTreeMa
                 let Pair { key, value } = pair;
                 Ok((Some((key, value)), events))
             }
-            Err(_) => Ok((None, Vec::new(self.set.allocator()))),
+            Err(_) => Ok((None, Vec::new(*self.set.allocator()))),
         }
     }
 

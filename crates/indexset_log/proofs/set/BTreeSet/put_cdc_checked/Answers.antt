@@ -94,13 +94,21 @@ returns-clause-refusal g c =
     let absent : has_equal cmp (joined nodes) v ≡ false = sym c.aim-aim.ensures.present ∙ (sym c.finds_equal.ensures ∙ c.if-finds_equal.false) in
     rw (checked_absent cmp size nodes v absent) c.in-Err.ensures.refusal
 
-pub returns-then-contains-clause-fits : goal.returns-then-contains-clause-fits
-returns-then-contains-clause-fits g c =
-    let there : has_equal g.T.Ord.cmp (joined c.args.self.now.nodes) c.args.value ≡ true = sym c.contains.ensures ∙ c.if-contains.true in
+pub returns-then-finds_equal-clause-fits : goal.returns-then-finds_equal-clause-fits
+returns-then-finds_equal-clause-fits g c =
+    let cmp = g.T.Ord.cmp in
+    let nodes = c.args.self.now.nodes in
+    let size = c.args.self.now.size in
+    let v = c.args.value in
+    let there : has_equal cmp (joined nodes) v ≡ true = sym c.aim-aim.ensures.present ∙ (sym c.finds_equal.ensures ∙ c.if-finds_equal.true) in
     let next = ap (λ t. t.next) c.self.view_is in
-    rw (checked_there g.T.Ord.cmp c.args.self.now.size c.args.self.now.nodes c.args.value there) (omega (arith, next))
+    rw (checked_there cmp size nodes v there) (omega (arith, next))
 
 pub returns-in-Ok-clause-fits : goal.returns-in-Ok-clause-fits
 returns-in-Ok-clause-fits g c =
-    let absent : has_equal g.T.Ord.cmp (joined c.args.self.now.nodes) c.args.value ≡ false = sym c.contains.ensures ∙ c.if-contains.false in
-    rw (checked_absent g.T.Ord.cmp c.args.self.now.size c.args.self.now.nodes c.args.value absent) c.in-Ok.ensures.fits
+    let cmp = g.T.Ord.cmp in
+    let nodes = c.args.self.now.nodes in
+    let size = c.args.self.now.size in
+    let v = c.args.value in
+    let absent : has_equal cmp (joined nodes) v ≡ false = sym c.aim-aim.ensures.present ∙ (sym c.finds_equal.ensures ∙ c.if-finds_equal.false) in
+    rw (checked_absent cmp size nodes v absent) c.in-Ok.ensures.fits
