@@ -99,3 +99,6 @@ module _ {X : Type 0} (r : X → Bool) (l : List X) (i j : ℕ) (s : IsSpan r l 
 
   pub span_filter : between i j l ≡ filter r l
   span_filter = (at_span (λ x. x)).0
+
+  pub span_mapped : (h : X → X) → take i l ++ (map h (take (j - i) (drop i l)) ++ drop (j - i) (drop i l)) ≡ map (λ x. if r x then h x else x) l
+  span_mapped h = (at_span h).1

@@ -2,12 +2,16 @@
 //! public call runs once with ample memory.
 #![tactic(auto)]
 
+pub mod callers;
+
 #[cfg(test)]
 mod counted;
 #[cfg(test)]
 mod logged_walks;
 #[cfg(test)]
 mod map;
+#[cfg(test)]
+mod logged;
 #[cfg(test)]
 mod node;
 #[cfg(test)]
