@@ -84,6 +84,7 @@ fn a_split_and_a_replacement_arrive(rt: HostRuntime) -> Result<(), Fail> {
 fn events_that_do_not_fit(rt: HostRuntime) -> Result<(), Fail> {
     let mut replica = Replica::new(rt.alloc(), 0);
     let events = events(rt.alloc())?;
+    assert_eq!(rt; events.len(), 7);
     for event in events[..5].iter() {
         assert_eq!(rt; replica.apply(event), Ok(()));
     }

@@ -1,5 +1,5 @@
 //! The change that an event makes to a replica's nodes.
-ghost use Rattle.std.specs.Prelude.{◌≡◌, OnOk, IfErr, OnErr, unwrap_or};
+ghost use Rattle.std.specs.Prelude.{◌≡◌, ◌<◌, [], ◌∷◌, IfOk, OnOk, IfErr, OnErr, unwrap_or, vec_len, vec_capacity};
 ghost use Rattle.indexset_core.specs.Nodes.{IsNodeList};
 ghost use Rattle.indexset_spine.specs.Cut.{vec_items};
 ghost use Rattle.indexset_bench.specs.Replica.{IsEdit, misfit};
@@ -95,7 +95,7 @@ fn remove_item<T: Ord + Clone + Drop>(
     if node.len() == 1 {
         return Err(Refusal::WouldBeEmpty);
     }
-    node.remove(index);
+    moves::remove_item(node, index);
     Ok(())
 }
 
@@ -111,11 +111,26 @@ fn create_node<T: Ord + Clone + Drop>(nodes: &mut Vec<Vec<T>>, value: &T) -> Res
     if !fits_before(nodes.as_slice(), place, value) {
         return Err(Refusal::OutOfOrder);
     }
+    let node = room_for_node_of(nodes, value)?;
+    moves::insert_item(nodes, place, node);
+    Ok(())
+}
+
+// Room for one more node, and a node of this item alone.
+fn room_for_node_of<T: Clone + Drop>(
+    nodes: &mut Vec<Vec<T>>,
+    value: &T,
+) -> Result<Vec<T>, Refusal>
+    requires clones { (x y : T) → T.is_clone x y → y ≡ x }
+    ensures nodes { nodes.new.items ≡ nodes.old.items }
+    ensures room { OnOk result (vec_len nodes.new < vec_capacity nodes.new) }
+    ensures node { IfOk result (λ node. node.items ≡ value.now ∷ []) }
+    ensures refusal { IfErr result (λ e. e ≡ Refusal.Memory) }
+{
     nodes.reserve(1)?;
     let mut node = Vec::with_capacity(*nodes.allocator(), 1)?;
     node.push_reserved(value.clone()?);
-    moves::insert_item(nodes, place, node);
-    Ok(())
+    Ok(node)
 }
 
 // Takes out the node named.
@@ -126,7 +141,7 @@ fn remove_node<T: Ord + Clone + Drop>(nodes: &mut Vec<Vec<T>>, name: &T) -> Resu
     ensures unchanged { OnErr result (vec_items nodes.new.items ≡ vec_items nodes.old.items) }
 {
     let place = place_named(nodes.as_slice(), name)?;
-    nodes.remove(place);
+    moves::remove_item(nodes, place);
     Ok(())
 }
 

@@ -46,5 +46,5 @@ returns-clause-done g c =
     let node = held cmp (λ v. v.items) c.args.nodes.now.items c.args.name.now c.in_ok-place.place named n c.index_mut-node.ensures.value in
     let inside : c.args.index < length n.items = omega (arith, n.ok.0) in
     let same = rw c.cmp.ensures at (sym c.is_ne.ensures ∙ c.if-is_ne.false) in
-    rw (map-set (λ v. v.items) c.args.nodes.now.items c.in_ok-place.place c.remove.new.self, c.remove.ensures.items)
+    rw (map-set (λ v. v.items) c.args.nodes.now.items c.in_ok-place.place c.remove_item.new.items, c.remove_item.ensures.items)
     (remove_edit cmp _ c.args.name.now c.in_ok-place.place named n.items node c.args.value.now c.args.index inside c.index.result.now c.index.ensures same (λ one. omega (arith, n.ok.0, one)))

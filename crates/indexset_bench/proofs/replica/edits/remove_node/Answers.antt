@@ -13,4 +13,4 @@ returns-in_err-place-clause-refusal g c =
 pub returns-clause-done : goal.returns-clause-done
 returns-clause-done g c =
     let named = rw c.as_slice.ensures.value at c.in_ok-place.ensures.named in
-    rw (c.remove.ensures.items, map_remove (λ v. v.items) c.args.nodes.now.items c.in_ok-place.place) (remove_node_edit g.T.Ord.cmp _ c.args.name.now c.in_ok-place.place named)
+    rw (c.remove_item.ensures.items, map_remove (λ v. v.items) c.args.nodes.now.items c.in_ok-place.place) (remove_node_edit g.T.Ord.cmp _ c.args.name.now c.in_ok-place.place named)
