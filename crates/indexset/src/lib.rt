@@ -7,8 +7,8 @@ pub mod base {
 }
 
 pub use indexset_map::{
-    BTreeMap, Entry, IntoIterMap, IntoKeys, IntoValues, IterMap, IterMut, Keys, OccupiedEntry,
-    RangeMap, VacantEntry, Values,
+    BTreeMap, CursorMap, Entry, IntoIterMap, IntoKeys, IntoValues, IterMap, IterMut, Keys,
+    OccupiedEntry, RangeMap, RangeMut, VacantEntry, Values, ValuesMut,
 };
 pub use indexset_set::{
     BTreeSet, Cursor, Difference, Intersection, IntoIter, Iter, Range, SymmetricDifference, Union,

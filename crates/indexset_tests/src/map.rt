@@ -9,6 +9,9 @@ use std::test::Fail;
 
 mod bulk;
 mod compare;
+mod cursors;
+mod entries;
+mod lending;
 mod lookup;
 mod ranges;
 mod tagged;
