@@ -7,6 +7,7 @@ mod fault;
 pub mod laws;
 mod line;
 pub mod map_run;
+mod perform;
 mod program;
 mod reply;
 pub mod set_run;

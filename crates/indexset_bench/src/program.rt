@@ -12,7 +12,7 @@ ghost use Rattle.indexset_bench.specs.Text.{reply_line, text_of};
 use crate::command::parse;
 use crate::fault::RunFault;
 use crate::line::{Part, flush, is_at_end, next_line};
-use crate::reply::perform;
+use crate::perform::perform;
 use indexset_set::BTreeSet;
 use std::alloc::Global;
 use std::io::{BufRead, Write};

@@ -23,7 +23,7 @@ use Rattle.indexset_core.proofs.PartedLemmas.{front-is_lt, front-is_le, count_pa
 pub remove_ascending : {T : Type 0} (cmp : T → T → Ordering) (l : List T) (i : ℕ) → i < length l → IsAscending cmp l → IsAscending cmp (remove l i)
 remove_ascending cmp l i lt up = all_pairs_remove (λ x y. cmp x y ≡ Less) l i lt up
 
--- the first place that passes
+-- the first index that passes
 module _ {T : Type 0} (p : T → Bool) where
   first_is : (l : List T) (i : ℕ) → i ≤ length l → AllWithin (λ x. p x ≡ false) l 0 i → (i < length l → HoldsAt (λ x. p x ≡ true) l i) → position_or_len p l ≡ i
   first_is [] i le before here = omega arith
@@ -51,7 +51,7 @@ module _ {T : Type 0} (p : T → Bool) where
     | false ↦ is_some-find xs
   ]
 
--- what a search tells of the item at its place
+-- what a search tells of the item at its index
 module _ {T : Type 0} (answer : T → Ordering) where
   pub equal_inside : (l : List T) (i : ℕ) → equal_at answer l i ≡ true → i < length l
   equal_inside [] i h = absurd (false≢true h)
@@ -97,7 +97,7 @@ module _ {T : Type 0} (answer : T → Ordering) where
     position_absent h = position_none (λ x. is_eq (answer x)) l (all_unequal h)
 
 module _ {T : Type 0} (cmp : T → T → Ordering) (l : List T) (v : T) (i : ℕ) where
-  -- what the place of a search by an item is
+  -- what the index of a search by an item is
   pub located_found : IsParted (λ x. cmp x v) l → i ≡ rank cmp l v → equal_at (λ x. cmp x v) l i ≡ true → IsFoundAt cmp l v i
   located_found parted place h = found_at cmp l v i parted place (equal_inside (λ x. cmp x v) l i h) (equal_here (λ x. cmp x v) l i h)
 
@@ -132,7 +132,7 @@ module _ {T : Type 0} (cmp : T → T → Ordering) (l : List T) (v : T) (i : ℕ
   told_has_equal true there gap = sym (found_has_equal cmp l v i there)
   told_has_equal false there gap = sym (gap_has_equal cmp l v i gap)
 
-  -- v in place of the item equal to it keeps the order
+  -- v written over the item equal to it keeps the order
   pub found_ascending : IsTotalOrder cmp → IsAscending cmp l → IsFoundAt cmp l v i → IsAscending cmp (set l i v)
   found_ascending o up f a b d lt inside =
       let long = length-set l i v in

@@ -1,4 +1,4 @@
--- The node that the answers name, and the place in it.
+-- The node that the answers name, and the spot in it.
 use Rattle.std.proofs.Common.{◌≡◌, ℕ, zero, suc, ◌+◌, ◌-◌, ◌<◌, ◌≤◌, true, false, not, cond, List, [], ◌∷◌, ◌++◌, length, map, get_or, take, slice_get, Some, None, Ordering, refl, sym, ap, ◌∙◌, arith, subst, length-append, inl, inr}
 use Rattle.std.specs.List.{All, AllWithin, HoldsAt, position_or_len}
 use Rattle.std.specs.Ordering.{is_lt, is_eq}
@@ -93,7 +93,7 @@ module _ {X : Type 0} (answer : X → Ordering) where
   place_here : (n : List X) (ns : List (List X)) → less_count answer (joined ns) ≡ 0 → Place (n ∷ ns) 0
   place_here n ns none = omega (arith, less_count-append n (joined ns))
 
-  -- all before the place are answered Less, and no others
+  -- all before the spot are answered Less, and no others
   pub place_for : (ns : List (List X)) → 1 ≤ length ns → Filled ns → IsParted answer (joined ns) → Place ns (node_for answer ns)
   place_for [] some filled h = absurd (omega arith)
   place_for (n ∷ []) some filled h = rw (node_for-one n) (place_here n [] refl)
@@ -125,7 +125,7 @@ module _ {X : Type 0} (answer : X → Ordering) where
   ends_past : (n : List X) (ns : List (List X)) (k : ℕ) → Ends ns k → Ends (n ∷ ns) (suc k)
   ends_past n ns k h le = omega (arith, h le, length-append n (joined ns), length-append n (joined (take k ns)))
 
-  -- a place behind its node's last item is behind the last item of all
+  -- a spot behind its node's last item is behind the last item of all
   pub ends_for : (ns : List (List X)) → 1 ≤ length ns → Filled ns → IsParted answer (joined ns) → Ends ns (node_for answer ns)
   ends_for [] some filled h = absurd (omega arith)
   ends_for (n ∷ []) some filled h = rw (node_for-one n) (λ le. omega (arith, le, length-append n []))

@@ -62,11 +62,11 @@ module _ {X : Type 0} where
   pub length-joined-more : (ns : List (List X)) (k : ℕ) → k < length ns → length (joined (take (k + 1) ns)) ≡ length (joined (take k ns)) + length (get_or ns k [])
   length-joined-more ns k h = rw add-one (more ns k h)
 
-  -- a place is not past the end
+  -- a spot is not past the end
   pub offset-le : (ns : List (List X)) (k o : ℕ) → k < length ns → o ≤ length (get_or ns k []) → length (joined (take k ns)) + o ≤ length (joined ns)
   offset-le ns k o h le = omega (arith, length-joined-more ns k h, length-joined-take ns (k + 1))
 
-  -- the item at a place
+  -- the item at a spot
   pub get_in_node : (ns : List (List X)) (k o : ℕ) → k < length ns → o < length (get_or ns k []) → slice_get (joined ns) (length (joined (take k ns)) + o) ≡ slice_get (get_or ns k []) o
   get_in_node [] k o h lt = absurd (omega arith)
   get_in_node (n ∷ ns) zero o h lt = slice_get-right [] (n ++ joined ns) (0 + o) o refl ∙ slice_get-left n (joined ns) o lt

@@ -52,7 +52,7 @@ module _ {X : Type 0} where
         ∙ append_assoc (drop o (node_at ns k)) (joined (between (k + 1) l ns)) (take q (node_at ns l)))))
 
   -- the earlier of two places stands in no later node
-  pub places_order : (ns : List (List X)) (k o l q : ℕ) → l < length ns → q < length (node_at ns l) → length (joined (take k ns)) + o ≤ length (joined (take l ns)) + q → k ≤ l
+  pub places_order : (ns : List (List X)) (k o l q : ℕ) → l < length ns → q ≤ length (node_at ns l) → length (joined (take k ns)) + o < length (joined (take l ns)) + q → k ≤ l
   places_order ns k o l q lt inside le = elim (cases_lt l k) [
     | inl below ↦ absurd (omega (arith, length-joined-more ns l lt, length-joined-mono ns (l + 1) k (omega arith)))
     | inr above ↦ above

@@ -11,13 +11,11 @@ use Rattle.std.specs.List.{list_any, AllWithin, HoldsAt}
 abbrev pub IsAscending : {T : Type 0} → (T → T → Ordering) → List T → Type 0
 IsAscending cmp l = AllPairs (λ x y. cmp x y ≡ Less) l
 
--- the elements below v, not above v, above v
+-- the elements below v
 abbrev pub below : {T : Type 0} → (T → T → Ordering) → List T → T → List T
 below cmp l v = filter (λ x. is_lt (cmp x v)) l
 
-abbrev pub up_to : {T : Type 0} → (T → T → Ordering) → List T → T → List T
-up_to cmp l v = filter (λ x. is_le (cmp x v)) l
-
+-- the elements above v
 abbrev pub above : {T : Type 0} → (T → T → Ordering) → List T → T → List T
 above cmp l v = filter (λ x. is_gt (cmp x v)) l
 
@@ -29,9 +27,9 @@ rank cmp l v = count_by (λ x. is_lt (cmp x v)) l
 abbrev pub has_equal : {T : Type 0} → (T → T → Ordering) → List T → T → Bool
 has_equal cmp l v = list_any (λ x. is_eq (cmp x v)) l
 
--- the place of the element equal to v, where there is one
-abbrev pub place_of : {T : Type 0} → (T → T → Ordering) → List T → T → Option ℕ
-place_of cmp l v = if has_equal cmp l v then Some (rank cmp l v) else None
+-- the index of the element equal to v, where there is one
+abbrev pub index_of : {T : Type 0} → (T → T → Ordering) → List T → T → Option ℕ
+index_of cmp l v = if has_equal cmp l v then Some (rank cmp l v) else None
 
 -- the element equal to v, where there is one
 abbrev pub equal_element : {T : Type 0} → (T → T → Ordering) → List T → T → Option T
@@ -61,17 +59,17 @@ outside_count cmp l (Included v) false = count_by (λ x. is_gt (cmp x v)) l
 outside_count cmp l (Excluded v) false = count_by (λ x. not (is_lt (cmp x v))) l
 outside_count cmp l Unbounded from_start = 0
 
--- the place of the last of n things, where there is one
-abbrev pub last_place : ℕ → Option ℕ
-last_place n = if n == 0 then None else Some (n - 1)
+-- the index of the last of n things, where there is one
+abbrev pub last_index : ℕ → Option ℕ
+last_index n = if n == 0 then None else Some (n - 1)
 
--- an element equal to v stands at place i, and all before it are below v
+-- an element equal to v stands at index i, and all before it are below v
 pub record IsFoundAt {T : Type 0} (cmp : T → T → Ordering) (l : List T) (v : T) (i : ℕ) : Type 0 where
   pub inside : i < length l
   pub equal : HoldsAt (λ x. cmp x v ≡ Equal) l i
   pub below_before : AllWithin (λ x. cmp x v ≡ Less) l 0 i
 
--- v would go at place i: all before it are below v, and all from it on are above v
+-- v would go at index i: all before it are below v, and all from it on are above v
 pub record IsGapFor {T : Type 0} (cmp : T → T → Ordering) (l : List T) (v : T) (i : ℕ) : Type 0 where
   pub inside : i ≤ length l
   pub below_before : AllWithin (λ x. cmp x v ≡ Less) l 0 i

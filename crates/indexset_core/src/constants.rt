@@ -3,5 +3,5 @@
 /// The maximum node size of a collection whose maker names none, in items.
 pub const DEFAULT_INNER_SIZE: usize = 1024;
 
-/// Half the default node size: the length of each half of a full node that is cut, in items.
+/// Half the default node size: the length of each half of a full node that is halved, in items.
 pub const DEFAULT_CUTOFF: usize = 512;

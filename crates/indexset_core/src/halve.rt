@@ -1,9 +1,9 @@
-//! A node that is cut in half.
+//! A node that is halved.
 ghost use Rattle.std.specs.Prelude.{◌≡◌, ◌/◌, ◌≤◌, length, take, drop, IfOk, OnOk, IfErr, OnErr, vec_capacity};
 
 use crate::refusal::Refusal;
 
-/// Cuts a node at half its length, and answers the right half. Each half has room for as many items
+/// Halves a node: it keeps the first half of its length, and the answer is the rest. Each half has room for as many items
 /// as the node held. A refused call leaves the node as it is.
 pub fn halve_node<T>(node: &mut Vec<T>) -> Result<Vec<T>, Refusal>
     ensures left { OnOk result (node.new.items ≡ take (length node.old.items / 2) node.old.items) }

@@ -16,16 +16,16 @@ use Rattle.indexset_log.specs.declared.aim.Aim.{Aim}
 use Rattle.indexset_log.specs.declared.change.ChangeEvent.{ChangeEvent}
 use Rattle.indexset_log.specs.declared.change.ChangeEventUnassigned.{ChangeEventUnassigned}
 use Rattle.indexset_log.specs.declared.change.ChangeEventUnassigned.TheVariants.{InsertAt, RemoveAt, CreateNode, RemoveNode, SplitNode}
-use Rattle.indexset_log.specs.Aim.{IsAim}
-use Rattle.indexset_log.specs.Edits.{with_halved, with_room, put_into_target}
+use Rattle.indexset_log.specs.Aim.{IsAim, IsAimed, count_for, is_present}
+use Rattle.indexset_log.specs.Edits.{with_halved, with_room, put_into_target, with_put, with_checked_put}
 use Rattle.indexset_log.specs.Nodes.{is_filled, last_of}
 use Rattle.indexset_log.specs.Replay.{replay, numbered_from, assigned}
 use Rattle.indexset_log.specs.Table.{target, half_of, part_for, is_past, halving_events, node_events, replace_events, target_events, put_events, checked_put_events}
 use Rattle.indexset_log.proofs.Ups.{Each, each-map, Up, up-left, up-right, Ruled, greater, around, parts-put, parts-has_equal, each_all, filled_length, length_filled, ascends, lawful_from, lawful_ruled, lawful_bounded}
 use Rattle.indexset_log.proofs.Steps.{ruled_at, insert_at, splice_at}
 use Rattle.indexset_log.proofs.Replays.{set_seam, ne_from, aim, target_at}
-use Rattle.indexset_log.proofs.Theorem.{numbered_replay, put_to, up_node, put_events_some, set_view}
-use Rattle.indexset_log.proofs.Rooms.{Roomy, roomy, Makes, target_makes}
+use Rattle.indexset_log.proofs.Theorem.{numbered_replay, up_node, put_events_some, put_events_none, set_view}
+use Rattle.indexset_log.proofs.Rooms.{Roomy, roomy, Makes, target_makes, put_makes}
 use Rattle.indexset_log.proofs.Takes.{at_place}
 use Rattle.indexset_log.proofs.Views.{node_is, length_view, lawful_small}
 
@@ -206,13 +206,16 @@ module _ {T : Type 0} (cmp : T → T → Ordering) (o : IsTotalOrder cmp) (v : T
     pub element_is : equal_element cmp (part_for cmp size (node_at ns a.node) v) v ≡ equal_element cmp (joined ns) v
     element_is = let d = r in ap (λ q. equal_element cmp q v) (sym part_is) ∙ (sym (equal_in_target (with_room cmp size ns v) d.ruled d.some) ∙ ap (λ q. equal_element cmp q v) d.same)
 
+    pub equal_is : has_equal cmp (joined ns) v ≡ is_ok a.at
+    equal_is =
+        let part = part_for cmp size (node_at ns a.node) v in
+        let test : T → Bool = λ x. is_eq (cmp x v) in
+        sym (is_some-find test (joined ns)) ∙ (ap is_some (sym element_is) ∙ (is_some-find test part ∙ sym (has_equal_found cmp part v a.at h.found h.gap)))
+
     pub put_count : length (joined (put_into_target cmp (with_room cmp size ns v) v)) ≡ length (joined ns) + cond (is_ok a.at) 0 1
     put_count =
         let ruled = lawful_ruled cmp size ns law in
-        let part = part_for cmp size (node_at ns a.node) v in
-        let test : T → Bool = λ x. is_eq (cmp x v) in
-        let whole : has_equal cmp (joined ns) v ≡ is_ok a.at = sym (is_some-find test (joined ns)) ∙ (ap is_some (sym element_is) ∙ (is_some-find test part ∙ sym (has_equal_found cmp part v a.at h.found h.gap))) in
-        rw put_joined (put_length_is (joined ns) ruled.up ∙ rw whole refl)
+        rw put_joined (put_length_is (joined ns) ruled.up ∙ rw equal_is refl)
 
     pub full_two : a.full ≡ true → 2 ≤ length (node_at ns a.node)
     full_two e = omega (arith, eqb-true (length (node_at ns a.node)) size (sym h.full_is ∙ e))
@@ -275,3 +278,39 @@ module _ {T : Type 0} (cmp : T → T → Ordering) (size : ℕ) (ns : List (List
   pub checked_absent : has_equal cmp (joined ns) v ≡ false → checked_put_events cmp size ns v ≡ put_events cmp size ns v
   unfolding checked_put_events
   checked_absent h = rw h refl
+
+  pub checked_with_there : has_equal cmp (joined ns) v ≡ true → with_checked_put cmp size ns v ≡ ns
+  unfolding with_checked_put
+  checked_with_there h = rw h refl
+
+  pub checked_with_absent : has_equal cmp (joined ns) v ≡ false → with_checked_put cmp size ns v ≡ with_put cmp size ns v
+  unfolding with_checked_put
+  checked_with_absent h = rw h refl
+
+  -- the nodes after a put, by the aim
+  pub first_with_put : ns ≡ [] → with_put cmp size ns v ≡ (v ∷ []) ∷ []
+  unfolding with_put
+  first_with_put none = rw none refl
+
+  pub aimed_with_put : (a : Aim) → IsAim cmp size ns v a → with_put cmp size ns v ≡ put_into_target cmp (with_room cmp size ns v) v
+  unfolding with_put
+  aimed_with_put a h = let some : is_filled ns ≡ true = length_filled ns (omega (arith, h.node_in)) in rw some refl
+
+-- a put, by what its call aims at
+module _ {T : Type 0} (cmp : T → T → Ordering) (o : IsTotalOrder cmp) (v : T) (size : ℕ) (two : 2 ≤ size) (ns : List (List T)) (law : IsLawful cmp size ns) where
+  pub count_aimed : (aim : Option Aim) → IsAimed cmp size ns v aim → length (put_events cmp size ns v) ≡ count_for aim
+  count_aimed None none = ap (λ q. length q) (put_events_none cmp size v ns none)
+  count_aimed (Some a) h = ap (λ q. length q) (aimed_events cmp size ns v a h) ∙ events_count cmp o v size two ns law a h
+
+  pub present_aimed : (aim : Option Aim) → IsAimed cmp size ns v aim → has_equal cmp (joined ns) v ≡ is_present aim
+  present_aimed None none = rw none refl
+  present_aimed (Some a) h = equal_is cmp o v size two ns law a h
+
+  after : Makes cmp o v size ns (put_events cmp size ns v) (with_put cmp size ns v) (put cmp (joined ns) v)
+  after = put_makes cmp o v size two ns (lawful_ruled cmp size ns law) (lawful_bounded cmp size ns law)
+
+  pub put_contents : joined (with_put cmp size ns v) ≡ put cmp (joined ns) v
+  put_contents = let d = after in d.holds
+
+  pub put_replayed : (s : ℕ) → replay cmp ns (numbered_from s (put_events cmp size ns v)) ≡ Some (with_put cmp size ns v)
+  put_replayed s = let d = after in numbered_replay cmp ns s (put_events cmp size ns v) ∙ d.replayed

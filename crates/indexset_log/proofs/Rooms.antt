@@ -144,7 +144,7 @@ module _ {T : Type 0} (cmp : T → T → Ordering) (o : IsTotalOrder cmp) (v : T
       }
 
   pub put_makes : 2 ≤ size → (ns : List (List T)) → Ruled cmp ns → Small cmp o v size ns → Makes ns (put_events cmp size ns v) (with_put cmp size ns v) (put cmp (joined ns) v)
-  unfolding put_events
+  unfolding put_events with_put
   put_makes two [] ruled small =
       let did = create_step cmp o [] [] v ruled tt tt in
       record { replayed = rw did.1 refl; ruled = at_ruled cmp o [] (v ∷ []) [] did.0; small = (omega arith, tt); holds = sym (parts-put cmp o [] [] [] v tt tt tt) }

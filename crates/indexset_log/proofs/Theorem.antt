@@ -1,5 +1,5 @@
 -- Replay of the numbered events of the table, from any lawful nodes.
-use Rattle.std.proofs.Common.{◌≡◌, ℕ, zero, suc, ◌+◌, ◌<◌, ◌≤◌, true, false, if◌then◌else◌, List, [], ◌∷◌, length, get_or, Option, Some, None, Ordering, option_and_then, refl, ap, sym, ◌∙◌, subst, arith, ◌≢◌, ◌-◌, set, insert, map, Result, Ok, Err, IfOk, OnOk}
+use Rattle.std.proofs.Common.{◌≡◌, ℕ, zero, suc, ◌+◌, ◌<◌, ◌≤◌, true, false, if◌then◌else◌, List, [], ◌∷◌, length, get_or, Option, Some, None, Ordering, option_and_then, refl, ap, sym, ◌∙◌, subst, arith, ◌≢◌, ◌-◌, set, insert, map, Result, Ok, Err, IfOk, IfErr, OnOk}
 use Rattle.std.specs.Cmp.{IsTotalOrder}
 use Rattle.std.proofs.lemmas.List.{map-set}
 use Rattle.std.proofs.lemmas.Bool.{false≢true}
@@ -132,6 +132,10 @@ last_some n v x h = last_answer n v ∙ get_or_from_slice_get n (length n - 1) x
 pub if_ok_on : {A E : Type 0} (r : Result A E) {P : A → Type 0} {Q : Type 0} (R : A → Type 0) → IfOk r P → OnOk r Q → ((x : A) → P x → Q → R x) → IfOk r R
 if_ok_on (Ok x) R p q f = f x p q
 if_ok_on (Err e) R p q f = tt
+
+pub if_err_map : {A E : Type 0} (r : Result A E) {P : E → Type 0} (Q : E → Type 0) → IfErr r P → ((x : E) → P x → Q x) → IfErr r Q
+if_err_map (Ok x) Q p f = tt
+if_err_map (Err e) Q p f = f e p
 
 pub on_ok_map : {A E : Type 0} (r : Result A E) {P Q : Type 0} → OnOk r P → (P → Q) → OnOk r Q
 on_ok_map (Ok x) p f = f p

@@ -1,5 +1,5 @@
 -- Where an item goes.
-use Rattle.std.specs.Prelude.{◌≡◌, ℕ, ◌/◌, ◌<◌, ◌&&◌, length, List, take, ◌==◌, IfOk, IfErr}
+use Rattle.std.specs.Prelude.{◌≡◌, ℕ, ◌+◌, Bool, false, [], cond, is_ok, Option, Some, None, MatchOption, ◌/◌, ◌<◌, ◌&&◌, length, List, take, ◌==◌, IfOk, IfErr}
 use Rattle.std.specs.declared.cmp.Ordering.{Ordering}
 use Rattle.indexset_core.specs.Nodes.{node_at}
 use Rattle.indexset_core.specs.Order.{IsFoundAt, IsGapFor}
@@ -14,3 +14,17 @@ pub record IsAim {T : Type 0} (cmp : T → T → Ordering) (size : ℕ) (ns : Li
   pub right_is : a.right ≡ ((length (node_at ns a.node) == size) && is_past cmp (take (length (node_at ns a.node) / 2) (node_at ns a.node)) v)
   pub found : IfOk a.at (IsFoundAt cmp (part_for cmp size (node_at ns a.node) v) v)
   pub gap : IfErr a.at (IsGapFor cmp (part_for cmp size (node_at ns a.node) v) v)
+
+-- where v goes in a tree that has nodes: none has an empty one
+abbrev pub IsAimed : {T : Type 0} → (T → T → Ordering) → ℕ → List (List T) → T → Option Aim → Type 0
+IsAimed cmp size ns v aim = MatchOption aim (ns ≡ []) (IsAim cmp size ns v)
+
+-- how many events a put there gives: the first makes a node
+abbrev pub count_for : Option Aim → ℕ
+count_for None = 1
+count_for (Some a) = cond a.full 1 0 + cond (is_ok a.at) 2 1
+
+-- an equal item stands there
+abbrev pub is_present : Option Aim → Bool
+is_present None = false
+is_present (Some a) = is_ok a.at

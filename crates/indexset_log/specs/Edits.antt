@@ -2,8 +2,8 @@
 use Rattle.std.specs.Prelude.{ℕ, ◌+◌, ◌/◌, length, List, [], ◌∷◌, if◌then◌else◌, ◌==◌, take, drop, set, remove}
 use Rattle.std.specs.declared.cmp.Ordering.{Ordering}
 use Rattle.std.specs.List.{splice}
-use Rattle.indexset_core.specs.Nodes.{node_at}
-use Rattle.indexset_core.specs.Order.{put}
+use Rattle.indexset_core.specs.Nodes.{joined, node_at}
+use Rattle.indexset_core.specs.Order.{put, has_equal}
 use Rattle.indexset_log.specs.Nodes.{is_filled}
 use Rattle.indexset_log.specs.Table.{target}
 
@@ -27,5 +27,9 @@ module _ {T : Type 0} where
   with_room cmp size ns v = if length (node_at ns (target cmp ns v)) == size then with_halved ns (target cmp ns v) else ns
 
   -- the nodes after a put
-  abbrev pub with_put : (T → T → Ordering) → ℕ → List (List T) → T → List (List T)
+  unfoldable pub with_put : (T → T → Ordering) → ℕ → List (List T) → T → List (List T)
   with_put cmp size ns v = if is_filled ns then put_into_target cmp (with_room cmp size ns v) v else (v ∷ []) ∷ []
+
+  -- the nodes after a checked put
+  unfoldable pub with_checked_put : (T → T → Ordering) → ℕ → List (List T) → T → List (List T)
+  with_checked_put cmp size ns v = if has_equal cmp (joined ns) v then ns else with_put cmp size ns v

@@ -1,7 +1,7 @@
 //! What is done to the nodes.
-ghost use Rattle.std.specs.Prelude.{◌≡◌, ◌+◌, ◌/◌, ◌<◌, ◌≤◌, Bool, true, false, IsTrue, [], vec_len, vec_capacity, length, map, set, cond, if◌then◌else◌, Option, IfOk, OnOk, IfErr, OnErr, is_err};
+ghost use Rattle.std.specs.Prelude.{◌≡◌, ◌+◌, ◌/◌, ◌<◌, ◌≤◌, Bool, true, false, IsTrue, [], vec_len, vec_capacity, length, map, set, cond, if◌then◌else◌, min, sum_by, Option, IfOk, OnOk, IfErr, OnErr, is_err};
 ghost use Rattle.std.specs.List.{HoldsAt};
-ghost use Rattle.indexset_core.specs.Nodes.{node_at};
+ghost use Rattle.indexset_core.specs.Nodes.{joined, node_at};
 ghost use Rattle.indexset_core.specs.Order.{IsAscending, IsFoundAt, IsGapFor, put, equal_element};
 ghost use Rattle.indexset_log.specs.Edits.{with_halved};
 ghost use Rattle.indexset_log.specs.Table.{half_of};
@@ -110,4 +110,28 @@ pub(crate) fn first_node<T: Ord + Drop, Node: NodeLike<T>>(
 {
     nodes.reserve(1)?;
     Node::with_capacity(*nodes.allocator(), 1)
+}
+
+/// How many items the nodes hold.
+pub(crate) fn count_items<T: Ord + Drop, Node: NodeLike<T>>(nodes: &[Node]) -> usize
+    requires { length (joined (map Node.list nodes.now)) ≤ usize.MAX }
+    ensures { result ≡ length (joined (map Node.list nodes.now)) }
+{
+    let mut count = 0;
+    for node in nodes {
+        count += node.len();
+    }
+    count
+}
+
+/// How many items the nodes have room for, up to the greatest usize.
+pub(crate) fn capacity_of<T: Ord + Drop, Node: NodeLike<T>>(nodes: &[Node]) -> usize
+    ensures value { result ≡ min usize.MAX (sum_by Node.room nodes.now) }
+    ensures enough { min usize.MAX (length (joined (map Node.list nodes.now))) ≤ result }
+{
+    let mut room: usize = 0;
+    for node in nodes {
+        room = room.saturating_add(node.capacity());
+    }
+    room
 }

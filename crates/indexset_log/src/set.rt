@@ -1,14 +1,17 @@
 //! The logged set.
 ghost use Rattle.std.specs.Prelude.{◌≡◌, ◌+◌, ◌≤◌, [], length, None, MatchOption};
 ghost use Rattle.std.specs.Option.{option_copied};
-ghost use Rattle.indexset_core.specs.Nodes.{joined};
+ghost use Rattle.indexset_core.specs.Nodes.{joined, IsLawful};
 ghost use Rattle.indexset_core.specs.Digits.{digits};
 ghost use Rattle.indexset_core.specs.Order.{has_equal, equal_element};
 ghost use Rattle.indexset_core.specs.Parted.{IsParted};
 ghost use Rattle.indexset_log.specs.Located.{located, IsFoundIn};
 
 mod attach;
+pub mod iter;
+pub mod nodes;
 mod put;
+pub mod range;
 mod remove;
 
 use crate::locate::node_by;
@@ -90,9 +93,12 @@ impl<T: Ord + Clone + Drop, Node: NodeLike<T>> BTreeSet<T, Node> {
         self.len
     }
 
-    /// How many nodes there are.
+    /// How many nodes there are: no more than items. None is empty or holds more than the node size,
+    /// and the items of all ascend, one node after another, which a caller learns here.
     pub fn node_count(&self) -> usize
-        ensures { result ≡ length self.now.nodes }
+        ensures value { result ≡ length self.now.nodes }
+        ensures few { result ≤ length (joined self.now.nodes) }
+        ensures lawful { IsLawful T.cmp self.now.size self.now.nodes }
     {
         self.nodes.len()
     }

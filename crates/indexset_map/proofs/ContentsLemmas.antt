@@ -1,9 +1,9 @@
 -- What a written value leaves of the pairs of a map.
-use Rattle.std.proofs.Common.{◌≡◌, ℕ, zero, suc, ◌-◌, ◌<◌, ◌≤◌, true, false, List, [], ◌∷◌, ◌++◌, length, take, Ordering, Option, Some, None, IsSome, is_some, slice_get, refl, ap, sym, ◌∙◌, arith}
-use Rattle.std.specs.Borrow.{Bor}
-use Rattle.std.specs.Option.{option_copied, option_map, option_map_or}
-use Rattle.std.specs.Ordering.{is_eq}
+use Rattle.std.proofs.Common.{◌≡◌, ℕ, zero, suc, ◌<◌, ◌≤◌, true, false, List, [], ◌∷◌, length, Ordering, Some, None, slice_get, refl, ap, sym, ◌∙◌, arith, ◌-◌, ◌++◌, take, Option, IsSome, is_some}
+use Rattle.std.specs.Option.{option_map, option_map_or, option_copied}
 use Rattle.std.specs.List.{insert, remove, slice_set}
+use Rattle.std.specs.Borrow.{Bor}
+use Rattle.std.specs.Ordering.{is_eq}
 use Rattle.std.proofs.Math.ListN.{drop_of_length-le}
 use Rattle.std.proofs.lemmas.Bool.{false≢true}
 use Rattle.std.proofs.lemmas.List.{append-nil}
@@ -15,7 +15,7 @@ use Rattle.indexset_core.specs.Order.{IsGapFor, put}
 use Rattle.indexset_core.specs.Pairs.{pair, valued, by_key, set_value_at, has_key, pair_of, value_of, set_value, put_value}
 use Rattle.indexset_set.specs.SetPairs as cut
 use Rattle.indexset_core.proofs.CallerLemmas.{gap_put, is_some-find}
-use Rattle.indexset_set.proofs.SetValueLemmas.{items-with_value_at, size-with_value_at}
+use Rattle.indexset_set.proofs.CallerLemmas.{items-with_value_at, size-with_value_at}
 use Rattle.indexset_map.specs.Contents.{Contents, contents, with_value_at}
 use Rattle.indexset_map.proofs.LengthLemmas.{node_lengths-set_joined}
 

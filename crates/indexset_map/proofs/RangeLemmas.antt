@@ -11,7 +11,7 @@ use Rattle.indexset_core.specs.Bounds.{are_ordered, in_range, is_before, is_from
 use Rattle.indexset_core.specs.Order.{IsAscending}
 use Rattle.indexset_core.specs.Pairs.{pair, by_key, key_rank, pairs_below, pairs_from, pairs_within}
 use Rattle.indexset_core.proofs.CallerLemmas.{absent_gap, found_not_above, gap_not_above, key_absent, key_found, key_inside, parted_by_key, range_is}
-use Rattle.indexset_set.proofs.SetBulkLemmas.{take_below, drop_not_below}
+use Rattle.indexset_set.proofs.CallerLemmas.{take_below, drop_not_below}
 
 module _ {K V : Type 0} (cmp : K → K → Ordering) (o : IsTotalOrder cmp) where
   pairs_total : IsTotalOrder (by_key {V = V} cmp)

@@ -1,8 +1,11 @@
+pub mod CallerLemmas
 pub mod CompareLemmas
+pub mod LentPairs
 pub mod MergeLemmas
 pub mod SetAlgebraLaws
 pub mod SetAlgebraLemmas
 pub mod SetBulkLemmas
+pub mod SetCloneLemmas
 pub mod SetMemberLemmas
 pub mod SetNodeLemmas
 pub mod SetPairLemmas

@@ -1,4 +1,4 @@
--- Two ascending vec_items as sets.
+-- Two ascending lists as sets.
 use Rattle.std.specs.Prelude.{◌≡◌, ℕ, List, take, drop, filter, not}
 use Rattle.std.specs.declared.cmp.Ordering.{Ordering}
 use Rattle.std.specs.List.{fold}
@@ -13,7 +13,7 @@ module _ {T : Type 0} (cmp : T → T → Ordering) where
   unfoldable pub difference : List T → List T → List T
   difference l r = filter (λ x. not (has_equal cmp r x)) l
 
-  -- the elements of l, and each of r that has no equal one there, in its place
+  -- the elements of l, and each of r that has no equal one there, where it belongs
   unfoldable pub union : List T → List T → List T
   union l r = fold (keep cmp) l r
 
@@ -21,7 +21,7 @@ module _ {T : Type 0} (cmp : T → T → Ordering) where
   unfoldable pub symmetric_difference : List T → List T → List T
   symmetric_difference l r = union (difference l r) (difference r l)
 
-  -- the elements of l, with each of xs put in its place in turn, for any equal one
+  -- the elements of l, with each of xs in turn put where it belongs, replacing any equal one
   unfoldable pub put_all : List T → List T → List T
   put_all l xs = fold (put cmp) l xs
 

@@ -17,6 +17,7 @@ mod make;
 mod pairs;
 mod positions;
 pub mod range;
+mod traits;
 
 use indexset_spine::spine::Spine;
 use std::marker::Model;

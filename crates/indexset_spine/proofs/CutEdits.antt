@@ -1,4 +1,4 @@
--- What an edit at a place does to the joined list, and that the nodes stay a cut.
+-- What an edit at a spot does to the joined list, and that the nodes stay a cut.
 use Rattle.std.proofs.Common.{◌≡◌, ℕ, Bool, suc, ◌+◌, ◌-◌, ◌/◌, ◌<◌, ◌≤◌, ◌==◌, true, false, List, [], ◌∷◌, ◌++◌, length, take, drop, slice_set, slice_get, if◌then◌else◌, nat_lt, ◌&&◌, refl, sym, ap, ◌∙◌, subst, arith, length-append, add-one, length-take, length-drop}
 use Rattle.std.proofs.lemmas.Bool.Decides.{nat_tests}
 use Rattle.std.proofs.lemmas.List.{append-nil, length-map, get_or-map, length-set, set-append_left, set-append_right, take-append-drop, length-take-le, set_split, nil_from_length}
@@ -33,7 +33,7 @@ module _ {X : Type 0} (fs n bs : List X) (o : ℕ) where
   get_mid : o < length n → slice_get (fs ++ (n ++ bs)) (length fs + o) ≡ slice_get n o
   get_mid h = slice_get-right fs (n ++ bs) (length fs + o) o refl ∙ slice_get-left n bs o h
 
--- other lengths in the place of the k-th
+-- other lengths for the k-th
 module _ (ls ps : List ℕ) (k size : ℕ) (h : k < length ls) (is : IsCut ls size) where
   at_least_before : All (λ n. 1 ≤ n) (take k ls)
   at_least_before i d lt = All-take (λ n. 1 ≤ n) k ls (is.filled (omega (arith, lt, length-take k ls))) i d lt
@@ -135,7 +135,7 @@ module _ {X : Type 0} where
   pub spine_of : (ns : List (List X)) (size total : ℕ) → IsCut (node_lengths ns) size → total ≡ length (joined ns) → IsSpine (node_lengths ns) size total
   spine_of ns size total is e = record { is_cut = is; total_is = e ∙ length-joined ns }
 
-  -- the place is at most the end
+  -- the spot is at most the end
   pub position_within : (ns : List (List X)) (s : Spot) → IsSpot ns s → position_of ns s ≤ length (joined ns)
   position_within ns s h =
       let fs = joined (take s.node ns) in let bs = joined (drop (s.node + 1) ns) in let n = node_at ns s.node in
@@ -223,7 +223,7 @@ module _ {X : Type 0} where
   pub spine_replaced : (size total : ℕ) (ns : List (List X)) (s : Spot) (v : X) → IsSpine (node_lengths ns) size total → IsSpine (node_lengths (with_replaced ns s v)) size total
   spine_replaced size total ns s v is = rw (node_lengths-replaced ns s v) is
 
-  -- the first item stands at the first place
+  -- the first item stands at the first spot
   pub first_in : (size : ℕ) (ns : List (List X)) → IsCut (node_lengths ns) size → 0 < length (joined ns) → IsItemSpot ns first_spot
   first_in size [] is some = absurd (omega arith)
   first_in size (n ∷ []) is some = record { node_in = omega arith; offset_in = omega (arith, some, length-append n []) }

@@ -26,19 +26,19 @@ few_nodes (n ∷ []) size h = omega arith
 few_nodes (n ∷ m ∷ ls) size h = let all = sum-filled (n ∷ m ∷ ls) (h.filled (omega arith)) in omega arith
 
 module _ {X : Type 0} where
-  -- a write at a place
-  pub set_place : (ns : List (List X)) (i k o : ℕ) (w : X) → i ≡ length (joined (take k ns)) + o → o < length (get_or ns k []) → k < length ns → set_joined ns i w ≡ slice_set ns k (slice_set (get_or ns k []) o w)
+  -- a write at a spot
+  pub set_spot : (ns : List (List X)) (i k o : ℕ) (w : X) → i ≡ length (joined (take k ns)) + o → o < length (get_or ns k []) → k < length ns → set_joined ns i w ≡ slice_set ns k (slice_set (get_or ns k []) o w)
   unfolding set_joined
-  set_place [] i k o w at inside lt = absurd (omega arith)
-  set_place (n ∷ ns) i zero o w at inside lt =
+  set_spot [] i k o w at inside lt = absurd (omega arith)
+  set_spot (n ∷ ns) i zero o w at inside lt =
       let e : i ≡ o = omega arith in let l : i < length n = omega arith in
       let t : nat_lt i (length n) ≡ true = grind (arith, nat_tests) in
       rw t (ap (λ j. slice_set n j w ∷ ns) e)
-  set_place (n ∷ ns) i (suc k) o w at inside lt =
+  set_spot (n ∷ ns) i (suc k) o w at inside lt =
       let long = length-append n (joined (take k ns)) in
       let l : length n ≤ i = omega arith in
       let t : nat_lt i (length n) ≡ false = grind (arith, nat_tests) in
-      rw t (ap (λ l. n ∷ l) (set_place ns (i - length n) k o w (omega arith) inside (omega arith)))
+      rw t (ap (λ l. n ∷ l) (set_spot ns (i - length n) k o w (omega arith) inside (omega arith)))
 
   abbrev Sets : Bool → List X → List (List X) → ℕ → X → Type 0
   Sets b n ns i w = joined (if b then slice_set n i w ∷ ns else n ∷ set_joined ns (i - length n) w) ≡ slice_set (n ++ joined ns) i w
@@ -55,9 +55,9 @@ module _ {X : Type 0} where
 
   -- the nodes as the code holds them
   module _ {Z : Type 0} where
-    -- the same, at a place of the spine s
-    pub place_reads : (vs : List (Vec X Z)) (n : ℕ) (s : Cut X) (p : Spot) (v : Vec X Z) (x : X) → cut (vec_items vs) n ≡ s → IsItemSpot s.nodes p → v ≡ get_or vs p.node v → x ≡ get_or v.items p.offset x → slice_get (items s) (position_of s.nodes p) ≡ Some x
-    place_reads vs n s p v x e h at is =
+    -- the same, at a spot of the spine s
+    pub spot_reads : (vs : List (Vec X Z)) (n : ℕ) (s : Cut X) (p : Spot) (v : Vec X Z) (x : X) → cut (vec_items vs) n ≡ s → IsItemSpot s.nodes p → v ≡ get_or vs p.node v → x ≡ get_or v.items p.offset x → slice_get (items s) (position_of s.nodes p) ≡ Some x
+    spot_reads vs n s p v x e h at is =
         let q = subst (λ (t : Cut X). IsItemSpot t.nodes p) (sym e) h in
         let lt : p.node < length vs = omega (arith, q.node_in, length-vec_items vs) in
         let inside : p.offset < length v.items = subst (λ (l : List X). p.offset < length l) (node_read vs p.node v lt at []) q.offset_in in
@@ -73,19 +73,19 @@ module _ {X : Type 0} where
       node_in : p.node < length vs
       node_in = omega (arith, inside.node_in, length-vec_items vs)
 
-      -- a write at a place of the spine s
-      pub place_writes : (i : ℕ) → position_of s.nodes p ≡ i → cut (vec_items (slice_set vs p.node (with_item v p.offset w))) n ≡ with_item_at s i w
-      place_writes i e =
+      -- a write at a spot of the spine s
+      pub spot_writes : (i : ℕ) → position_of s.nodes p ≡ i → cut (vec_items (slice_set vs p.node (with_item v p.offset w))) n ≡ with_item_at s i w
+      spot_writes i e =
           let m : get_or (vec_items vs) p.node [] ≡ v.items = node_read vs p.node v node_in at [] in
           let here : i ≡ position_of (vec_items vs) p = sym e ∙ ap (λ (t : Cut X). position_of t.nodes p) (sym view) in
           let a : vec_items (slice_set vs p.node (with_item v p.offset w)) ≡ slice_set (vec_items vs) p.node (slice_set v.items p.offset w) = vec_items-set vs p.node (with_item v p.offset w) in
           let b : slice_set (vec_items vs) p.node (slice_set v.items p.offset w) ≡ set_joined (vec_items vs) i w =
-          ap (λ l. slice_set (vec_items vs) p.node (slice_set l p.offset w)) (sym m) ∙ sym (set_place (vec_items vs) i p.node p.offset w here inside.offset_in inside.node_in) in
+          ap (λ l. slice_set (vec_items vs) p.node (slice_set l p.offset w)) (sym m) ∙ sym (set_spot (vec_items vs) i p.node p.offset w here inside.offset_in inside.node_in) in
           ap (λ ns. cut ns n) (a ∙ b) ∙ ap (λ (t : Cut X). with_item_at t i w) view
 
       -- it keeps the spine's rule
-      pub place_keeps : (total : ℕ) → IsSpine (node_lengths (vec_items vs)) n total → IsSpine (node_lengths (vec_items (slice_set vs p.node (with_item v p.offset w)))) n total
-      place_keeps total is =
+      pub spot_keeps : (total : ℕ) → IsSpine (node_lengths (vec_items vs)) n total → IsSpine (node_lengths (vec_items (slice_set vs p.node (with_item v p.offset w)))) n total
+      spot_keeps total is =
           let same : node_lengths (vec_items (slice_set vs p.node (with_item v p.offset w))) ≡ node_lengths (vec_items vs) =
           ap node_lengths (vec_items-set vs p.node (with_item v p.offset w))
           ∙ node_lengths-set (vec_items vs) p.node (slice_set v.items p.offset w) (length-set v.items p.offset w ∙ ap (λ (l : List X). length l) (sym (node_read vs p.node v node_in at []))) in

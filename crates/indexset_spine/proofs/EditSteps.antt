@@ -1,11 +1,10 @@
 -- The steps of an edit, on the nodes as the code holds them.
-use Rattle.std.proofs.Common.{◌≡◌, ℕ, suc, ◌+◌, ◌-◌, ◌/◌, ◌<◌, ◌≤◌, List, [], ◌∷◌, ◌++◌, length, take, drop, get_or, slice_set, nat_lt, true, false, Result, Ok, Err, Option, Some, None, refl, sym, ap, ◌∙◌, subst, arith, add-one, append_assoc, length-take, length-drop}
+use Rattle.std.proofs.Common.{◌≡◌, ℕ, suc, ◌+◌, ◌-◌, ◌/◌, ◌<◌, ◌≤◌, List, [], ◌∷◌, ◌++◌, length, take, drop, get_or, slice_set, nat_lt, true, false, Option, Some, None, refl, sym, ap, ◌∙◌, subst, arith, add-one, append_assoc, length-take, length-drop}
 use Rattle.std.proofs.lemmas.Bool.Decides.{nat_tests}
 use Rattle.std.proofs.lemmas.List.{map_push, take_more, length-set, length-append, set-get_or, set_split, set_at, get_or_at, get_or-set_same, drop_at, take_at, length-take-le}
 use Rattle.std.proofs.lemmas.List.Edits.{get_or-insert_at, get_or-insert_below}
 use Rattle.std.specs.List.{insert, splice, HoldsAt}
 use Rattle.std.specs.Option.{IfSome}
-use Rattle.std.specs.Result.{OnErr}
 use Rattle.std.specs.Vec.{vec_len, vec_capacity}
 use Rattle.std.specs.declared.vec.Vec.{Vec}
 use Rattle.indexset_spine.specs.declared.spot.Spot.{Spot}
@@ -14,12 +13,7 @@ use Rattle.indexset_spine.specs.Cut.{Cut, cut, vec_items, IsSpot, IsItemSpot, wi
 use Rattle.indexset_spine.specs.Edits.{with_item_in}
 use Rattle.indexset_spine.proofs.VecNodes.{length-vec_items, vec_items-set, vec_items-splice, node_read}
 
--- what holds in any case
-pub on_err : {T E P : Type 0} (r : Result T E) → P → OnErr r P
-on_err (Ok x) p = tt
-on_err (Err e) p = p
-
--- a node that is cut in two stands in its place
+-- a node that is cut in two is two nodes
 module _ {A : Type 0} (ns : List A) (k : ℕ) (l r : A) (h : k < length ns) where
   before : length (take k ns) ≡ k
   before = length-take-le k ns (omega arith)
@@ -108,7 +102,7 @@ module _ {X Z : Type 0} where
   pub node_len : (vs : List (Vec X Z)) (k : ℕ) (u : Vec X Z) → k < length (vec_items vs) → u ≡ get_or vs k u → length (node_at (vec_items vs) k) ≡ vec_len u
   node_len vs k u h at = ap (λ (n : List X). length n) (node_is vs k u h at) ∙ sym u.ok.0
 
-  -- a place in a node that has room
+  -- a spot in a node that has room
   pub room_puts : (vs : List (Vec X Z)) (s : Spot) (u w : Vec X Z) (size : ℕ) (v : X) → s.node < length (vec_items vs) → u ≡ get_or vs s.node u → w.items ≡ u.items → length (node_at (vec_items vs) s.node) < size → with_item_in (vec_items (slice_set vs s.node w)) s v ≡ with_inserted size (vec_items vs) s v
   room_puts vs s u w size v h at is short =
       ap (λ ns. with_item_in ns s v) (lists_kept vs s.node u w h at is) ∙ put_short size (vec_items vs) s v h short
@@ -167,7 +161,7 @@ module _ {X Z : Type 0} where
         let n : vec_len w ≡ length (take (length u.items / 2) u.items) = w.ok.0 ∙ ap (λ (l : List X). length l) left in
         subst (λ (v : Vec X Z). vec_len v < vec_capacity v) (sym e) (omega (arith, n, room, two_in two, u.ok, length-take (length u.items / 2) u.items))
 
--- a place, in the nodes as the code holds them
+-- a spot, in the nodes as the code holds them
 module _ {X : Type 0} where
   pub spot_in : (ns : List (List X)) (n : ℕ) (t : Cut X) (s : Spot) → cut ns n ≡ t → IsSpot t.nodes s → IsSpot ns s
   spot_in ns n t s e h = subst (λ (t : Cut X). IsSpot t.nodes s) (sym e) h

@@ -62,11 +62,11 @@ module _ {X Z : Type 0} where
       ap (λ ms. without_emptied ms s.node) (vec_items-set vs s.node w ∙ ap (λ n. slice_set (vec_items vs) s.node n) (is ∙ ap (λ n. remove n s.offset) (sym (node_is vs s.node u h.node_in at))))
       ∙ item_goes (vec_items vs) s h
 
-  -- w is written over the item of the place
-  pub replace_writes : (vs : List (Vec X Z)) (size : ℕ) (t : Cut X) (s : Spot) (u : Vec X Z) (w : X) → cut (vec_items vs) size ≡ t → IsItemSpot t.nodes s → u ≡ get_or vs s.node u
+  -- w is written over the item of the spot
+  pub respot_writes : (vs : List (Vec X Z)) (size : ℕ) (t : Cut X) (s : Spot) (u : Vec X Z) (w : X) → cut (vec_items vs) size ≡ t → IsItemSpot t.nodes s → u ≡ get_or vs s.node u
       → vec_items (slice_set vs s.node (with_item u s.offset w)) ≡ with_replaced t.nodes s w
   unfolding with_replaced
-  replace_writes vs size t s u w e h at =
+  respot_writes vs size t s u w e h at =
       let here = item_spot_in (vec_items vs) size t s e h in
       vec_items-set vs s.node (with_item u s.offset w)
       ∙ (ap (λ n. slice_set (vec_items vs) s.node (slice_set n s.offset w)) (sym (node_is vs s.node u here.node_in at))

@@ -13,7 +13,7 @@ use Rattle.indexset_spine.specs.Edits.{RetainsTo, RetainsEach, RetainsNodes, or_
 use Rattle.indexset_spine.proofs.CutEdits.{spine_of}
 use Rattle.indexset_spine.proofs.CutSplits.{joined_all_emptied, cut_all_emptied}
 
--- y changes places with the first item that went, the k-th
+-- y is swapped with the first item that went, the k-th
 module _ {X : Type 0} (ys : List X) (k i : ℕ) (y : X) (below : k < i) (lt : i < length ys) where
   abbrev zs : List X
   zs = set ys i y

@@ -23,7 +23,7 @@ pub record IsSpine (lengths : List ℕ) (size total : ℕ) : Type 0 where
   pub is_cut : IsCut lengths size
   pub total_is : total ≡ sum lengths
 
--- the place before the first item
+-- the spot of the first item
 abbrev pub first_spot : Spot
 first_spot = record { node = 0; offset = 0; found = true }
 
@@ -42,21 +42,21 @@ module _ {X : Type 0} where
   abbrev pub vec_items : {Z : Type 0} → List (Vec X Z) → List (List X)
   vec_items vs = map (λ v. v.items) vs
 
-  -- a place between items or at one: the node is there, and the offset is at most its length
+  -- a spot between items or at one: the node is there, and the offset is at most its length
   pub record IsSpot (ns : List (List X)) (s : Spot) : Type 0 where
     pub node_in : s.node < length ns
     pub offset_in : s.offset ≤ length (node_at ns s.node)
 
-  -- the place of an item
+  -- the spot of an item
   pub record IsItemSpot (ns : List (List X)) (s : Spot) : Type 0 where
     pub node_in : s.node < length ns
     pub offset_in : s.offset < length (node_at ns s.node)
 
-  -- how many items stand before the place
+  -- how many items stand before the spot
   abbrev pub position_of : List (List X) → Spot → ℕ
   position_of ns s = length (joined (take s.node ns)) + s.offset
 
-  -- v goes in at the offset: a node within the size stays one; a full one is cut in half first, and v goes right where the offset is above the cut
+  -- v goes in at the offset: a node below the size stays one; a full one is halved first, and v goes right where the offset is above the half, else left
   unfoldable pub parts_with : ℕ → List X → ℕ → X → List (List X)
   parts_with size n offset v =
       let half = length n / 2 in
@@ -64,21 +64,21 @@ module _ {X : Type 0} where
       else if nat_lt half offset then take half n ∷ insert (drop half n) (offset - half) v ∷ []
       else insert (take half n) offset v ∷ drop half n ∷ []
 
-  -- the nodes with v put at the place
+  -- the nodes with v inserted at the spot
   unfoldable pub with_inserted : ℕ → List (List X) → Spot → X → List (List X)
   with_inserted size ns s v = splice ns s.node (s.node + 1) (parts_with size (node_at ns s.node) s.offset v)
 
-  -- the nodes without the item at the place: an emptied node goes too, unless it is the only one
+  -- the nodes without the item at the spot: an emptied node goes too, unless it is the only one
   unfoldable pub without_item : List (List X) → Spot → List (List X)
   without_item ns s =
       if (length (node_at ns s.node) == 1) && nat_lt 1 (length ns) then remove ns s.node
       else slice_set ns s.node (remove (node_at ns s.node) s.offset)
 
-  -- the nodes with v in place of the item at the place
+  -- the nodes with v written over the item at the spot
   unfoldable pub with_replaced : List (List X) → Spot → X → List (List X)
   with_replaced ns s v = slice_set ns s.node (slice_set (node_at ns s.node) s.offset v)
 
-  -- the nodes with w in place of the item at the position i
+  -- the nodes with w written over the item at the position i
   unfoldable pub set_joined : List (List X) → ℕ → X → List (List X)
   set_joined [] i w = []
   set_joined (n ∷ ns) i w =

@@ -4,11 +4,11 @@ use Rattle.indexset_spine.specs.declared.spot.Spot.{Spot}
 use Rattle.indexset_core.specs.Nodes.{node_at}
 
 module _ {X : Type 0} where
-  -- the nodes with v put into the node of the place
+  -- the nodes with v inserted into the node of the spot
   unfoldable pub with_item_in : List (List X) → Spot → X → List (List X)
   with_item_in ns s v = slice_set ns s.node (insert (node_at ns s.node) s.offset v)
 
-  -- one empty node in place of none
+  -- one empty node where there is none
   abbrev pub or_one_empty : List (List X) → List (List X)
   or_one_empty [] = [] ∷ []
   or_one_empty (n ∷ ns) = n ∷ ns
@@ -21,11 +21,11 @@ module _ {X : Type 0} where
   unfoldable pub without_all_emptied : List (List X) → List (List X)
   without_all_emptied ns = or_one_empty (filter (λ n. not (length n == 0)) ns)
 
-  -- the nodes up to the place: the last is cut at the offset, and goes if nothing is left of it, unless it is the only one
+  -- the nodes up to the spot: the last ends at the offset, and goes if nothing is left of it, unless it is the only one
   unfoldable pub left_nodes : List (List X) → Spot → List (List X)
   left_nodes ns s = without_emptied (take s.node ns ++ take s.offset (node_at ns s.node) ∷ []) s.node
 
-  -- the nodes from the place on: the first is cut at the offset, and goes if nothing is left of it, unless it is the only one
+  -- the nodes from the spot on: the first starts at the offset, and goes if nothing is left of it, unless it is the only one
   unfoldable pub right_nodes : List (List X) → Spot → List (List X)
   right_nodes ns s = without_emptied (drop s.offset (node_at ns s.node) ∷ drop (s.node + 1) ns) 0
 

@@ -6,6 +6,8 @@ ghost use Rattle.std.specs.Map.Iter.{TakesFirst, TakesLast};
 ghost use Rattle.indexset_core.specs.Nodes.{joined};
 ghost use Rattle.indexset_spine.specs.Cut.{vec_items};
 
+mod traits;
+
 use std::iter::FusedIterator;
 use std::marker::Model;
 use std::vec;

@@ -1,13 +1,14 @@
 //! A shared walk of a spine from both ends.
-ghost use Rattle.std.specs.Prelude.{◌≡◌, ◌+◌, ◌≤◌, length, List, Some, IfSome};
+ghost use Rattle.std.specs.Prelude.{◌≡◌, ◌+◌, length, List, IfSome, Some};
 ghost use Rattle.std.specs.List.{between};
 ghost use Rattle.std.specs.Iterator.{at_most, UpTo};
 ghost use Rattle.std.specs.Iterator.SizeHint.{IsWithinCount};
-ghost use Rattle.std.specs.Map.Iter.{TakesFirst, TakesLast, ShowsInOrder, ShowsInReverse, deref};
+ghost use Rattle.std.specs.Map.Iter.{TakesFirst, TakesLast, deref};
 ghost use Rattle.indexset_core.specs.Nodes.{joined};
-ghost use Rattle.indexset_spine.specs.Cut.{items, vec_items, IsItemSpot, position_of};
+ghost use Rattle.indexset_spine.specs.Cut.{vec_items, IsSpot, position_of};
 
-use crate::spine::Spine;
+mod traits;
+
 use crate::spot::Spot;
 use std::iter::FusedIterator;
 use std::marker::Model;
@@ -47,18 +48,20 @@ impl<'a, T> Iter<'a, T> {
         }
     }
 
-    /// The `left` items from the one at a place through the one at another.
-    pub(crate) fn through(nodes: &'a [Vec<T>], start: &Spot, end: &Spot, left: usize) -> Self
-        requires start { IsItemSpot (vec_items nodes.now) start.now }
-        requires end { IsItemSpot (vec_items nodes.now) end.now }
-        requires some { 1 ≤ left }
-        requires left { position_of (vec_items nodes.now) start.now + left ≡ position_of (vec_items nodes.now) end.now + 1 }
-        ensures { result ≡ between (position_of (vec_items nodes.now) start.now) (position_of (vec_items nodes.now) end.now + 1) (joined (vec_items nodes.now)) }
+    /// The `left` items from one spot up to another.
+    pub(crate) fn from_to(nodes: &'a [Vec<T>], start: &Spot, end: &Spot, left: usize) -> Self
+        requires start { IsSpot (vec_items nodes.now) start.now }
+        requires end { IsSpot (vec_items nodes.now) end.now }
+        requires left { position_of (vec_items nodes.now) start.now + left ≡ position_of (vec_items nodes.now) end.now }
+        ensures { result ≡ between (position_of (vec_items nodes.now) start.now) (position_of (vec_items nodes.now) end.now) (joined (vec_items nodes.now)) }
     {
+        if left == 0 {
+            return Iter::over(&[], 0);
+        }
         let first = nodes[start.node].as_slice();
         if start.node == end.node {
             return Iter {
-                front: &first[start.offset..end.offset + 1],
+                front: &first[start.offset..end.offset],
                 middle: &[],
                 back: &[],
                 left,
@@ -68,7 +71,7 @@ impl<'a, T> Iter<'a, T> {
         Iter {
             front: &first[start.offset..],
             middle: &nodes[start.node + 1..end.node],
-            back: &last[..end.offset + 1],
+            back: &last[..end.offset],
             left,
         }
     }
@@ -77,9 +80,9 @@ impl<'a, T> Iter<'a, T> {
 impl<'a, T> Iterator for Iter<'a, T> {
     type Item = &'a T;
 
-    ghost remaining = { λ s. at_most (length s) };
-
     ghost next_gives = { TakesFirst deref };
+
+    ghost remaining = { λ rest. at_most (length rest) };
 
     fn next(&mut self) -> Option<&'a T> {
         loop {
@@ -102,9 +105,9 @@ impl<'a, T> Iterator for Iter<'a, T> {
     }
 
     fn size_hint(&self) -> (usize, Option<usize>)
-        ensures value { result ≡ (length self.now, Some (length self.now)) }
         ensures lower { IsWithinCount result.0 (at_most (length self.now)) }
         ensures upper { IfSome result.1 (UpTo (at_most (length self.now))) }
+        ensures exact { result ≡ (length self.now, Some (length self.now)) }
     {
         (self.left, Some(self.left))
     }
@@ -141,15 +144,3 @@ impl<'a, T> ExactSizeIterator for Iter<'a, T> {
 }
 
 impl<'a, T> FusedIterator for Iter<'a, T> {}
-
-impl<'a, T> IntoIterator for &'a Spine<T> {
-    type Item = &'a T;
-
-    type IntoIter = Iter<'a, T>;
-
-    ghost into_iter_gives = { λ b r. (r ≡ items b.now) × ShowsInOrder (deref {X = T}) × ShowsInReverse (deref {X = T}) };
-
-    fn into_iter(self) -> Iter<'a, T> {
-        self.iter()
-    }
-}

@@ -11,6 +11,7 @@ ghost use Rattle.indexset_spine.specs.Cut.{items, vec_items, IsCut, IsSpot, IsIt
 
 mod insert;
 mod make;
+mod part;
 mod remove;
 mod retain;
 mod split;
@@ -21,6 +22,7 @@ use crate::spot::Spot;
 use crate::{lengths, locate};
 use indexset_core::probe::Probe;
 use indexset_core::search;
+use std::alloc::Global;
 use std::marker::Model;
 
 /// A list that is cut into nodes of at most a given number of items each.
@@ -44,7 +46,7 @@ impl<T> Model for Spine<T> {
 }
 
 impl<T> Spine<T> {
-    ghost use Rattle.indexset_spine.specs.SpineLends.{lends_item, lends_place};
+    ghost use Rattle.indexset_spine.specs.SpineLends.{lends_item, lends_at};
 
     /// How many items a node holds at most.
     pub fn maximum_node_size(&self) -> usize
@@ -52,6 +54,11 @@ impl<T> Spine<T> {
         ensures two { 2 ≤ result }
     {
         self.size
+    }
+
+    /// What the nodes take memory of.
+    pub fn allocator(&self) -> &Global {
+        self.nodes.allocator()
     }
 
     /// How many nodes there are.
@@ -94,7 +101,7 @@ impl<T> Spine<T> {
         }
     }
 
-    /// How many items stand before a place.
+    /// How many items stand before a spot: its position.
     pub fn position(&self, spot: &Spot) -> usize
         requires { IsSpot self.now.nodes spot.now }
         ensures { result ≡ position_of self.now.nodes spot.now }
@@ -104,7 +111,7 @@ impl<T> Spine<T> {
         lengths::prefix_in(self.nodes.as_slice(), spot.node) + spot.offset
     }
 
-    /// The place of the item at a position.
+    /// The spot of the item at a position, or `None` past the end.
     pub fn spot(&self, i: usize) -> Option<Spot>
         ensures { MatchOption result (length (items self.now) ≤ i) (λ s. IsItemSpot self.now.nodes s × (position_of self.now.nodes s ≡ i) × IsTrue s.found) }
     {
@@ -140,7 +147,7 @@ impl<T> Spine<T> {
         }
     }
 
-    /// The item at a place.
+    /// The item at a spot.
     pub fn item(&self, spot: &Spot) -> &T
         requires { IsItemSpot self.now.nodes spot.now }
         ensures { slice_get (items self.now) (position_of self.now.nodes spot.now) ≡ Some result.now }
@@ -148,7 +155,7 @@ impl<T> Spine<T> {
         &self.nodes[spot.node][spot.offset]
     }
 
-    /// The item at a place, or where the place is the end of its node, the first item of the next.
+    /// The item at a spot, or where the spot is the end of its node, the first item of the next, if any.
     pub fn item_from(&self, spot: &Spot) -> Option<&T>
         requires { IsSpot self.now.nodes spot.now }
         ensures { option_copied result ≡ slice_get (items self.now) (position_of self.now.nodes spot.now) }
@@ -159,7 +166,7 @@ impl<T> Spine<T> {
         }
     }
 
-    /// The item at a position.
+    /// The item at a position, or `None` past the end.
     pub fn get(&self, i: usize) -> Option<&T>
         ensures { option_copied result ≡ slice_get (items self.now) i }
     {
@@ -167,7 +174,7 @@ impl<T> Spine<T> {
         Some(self.item(&spot))
     }
 
-    /// The item at a position, to write.
+    /// The item at a position, to write, or `None` past the end.
     pub fn get_mut(&mut self, i: usize) -> Option<&mut T>
         ensures* writes_back { sem 𝓛 (lends_item T.row self.entry i result) }
         ensures value { option_copied_mut result ≡ slice_get (items self.old) i }
@@ -195,20 +202,15 @@ impl<T> Spine<T> {
         ensures runs { ShowsInOrder (deref {X = T}) }
         ensures runs_back { ShowsInReverse (deref {X = T}) }
     {
-        if i == j {
-            return Iter::over(&[], 0);
-        }
-        match (self.spot(i), self.spot(j - 1)) {
-            (Some(start), Some(end)) => Iter::through(self.nodes.as_slice(), &start, &end, j - i),
-            _ => unreachable!(),
-        }
+        let (start, end) = (self.spot_after(i), self.spot_after(j));
+        Iter::from_to(self.nodes.as_slice(), &start, &end, j - i)
     }
 
-    // The item at a place, to write.
+    // The item at a spot, to write.
     fn item_mut(&mut self, i: usize, spot: Spot) -> &mut T
-        requires place { IsItemSpot self.old.nodes spot }
+        requires spot { IsItemSpot self.old.nodes spot }
         requires position { position_of self.old.nodes spot ≡ i }
-        ensures* writes_back { sem 𝓛 (lends_place T.row self.entry i result) }
+        ensures* writes_back { sem 𝓛 (lends_at T.row self.entry i result) }
         ensures value { slice_get (items self.old) i ≡ Some result.now }
     {
         let items = &mut self.nodes[spot.node];
@@ -221,6 +223,18 @@ fn item_in<T>(nodes: &[Vec<T>], k: usize, offset: usize) -> Option<&T>
     ensures { option_copied result ≡ slice_get (node_at (vec_items nodes.now) k) offset }
 {
     nodes.get(k)?.get(offset)
+}
+
+impl<'a, T> IntoIterator for &'a Spine<T> {
+    type Item = &'a T;
+
+    type IntoIter = Iter<'a, T>;
+
+    ghost into_iter_gives = { λ b r. (r ≡ items b.now) × ShowsInOrder (deref {X = T}) × ShowsInReverse (deref {X = T}) };
+
+    fn into_iter(self) -> Iter<'a, T> {
+        self.iter()
+    }
 }
 
 impl<T: Drop> IntoIterator for Spine<T> {

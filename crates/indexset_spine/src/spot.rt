@@ -1,12 +1,12 @@
-//! A place in a spine.
+//! A spot in a spine.
 
-/// A place in a spine, as a search answers it.
+/// A spot in a spine: a node and an offset in it, as a search answers them.
 #[derive(Clone, Copy, Debug, PartialEq, Eq)]
 pub struct Spot {
-    /// Which node, counted from 0.
+    /// The index of the node.
     pub node: usize,
-    /// How many items of that node stand before the place.
+    /// How many items of that node stand before the spot.
     pub offset: usize,
-    /// Whether what was sought is the item at the place.
+    /// Whether what was sought is the item at the spot.
     pub found: bool,
 }

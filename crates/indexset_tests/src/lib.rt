@@ -5,6 +5,8 @@
 pub mod callers;
 
 #[cfg(test)]
+mod logged_walks;
+#[cfg(test)]
 mod map;
 #[cfg(test)]
 mod node;
@@ -17,9 +19,9 @@ mod program;
 #[cfg(test)]
 mod readme;
 #[cfg(test)]
-mod run_map;
-#[cfg(test)]
 mod refusal;
+#[cfg(test)]
+mod run_map;
 #[cfg(test)]
 mod run_set;
 #[cfg(test)]

@@ -3,13 +3,14 @@ ghost use Rattle.std.specs.Prelude.{◌≤◌};
 
 use indexset_core::constants::DEFAULT_INNER_SIZE;
 use indexset_core::refusal::Refusal;
-use indexset_map::BTreeMap;
+use indexset_map::{BTreeMap, IterMap};
 use std::alloc::Global;
 use std::test::Fail;
 
 mod bulk;
 mod compare;
 mod cursors;
+mod documented;
 mod entries;
 mod lending;
 mod lookup;
@@ -42,6 +43,12 @@ fn tens(alloc: Global, size: usize, end: u64) -> Result<BTreeMap<u64, u64>, Refu
 fn five(alloc: Global) -> Result<BTreeMap<u64, &'static str>, Fail> {
     let pairs = vec![in alloc; (1u64, "a"), (2, "b"), (3, "c"), (17, "d"), (41, "e")]?;
     Ok(BTreeMap::from(alloc, pairs)?)
+}
+
+// Whether a walk shows these pairs.
+fn shows<V: Copy + PartialEq>(walk: IterMap<'_, u64, V>, pairs: &[(u64, V)]) -> bool {
+    walk.map(|(key, value)| (*key, *value))
+        .eq(pairs.iter().copied())
 }
 
 #[test]

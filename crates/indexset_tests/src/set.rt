@@ -16,6 +16,7 @@ mod cursors;
 mod documented;
 mod ranges;
 mod tagged;
+mod traits;
 mod walks;
 
 // Adds a value, and lets it go where memory is refused.

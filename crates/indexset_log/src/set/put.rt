@@ -1,16 +1,16 @@
 //! Calls that put items in.
-ghost use Rattle.std.specs.Prelude.{◌≡◌, ◌+◌, ◌<◌, ◌≤◌, [], ◌∷◌, ◌++◌, length, Some, None, IfOk, OnOk, IfErr, OnErr, IsOk, IfSome, MatchOption, is_none, not, true};
+ghost use Rattle.std.specs.Prelude.{◌≡◌, ◌+◌, ◌<◌, ◌≤◌, [], ◌∷◌, ◌++◌, length, Some, None, IfOk, OnOk, IfErr, OnErr, IsOk, IfSome, is_none, not, true};
 ghost use Rattle.indexset_core.specs.Nodes.{joined, node_at};
 ghost use Rattle.indexset_core.specs.Order.{IsAscending, IsFoundAt, IsGapFor, put, keep, has_equal, equal_element};
-ghost use Rattle.indexset_log.specs.Aim.{IsAim};
-ghost use Rattle.indexset_log.specs.Edits.{with_room, put_into_target};
+ghost use Rattle.indexset_log.specs.Aim.{IsAim, IsAimed, is_present};
+ghost use Rattle.indexset_log.specs.Edits.{with_room, put_into_target, with_put, with_checked_put};
 ghost use Rattle.indexset_log.specs.Replay.{replay, numbered_from, IsNumberedFrom};
 ghost use Rattle.indexset_log.specs.Table.{put_events, checked_put_events, target_events, node_events};
 ghost use Rattle.indexset_log.specs.Tree.{refusal_for};
 ghost use Rattle.indexset_log.specs.declared.change.ChangeEventUnassigned.TheVariants.{CreateNode};
 
 use super::BTreeSet;
-use crate::aim::Aim;
+use crate::aim::{Aim, event_count, finds_equal};
 use crate::change::{ChangeEvent, ChangeEventUnassigned};
 use crate::locate::node_by;
 use crate::log::Log;
@@ -27,6 +27,7 @@ impl<T: Ord + Clone + Drop, Node: NodeLike<T>> BTreeSet<T, Node> {
         requires clones { (x y : T) → T.is_clone x y → y ≡ x }
         ensures answer { IfOk result (λ r. r.0 ≡ equal_element T.cmp (joined self.old.nodes) value) }
         ensures contents { OnOk result (joined self.new.nodes ≡ put T.cmp (joined self.old.nodes) value) }
+        ensures nodes { OnOk result (self.new.nodes ≡ with_put T.cmp self.old.size self.old.nodes value) }
         ensures events { IfOk result (λ r. r.1.items ≡ numbered_from self.old.next (put_events T.cmp self.old.size self.old.nodes value)) }
         ensures numbered { IfOk result (λ r. IsNumberedFrom self.old.next r.1.items) }
         ensures replay { IfOk result (λ r. replay T.cmp self.old.nodes r.1.items ≡ Some self.new.nodes) }
@@ -38,13 +39,8 @@ impl<T: Ord + Clone + Drop, Node: NodeLike<T>> BTreeSet<T, Node> {
         ensures given_back { IfErr result (λ e. e.value ≡ value) }
         ensures unchanged { OnErr result (self.new ≡ self.old) }
     {
-        match self.ready_cdc(&value) {
-            Ok((aim, events)) => match self.carry_out(aim, value) {
-                Ok(old) => Ok((old, events)),
-                Err(refused) => Err(refused),
-            },
-            Err(cause) => Err(Refused { value, cause }),
-        }
+        let aim = self.aim(&value);
+        self.put_cdc_at(aim, value)
     }
 
     /// The same, where no equal item is there. Else `None`: nothing changes, no number and no memory
@@ -53,6 +49,7 @@ impl<T: Ord + Clone + Drop, Node: NodeLike<T>> BTreeSet<T, Node> {
         requires clones { (x y : T) → T.is_clone x y → y ≡ x }
         ensures answer { IfOk result (λ r. is_none r ≡ has_equal T.cmp (joined self.old.nodes) value) }
         ensures contents { OnOk result (joined self.new.nodes ≡ keep T.cmp (joined self.old.nodes) value) }
+        ensures nodes { OnOk result (self.new.nodes ≡ with_checked_put T.cmp self.old.size self.old.nodes value) }
         ensures events { IfOk result (λ r. IfSome r (λ events. events.items ≡ numbered_from self.old.next (checked_put_events T.cmp self.old.size self.old.nodes value))) }
         ensures numbered { IfOk result (λ r. IfSome r (λ events. IsNumberedFrom self.old.next events.items)) }
         ensures replay { OnOk result (replay T.cmp self.old.nodes (numbered_from self.old.next (checked_put_events T.cmp self.old.size self.old.nodes value)) ≡ Some self.new.nodes) }
@@ -63,10 +60,11 @@ impl<T: Ord + Clone + Drop, Node: NodeLike<T>> BTreeSet<T, Node> {
         ensures given_back { IfErr result (λ e. e.value ≡ value) }
         ensures unchanged { OnErr result (self.new ≡ self.old) }
     {
-        if self.contains(&value) {
+        let aim = self.aim(&value);
+        if finds_equal(&aim) {
             return Ok(None);
         }
-        match self.put_cdc(value) {
+        match self.put_cdc_at(aim, value) {
             Ok((_, events)) => Ok(Some(events)),
             Err(refused) => Err(refused),
         }
@@ -77,6 +75,7 @@ impl<T: Ord + Clone + Drop, Node: NodeLike<T>> BTreeSet<T, Node> {
     pub fn put(&mut self, value: T) -> Result<Option<T>, Refused<T>>
         ensures answer { IfOk result (λ old. old ≡ equal_element T.cmp (joined self.old.nodes) value) }
         ensures contents { OnOk result (joined self.new.nodes ≡ put T.cmp (joined self.old.nodes) value) }
+        ensures nodes { OnOk result (self.new.nodes ≡ with_put T.cmp self.old.size self.old.nodes value) }
         ensures replay { OnOk result (replay T.cmp self.old.nodes (numbered_from self.old.next (put_events T.cmp self.old.size self.old.nodes value)) ≡ Some self.new.nodes) }
         ensures size { self.new.size ≡ self.old.size }
         ensures next { OnOk result (self.new.next ≡ self.old.next + length (put_events T.cmp self.old.size self.old.nodes value)) }
@@ -84,10 +83,8 @@ impl<T: Ord + Clone + Drop, Node: NodeLike<T>> BTreeSet<T, Node> {
         ensures given_back { IfErr result (λ e. e.value ≡ value) }
         ensures unchanged { OnErr result (self.new ≡ self.old) }
     {
-        match self.aim(&value) {
-            Ok(aim) => self.carry_out(aim, value),
-            Err(cause) => Err(Refused { value, cause }),
-        }
+        let aim = self.aim(&value);
+        self.put_at(aim, value)
     }
 
     /// Puts an item in, where no equal one is there: true. Else false: nothing changes, no number and
@@ -95,6 +92,7 @@ impl<T: Ord + Clone + Drop, Node: NodeLike<T>> BTreeSet<T, Node> {
     pub fn insert(&mut self, value: T) -> Result<bool, Refused<T>>
         ensures answer { IfOk result (λ r. r ≡ not (has_equal T.cmp (joined self.old.nodes) value)) }
         ensures contents { OnOk result (joined self.new.nodes ≡ keep T.cmp (joined self.old.nodes) value) }
+        ensures nodes { OnOk result (self.new.nodes ≡ with_checked_put T.cmp self.old.size self.old.nodes value) }
         ensures replay { OnOk result (replay T.cmp self.old.nodes (numbered_from self.old.next (checked_put_events T.cmp self.old.size self.old.nodes value)) ≡ Some self.new.nodes) }
         ensures size { self.new.size ≡ self.old.size }
         ensures next { OnOk result (self.new.next ≡ self.old.next + length (checked_put_events T.cmp self.old.size self.old.nodes value)) }
@@ -103,68 +101,113 @@ impl<T: Ord + Clone + Drop, Node: NodeLike<T>> BTreeSet<T, Node> {
         ensures given_back { IfErr result (λ e. e.value ≡ value) }
         ensures unchanged { OnErr result (self.new ≡ self.old) }
     {
-        if self.contains(&value) {
+        let aim = self.aim(&value);
+        if finds_equal(&aim) {
             return Ok(false);
         }
-        match self.put(value) {
+        match self.put_at(aim, value) {
             Ok(_) => Ok(true),
             Err(refused) => Err(refused),
         }
     }
 
-    // Where an item goes, `None` in an empty tree, if there are numbers for the events.
-    fn aim(&self, value: &T) -> Result<Option<Aim>, Refusal>
-        ensures aim { IfOk result (λ aim. MatchOption aim (self.now.nodes ≡ []) (IsAim T.cmp self.now.size self.now.nodes value.now)) }
-        ensures fits { OnOk result (self.now.next + length (put_events T.cmp self.now.size self.now.nodes value.now) ≤ u64.MAX) }
-        ensures numbers { IfErr result (λ e. (e ≡ Refusal.Numbers) × (u64.MAX < self.now.next + length (put_events T.cmp self.now.size self.now.nodes value.now))) }
+    // Where an item goes: `None` in an empty tree.
+    fn aim(&self, value: &T) -> Option<Aim>
+        ensures aim { IsAimed T.cmp self.now.size self.now.nodes value.now result }
+        ensures present { is_present result ≡ has_equal T.cmp (joined self.now.nodes) value.now }
     {
-        let left = u64::MAX - self.next;
         if self.nodes.is_empty() {
-            return if left < 1 {
-                Err(Refusal::Numbers)
-            } else {
-                Ok(None)
-            };
+            return None;
         }
-        let aim = self.aim_in_target(value);
-        if left < aim.count() {
-            return Err(Refusal::Numbers);
-        }
-        Ok(Some(aim))
+        Some(self.aim_in_target(value))
     }
 
-    // The same, with the events.
-    fn ready_cdc(&self, value: &T) -> Result<(Option<Aim>, Vec<ChangeEvent<T>>), Refusal>
+    // Puts an item where it goes, and tells the events.
+    fn put_cdc_at(
+        &mut self,
+        aim: Option<Aim>,
+        value: T,
+    ) -> Result<(Option<T>, Vec<ChangeEvent<T>>), Refused<T>>
         requires clones { (x y : T) → T.is_clone x y → y ≡ x }
-        ensures aim { IfOk result (λ r. MatchOption r.0 (self.now.nodes ≡ []) (IsAim T.cmp self.now.size self.now.nodes value.now)) }
-        ensures events { IfOk result (λ r. r.1.items ≡ numbered_from self.now.next (put_events T.cmp self.now.size self.now.nodes value.now)) }
-        ensures fits { OnOk result (self.now.next + length (put_events T.cmp self.now.size self.now.nodes value.now) ≤ u64.MAX) }
-        ensures refusal { IfErr result (λ e. e ≡ refusal_for self.now.next (length (put_events T.cmp self.now.size self.now.nodes value.now))) }
+        requires aim { IsAimed T.cmp self.old.size self.old.nodes value aim }
+        ensures answer { IfOk result (λ r. r.0 ≡ equal_element T.cmp (joined self.old.nodes) value) }
+        ensures contents { OnOk result (joined self.new.nodes ≡ put T.cmp (joined self.old.nodes) value) }
+        ensures nodes { OnOk result (self.new.nodes ≡ with_put T.cmp self.old.size self.old.nodes value) }
+        ensures events { IfOk result (λ r. r.1.items ≡ numbered_from self.old.next (put_events T.cmp self.old.size self.old.nodes value)) }
+        ensures numbered { IfOk result (λ r. IsNumberedFrom self.old.next r.1.items) }
+        ensures replay { OnOk result (replay T.cmp self.old.nodes (numbered_from self.old.next (put_events T.cmp self.old.size self.old.nodes value)) ≡ Some self.new.nodes) }
+        ensures size { self.new.size ≡ self.old.size }
+        ensures next { OnOk result (self.new.next ≡ self.old.next + length (put_events T.cmp self.old.size self.old.nodes value)) }
+        ensures fits { OnOk result (self.old.next + length (put_events T.cmp self.old.size self.old.nodes value) ≤ u64.MAX) }
+        ensures refusal { IfErr result (λ e. e.cause ≡ refusal_for self.old.next (length (put_events T.cmp self.old.size self.old.nodes value))) }
+        ensures given_back { IfErr result (λ e. e.value ≡ value) }
+        ensures unchanged { OnErr result (self.new ≡ self.old) }
     {
-        let aim = self.aim(value)?;
-        let events = match &aim {
-            Some(aim) => self.put_log(aim, value)?,
-            None => self.first_log(value)?,
-        };
-        Ok((aim, events))
+        if event_count(&aim) > u64::MAX - self.next {
+            return Err(Refused {
+                value,
+                cause: Refusal::Numbers,
+            });
+        }
+        match self.put_log(&aim, &value) {
+            Ok(events) => match self.carry_out(aim, value) {
+                Ok(old) => Ok((old, events)),
+                Err(refused) => Err(refused),
+            },
+            Err(cause) => Err(Refused { value, cause }),
+        }
+    }
+
+    // Puts an item where it goes.
+    fn put_at(&mut self, aim: Option<Aim>, value: T) -> Result<Option<T>, Refused<T>>
+        requires { IsAimed T.cmp self.old.size self.old.nodes value aim }
+        ensures answer { IfOk result (λ old. old ≡ equal_element T.cmp (joined self.old.nodes) value) }
+        ensures contents { OnOk result (joined self.new.nodes ≡ put T.cmp (joined self.old.nodes) value) }
+        ensures nodes { OnOk result (self.new.nodes ≡ with_put T.cmp self.old.size self.old.nodes value) }
+        ensures replay { OnOk result (replay T.cmp self.old.nodes (numbered_from self.old.next (put_events T.cmp self.old.size self.old.nodes value)) ≡ Some self.new.nodes) }
+        ensures size { self.new.size ≡ self.old.size }
+        ensures next { OnOk result (self.new.next ≡ self.old.next + length (put_events T.cmp self.old.size self.old.nodes value)) }
+        ensures fits { OnOk result (self.old.next + length (put_events T.cmp self.old.size self.old.nodes value) ≤ u64.MAX) }
+        ensures refusal { IfErr result (λ e. e.cause ≡ refusal_for self.old.next (length (put_events T.cmp self.old.size self.old.nodes value))) }
+        ensures given_back { IfErr result (λ e. e.value ≡ value) }
+        ensures unchanged { OnErr result (self.new ≡ self.old) }
+    {
+        if event_count(&aim) > u64::MAX - self.next {
+            return Err(Refused {
+                value,
+                cause: Refusal::Numbers,
+            });
+        }
+        self.carry_out(aim, value)
+    }
+
+    // The events of a put.
+    fn put_log(&self, aim: &Option<Aim>, value: &T) -> Result<Vec<ChangeEvent<T>>, Refusal>
+        requires clones { (x y : T) → T.is_clone x y → y ≡ x }
+        requires aim { IsAimed T.cmp self.now.size self.now.nodes value.now aim.now }
+        requires fits { self.now.next + length (put_events T.cmp self.now.size self.now.nodes value.now) ≤ u64.MAX }
+        ensures events { IfOk result (λ events. events.items ≡ numbered_from self.now.next (put_events T.cmp self.now.size self.now.nodes value.now)) }
+        ensures refusal { IfErr result (λ e. e ≡ Refusal.Memory) }
+    {
+        match aim {
+            Some(aim) => self.target_log(aim, value),
+            None => self.first_log(value),
+        }
     }
 
     // Puts an item where it goes. A refused call hands it back and changes nothing.
     fn carry_out(&mut self, aim: Option<Aim>, value: T) -> Result<Option<T>, Refused<T>>
-        requires aim { MatchOption aim (self.old.nodes ≡ []) (IsAim T.cmp self.old.size self.old.nodes value) }
+        requires aim { IsAimed T.cmp self.old.size self.old.nodes value aim }
         requires fits { self.old.next + length (put_events T.cmp self.old.size self.old.nodes value) ≤ u64.MAX }
         ensures answer { IfOk result (λ old. old ≡ equal_element T.cmp (joined self.old.nodes) value) }
-        ensures contents { OnOk result (joined self.new.nodes ≡ put T.cmp (joined self.old.nodes) value) }
-        ensures replay { OnOk result (replay T.cmp self.old.nodes (numbered_from self.old.next (put_events T.cmp self.old.size self.old.nodes value)) ≡ Some self.new.nodes) }
+        ensures nodes { OnOk result (self.new.nodes ≡ with_put T.cmp self.old.size self.old.nodes value) }
         ensures size { self.new.size ≡ self.old.size }
         ensures next { OnOk result (self.new.next ≡ self.old.next + length (put_events T.cmp self.old.size self.old.nodes value)) }
         ensures given_back { IfErr result (λ e. (e.value ≡ value) × (e.cause ≡ Refusal.Memory)) }
         ensures unchanged { OnErr result (self.new ≡ self.old) }
     {
-        // The nodes are lawful.
-        let _nodes = &self.nodes;
         match aim {
-            Some(aim) => self.put_at(aim, value),
+            Some(aim) => self.put_in_target(aim, value),
             None => self.put_first(value),
         }
     }
@@ -187,7 +230,7 @@ impl<T: Ord + Clone + Drop, Node: NodeLike<T>> BTreeSet<T, Node> {
     }
 
     // The events of a put where the item goes.
-    fn put_log(&self, aim: &Aim, value: &T) -> Result<Vec<ChangeEvent<T>>, Refusal>
+    fn target_log(&self, aim: &Aim, value: &T) -> Result<Vec<ChangeEvent<T>>, Refusal>
         requires clones { (x y : T) → T.is_clone x y → y ≡ x }
         requires aim { IsAim T.cmp self.now.size self.now.nodes value.now aim.now }
         requires fits { self.now.next + length (target_events T.cmp self.now.size (node_at self.now.nodes aim.now.node) value.now) ≤ u64.MAX }
@@ -207,7 +250,7 @@ impl<T: Ord + Clone + Drop, Node: NodeLike<T>> BTreeSet<T, Node> {
     }
 
     // Puts an item where it goes. A refused call hands it back and changes nothing.
-    fn put_at(&mut self, aim: Aim, value: T) -> Result<Option<T>, Refused<T>>
+    fn put_in_target(&mut self, aim: Aim, value: T) -> Result<Option<T>, Refused<T>>
         requires aim { IsAim T.cmp self.old.size self.old.nodes value aim }
         requires fits { self.old.next + length (target_events T.cmp self.old.size (node_at self.old.nodes aim.node) value) ≤ u64.MAX }
         ensures answer { IfOk result (λ old. old ≡ equal_element T.cmp (joined self.old.nodes) value) }
@@ -217,7 +260,7 @@ impl<T: Ord + Clone + Drop, Node: NodeLike<T>> BTreeSet<T, Node> {
         ensures given_back { IfErr result (λ e. (e.value ≡ value) × (e.cause ≡ Refusal.Memory)) }
         ensures unchanged { OnErr result (self.new ≡ self.old) }
     {
-        if aim.at.is_err() && self.len == usize::MAX {
+        if aim.growth() > usize::MAX - self.len {
             return Err(Refused {
                 value,
                 cause: Refusal::Memory,
@@ -226,9 +269,7 @@ impl<T: Ord + Clone + Drop, Node: NodeLike<T>> BTreeSet<T, Node> {
         match make_room(&mut self.nodes, &aim) {
             Ok(place) => {
                 self.next += aim.count();
-                if aim.at.is_err() {
-                    self.len += 1;
-                }
+                self.len += aim.growth();
                 Ok(put_in(&mut self.nodes[place], aim.at, value))
             }
             Err(cause) => Err(Refused { value, cause }),

@@ -5,6 +5,8 @@ ghost use Rattle.std.specs.Iterator.SizeHint.{IsWithinCount};
 ghost use Rattle.std.specs.Map.Iter.{TakesFirst, TakesLast, ShowsInOrder, ShowsInReverse, GivesInOrder, GivesInReverse, deref};
 ghost use Rattle.indexset_spine.specs.Cut.{items};
 
+mod traits;
+
 use super::BTreeSet;
 pub use indexset_spine::into_iter::IntoIter;
 use indexset_spine::iter;

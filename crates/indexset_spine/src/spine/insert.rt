@@ -1,4 +1,4 @@
-//! Calls that put an item in.
+//! Calls that insert an item.
 ghost use Rattle.std.specs.Prelude.{◌≡◌, ◌<◌, ◌≤◌, IfOk, OnOk, IfErr, OnErr, IfSome, length, drop, insert, slice_get, vec_len, vec_capacity};
 ghost use Rattle.std.specs.List.{HoldsAt};
 ghost use Rattle.indexset_core.specs.Nodes.{node_at};
@@ -13,9 +13,8 @@ use indexset_core::moves::insert_item;
 use indexset_core::refusal::{Refusal, Refused};
 
 impl<T: Drop> Spine<T> {
-    /// Puts an item at a place. A full node is first cut at half its length, and the item goes right
-    /// where the offset is above the cut, else left. A refused call hands back the item and changes
-    /// nothing.
+    /// Inserts an item at a spot. A full node is first halved, and the item goes right where the offset
+    /// is above half its length, else left. A refused call hands back the item and changes nothing.
     pub fn insert(&mut self, spot: Spot, value: T) -> Result<(), Refused<T>>
         requires { IsSpot self.old.nodes spot }
         ensures nodes { OnOk result (self.new.nodes ≡ with_inserted self.old.size self.old.nodes spot value) }
@@ -31,8 +30,8 @@ impl<T: Drop> Spine<T> {
             });
         }
         match make_room(&mut self.nodes, self.size, spot) {
-            Ok(place) => {
-                insert_in_room(&mut self.nodes, place, value);
+            Ok(to) => {
+                insert_in_room(&mut self.nodes, to, value);
                 self.len += 1;
                 Ok(())
             }
@@ -40,7 +39,7 @@ impl<T: Drop> Spine<T> {
         }
     }
 
-    /// Puts the first item of another spine at a place, as `insert` does, and takes it out of the
+    /// Inserts the first item of another spine at a spot, as `insert` does, and takes it out of the
     /// other, as `remove` does. A refused call changes neither.
     pub fn insert_from(&mut self, spot: Spot, other: &mut Spine<T>) -> Result<(), Refusal>
         requires spot { IsSpot self.old.nodes spot }
@@ -58,7 +57,7 @@ impl<T: Drop> Spine<T> {
         if self.len == usize::MAX {
             return Err(Refusal::Memory);
         }
-        let place = make_room(&mut self.nodes, self.size, spot)?;
+        let to = make_room(&mut self.nodes, self.size, spot)?;
         let first = Spot {
             node: 0,
             offset: 0,
@@ -66,20 +65,20 @@ impl<T: Drop> Spine<T> {
         };
         other.len -= 1;
         let value = take_out(&mut other.nodes, first);
-        insert_in_room(&mut self.nodes, place, value);
+        insert_in_room(&mut self.nodes, to, value);
         self.len += 1;
         Ok(())
     }
 }
 
-// Makes room for one more item at a place, and answers where it then goes: a full node is cut in half
-// first. A refused call changes nothing.
+// Makes room for one more item at a spot, and answers the spot where it then goes: a full node is
+// halved first. A refused call changes nothing.
 fn make_room<T>(nodes: &mut Vec<Vec<T>>, size: usize, spot: Spot) -> Result<Spot, Refusal>
     requires spot { IsSpot (vec_items nodes.old.items) spot }
     requires two { 2 ≤ size }
-    ensures spot { IfOk result (λ place. IsSpot (vec_items nodes.new.items) place) }
-    ensures room { IfOk result (λ place. HoldsAt (λ node. vec_len node < vec_capacity node) nodes.new.items place.node) }
-    ensures nodes { IfOk result (λ place. (value : T) → with_item_in (vec_items nodes.new.items) place value ≡ with_inserted size (vec_items nodes.old.items) spot value) }
+    ensures spot { IfOk result (λ to. IsSpot (vec_items nodes.new.items) to) }
+    ensures room { IfOk result (λ to. HoldsAt (λ node. vec_len node < vec_capacity node) nodes.new.items to.node) }
+    ensures nodes { IfOk result (λ to. (value : T) → with_item_in (vec_items nodes.new.items) to value ≡ with_inserted size (vec_items nodes.old.items) spot value) }
     ensures refusal { IfErr result (λ e. e ≡ Refusal.Memory) }
     ensures err { OnErr result (vec_items nodes.new.items ≡ vec_items nodes.old.items) }
 {
@@ -90,14 +89,13 @@ fn make_room<T>(nodes: &mut Vec<Vec<T>>, size: usize, spot: Spot) -> Result<Spot
     halve_at(nodes, spot)
 }
 
-// Cuts the node of a place in half, and answers where the place then is. A refused call changes
-// nothing.
+// Halves the node of a spot, and answers where that spot then is. A refused call changes nothing.
 fn halve_at<T>(nodes: &mut Vec<Vec<T>>, spot: Spot) -> Result<Spot, Refusal>
     requires spot { IsSpot (vec_items nodes.old.items) spot }
     requires two { 2 ≤ length (node_at (vec_items nodes.old.items) spot.node) }
-    ensures spot { IfOk result (λ place. IsSpot (vec_items nodes.new.items) place) }
-    ensures room { IfOk result (λ place. HoldsAt (λ node. vec_len node < vec_capacity node) nodes.new.items place.node) }
-    ensures nodes { IfOk result (λ place. (value : T) → with_item_in (vec_items nodes.new.items) place value ≡ with_inserted (length (node_at (vec_items nodes.old.items) spot.node)) (vec_items nodes.old.items) spot value) }
+    ensures spot { IfOk result (λ to. IsSpot (vec_items nodes.new.items) to) }
+    ensures room { IfOk result (λ to. HoldsAt (λ node. vec_len node < vec_capacity node) nodes.new.items to.node) }
+    ensures nodes { IfOk result (λ to. (value : T) → with_item_in (vec_items nodes.new.items) to value ≡ with_inserted (length (node_at (vec_items nodes.old.items) spot.node)) (vec_items nodes.old.items) spot value) }
     ensures refusal { IfErr result (λ e. e ≡ Refusal.Memory) }
     ensures err { OnErr result (vec_items nodes.new.items ≡ vec_items nodes.old.items) }
 {
@@ -116,11 +114,11 @@ fn halve_at<T>(nodes: &mut Vec<Vec<T>>, spot: Spot) -> Result<Spot, Refusal>
     Ok(spot)
 }
 
-// Puts an item into a node that has room.
-fn insert_in_room<T>(nodes: &mut Vec<Vec<T>>, place: Spot, value: T)
-    requires spot { IsSpot (vec_items nodes.old.items) place }
-    requires room { HoldsAt (λ node. vec_len node < vec_capacity node) nodes.old.items place.node }
-    ensures { vec_items nodes.new.items ≡ with_item_in (vec_items nodes.old.items) place value }
+// Inserts an item into a node that has room.
+fn insert_in_room<T>(nodes: &mut Vec<Vec<T>>, to: Spot, value: T)
+    requires spot { IsSpot (vec_items nodes.old.items) to }
+    requires room { HoldsAt (λ node. vec_len node < vec_capacity node) nodes.old.items to.node }
+    ensures { vec_items nodes.new.items ≡ with_item_in (vec_items nodes.old.items) to value }
 {
-    insert_item(&mut nodes[place.node], place.offset, value);
+    insert_item(&mut nodes[to.node], to.offset, value);
 }

@@ -1,4 +1,4 @@
-//! Calls that take an item out, or put another for it.
+//! Calls that take an item out, or write another over it.
 ghost use Rattle.std.specs.Prelude.{◌≡◌, ◌<◌, Some, length, remove, slice_get, slice_set};
 ghost use Rattle.indexset_core.specs.Nodes.{node_at};
 ghost use Rattle.indexset_spine.specs.Cut.{items, vec_items, IsItemSpot, position_of, without_item, with_replaced};
@@ -10,7 +10,7 @@ use indexset_core::moves::remove_item;
 use std::mem;
 
 impl<T: Drop> Spine<T> {
-    /// Takes out the item at a place. An emptied node goes too, unless it is the only one.
+    /// Takes out the item at a spot. An emptied node goes too, unless it is the only one.
     pub fn remove(&mut self, spot: Spot) -> T
         requires { IsItemSpot self.old.nodes spot }
         ensures value { slice_get (items self.old) (position_of self.old.nodes spot) ≡ Some result }
@@ -22,7 +22,7 @@ impl<T: Drop> Spine<T> {
         take_out(&mut self.nodes, spot)
     }
 
-    /// Puts an item in place of the one at a place, and answers that one.
+    /// Writes an item over the one at a spot, and answers that one.
     pub fn replace(&mut self, spot: Spot, value: T) -> T
         requires { IsItemSpot self.old.nodes spot }
         ensures value { slice_get (items self.old) (position_of self.old.nodes spot) ≡ Some result }
@@ -35,7 +35,7 @@ impl<T: Drop> Spine<T> {
     }
 }
 
-// Takes out the item at a place, and an emptied node with it, unless it is the only one.
+// Takes out the item at a spot, and an emptied node with it, unless it is the only one.
 pub(super) fn take_out<T: Drop>(nodes: &mut Vec<Vec<T>>, spot: Spot) -> T
     requires { IsItemSpot (vec_items nodes.old.items) spot }
     ensures value { slice_get (node_at (vec_items nodes.old.items) spot.node) spot.offset ≡ Some result }

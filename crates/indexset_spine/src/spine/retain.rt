@@ -44,7 +44,7 @@ fn retain_nodes<T: Drop, F: FnMut(&mut T) -> bool>(nodes: &mut Vec<Vec<T>>, mut 
     }
 }
 
-// Keeps the items for which the closure answers true: once one has gone, each of them changes places
+// Keeps the items for which the closure answers true: once one has gone, each of them is swapped
 // with the first that went.
 fn retain_node<T: Drop, F: FnMut(&mut T) -> bool>(node: &mut Vec<T>, f: &mut F)
     requires { F.IsAlwaysCallable f.old }

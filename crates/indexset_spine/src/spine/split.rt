@@ -36,7 +36,7 @@ impl<T: Drop> Spine<T> {
     }
 }
 
-// Takes out the nodes from a place on. A refused call changes nothing.
+// Takes out the nodes from a spot on. A refused call changes nothing.
 fn split_nodes<T: Drop>(nodes: &mut Vec<Vec<T>>, spot: Spot) -> Result<Vec<Vec<T>>, Refusal>
     requires { IsSpot (vec_items nodes.old.items) spot }
     ensures left { OnOk result (vec_items nodes.new.items ≡ left_nodes (vec_items nodes.old.items) spot) }

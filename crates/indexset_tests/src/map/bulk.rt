@@ -1,5 +1,5 @@
 //! Many pairs at once.
-use super::{five, put, tens};
+use super::{five, put, shows, tens};
 use indexset_map::BTreeMap;
 use std::test::Fail;
 
@@ -7,8 +7,8 @@ use std::test::Fail;
 fn split_at_a_key(rt: HostRuntime) -> Result<(), Fail> {
     let mut map = five(rt.alloc())?;
     let rest = map.split_off(&3)?;
-    assert!(rt; map.iter().eq([(&1, &"a"), (&2, &"b")]));
-    assert!(rt; rest.iter().eq([(&3, &"c"), (&17, &"d"), (&41, &"e")]));
+    assert!(rt; shows(map.iter(), &[(1, "a"), (2, "b")]));
+    assert!(rt; shows(rest.iter(), &[(3, "c"), (17, "d"), (41, "e")]));
     Ok(())
 }
 

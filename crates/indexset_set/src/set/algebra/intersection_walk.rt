@@ -9,7 +9,7 @@ use std::iter::FusedIterator;
 use std::marker::Model;
 
 /// The elements of one set that are left of those that have an equal one in another.
-#[derive(Drop)]
+#[derive(Debug, Drop)]
 pub struct Intersection<'a, T: Ord> {
     pub(super) merge: Merge<'a, T>,
 }

@@ -17,7 +17,7 @@ pub(crate) enum Side<X> {
 }
 
 /// What is left of two lists, merged.
-#[derive(Drop)]
+#[derive(Debug, Drop)]
 pub(crate) struct Merge<'a, T: Ord> {
     // The next item of each list, and what follows it there.
     next_left: Option<&'a T>,

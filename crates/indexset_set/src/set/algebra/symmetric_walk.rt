@@ -9,7 +9,7 @@ use std::iter::FusedIterator;
 use std::marker::Model;
 
 /// The elements that are left of those that one of two sets has alone.
-#[derive(Drop)]
+#[derive(Debug, Drop)]
 pub struct SymmetricDifference<'a, T: Ord> {
     pub(super) merge: Merge<'a, T>,
 }

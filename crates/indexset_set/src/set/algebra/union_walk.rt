@@ -9,7 +9,7 @@ use std::iter::FusedIterator;
 use std::marker::Model;
 
 /// The elements of either of two sets that are left.
-#[derive(Drop)]
+#[derive(Debug, Drop)]
 pub struct Union<'a, T: Ord> {
     pub(super) merge: Merge<'a, T>,
 }

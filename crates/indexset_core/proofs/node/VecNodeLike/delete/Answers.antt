@@ -13,7 +13,7 @@ returns-in-Ok-clause-index g c =
 pub returns-in-Ok-clause-item : goal.returns-in-Ok-clause-item
 returns-in-Ok-clause-item g c =
     let found = rw c.as_slice.ensures.value at c.in-Ok.ensures.found in
-    read_item c.args.self.now.items c.in-Ok.place c.remove_item.result found.inside c.remove_item.ensures.value
+    read_item c.args.self.now.items c.in-Ok.index c.remove_item.result found.inside c.remove_item.ensures.value
 
 pub returns-in-Ok-clause-list : goal.returns-in-Ok-clause-list
 returns-in-Ok-clause-list g c =
@@ -33,4 +33,4 @@ returns-in-Err-clause-list g c =
 pub returns-in-Ok-clause-ascending : goal.returns-in-Ok-clause-ascending
 returns-in-Ok-clause-ascending g c =
     let found = rw c.as_slice.ensures.value at c.in-Ok.ensures.found in
-    rw c.remove_item.ensures.items (all_pairs_remove (λ x y. g.T.Ord.cmp x y ≡ Less) c.args.self.now.items c.in-Ok.place found.inside c.requires.ascending)
+    rw c.remove_item.ensures.items (all_pairs_remove (λ x y. g.T.Ord.cmp x y ≡ Less) c.args.self.now.items c.in-Ok.index found.inside c.requires.ascending)

@@ -4,7 +4,7 @@ use Rattle.std.specs.Ordering.{is_eq}
 use Rattle.indexset_spine.specs.Cut.{items}
 use Rattle.indexset_core.specs.Pairs.{key_rank}
 use Rattle.indexset_core.proofs.CallerLemmas.{parted_by_key}
-use Rattle.indexset_set.proofs.SetProbeLemmas.{in_order}
+use Rattle.indexset_set.proofs.CallerLemmas.{in_order}
 use Rattle.indexset_map.proofs.map.BTreeMap.find.Goals as goal
 
 pub locate_by-requires : goal.locate_by-requires

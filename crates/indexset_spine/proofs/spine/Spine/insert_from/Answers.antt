@@ -18,7 +18,7 @@ take_out-value-requires g c =
 pub invariant_of-self-2 : goal.invariant_of-self-2
 invariant_of-self-2 g c =
     let spot = spot_in _ _ c.args.self.now c.args.spot c.self.view_is c.requires.spot in
-    rw (c.insert_in_room.ensures ∙ c.in_ok-place.ensures.nodes c.take_out-value.result) (spine_inserted _ _ _ c.args.spot c.take_out-value.result spot c.self.invariant)
+    rw (c.insert_in_room.ensures ∙ c.in_ok-to.ensures.nodes c.take_out-value.result) (spine_inserted _ _ _ c.args.spot c.take_out-value.result spot c.self.invariant)
 
 pub invariant_of-other : goal.invariant_of-other
 invariant_of-other g c =
@@ -31,7 +31,7 @@ returns-clause-nodes g c =
     let first = first_in _ _ c.other.invariant.is_cut some in
     let value : slice_get (items c.args.other.now) 0 ≡ Some c.take_out-value.result = rw (← c.other.view_is) (item_at_spot _ first_spot first ∙ c.take_out-value.ensures.value) in
     some_is _ c.take_out-value.result _ value
-    (c.insert_in_room.ensures ∙ (c.in_ok-place.ensures.nodes c.take_out-value.result ∙ ap (λ (t : Cut g.row.T.Denot). with_inserted t.size t.nodes c.args.spot c.take_out-value.result) c.self.view_is))
+    (c.insert_in_room.ensures ∙ (c.in_ok-to.ensures.nodes c.take_out-value.result ∙ ap (λ (t : Cut g.row.T.Denot). with_inserted t.size t.nodes c.args.spot c.take_out-value.result) c.self.view_is))
 
 pub returns-clause-items : goal.returns-clause-items
 returns-clause-items g c =
@@ -40,7 +40,7 @@ returns-clause-items g c =
     let spot = spot_in _ _ c.args.self.now c.args.spot c.self.view_is c.requires.spot in
     let value : slice_get (items c.args.other.now) 0 ≡ Some c.take_out-value.result = rw (← c.other.view_is) (item_at_spot _ first_spot first ∙ c.take_out-value.ensures.value) in
     some_is _ c.take_out-value.result _ value
-    (ap joined (c.insert_in_room.ensures ∙ c.in_ok-place.ensures.nodes c.take_out-value.result)
+    (ap joined (c.insert_in_room.ensures ∙ c.in_ok-to.ensures.nodes c.take_out-value.result)
     ∙ (joined_inserted _ _ c.args.spot c.take_out-value.result spot ∙ ap (λ (t : Cut g.row.T.Denot). insert (items t) (position_of t.nodes c.args.spot) c.take_out-value.result) c.self.view_is))
 
 pub returns-clause-rest : goal.returns-clause-rest

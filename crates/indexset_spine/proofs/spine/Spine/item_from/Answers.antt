@@ -9,7 +9,7 @@ returns-in-Some g c =
     let at = rw c.deref.ensures.value at c.in-Some.ensures in
     rw (← c.self.view_is) (sym (joined_at (vec_items c.self.inside.nodes.items) c.args.spot.now.node c.args.spot.now.offset _ (sym at)))
 
--- the place is at the end of the node
+-- the spot is at the end of the node
 pub returns-in-None : goal.returns-in-None
 returns-in-None g c =
     let ns = vec_items c.self.inside.nodes.items in

@@ -2,12 +2,6 @@ use Rattle.std.specs.Map.Iter.{deref}
 use Rattle.std_collections.proofs.IterRuns.{shows_in_order, shows_in_reverse}
 use Rattle.indexset_spine.proofs.spine.Spine.iter_between.Goals as goal
 
-pub returns-then-i-j-clause-runs : goal.returns-then-i-j-clause-runs
-returns-then-i-j-clause-runs g c = shows_in_order deref
-
-pub returns-then-i-j-clause-runs_back : goal.returns-then-i-j-clause-runs_back
-returns-then-i-j-clause-runs_back g c = shows_in_reverse deref
-
 pub returns-clause-runs : goal.returns-clause-runs
 returns-clause-runs g c = shows_in_order deref
 

@@ -2,12 +2,12 @@ use Rattle.std.proofs.Common.{◌∙◌, ap, slice_set}
 use Rattle.indexset_core.specs.Nodes.{joined}
 use Rattle.indexset_spine.specs.Cut.{position_of, with_replaced}
 use Rattle.indexset_spine.proofs.CutEdits.{joined_replaced, spine_replaced}
-use Rattle.indexset_spine.proofs.RemoveSteps.{replace_writes, item_read}
+use Rattle.indexset_spine.proofs.RemoveSteps.{respot_writes, item_read}
 use Rattle.indexset_spine.proofs.spine.Spine.replace.Goals as goal
 
 pub invariant_of-self : goal.invariant_of-self
 invariant_of-self g c =
-    rw (replace_writes _ _ c.args.self.now c.args.spot _ c.replace.new.dest c.self.view_is c.requires c.index_mut-node.ensures.value, ← c.self.view_is)
+    rw (respot_writes _ _ c.args.self.now c.args.spot _ c.replace.new.dest c.self.view_is c.requires c.index_mut-node.ensures.value, ← c.self.view_is)
     (spine_replaced _ _ _ c.args.spot c.replace.new.dest c.self.invariant)
 
 pub returns-clause-value : goal.returns-clause-value
@@ -16,10 +16,10 @@ returns-clause-value g c =
 
 pub returns-clause-nodes : goal.returns-clause-nodes
 returns-clause-nodes g c =
-    replace_writes _ _ c.args.self.now c.args.spot _ c.replace.new.dest c.self.view_is c.requires c.index_mut-node.ensures.value ∙ ap (with_replaced c.args.self.now.nodes c.args.spot) c.replace.ensures.after
+    respot_writes _ _ c.args.self.now c.args.spot _ c.replace.new.dest c.self.view_is c.requires c.index_mut-node.ensures.value ∙ ap (with_replaced c.args.self.now.nodes c.args.spot) c.replace.ensures.after
 
 pub returns-clause-items : goal.returns-clause-items
 returns-clause-items g c =
-    ap joined (replace_writes _ _ c.args.self.now c.args.spot _ c.replace.new.dest c.self.view_is c.requires c.index_mut-node.ensures.value)
+    ap joined (respot_writes _ _ c.args.self.now c.args.spot _ c.replace.new.dest c.self.view_is c.requires c.index_mut-node.ensures.value)
     ∙ (joined_replaced c.args.self.now.nodes c.args.spot c.replace.new.dest c.requires
     ∙ ap (slice_set (joined c.args.self.now.nodes) (position_of c.args.self.now.nodes c.args.spot)) c.replace.ensures.after)

@@ -1,6 +1,7 @@
 use Rattle.std.proofs.Common.{◌∙◌, ap}
 use Rattle.indexset_spine.specs.Cut.{vec_items}
-use Rattle.indexset_spine.proofs.EditSteps.{on_err, lists_kept, right_puts, left_puts, right_room, left_room, half_len}
+use Rattle.indexset_core.proofs.CallerLemmas.{on_err}
+use Rattle.indexset_spine.proofs.EditSteps.{lists_kept, right_puts, left_puts, right_room, left_room, half_len}
 use Rattle.indexset_spine.proofs.spine.insert.halve_at.Goals as goal
 
 pub returns-in_err-right-clause-err : goal.returns-in_err-right-clause-err

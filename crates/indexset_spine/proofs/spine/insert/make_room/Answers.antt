@@ -1,7 +1,8 @@
 use Rattle.std.proofs.Common.{◌∙◌, arith}
 use Rattle.std.proofs.lemmas.Result.{IfOk-weaker}
 use Rattle.indexset_spine.specs.Cut.{vec_items}
-use Rattle.indexset_spine.proofs.EditSteps.{on_err, lists_kept, room_puts, node_len, inserted_full}
+use Rattle.indexset_core.proofs.CallerLemmas.{on_err}
+use Rattle.indexset_spine.proofs.EditSteps.{lists_kept, room_puts, node_len, inserted_full}
 use Rattle.indexset_spine.proofs.spine.insert.make_room.Goals as goal
 
 pub returns-in_err-reserve-clause-err : goal.returns-in_err-reserve-clause-err

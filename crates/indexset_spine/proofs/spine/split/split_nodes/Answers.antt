@@ -1,7 +1,8 @@
 use Rattle.std.proofs.Common.{◌∙◌, ap}
 use Rattle.indexset_spine.specs.Cut.{vec_items}
 use Rattle.indexset_spine.specs.Edits.{without_emptied, left_nodes, right_nodes}
-use Rattle.indexset_spine.proofs.EditSteps.{on_err, lists_kept}
+use Rattle.indexset_core.proofs.CallerLemmas.{on_err}
+use Rattle.indexset_spine.proofs.EditSteps.{lists_kept}
 use Rattle.indexset_spine.proofs.SplitSteps.{left_lists, right_lists}
 use Rattle.indexset_spine.proofs.spine.split.split_nodes.Goals as goal
 

@@ -1,6 +1,6 @@
 use Rattle.std.proofs.Common.{length, arith, sym, ap, ◌∙◌}
 use Rattle.indexset_spine.proofs.IterLemmas.{walk_in, walk_across, walk_length, nodes_order}
-use Rattle.indexset_spine.proofs.iter.Iter.through.Goals as goal
+use Rattle.indexset_spine.proofs.iter.Iter.from_to.Goals as goal
 
 pub returns-then-start-end : goal.returns-then-start-end
 returns-then-start-end g c =

@@ -1,0 +1,187 @@
+-- Where the places of a search stand, and what a walk between two places has left.
+use Rattle.std.proofs.Common.{◌≡◌, ℕ, zero, suc, ◌+◌, ◌-◌, ◌<◌, ◌≤◌, Bool, true, false, if◌then◌else◌, List, [], ◌∷◌, ◌++◌, length, map, take, drop, get_or, Result, Ok, Err, IfOk, IfErr, Ordering, refl, ap, sym, ◌∙◌, max, subst, arith, append_assoc, length-append}
+use Rattle.std.specs.Cmp.{IsTotalOrder}
+use Rattle.std.specs.List.{All, between, count_by}
+use Rattle.std.specs.Ordering.{is_lt, is_le}
+use Rattle.std.proofs.lemmas.List.{append-nil, length-map, take-map, drop-map, take_all, take_rest, get_or-map}
+use Rattle.std.proofs.lemmas.Bool.{false≢true}
+use Rattle.std.proofs.lemmas.List.Sums.{count_by-le-length}
+use Rattle.std.proofs.lemmas.List.Edits.{length-between}
+use Rattle.indexset_core.specs.Nodes.{joined, node_lengths, node_at, node_for, equal_at, IsLawful}
+use Rattle.indexset_core.specs.Order.{rank}
+use Rattle.indexset_core.specs.Parted.{IsParted, less_count}
+use Rattle.indexset_core.proofs.CallerLemmas.{between_in, between_across, found_not_above, gap_not_above, located_found, located_gap, node_read, offset-le, length-joined-mono, length-joined-more, parted_node, place_for}
+use Rattle.indexset_log.specs.Located.{located}
+use Rattle.indexset_log.specs.Places.{IsPlace, items_before}
+use Rattle.indexset_log.proofs.Views.{lawful_filled, lawful_small, lawful_ascends, lawful_parted, equal_joined, node_inside}
+
+-- what is answered Equal is there
+equal_inside : {T : Type 0} (answer : T → Ordering) (l : List T) (i : ℕ) → equal_at answer l i ≡ true → i < length l
+equal_inside answer [] i e = absurd (false≢true e)
+equal_inside answer (x ∷ xs) zero e = omega arith
+equal_inside answer (x ∷ xs) (suc i) e = omega (arith, equal_inside answer xs i e)
+
+-- where a search ends: the place before the first item not answered Less, which the next one follows where it is answered Equal
+module _ {T : Type 0} (answer : T → Ordering) where
+  pub record IsEnd (found : Bool) (ns : List (List T)) (p : ℕ × ℕ) : Type 0 where
+    pub place : IsPlace ns p
+    pub after : found ≡ true → IsPlace ns (p.0, p.1 + 1)
+    pub before : items_before ns p ≡ less_count answer (joined ns)
+    pub equal : equal_at answer (joined ns) (less_count answer (joined ns)) ≡ found
+
+  abbrev Ends : List (List T) → Result (ℕ × ℕ) (ℕ × ℕ) → Type 0
+  Ends ns r = IfOk r (IsEnd true ns) × IfErr r (IsEnd false ns)
+
+  some_end : (ns : List (List T)) → All (λ n. 1 ≤ n) (node_lengths ns) → IsParted answer (joined ns) → 1 ≤ length ns → Ends ns (located answer ns)
+  some_end ns filled parted some =
+      let k = node_for answer ns in
+      let i = less_count answer (node_at ns k) in
+      let inside : k < length ns = node_inside answer ns some filled parted in
+      let fits : i ≤ length (node_at ns k) = count_by-le-length (λ x. is_lt (answer x)) (node_at ns k) in
+      let at : items_before ns (k, i) ≡ less_count answer (joined ns) = place_for answer ns some (λ _. filled) parted in
+      let whole = equal_joined answer ns some filled parted in
+      let told : Bool → Result (ℕ × ℕ) (ℕ × ℕ) = λ b. if b then Ok (k, i) else Err (k, i) in
+      let end : (b : Bool) → equal_at answer (node_at ns k) i ≡ b → IsEnd b ns (k, i) = λ b e.
+          record {
+            place = record { node_in = omega (arith, inside); offset_in = fits };
+            after = λ yes. record { node_in = omega (arith, inside); offset_in = omega (arith, equal_inside answer (node_at ns k) i (e ∙ yes)) };
+            before = at;
+            equal = whole ∙ e;
+          } in
+      elim (equal_at answer (node_at ns k) i) as (λ b. equal_at answer (node_at ns k) i ≡ b → Ends ns (told b)) [
+        | true ↦ λ e. (end true e, tt)
+        | false ↦ λ e. (tt, end false e)
+      ] refl
+
+  pub located_end : (ns : List (List T)) → All (λ n. 1 ≤ n) (node_lengths ns) → IsParted answer (joined ns) → Ends ns (located answer ns)
+  located_end [] filled parted = (tt, record { place = record { node_in = omega arith; offset_in = omega arith }; after = λ yes. absurd (false≢true yes); before = refl; equal = refl })
+  located_end (n ∷ ns) filled parted = some_end (n ∷ ns) filled parted (omega arith)
+
+-- the same of a search for an item, as the code takes its answer apart
+module _ {T : Type 0} (cmp : T → T → Ordering) (o : IsTotalOrder cmp) (v : T) (size : ℕ) (ns : List (List T)) (law : IsLawful cmp size ns) where
+  abbrev answer : T → Ordering
+  answer x = cmp x v
+
+  abbrev not_above : ℕ
+  not_above = count_by (λ x. is_le (cmp x v)) (joined ns)
+
+  told : IfOk (located answer ns) (IsEnd answer true ns) × IfErr (located answer ns) (IsEnd answer false ns)
+  told = located_end answer ns (lawful_filled cmp size ns law) (lawful_parted cmp size ns law o v)
+
+  module _ (r : Result (ℕ × ℕ) (ℕ × ℕ)) (e : r ≡ located answer ns) (p : ℕ × ℕ) where
+    pub ends_equal : r ≡ Ok p → IsEnd answer true ns p
+    ends_equal is = subst (λ q. IfOk q (IsEnd answer true ns)) (sym e ∙ is) told.0
+
+    pub ends_gap : r ≡ Err p → IsEnd answer false ns p
+    ends_gap is = subst (λ q. IfErr q (IsEnd answer false ns)) (sym e ∙ is) told.1
+
+  -- the items up to an equal one, and those before a gap
+  pub end_through : (p : ℕ × ℕ) → IsEnd answer true ns p → items_before ns (p.0, p.1 + 1) ≡ not_above
+  end_through p end =
+      let parted = lawful_parted cmp size ns law o v in
+      let found = located_found cmp (joined ns) v (rank cmp (joined ns) v) parted refl end.equal in
+      omega (arith, end.before, found_not_above cmp (joined ns) v (rank cmp (joined ns) v) o (lawful_ascends cmp size ns law) found)
+
+  pub gap_through : (p : ℕ × ℕ) → IsEnd answer false ns p → items_before ns p ≡ not_above
+  gap_through p end =
+      let parted = lawful_parted cmp size ns law o v in
+      let gap = located_gap cmp (joined ns) v (rank cmp (joined ns) v) parted refl end.equal in
+      end.before ∙ sym (gap_not_above cmp (joined ns) v (rank cmp (joined ns) v) gap)
+
+-- the nodes as the code holds them: f tells the list of each
+module _ {T N : Type 0} (f : N → List T) where
+  joined-push : (ns : List N) (n : N) → joined (map f (ns ++ n ∷ [])) ≡ joined (map f ns) ++ f n
+  joined-push [] n = append-nil (f n)
+  joined-push (m ∷ ns) n = ap (λ l. f m ++ l) (joined-push ns n) ∙ sym (append_assoc (f m) (joined (map f ns)) (f n))
+
+  -- the last node becomes the back one
+  pub back_turn : (ns mid : List N) (n : N) (front back : List T) → mid ≡ ns ++ n ∷ [] → back ≡ [] → front ++ (joined (map f ns) ++ f n) ≡ front ++ (joined (map f mid) ++ back)
+  back_turn ns mid n front back e none =
+      ap (λ l. front ++ l) (sym (joined-push ns n) ∙ (ap (λ m. joined (map f m)) (sym e) ∙ (sym (append-nil (joined (map f mid))) ∙ ap (λ l. joined (map f mid) ++ l) (sym none))))
+
+  pub between-map : (ns : List N) (i j : ℕ) → map f (between i j ns) ≡ between i j (map f ns)
+  between-map ns i j = sym (ap (λ l. take (j - i) l) (drop-map f i ns) ∙ take-map f (j - i) (drop i ns))
+
+-- the offset of a place is within the size
+pub place_small : {T : Type 0} (cmp : T → T → Ordering) (size : ℕ) (ns : List (List T)) → IsLawful cmp size ns → (p : ℕ × ℕ) → IsPlace ns p → p.1 ≤ size
+place_small cmp size [] law p place = omega (arith, place.offset_in)
+place_small cmp size (n ∷ ns) law p place = omega (arith, place.offset_in, lawful_small cmp size (n ∷ ns) law p.0 (omega (arith, place.node_in)))
+
+-- the place behind the last item
+pub last_before : {T : Type 0} (ns : List (List T)) (k o : ℕ) → 1 ≤ length ns → k ≡ length ns - 1 → o ≡ length (node_at ns k) → items_before ns (k, o) ≡ length (joined ns)
+last_before ns k o some last end =
+    let next : k + 1 ≡ length ns = omega arith in
+    let whole : take (k + 1) ns ≡ ns = take_all (k + 1) ns (omega arith) in
+    omega (arith, length-joined-more ns k (omega arith), ap (λ l. length (joined l)) whole)
+
+-- a place is not past the end
+pub place_le : {T : Type 0} (ns : List (List T)) (p : ℕ × ℕ) → IsPlace ns p → items_before ns p ≤ length (joined ns)
+place_le [] (zero, o) place = omega (arith, place.offset_in)
+place_le [] (suc k, o) place = absurd (omega (arith, place.node_in))
+place_le (n ∷ ns) p place = offset-le (n ∷ ns) p.0 p.1 (omega (arith, place.node_in)) place.offset_in
+
+joined-none : {T N : Type 0} (f : N → List T) (ns : List N) → length ns ≡ 0 → joined (map f ns) ≡ []
+joined-none f [] e = refl
+joined-none f (n ∷ ns) e = absurd (omega arith)
+
+-- what a walk has left from one place to before another
+module _ {T N : Type 0} (f : N → List T) (ns : List N) (p q : ℕ × ℕ) (start : IsPlace (map f ns) p) (stop : IsPlace (map f ns) q) where
+  abbrev walk : List T
+  walk = between (items_before (map f ns) p) (items_before (map f ns) q) (joined (map f ns))
+
+  within : (k : ℕ) → 1 ≤ length ns → k < max 1 (length (map f ns)) → k < length ns
+  within k some lt = omega (arith, length-map ns f)
+
+  walk_nothing : items_before (map f ns) q ≤ items_before (map f ns) p → [] ≡ walk
+  walk_nothing le = let e : items_before (map f ns) q - items_before (map f ns) p ≡ 0 = omega arith in rw e refl
+
+  -- there is no node
+  pub walk_none : length ns ≡ 0 → [] ≡ walk
+  walk_none e = walk_nothing (omega (arith, place_le (map f ns) q stop, ap (λ l. length l) (joined-none f ns e)))
+
+  pub walk_fits : length walk ≤ length (joined (map f ns))
+  walk_fits = omega (arith, place_le (map f ns) q stop, length-between (joined (map f ns)) (items_before (map f ns) p) (items_before (map f ns) q) (place_le (map f ns) q stop))
+
+  module _ (some : 1 ≤ length ns) where
+    -- the second place stands in an earlier node
+    pub walk_back : q.0 < p.0 → [] ≡ walk
+    walk_back lt =
+        let inside : q.0 < length (map f ns) = omega (arith, some, stop.node_in, length-map ns f) in
+        walk_nothing (omega (arith, stop.offset_in, length-joined-more (map f ns) q.0 inside, length-joined-mono (map f ns) (q.0 + 1) p.0 (omega arith)))
+
+    -- in the same
+    pub walk_in : (n : N) → n ≡ get_or ns p.0 n → p.0 ≡ q.0 → between p.1 q.1 (f n) ++ (joined (map f []) ++ []) ≡ walk
+    walk_in n at e =
+        let inside : q.0 < length (map f ns) = omega (arith, some, stop.node_in, length-map ns f) in
+        let node : node_at (map f ns) q.0 ≡ f n = node_read f ns q.0 n (within q.0 some stop.node_in) (rw e at at) [] in
+        append-nil (between p.1 q.1 (f n)) ∙ sym (between_in (map f ns) p.0 p.1 q.0 q.1 inside stop.offset_in e ∙ ap (between p.1 q.1) node)
+
+    -- in a later one
+    module _ (m n : N) (first : m ≡ get_or ns p.0 m) (last : n ≡ get_or ns q.0 n) (lt : p.0 < q.0) where
+      abbrev front : List T
+      front = between p.1 (length (f m)) (f m)
+
+      abbrev middle : List T
+      middle = joined (map f (between (p.0 + 1) q.0 ns))
+
+      abbrev back : List T
+      back = take q.1 (f n)
+
+      pub walk_across : front ++ (middle ++ back) ≡ walk
+      walk_across =
+          let inside : q.0 < length (map f ns) = omega (arith, some, stop.node_in, length-map ns f) in
+          let opened : node_at (map f ns) p.0 ≡ f m = node_read f ns p.0 m (within p.0 some start.node_in) first [] in
+          let closed : node_at (map f ns) q.0 ≡ f n = node_read f ns q.0 n (within q.0 some stop.node_in) last [] in
+          let whole = between_across (map f ns) p.0 p.1 q.0 q.1 inside stop.offset_in lt start.offset_in in
+          rw (take_rest (f m) p.1, between-map f ns (p.0 + 1) q.0, ← opened, ← closed) (sym whole)
+
+      -- its parts have no more items than there are
+      pub parts_fit : length front + length middle + length back ≤ length (joined (map f ns))
+      parts_fit = omega (arith, walk_fits, ap (λ l. length l) walk_across, length-append front (middle ++ back), length-append middle back)
+
+-- as many nodes as items at most
+pub few_nodes : {T : Type 0} (ns : List (List T)) → All (λ n. 1 ≤ n) (node_lengths ns) → length ns ≤ length (joined ns)
+few_nodes [] filled = omega arith
+few_nodes (n ∷ ns) filled =
+    let rest = few_nodes ns (λ k d lt. filled (suc k) d (omega arith)) in
+    omega (arith, rest, length-append n (joined ns), filled 0 0 (omega arith))

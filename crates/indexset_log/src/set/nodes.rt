@@ -1,0 +1,83 @@
+//! The nodes of a set.
+ghost use Rattle.std.specs.Prelude.{◌≡◌, ◌≤◌, length, List, map};
+ghost use Rattle.std.specs.Iterator.{at_most};
+ghost use Rattle.std.specs.Map.Iter.{TakesFirst, TakesLast, ShowsInOrder, ShowsInReverse, deref};
+ghost use Rattle.indexset_core.specs.Nodes.{joined};
+
+use super::BTreeSet;
+use crate::nodes::capacity_of;
+use indexset_core::node::NodeLike;
+use std::iter::FusedIterator;
+use std::marker::Model;
+use std::slice;
+
+/// The nodes of a tree that are left, from both ends.
+#[derive(Drop)]
+pub struct Nodes<'a, Node> {
+    rest: slice::Iter<'a, Node>,
+}
+
+impl<'a, Node> Model for Nodes<'a, Node> {
+    ghost use Rattle.std.specs.Prelude.{List};
+    ghost use Rattle.std.specs.Slice.Iter.{iter_rest};
+
+    ghost Value = { List Node };
+
+    ghost view = { λ a. iter_rest a.rest };
+}
+
+impl<'a, Node> Iterator for Nodes<'a, Node> {
+    type Item = &'a Node;
+
+    ghost next_gives = { TakesFirst deref };
+
+    ghost remaining = { λ s. at_most (length s) };
+
+    fn next(&mut self) -> Option<&'a Node> {
+        self.rest.next()
+    }
+
+    fn size_hint(&self) -> (usize, Option<usize>) {
+        let len = self.len();
+        (len, Some(len))
+    }
+}
+
+impl<'a, Node> DoubleEndedIterator for Nodes<'a, Node> {
+    ghost next_back_gives = { TakesLast deref };
+
+    fn next_back(&mut self) -> Option<&'a Node> {
+        self.rest.next_back()
+    }
+}
+
+impl<'a, Node> ExactSizeIterator for Nodes<'a, Node> {
+    fn len(&self) -> usize {
+        self.rest.len()
+    }
+}
+
+impl<'a, Node> FusedIterator for Nodes<'a, Node> {}
+
+impl<T: Ord + Clone + Drop, Node: NodeLike<T>> BTreeSet<T, Node> {
+    /// The nodes, in order. (In the Rust crate it is the maps' alone, and lends them locked.)
+    pub fn iter_nodes(&self) -> Nodes<'_, Node>
+        ensures rest { map Node.list result ≡ self.now.nodes }
+        ensures runs { ShowsInOrder (deref {X = Node}) }
+        ensures runs_back { ShowsInReverse (deref {X = Node}) }
+    {
+        Nodes {
+            rest: self.nodes.as_slice().iter(),
+        }
+    }
+
+    /// How many items there is room for: the sum of the nodes' capacities, which stops at the greatest
+    /// usize.
+    pub fn capacity(&self) -> usize
+        ensures { length (joined self.now.nodes) ≤ result }
+    {
+        // The number of items fits.
+        let _len = self.len;
+        capacity_of(self.nodes.as_slice())
+    }
+}

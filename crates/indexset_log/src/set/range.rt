@@ -1,0 +1,179 @@
+//! The items between two bounds, or between two places.
+ghost use Rattle.std.specs.Prelude.{◌≡◌, ◌≤◌, IsTrue, length, List};
+ghost use Rattle.std.specs.Iterator.{at_most};
+ghost use Rattle.std.specs.List.{between, count_by};
+ghost use Rattle.std.specs.Map.Iter.{TakesFirst, TakesLast, ShowsInOrder, ShowsInReverse, deref};
+ghost use Rattle.std.specs.Ordering.{is_le};
+ghost use Rattle.std.specs.Range.Bound.{bound_map};
+ghost use Rattle.indexset_core.specs.Bounds.{are_ordered, in_range, is_before, is_up_to_end};
+ghost use Rattle.indexset_core.specs.Nodes.{joined};
+ghost use Rattle.indexset_core.specs.Order.{rank};
+ghost use Rattle.indexset_log.specs.Places.{IsPlace, items_before};
+
+use super::BTreeSet;
+use super::iter::Iter;
+use indexset_core::node::NodeLike;
+use indexset_core::probe::ByItem;
+use std::iter::FusedIterator;
+use std::marker::Model;
+use std::ops::Bound;
+
+/// The items of a part of a set that are left, from both ends.
+#[derive(Drop)]
+pub struct Range<'a, T: Ord + Clone + Drop, Node: NodeLike<T>> {
+    rest: Iter<'a, T, Node>,
+}
+
+impl<'a, T: Ord + Clone + Drop, Node: NodeLike<T>> Model for Range<'a, T, Node> {
+    ghost use Rattle.std.specs.Prelude.{List};
+
+    ghost Value = { List T };
+
+    ghost view = { λ a. a.rest };
+}
+
+impl<'a, T: Ord + Clone + Drop, Node: NodeLike<T>> Range<'a, T, Node> {
+    /// The items of a set that satisfy both bounds, as the set's `range` tells them.
+    pub fn new(set: &'a BTreeSet<T, Node>, range: (Bound<&T>, Bound<&T>)) -> Self
+        requires { IsTrue (are_ordered T.cmp (bound_map (λ v. v.now) range.0) (bound_map (λ v. v.now) range.1)) }
+        ensures rest { result ≡ in_range T.cmp (joined set.now.nodes) (bound_map (λ v. v.now) range.entry.0) (bound_map (λ v. v.now) range.entry.1) }
+        ensures runs { ShowsInOrder (deref {X = T}) }
+        ensures runs_back { ShowsInReverse (deref {X = T}) }
+    {
+        set.range(range)
+    }
+}
+
+impl<'a, T: Ord + Clone + Drop, Node: NodeLike<T>> Iterator for Range<'a, T, Node> {
+    type Item = &'a T;
+
+    ghost next_gives = { TakesFirst deref };
+
+    ghost remaining = { λ s. at_most (length s) };
+
+    fn next(&mut self) -> Option<&'a T> {
+        self.rest.next()
+    }
+
+    fn size_hint(&self) -> (usize, Option<usize>) {
+        self.rest.size_hint()
+    }
+}
+
+impl<'a, T: Ord + Clone + Drop, Node: NodeLike<T>> DoubleEndedIterator for Range<'a, T, Node> {
+    ghost next_back_gives = { TakesLast deref };
+
+    fn next_back(&mut self) -> Option<&'a T> {
+        self.rest.next_back()
+    }
+}
+
+impl<'a, T: Ord + Clone + Drop, Node: NodeLike<T>> ExactSizeIterator for Range<'a, T, Node> {
+    fn len(&self) -> usize {
+        self.rest.len()
+    }
+}
+
+impl<'a, T: Ord + Clone + Drop, Node: NodeLike<T>> FusedIterator for Range<'a, T, Node> {}
+
+impl<T: Ord + Clone + Drop, Node: NodeLike<T>> BTreeSet<T, Node> {
+    /// The items that satisfy both bounds, in order. The start must not be past the end, nor at it
+    /// where both are excluded, which `bounds_are_ordered` of the core tests.
+    ///
+    /// ```
+    /// // The items from 10 on that are below 20.
+    /// let teens = set.range((Bound::Included(&10), Bound::Excluded(&20)));
+    /// ```
+    pub fn range(&self, range: (Bound<&T>, Bound<&T>)) -> Range<'_, T, Node>
+        requires { IsTrue (are_ordered T.cmp (bound_map (λ v. v.now) range.0) (bound_map (λ v. v.now) range.1)) }
+        ensures rest { result ≡ in_range T.cmp (joined self.now.nodes) (bound_map (λ v. v.now) range.entry.0) (bound_map (λ v. v.now) range.entry.1) }
+        ensures runs { ShowsInOrder (deref {X = T}) }
+        ensures runs_back { ShowsInReverse (deref {X = T}) }
+    {
+        // The nodes are lawful, so their items ascend.
+        let _nodes = &self.nodes;
+        let from = self.place_from(range.0);
+        let to = self.place_to(range.1);
+        self.range_between(from, to)
+    }
+
+    /// The items from one place to before another, in order. A place is a node and an offset in it of
+    /// at most its length, as `locate_by` answers it; where there is no node it is (0, 0). No fewer
+    /// items may stand before the second place. (It is not in the Rust crate.)
+    pub fn range_between(&self, from: (usize, usize), to: (usize, usize)) -> Range<'_, T, Node>
+        requires from { IsPlace self.now.nodes from }
+        requires to { IsPlace self.now.nodes to }
+        requires order { items_before self.now.nodes from ≤ items_before self.now.nodes to }
+        ensures rest { result ≡ between (items_before self.now.nodes from) (items_before self.now.nodes to) (joined self.now.nodes) }
+        ensures runs { ShowsInOrder (deref {X = T}) }
+        ensures runs_back { ShowsInReverse (deref {X = T}) }
+    {
+        // The number of items fits.
+        let _len = self.len;
+        Range {
+            rest: Iter::between(self.nodes.as_slice(), from, to),
+        }
+    }
+
+    // The place before the first item that does not stand before the start.
+    fn place_from(&self, start: Bound<&T>) -> (usize, usize)
+        ensures place { IsPlace self.now.nodes result }
+        ensures before { items_before self.now.nodes result ≡ count_by (is_before T.cmp (bound_map (λ v. v.now) start.entry)) (joined self.now.nodes) }
+    {
+        match start {
+            Bound::Included(value) => self.place_not_below(value),
+            Bound::Excluded(value) => self.place_above(value),
+            Bound::Unbounded => (0, 0),
+        }
+    }
+
+    // The place before the first item that stands past the end.
+    fn place_to(&self, end: Bound<&T>) -> (usize, usize)
+        ensures place { IsPlace self.now.nodes result }
+        ensures before { items_before self.now.nodes result ≡ count_by (is_up_to_end T.cmp (bound_map (λ v. v.now) end.entry)) (joined self.now.nodes) }
+    {
+        match end {
+            Bound::Included(value) => self.place_above(value),
+            Bound::Excluded(value) => self.place_not_below(value),
+            Bound::Unbounded => self.last_place(),
+        }
+    }
+
+    // The place before the first item that is not below the value.
+    fn place_not_below(&self, value: &T) -> (usize, usize)
+        ensures place { IsPlace self.now.nodes result }
+        ensures before { items_before self.now.nodes result ≡ rank T.cmp (joined self.now.nodes) value.now }
+    {
+        // The nodes are lawful, so a search by an item may go by them.
+        let _nodes = &self.nodes;
+        match self.locate_by(&mut ByItem::new(value)) {
+            Ok(place) => place,
+            Err(place) => place,
+        }
+    }
+
+    // The place before the first item above the value.
+    fn place_above(&self, value: &T) -> (usize, usize)
+        ensures place { IsPlace self.now.nodes result }
+        ensures before { items_before self.now.nodes result ≡ count_by (λ x. is_le (T.cmp x value.now)) (joined self.now.nodes) }
+    {
+        // The nodes are lawful, and an offset in one is at most this size.
+        let _size = self.size;
+        match self.locate_by(&mut ByItem::new(value)) {
+            Ok((node, offset)) => (node, offset + 1),
+            Err(place) => place,
+        }
+    }
+
+    // The place behind all items.
+    fn last_place(&self) -> (usize, usize)
+        ensures place { IsPlace self.now.nodes result }
+        ensures before { items_before self.now.nodes result ≡ length (joined self.now.nodes) }
+    {
+        if self.nodes.is_empty() {
+            return (0, 0);
+        }
+        let last = self.nodes.len() - 1;
+        (last, self.nodes[last].len())
+    }
+}

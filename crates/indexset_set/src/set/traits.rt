@@ -1,0 +1,56 @@
+//! Traits of the standard library that a set has beside its functions: so `derive`, `collect` and
+//! `extend` know it.
+ghost use Rattle.std.specs.Prelude.{◌≡◌, List, [], fold};
+ghost use Rattle.indexset_core.specs.Order.{keep};
+ghost use Rattle.indexset_core.specs.declared.constants.TheConstants.{DEFAULT_INNER_SIZE};
+ghost use Rattle.indexset_spine.specs.Cut.{items};
+
+use super::BTreeSet;
+use std::alloc::{AllocError, Global};
+use std::fmt;
+
+impl<T: Ord + fmt::Debug> fmt::Debug for BTreeSet<T> {
+    fn fmt<W: fmt::Write>(&self, f: &mut fmt::Formatter<W>) -> fmt::Result {
+        f.debug_set().entries(self.iter()).finish()
+    }
+}
+
+impl<T: Ord + Clone> Clone for BTreeSet<T> {
+    // Where clones of elements are identical to them, it is of the same elements and node size.
+    ghost is_clone = { λ s copy. (((x y : T) → T.is_clone x y → y ≡ x) → items copy ≡ items s) × (copy.size ≡ s.size) };
+
+    fn clone(&self) -> Result<BTreeSet<T>, AllocError> {
+        let alloc = *self.spine.allocator();
+        let size = self.maximum_node_size();
+        let mut copy = BTreeSet::with_maximum_node_size(alloc, size).map_err(|_| AllocError)?;
+        let mut rest = self.spine.iter();
+        while let Some(value) = rest.next() {
+            copy.insert(value.clone()?).map_err(|_| AllocError)?;
+        }
+        Ok(copy)
+    }
+}
+
+impl<T: Ord + Drop> Extend<T> for BTreeSet<T> {
+    ghost extend_gives = { λ s xs new. (items new ≡ fold (keep T.cmp) (items s) xs) × (new.size ≡ s.size) };
+
+    fn extend<I: IntoIterator<Item = T>>(&mut self, iter: I) -> Result<(), AllocError> {
+        for value in iter {
+            self.insert(value).map_err(|_| AllocError)?;
+        }
+        Ok(())
+    }
+}
+
+impl<T: Ord + Drop> FromIterator<T> for BTreeSet<T> {
+    type Alloc = Global;
+
+    ghost from_iter_gives = { λ xs s. (items s ≡ fold (keep T.cmp) [] xs) × (s.size ≡ DEFAULT_INNER_SIZE) };
+
+    fn from_iter<I: IntoIterator<Item = T>>(alloc: Global, iter: I) -> Result<Self, AllocError> {
+        let rest = iter.into_iter();
+        let mut set = BTreeSet::new(alloc).map_err(|_| AllocError)?;
+        set.extend(rest)?;
+        Ok(set)
+    }
+}

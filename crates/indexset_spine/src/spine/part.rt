@@ -1,0 +1,53 @@
+//! The part of a spine between two spots.
+ghost use Rattle.std.specs.Prelude.{◌≡◌, ◌+◌, ◌≤◌, length};
+ghost use Rattle.std.specs.List.{between};
+ghost use Rattle.std.specs.Map.Iter.{ShowsInOrder, ShowsInReverse, deref};
+ghost use Rattle.indexset_spine.specs.Cut.{items, IsSpot, position_of};
+
+use super::Spine;
+use crate::iter::Iter;
+use crate::lengths;
+use crate::spot::Spot;
+
+impl<T> Spine<T> {
+    /// The spot before the first item.
+    pub fn start(&self) -> Spot
+        ensures spot { IsSpot self.now.nodes result }
+        ensures position { position_of self.now.nodes result ≡ 0 }
+    {
+        let _count = self.node_count();
+        Spot {
+            node: 0,
+            offset: 0,
+            found: false,
+        }
+    }
+
+    /// The spot after the last item.
+    pub fn end(&self) -> Spot
+        ensures spot { IsSpot self.now.nodes result }
+        ensures position { position_of self.now.nodes result ≡ length (items self.now) }
+    {
+        let node = self.nodes.len() - 1;
+        Spot {
+            node,
+            offset: self.nodes[node].len(),
+            found: false,
+        }
+    }
+
+    /// The items from one spot up to another, in order.
+    pub fn iter_from_to(&self, start: &Spot, end: &Spot) -> Iter<'_, T>
+        requires start { IsSpot self.now.nodes start.now }
+        requires end { IsSpot self.now.nodes end.now }
+        requires order { position_of self.now.nodes start.now ≤ position_of self.now.nodes end.now }
+        ensures rest { result ≡ between (position_of self.now.nodes start.now) (position_of self.now.nodes end.now) (items self.now) }
+        ensures runs { ShowsInOrder (deref {X = T}) }
+        ensures runs_back { ShowsInReverse (deref {X = T}) }
+    {
+        // The sum of all lengths fits, so each sum of some does.
+        let _len = self.len;
+        let nodes = self.nodes.as_slice();
+        Iter::from_to(nodes, start, end, lengths::distance_in(nodes, start, end))
+    }
+}

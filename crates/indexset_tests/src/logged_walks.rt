@@ -1,0 +1,145 @@
+//! Walks, ranges and nodes of the logged set, over either node type.
+ghost use Rattle.std.specs.Prelude.{◌≤◌};
+ghost use Rattle.indexset_log.specs.Places.{IsPlace};
+
+use indexset_core::array_node::ArrayNode;
+use indexset_core::node::NodeLike;
+use indexset_core::probe::ByItem;
+use indexset_core::refusal::Refusal;
+use indexset_log::set::BTreeSet;
+use indexset_log::set::iter::Iter;
+use indexset_log::set::range::Range;
+use std::alloc::Global;
+use std::ops::Bound::{Excluded, Included, Unbounded};
+use std::test::Fail;
+
+// The keys from one up to, but not with, the end, put in ascending.
+fn ascending<Node: NodeLike<u64>>(
+    alloc: Global,
+    size: usize,
+    start: u64,
+    end: u64,
+) -> Result<BTreeSet<u64, Node>, Refusal>
+    requires two { 2 ≤ size }
+    requires within { size ≤ Node.most }
+{
+    let mut set = BTreeSet::with_maximum_node_size(alloc, size);
+    for key in start..end {
+        set.insert(key).map_err(|refused| refused.cause)?;
+    }
+    Ok(set)
+}
+
+fn meet_in_the_middle<Node: NodeLike<u64>>(rt: &HostRuntime) -> Result<(), Fail>
+    requires { 3 ≤ Node.most }
+{
+    let one: BTreeSet<u64, Node> = ascending(rt.alloc(), 3, 1, 2)?;
+    let mut walk = one.iter();
+    assert_eq!(rt; walk.next().copied(), Some(1));
+    assert_eq!(rt; walk.next_back().copied(), None);
+    let three: BTreeSet<u64, Node> = ascending(rt.alloc(), 3, 1, 4)?;
+    let mut walk = Iter::new(&three);
+    assert_eq!(rt; walk.len(), 3);
+    assert_eq!(rt; walk.next().copied(), Some(1));
+    assert_eq!(rt; walk.next_back().copied(), Some(3));
+    assert_eq!(rt; walk.size_hint(), (1, Some(1)));
+    assert_eq!(rt; walk.next().copied(), Some(2));
+    assert_eq!(rt; walk.next().copied(), None);
+    assert_eq!(rt; walk.next_back().copied(), None);
+    let twenty: BTreeSet<u64, Node> = ascending(rt.alloc(), 3, 1, 21)?;
+    let mut walk = (&twenty).into_iter();
+    for key in 1..11 {
+        assert_eq!(rt; walk.next().copied(), Some(key));
+        assert_eq!(rt; walk.next_back().copied(), Some(21 - key));
+    }
+    assert_eq!(rt; walk.next().copied(), None);
+    Ok(())
+}
+
+#[test]
+fn both_ends_by_turns(rt: HostRuntime) -> Result<(), Fail> {
+    meet_in_the_middle::<Vec<u64>>(&rt)?;
+    meet_in_the_middle::<ArrayNode<u64, 3>>(&rt)
+}
+
+// Whether the keys from the first to the last, both included, are those in the range, both ways.
+fn holds_all_between<Node: NodeLike<u64>>(
+    set: &BTreeSet<u64, Node>,
+    first: u64,
+    last: u64,
+) -> bool
+    requires { first ≤ last }
+{
+    let range = (Included(&first), Included(&last));
+    set.range(range).copied().eq(first..=last)
+        && set.range(range).rev().copied().eq((first..=last).rev())
+}
+
+fn ranges_of_keys<Node: NodeLike<u64>>(rt: &HostRuntime) -> Result<(), Fail>
+    requires { 10 ≤ Node.most }
+{
+    let set: BTreeSet<u64, Node> = ascending(rt.alloc(), 10, 0, 20)?;
+    let middle = (Included(&8), Excluded(&12));
+    assert!(rt; set.range(middle).copied().eq([8, 9, 10, 11]));
+    let backwards = Range::new(&set, (Included(&10), Excluded(&13))).rev();
+    assert!(rt; backwards.copied().eq([12, 11, 10]));
+    for first in 0..20 {
+        for last in first..20 {
+            assert!(rt; holds_all_between(&set, first, last), "{first} to {last}");
+        }
+    }
+    assert!(rt; set.range((Excluded(&17), Unbounded)).copied().eq([18, 19]));
+    let ten: BTreeSet<u64, Node> = ascending(rt.alloc(), 10, 0, 10)?;
+    assert_eq!(rt; ten.range((Included(&5), Excluded(&1034))).len(), 5);
+    let many: BTreeSet<u64, Node> = ascending(rt.alloc(), 10, 0, 1034)?;
+    assert_eq!(rt; many.range((Included(&0), Excluded(&1024))).len(), 1024);
+    let none: BTreeSet<u64, Node> = ascending(rt.alloc(), 10, 0, 0)?;
+    assert!(rt; none.range((Included(&0), Excluded(&1024))).next().is_none());
+    assert!(rt; none.iter().next().is_none());
+    Ok(())
+}
+
+#[test]
+fn ranges_from_both_ends(rt: HostRuntime) -> Result<(), Fail> {
+    ranges_of_keys::<Vec<u64>>(&rt)?;
+    ranges_of_keys::<ArrayNode<u64, 10>>(&rt)
+}
+
+// Where a search for a key ends.
+fn place_of<Node: NodeLike<u64>>(set: &BTreeSet<u64, Node>, key: &u64) -> (usize, usize)
+    ensures { IsPlace set.now.nodes result }
+{
+    // Tells that the nodes are lawful.
+    let _nodes = set.node_count();
+    match set.locate_by(&mut ByItem::new(key)) {
+        Ok(place) => place,
+        Err(place) => place,
+    }
+}
+
+fn nodes_of_four<Node: NodeLike<u64>>(rt: &HostRuntime) -> Result<(), Fail>
+    requires { 4 ≤ Node.most }
+{
+    let set: BTreeSet<u64, Node> = ascending(rt.alloc(), 4, 0, 10)?;
+    let mut nodes = set.iter_nodes();
+    assert_eq!(rt; nodes.len(), 4);
+    assert!(rt; nodes.next().is_some_and(|node| node.iter().copied().eq([0, 1])));
+    assert!(rt; nodes.next().is_some_and(|node| node.iter().copied().eq([2, 3])));
+    assert!(rt; nodes.next_back().is_some_and(|node| node.iter().copied().eq([6, 7, 8, 9])));
+    assert!(rt; nodes.next().is_some_and(|node| node.iter().copied().eq([4, 5])));
+    assert!(rt; nodes.next().is_none());
+    assert!(rt; set.capacity() >= 10);
+    let below = set.range_between((0, 0), place_of(&set, &7));
+    assert!(rt; below.copied().eq(0..7));
+    let none: BTreeSet<u64, Node> = ascending(rt.alloc(), 4, 0, 0)?;
+    assert!(rt; none.iter_nodes().next().is_none());
+    assert_eq!(rt; none.capacity(), 0);
+    assert_eq!(rt; none.range_between((0, 0), place_of(&none, &7)).len(), 0);
+    Ok(())
+}
+
+#[test]
+fn nodes_and_places_of_ten(rt: HostRuntime) -> Result<(), Fail> {
+    nodes_of_four::<Vec<u64>>(&rt)?;
+    nodes_of_four::<ArrayNode<u64, 4>>(&rt)
+}
