@@ -14,7 +14,6 @@ pub use contract.Monad.{fact, fact_i}
 pub use contract.Running.{tables}
 pub use denote.Builtin.{RefMutOf, bool}
 pub use denote.Exit.{no}
-pub use denote.Follow.{follows, follows_by}
 pub use denote.Laws.{Is, shows}
 pub use denote.Lend.{LentAgain, lends_again, comes_back}
 pub use denote.Param.{param, bounded}
