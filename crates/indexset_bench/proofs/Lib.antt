@@ -3,4 +3,7 @@ pub mod Digits
 pub mod Lines
 pub mod Meanings
 pub mod Pieces
+pub mod ReplicaEdits
+pub mod ReplicaNodes
+pub mod ReplicaSteps
 pub mod Runs

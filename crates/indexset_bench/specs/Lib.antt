@@ -3,6 +3,7 @@ pub mod Fault
 pub mod Lines
 pub mod MapRun
 pub mod Reading
+pub mod Replica
 pub mod Reply
 pub mod Run
 pub mod SetRun

@@ -9,6 +9,7 @@ mod line;
 pub mod map_run;
 mod perform;
 mod program;
+pub mod replica;
 mod reply;
 pub mod set_run;
 

@@ -1,10 +1,11 @@
 -- What crates above this one may cite of its proofs.
 pub use Rattle.indexset_core.proofs.AscendingLemmas.{found_ascending, found_equal, gap_equal, is_some-find, located_found, located_gap, position_absent, position_found, rank-slice_get, remove_ascending, slice_get-rank, slice_get-rank_equal, told_found, told_gap, told_has_equal}
+pub use Rattle.indexset_core.proofs.BoundLemmas.{at_position}
 pub use Rattle.indexset_core.proofs.DigitsLemmas.{digits-above, digits-half, digits-left, digits-mono, digits-right}
 pub use Rattle.indexset_core.proofs.LocateLemmas.{ends_for, ends_last, ends_until, equal_none, equal_read, node_ends, node_found, node_some, parted_node, place_for}
 pub use Rattle.indexset_core.proofs.NodeLemmas.{around, get_in_node, held-set, held-splice, item_read, joined-append, joined-splice, joined_around, length-held, length-joined, length-joined-mono, length-joined-more, length-joined-take, more_read, node_lengths-set, node_lengths-splice, node_read, offset-le, slice_get-left, slice_get-right}
 pub use Rattle.indexset_core.proofs.OrderLemmas.{found_after, found_has_equal, found_keep, found_put, found_rank, found_without, gap_ascending, gap_at, gap_has_equal, gap_keep, gap_put, gap_rank, gap_without, has_equal_found, less_from, parted_by_item, read_item}
-pub use Rattle.indexset_core.proofs.PairLemmas.{absent_gap, absent_without, key_absent, key_found, key_inside, key_no_pair, key_pair, key_there, key_written, parted_by_key, value_ascending, without-pair}
+pub use Rattle.indexset_core.proofs.PairLemmas.{absent_gap, absent_without, find_absent, find_position, key_absent, key_found, key_inside, key_no_pair, key_pair, key_there, key_written, parted_by_key, value_ascending, without-pair}
 pub use Rattle.indexset_core.proofs.PartedLemmas.{Parts, count_parted, count_parts, filter_back, filter_front, front-is_le, front-is_lt}
 pub use Rattle.indexset_core.proofs.PlaceLemmas.{between_across, between_in, places_order}
 pub use Rattle.indexset_core.proofs.RangeLemmas.{count_each, count_no, found_not_above, gap_not_above, not_before, range_is, range_order}

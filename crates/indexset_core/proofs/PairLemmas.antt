@@ -1,10 +1,10 @@
 -- What a search for a key, and a written value, say of a list of pairs.
-use Rattle.std.proofs.Common.{◌≡◌, ℕ, zero, suc, ◌+◌, ◌<◌, ◌≤◌, Bool, true, false, cond, ◌||◌, not, List, [], ◌∷◌, length, get_or, Ordering, Option, Some, None, is_some, slice_get, nat_lt, refl, ap, sym, ◌∙◌, subst, arith, length-set}
+use Rattle.std.proofs.Common.{◌≡◌, ℕ, zero, suc, ◌+◌, ◌<◌, ◌≤◌, Bool, true, false, cond, ◌||◌, not, List, [], ◌∷◌, length, get_or, Ordering, Some, None, is_some, slice_get, nat_lt, refl, ap, sym, ◌∙◌, arith, length-set}
 use Rattle.std.specs.declared.cmp.Ordering.TheVariants.{Less, Equal, Greater}
-use Rattle.std.specs.Option.{option_map, option_map_or}
+use Rattle.std.specs.Option.{option_map_or}
 use Rattle.std.specs.Ordering.{is_eq, is_lt, is_le}
 use Rattle.std.specs.Cmp.{IsTotalOrder}
-use Rattle.std.specs.List.{AllWithin, HoldsAt, find, list_any, position, position_or_len, remove, slice_set}
+use Rattle.std.specs.List.{AllWithin, HoldsAt, find, list_any, position, position_or_len, slice_set}
 use Rattle.std.proofs.lemmas.Bool.{false≢true}
 use Rattle.std.proofs.lemmas.Bool.Decides.{nat_tests}
 use Rattle.std.proofs.lemmas.List.Folds.{find_at}
@@ -16,8 +16,8 @@ use Rattle.indexset_core.specs.Order.{IsAscending, IsFoundAt, IsGapFor, without}
 use Rattle.indexset_core.specs.Parted.{IsParted}
 use Rattle.indexset_core.specs.Pairs.{pair, valued, by_key, set_value_at, has_key, pair_of, key_rank, set_value, without_key}
 use Rattle.indexset_core.proofs.AscendingLemmas.{is_some-find}
-use Rattle.indexset_core.proofs.OrderLemmas.{equal_from, less_from, gap_at}
-use Rattle.indexset_core.proofs.PartedLemmas.{front-is_le, passes_below, filter_all, filter_but, fails_above, front-is_lt}
+use Rattle.indexset_core.proofs.OrderLemmas.{equal_from, gap_at}
+use Rattle.indexset_core.proofs.PartedLemmas.{front-is_le, passes_below, filter_all}
 
 module _ {K V : Type 0} where
   pub length-set_value_at : (l : List (Pair K V)) (i : ℕ) (w : V) → length (set_value_at l i w) ≡ length l
@@ -62,10 +62,10 @@ module _ {X : Type 0} (p : X → Bool) where
     | false ↦ λ g. absurd (cc)
   ] h
 
-  find_position : (xs : List X) (i : ℕ) → position p xs ≡ Some i → find p xs ≡ slice_get xs i
+  pub find_position : (xs : List X) (i : ℕ) → position p xs ≡ Some i → find p xs ≡ slice_get xs i
   find_position xs i h = find_at p xs ∙ ap (λ j. slice_get xs j) (position_is xs i h)
 
-  find_absent : (xs : List X) → position p xs ≡ None → find p xs ≡ None
+  pub find_absent : (xs : List X) → position p xs ≡ None → find p xs ≡ None
   find_absent xs h = find_at p xs ∙ slice_get_past xs (position_or_len p xs) (position_past xs h)
 
   any_absent : (xs : List X) → position p xs ≡ None → list_any p xs ≡ false

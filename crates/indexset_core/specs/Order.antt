@@ -15,7 +15,10 @@ IsAscending cmp l = AllPairs (λ x y. cmp x y ≡ Less) l
 abbrev pub below : {T : Type 0} → (T → T → Ordering) → List T → T → List T
 below cmp l v = filter (λ x. is_lt (cmp x v)) l
 
--- the elements above v
+-- the elements not above v, above v
+abbrev pub up_to : {T : Type 0} → (T → T → Ordering) → List T → T → List T
+up_to cmp l v = filter (λ x. is_le (cmp x v)) l
+
 abbrev pub above : {T : Type 0} → (T → T → Ordering) → List T → T → List T
 above cmp l v = filter (λ x. is_gt (cmp x v)) l
 

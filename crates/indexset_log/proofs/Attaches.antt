@@ -1,5 +1,5 @@
 -- What an attached node makes of lawful nodes.
-use Rattle.std.proofs.Common.{◌≡◌, ℕ, zero, suc, min, ◌<◌, get_or, nat_lt, map, take, drop, not, if◌then◌else◌, inl, inr, ◌+◌, ◌-◌, ◌≤◌, Bool, true, false, ◌||◌, ◌&&◌, List, [], ◌∷◌, ◌++◌, length, insert, slice_get, Some, None, Option, Ordering, refl, ap, sym, ◌∙◌, subst, arith, append_assoc, length-append}
+use Rattle.std.proofs.Common.{◌≡◌, ℕ, suc, min, ◌<◌, get_or, nat_lt, map, take, drop, not, if◌then◌else◌, inl, inr, ◌+◌, ◌-◌, ◌≤◌, Bool, true, false, ◌||◌, ◌&&◌, List, [], ◌∷◌, ◌++◌, length, insert, slice_get, Some, None, Option, Ordering, refl, ap, sym, ◌∙◌, subst, arith, append_assoc, length-append}
 use Rattle.std.specs.declared.cmp.Ordering.TheVariants.{Less, Equal, Greater}
 use Rattle.std.specs.List.{list_all, position_or_len, IsAllAdjacentAnswer}
 use Rattle.std.specs.Ordering.{is_lt}
@@ -8,8 +8,7 @@ use Rattle.std.proofs.lemmas.Bool.{false≢true, cases_lt, lt-ltb}
 use Rattle.std.proofs.lemmas.Bool.Decides.{nat_tests}
 use Rattle.std.proofs.lemmas.List.Sums.{count_by-le-length, fails_before_first, passes_at_first}
 use Rattle.indexset_core.specs.declared.refusal.Refusal.TheVariants.{Empty, TooLarge, Unsorted, Overlaps}
-use Rattle.std.proofs.lemmas.List.{append-nil, map-append, take-map, drop-map}
-use Rattle.std.proofs.Math.Seq.{get_or-append_seam}
+use Rattle.std.proofs.lemmas.List.{map-append, take-map, drop-map}
 use Rattle.indexset_core.specs.Nodes.{joined, node_at, IsLawful}
 use Rattle.indexset_core.proofs.CallerLemmas.{joined-append, less_from}
 use Rattle.indexset_log.specs.Attach.{lies_below, lies_apart, attach_index, attached, attach_refusal}

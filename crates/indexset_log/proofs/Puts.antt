@@ -1,5 +1,5 @@
 -- What a put makes of lawful nodes, as the code meets it.
-use Rattle.std.proofs.Common.{◌≡◌, ◌≢◌, ℕ, zero, suc, ◌+◌, ◌-◌, ◌/◌, ◌<◌, ◌≤◌, Bool, true, false, cond, if◌then◌else◌, ◌&&◌, List, [], ◌∷◌, ◌++◌, length, map, get_or, set, insert, take, drop, slice_get, eqb, Option, Some, None, is_some, is_ok, Ordering, refl, ap, sym, ◌∙◌, subst, arith, append_assoc, length-append, nat_eq}
+use Rattle.std.proofs.Common.{◌≡◌, ◌≢◌, ℕ, zero, suc, ◌+◌, ◌-◌, ◌/◌, ◌<◌, ◌≤◌, Bool, true, false, cond, if◌then◌else◌, ◌&&◌, List, [], ◌∷◌, ◌++◌, length, map, get_or, set, insert, take, drop, slice_get, eqb, Option, Some, None, is_some, is_ok, Ordering, refl, ap, sym, ◌∙◌, subst, arith, append_assoc, length-append}
 use Rattle.std.specs.Cmp.{IsTotalOrder}
 use Rattle.std.specs.List.{find, splice}
 use Rattle.std.specs.Option.{option_or}

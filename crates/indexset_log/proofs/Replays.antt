@@ -1,21 +1,20 @@
 -- The table's events, replayed, make the change.
-use Rattle.std.proofs.Common.{◌≡◌, ℕ, zero, suc, ◌+◌, ◌/◌, ◌<◌, ◌≤◌, ◌⊎◌, Bool, true, false, not, if◌then◌else◌, List, [], ◌∷◌, ◌++◌, length, get_or, set, take, drop, eqb, Some, Ordering, refl, ap, sym, inl, inr, ◌∙◌, subst, arith, append_assoc, length-append, length-take, length-drop, All}
+use Rattle.std.proofs.Common.{◌≡◌, ℕ, ◌+◌, ◌<◌, ◌≤◌, ◌⊎◌, Bool, true, false, not, List, [], ◌∷◌, ◌++◌, length, get_or, set, Some, Ordering, refl, ap, sym, inl, inr, ◌∙◌, subst, arith, length-append}
 use Rattle.std.specs.declared.cmp.Ordering.TheVariants.{Less, Equal, Greater}
 use Rattle.std.specs.List.{position_or_len}
 use Rattle.std.specs.Ordering.{ordering_reverse, is_lt, is_gt}
 use Rattle.std.specs.Cmp.{IsTotalOrder}
-use Rattle.std.proofs.lemmas.Bool.{false≢true, eq-eqb, eqb-true, eqb-false}
-use Rattle.std.proofs.lemmas.List.{append-nil, take-append-drop}
-use Rattle.std.proofs.Math.Seq.{get_or-append_seam, take-append_seam, drop-append_seam}
+use Rattle.std.proofs.lemmas.Bool.{false≢true}
+use Rattle.std.proofs.Math.Seq.{get_or-append_seam}
 use Rattle.indexset_core.specs.Order.{put, without}
 use Rattle.indexset_log.specs.declared.change.ChangeEventUnassigned.{ChangeEventUnassigned}
 use Rattle.indexset_core.specs.Nodes.{joined}
 use Rattle.indexset_core.proofs.CallerLemmas.{joined-append}
 use Rattle.indexset_log.specs.Nodes.{last_of, is_filled}
-use Rattle.indexset_log.specs.Replay.{reaches, step_plain, replay_plain}
-use Rattle.indexset_log.specs.Table.{target, node_events, target_events, put_events, removing_events, removal_events, is_past}
-use Rattle.indexset_log.proofs.Ups.{Each, each-append, each-left, each-right, each-map, each_last, ends_by, filled-append, Up, up-left, up-right, up-between, Ruled, lesser, equal_below, upto_last, around, parts-put, parts-without, put-within, without-within}
-use Rattle.indexset_log.proofs.Steps.{At, at_ruled, ruled_at, place_at, unreached, create_step, split_step}
+use Rattle.indexset_log.specs.Replay.{reaches, replay_plain}
+use Rattle.indexset_log.specs.Table.{target, node_events, removing_events, removal_events, is_past}
+use Rattle.indexset_log.proofs.Ups.{Each, each-append, each-left, each-right, each-map, each_last, ends_by, Up, up-left, up-right, up-between, Ruled, lesser, equal_below, upto_last, around, parts-put, parts-without, put-within, without-within}
+use Rattle.indexset_log.proofs.Steps.{At, at_ruled, ruled_at, place_at, unreached}
 use Rattle.indexset_log.proofs.Nodewise.{kept, puts, removes}
 
 pub set_seam : {X : Type 0} (b : List X) (n : X) (a : List X) (x : X) → set (b ++ n ∷ a) (length b) x ≡ b ++ x ∷ a

@@ -5,7 +5,7 @@ use Rattle.std.specs.List.{position, position_or_len, splice}
 use Rattle.std.specs.Ordering.{is_eq}
 use Rattle.std.specs.Cmp.{IsTotalOrder}
 use Rattle.std.proofs.lemmas.Cmp.{tied_itself}
-use Rattle.std.proofs.lemmas.Bool.{false≢true, lt-ltb, le-leb}
+use Rattle.std.proofs.lemmas.Bool.{lt-ltb, le-leb}
 use Rattle.std.proofs.lemmas.List.{append-nil}
 use Rattle.std.proofs.Math.Seq.{take-append_seam, drop-append_seam, drop-append-add, get_or-append_seam}
 use Rattle.indexset_log.specs.declared.change.ChangeEventUnassigned.{ChangeEventUnassigned}
@@ -69,7 +69,7 @@ module _ {T : Type 0} (cmp : T → T → Ordering) (o : IsTotalOrder cmp) where
       }
 
   -- nodes of items below v have other names, and do not reach v
-  unnamed : (v : T) (b : List (List T)) → Each (λ c. is_filled c ≡ true) b → Each (λ x. cmp x v ≡ Less) (joined b) → Each (λ c. has_name cmp v c ≡ false) b
+  pub unnamed : (v : T) (b : List (List T)) → Each (λ c. is_filled c ≡ true) b → Each (λ x. cmp x v ≡ Less) (joined b) → Each (λ c. has_name cmp v c ≡ false) b
   unnamed v [] full low = tt
   unnamed v (c ∷ b) full low =
       let last : cmp (last_of c v) v ≡ Less = each_last (λ x. cmp x v ≡ Less) c v full.0 (each-left _ c (joined b) low) in

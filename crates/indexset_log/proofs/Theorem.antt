@@ -1,20 +1,21 @@
 -- Replay of the numbered events of the table, from any lawful nodes.
-use Rattle.std.proofs.Common.{◌≡◌, ℕ, zero, suc, ◌+◌, ◌<◌, ◌≤◌, true, false, if◌then◌else◌, List, [], ◌∷◌, length, get_or, Option, Some, None, Ordering, option_and_then, refl, ap, sym, ◌∙◌, subst, arith, ◌≢◌, ◌-◌, set, insert, map, Result, Ok, Err, IfOk, IfErr, OnOk}
+use Rattle.std.proofs.Common.{◌≡◌, ℕ, zero, suc, ◌+◌, ◌<◌, ◌≤◌, true, false, if◌then◌else◌, List, [], ◌∷◌, ◌++◌, length, get_or, Option, Some, None, Ordering, option_and_then, refl, ap, sym, ◌∙◌, subst, arith, ◌≢◌, ◌-◌, set, map, Result, Ok, Err, IfOk, IfErr, OnOk}
 use Rattle.std.specs.Cmp.{IsTotalOrder}
 use Rattle.std.proofs.lemmas.List.{map-set}
 use Rattle.std.proofs.lemmas.Bool.{false≢true}
 use Rattle.std.specs.List.{slice_get}
 use Rattle.std.proofs.lemmas.Option.{get_or_from_slice_get, slice_get-get_or}
 use Rattle.indexset_log.specs.Table.{target, put_events, checked_put_events, removal_events, target_events, node_events, replace_events}
-use Rattle.indexset_core.specs.Order.{rank, has_equal, put, keep, without}
+use Rattle.indexset_core.specs.Order.{has_equal, put, keep, without}
 use Rattle.indexset_log.specs.declared.change.ChangeEvent.{ChangeEvent}
 use Rattle.indexset_log.specs.declared.change.ChangeEventUnassigned.{ChangeEventUnassigned}
 use Rattle.indexset_log.specs.declared.change.ChangeEventUnassigned.TheVariants.{InsertAt, RemoveAt, CreateNode, RemoveNode, SplitNode}
 use Rattle.indexset_core.specs.Nodes.{joined, IsLawful}
 use Rattle.indexset_log.specs.Nodes.{are_nodes, last_of, is_filled}
-use Rattle.indexset_log.specs.Replay.{step_plain, replay_plain, replay, numbered_from, assigned, unassigned, event_number, IsNumberedFrom}
-use Rattle.indexset_log.proofs.Steps.{create_step, insert_at}
-use Rattle.indexset_log.proofs.Ups.{last_answer, parts-put, parts-rank, parts-has_equal, around, Up, up-left, up-right, Ruled, each_all, lawful_from, lawful_ruled, lawful_bounded}
+use Rattle.indexset_core.specs.Nodes.{IsNodeList}
+use Rattle.indexset_log.specs.Replay.{edit, step, step_plain, replay_plain, replay, numbered_from, assigned, unassigned, event_number, IsNumberedFrom}
+use Rattle.indexset_log.proofs.Steps.{create_step}
+use Rattle.indexset_log.proofs.Ups.{tested_nodes, last_answer, parts-put, Up, up-left, up-right, Ruled, each_all, lawful_from, lawful_ruled, lawful_bounded}
 use Rattle.indexset_log.proofs.Replays.{Done, removal_done}
 use Rattle.indexset_log.proofs.Rooms.{put_makes}
 use Rattle.indexset_log.specs.Edits.{with_put}
@@ -163,3 +164,35 @@ filled_node cmp ns k ruled lt = each_all (λ n. is_filled n ≡ true) ns ruled.f
 pub no_last : {T : Type 0} (n : List T) → is_filled n ≡ true → slice_get n (length n - 1) ≡ None → ⊥
 no_last [] full h = false≢true full
 no_last (x ∷ xs) full h = let some = slice_get-get_or (x ∷ xs) (length (x ∷ xs) - 1) x (omega arith) in cc
+
+-- events in two parts
+replay_rest : {T : Type 0} (cmp : T → T → Ordering) (a b : List (ChangeEvent T)) (o : Option (List (List T))) → ((ns : List (List T)) → replay cmp ns (a ++ b) ≡ option_and_then (λ r. replay cmp r b) (replay cmp ns a)) → option_and_then (λ r. replay cmp r (a ++ b)) o ≡ option_and_then (λ r. replay cmp r b) (option_and_then (λ r. replay cmp r a) o)
+replay_rest cmp a b None h = refl
+replay_rest cmp a b (Some ns) h = h ns
+
+pub replay-append : {T : Type 0} (cmp : T → T → Ordering) (ns : List (List T)) (a b : List (ChangeEvent T)) → replay cmp ns (a ++ b) ≡ option_and_then (λ r. replay cmp r b) (replay cmp ns a)
+replay-append cmp ns [] b = refl
+replay-append cmp ns (e ∷ a) b = replay_rest cmp a b (step cmp ns e) (λ r. replay-append cmp r a b)
+
+pub numbers_off : {T : Type 0} (s : ℕ) (es : List (ChangeEventUnassigned T)) → map unassigned (numbered_from s es) ≡ es
+numbers_off s [] = refl
+numbers_off s (e ∷ es) = rw (number_off s e) (ap (λ q. e ∷ q) (numbers_off (s + 1) es))
+
+some_is : {X : Type 0} {x y : X} → Some x ≡ Some y → x ≡ y
+some_is e = cc
+
+none_some : {X : Type 0} {x : X} → (let n : Option X = None in n) ≡ Some x → ⊥
+none_some e = cc
+
+module _ {T : Type 0} (cmp : T → T → Ordering) where
+  kept_nodes : (after : List (List T)) (o : Option (List (List T))) → option_and_then (λ r. if are_nodes cmp r then Some r else None) o ≡ Some after → IsNodeList cmp after
+  kept_nodes after None h = absurd (none_some h)
+  kept_nodes after (Some r) h =
+      elim (are_nodes cmp r) as (λ b. are_nodes cmp r ≡ b → (if b then Some r else None) ≡ Some after → IsNodeList cmp after) [
+        | true ↦ λ t k. subst (IsNodeList cmp) (some_is k) (tested_nodes cmp r t)
+        | false ↦ λ t k. absurd (none_some k)
+      ] refl h
+
+  pub step_nodes : (ns after : List (List T)) (e : ChangeEvent T) → step cmp ns e ≡ Some after → IsNodeList cmp after
+  unfolding step_plain
+  step_nodes ns after e h = kept_nodes after (edit cmp ns (unassigned e)) h

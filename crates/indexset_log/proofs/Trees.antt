@@ -1,5 +1,5 @@
 -- A tree as its contract sees it.
-use Rattle.std.proofs.Common.{◌≡◌, ℕ, List, map, Ordering, ap, subst}
+use Rattle.std.proofs.Common.{◌≡◌, ℕ, List, map, Ordering, subst}
 use Rattle.indexset_log.specs.Tree.{Tree, IsTree}
 
 -- the rule of the fields is the rule of what the contract sees

@@ -1,5 +1,5 @@
 -- Ascending lists, item by item.
-use Rattle.std.proofs.Common.{◌≡◌, ℕ, zero, suc, ◌+◌, ◌≤◌, All, Bool, true, false, not, cond, List, [], ◌∷◌, ◌++◌, ◌&&◌, length, Ordering, refl, ap, sym, ◌∙◌, subst, arith, append_assoc, ◌-◌, get_or}
+use Rattle.std.proofs.Common.{◌≡◌, ℕ, zero, suc, ◌≤◌, All, Bool, true, false, not, cond, List, [], ◌∷◌, ◌++◌, ◌&&◌, length, Ordering, refl, ap, sym, ◌∙◌, subst, arith, append_assoc, ◌-◌, get_or}
 use Rattle.std.specs.declared.cmp.Ordering.TheVariants.{Less, Equal, Greater}
 use Rattle.std.specs.List.{list_all, list_any, filter, count_by}
 use Rattle.std.proofs.lemmas.List.Sums.{sum_by-cons}

@@ -14,7 +14,7 @@ use Rattle.indexset_core.specs.Parted.{IsParted, less_count}
 use Rattle.indexset_core.proofs.CallerLemmas.{located_found, located_gap, found_equal, gap_equal, is_some-find, get_in_node, place_for, ends_for, parted_node, parted_by_item, gap_has_equal}
 use Rattle.indexset_log.specs.Located.{located, IsFoundIn}
 use Rattle.indexset_log.specs.Nodes.{is_filled}
-use Rattle.indexset_log.proofs.Ups.{Each, Up, each_all, lawful_ruled, filled_length, length_filled, lawful_bounded}
+use Rattle.indexset_log.proofs.Ups.{Each, each_all, lawful_ruled, filled_length, length_filled, lawful_bounded}
 use Rattle.indexset_log.proofs.Theorem.{no_last}
 
 -- the nodes as the code holds them: f tells the list of each
@@ -41,6 +41,11 @@ node_is f items nodes k n same lt is = sym (view_at f items k n lt is []) ∙ ap
 
 pub length_view : {T N : Type 0} (f : N → List T) (items : List N) (nodes : List (List T)) → map f items ≡ nodes → length nodes ≡ length items
 length_view f items nodes same = ap (λ q. length q) (sym same) ∙ length-map items f
+
+pub lens_from : {T : Type 0} (ns : List (List T)) → Each (λ n. is_filled n ≡ true) ns → All (λ n. 1 ≤ n) (node_lengths ns)
+lens_from [] h k d lt = absurd (omega arith)
+lens_from (n ∷ ns) h zero d lt = filled_length n h.0
+lens_from (n ∷ ns) h (suc k) d lt = lens_from ns h.1 k d (omega arith)
 
 module _ {T : Type 0} (cmp : T → T → Ordering) where
   module _ (size : ℕ) (ns : List (List T)) (law : IsLawful cmp size ns) where

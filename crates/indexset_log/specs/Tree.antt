@@ -1,5 +1,5 @@
 -- What a logged tree is.
-use Rattle.std.specs.Prelude.{◌≡◌, ℕ, ◌+◌, ◌≤◌, length, List, if◌then◌else◌, nat_lt}
+use Rattle.std.specs.Prelude.{◌≡◌, ℕ, ◌+◌, ◌≤◌, length, List, [], if◌then◌else◌, nat_lt}
 use Rattle.std.below.core.specs.declared.int.u64.TheConstants.{MAX}
 use Rattle.indexset_core.specs.declared.refusal.Refusal.{Refusal}
 use Rattle.indexset_core.specs.declared.refusal.Refusal.TheVariants.{Memory, Numbers}
@@ -11,6 +11,10 @@ pub record Tree (T : Type 0) : Type 0 where
   pub nodes : List (List T)
   pub size : ℕ
   pub next : ℕ
+
+-- an empty tree, whose first event has the number 0
+abbrev pub fresh : {T : Type 0} → ℕ → Tree T
+fresh size = record { nodes = []; size = size; next = 0 }
 
 -- what holds of it: `most` is the limit of the node type, `len` the number of items
 pub record IsTree {T : Type 0} (cmp : T → T → Ordering) (most : ℕ) (nodes : List (List T)) (size len : ℕ) : Type 0 where

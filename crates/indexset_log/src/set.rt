@@ -1,5 +1,5 @@
 //! The logged set.
-ghost use Rattle.std.specs.Prelude.{◌≡◌, ◌+◌, ◌≤◌, [], length, None, MatchOption};
+ghost use Rattle.std.specs.Prelude.{◌≡◌, ◌==◌, ◌+◌, ◌≤◌, [], length, None, MatchOption};
 ghost use Rattle.std.specs.Option.{option_copied};
 ghost use Rattle.indexset_core.specs.Nodes.{joined, IsLawful};
 ghost use Rattle.indexset_core.specs.Digits.{digits};
@@ -9,10 +9,12 @@ ghost use Rattle.indexset_log.specs.Located.{located, IsFoundIn};
 
 mod attach;
 pub mod iter;
+mod make;
 pub mod nodes;
 mod put;
 pub mod range;
 mod remove;
+mod remove_range;
 
 use crate::locate::node_by;
 use indexset_core::constants::DEFAULT_INNER_SIZE;
@@ -91,6 +93,13 @@ impl<T: Ord + Clone + Drop, Node: NodeLike<T>> BTreeSet<T, Node> {
         ensures { result ≡ length (joined self.now.nodes) }
     {
         self.len
+    }
+
+    /// Whether there is no item.
+    pub fn is_empty(&self) -> bool
+        ensures { result ≡ (length (joined self.now.nodes) == 0) }
+    {
+        self.len == 0
     }
 
     /// How many nodes there are: no more than items. None is empty or holds more than the node size,

@@ -1,9 +1,9 @@
 -- What a written value leaves of the pairs of a map.
-use Rattle.std.proofs.Common.{◌≡◌, ℕ, zero, suc, ◌<◌, ◌≤◌, true, false, List, [], ◌∷◌, length, Ordering, Some, None, slice_get, refl, ap, sym, ◌∙◌, arith, ◌-◌, ◌++◌, take, Option, IsSome, is_some}
-use Rattle.std.specs.Option.{option_map, option_map_or, option_copied}
-use Rattle.std.specs.List.{insert, remove, slice_set}
+use Rattle.std.proofs.Common.{◌≡◌, ℕ, zero, suc, ◌-◌, ◌<◌, ◌≤◌, true, false, List, [], ◌∷◌, ◌++◌, length, take, Ordering, Option, Some, None, IsSome, is_some, slice_get, refl, ap, sym, ◌∙◌, arith}
 use Rattle.std.specs.Borrow.{Bor}
+use Rattle.std.specs.Option.{option_copied, option_map, option_map_or}
 use Rattle.std.specs.Ordering.{is_eq}
+use Rattle.std.specs.List.{insert, remove, slice_set}
 use Rattle.std.proofs.Math.ListN.{drop_of_length-le}
 use Rattle.std.proofs.lemmas.Bool.{false≢true}
 use Rattle.std.proofs.lemmas.List.{append-nil}
@@ -72,6 +72,13 @@ module _ {K V : Type 0} where
 
   pub last_removed : (l : List (Pair K V)) → remove l (length l - 1) ≡ take (length l - 1) l
   last_removed l = ap (λ rest. take (length l - 1) l ++ rest) (drop_of_length-le l {i = suc (length l - 1)} (omega arith)) ∙ append-nil _
+
+  -- a key is there where it has a pair
+  pub key_of_pair : (cmp : K → K → Ordering) (l : List (Pair K V)) (k : K) (r : Option (Bor (Pair K V))) → option_copied r ≡ pair_of cmp l k → is_some r ≡ has_key cmp l k
+  key_of_pair cmp l k r e = same r ∙ (ap is_some e ∙ is_some-find (λ p. is_eq (cmp p.key k)) l) where
+    same : (r : Option (Bor (Pair K V))) → is_some r ≡ is_some (option_copied r)
+    same (Some p) = refl
+    same None = refl
 
   -- a key that is there has a value
   pub value_there : (cmp : K → K → Ordering) (l : List (Pair K V)) (k : K) → has_key cmp l k ≡ true → (r : Option (Bor V)) → option_copied r ≡ value_of cmp l k → IsSome r

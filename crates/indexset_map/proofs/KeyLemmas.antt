@@ -1,5 +1,5 @@
 -- What a search for a key says of the pairs of a map.
-use Rattle.std.proofs.Common.{◌≡◌, ℕ, ◌<◌, Bool, true, false, if◌then◌else◌, length, List, [], ◌∷◌, arith, Ordering, Result, Ok, Err, IfOk, IfErr, is_ok, Some, None, refl, ap, sym, ◌∙◌}
+use Rattle.std.proofs.Common.{◌≡◌, ℕ, ◌<◌, Bool, true, false, if◌then◌else◌, length, List, [], ◌∷◌, arith, Ordering, Some, refl, ap, sym, ◌∙◌}
 use Rattle.std.specs.Cmp.{IsTotalOrder, on_total}
 use Rattle.std.specs.List.{position, remove}
 use Rattle.std.specs.Ordering.{is_eq}
@@ -8,7 +8,7 @@ use Rattle.indexset_core.specs.Nodes.{node_lengths}
 use Rattle.indexset_spine.specs.Cut.{Cut, IsCut, items, with_inserted}
 use Rattle.indexset_core.specs.Order.{IsAscending, has_equal, keep, put}
 use Rattle.indexset_core.specs.Pairs.{pair, by_key, has_key, key_rank, put_value, without_key}
-use Rattle.indexset_core.proofs.CallerLemmas.{found_rank, found_without, parted_by_key, key_there, key_absent, key_found, key_inside, key_written, absent_without, without-pair}
+use Rattle.indexset_core.proofs.CallerLemmas.{found_rank, found_without, parted_by_key, key_there, key_found, key_inside, key_written, absent_without, without-pair}
 use Rattle.indexset_map.specs.Contents.{Contents, contents, with_put, with_value_at, without_at, without_pair}
 use Rattle.indexset_map.specs.Lengths.{lengths_with, lengths_without}
 use Rattle.indexset_map.proofs.ContentsLemmas.{put_new, put_there}
@@ -16,10 +16,6 @@ use Rattle.indexset_map.proofs.LengthLemmas.{node_lengths-inserted, node_lengths
 use Rattle.indexset_set.specs.SetNodes.{IsWithoutAt, nodes_kept, spot_of}
 
 module _ {K V : Type 0} (cmp : K → K → Ordering) (l : List (Pair K V)) (k : K) where
-  pub found_has_key : (r : Result ℕ ℕ) → IfOk r (λ i. position (λ p. is_eq (cmp p.key k)) l ≡ Some i) → IfErr r (λ _. position (λ p. is_eq (cmp p.key k)) l ≡ None) → is_ok r ≡ has_key cmp l k
-  found_has_key (Ok i) found absent = sym (key_there cmp l k i found)
-  found_has_key (Err i) found absent = sym (key_absent cmp l k absent)
-
   pub key_removed : IsTotalOrder cmp → IsAscending (by_key cmp) l → (i : ℕ) → position (λ p. is_eq (cmp p.key k)) l ≡ Some i → V → IsTotalOrder (by_key {V = V} cmp) → remove l i ≡ without_key cmp l k
   key_removed o up i h w o' = sym (found_without (by_key cmp) l (pair k w) i o' up (key_found cmp l k i h (parted_by_key cmp o l up k) w)) ∙ without-pair cmp l k w
 

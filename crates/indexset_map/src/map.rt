@@ -105,10 +105,9 @@ impl<K: Ord, V> BTreeMap<K, V> {
     fn pair(&self, key: &K) -> Option<&Pair<K, V>>
         ensures { option_copied result ≡ pair_of K.cmp self.now.pairs key.now }
     {
-        match self.find(key) {
-            Ok(i) => self.set.get_index(i),
-            Err(_) => None,
-        }
+        // The pairs ascend, as in `find`.
+        let _len = self.set.len();
+        self.set.get_by(&mut ByKey::new(key))
     }
 
     // The value at a position, to write.

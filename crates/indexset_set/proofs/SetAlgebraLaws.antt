@@ -1,5 +1,5 @@
 -- What the algebra of two ascending lists gives, by its elements.
-use Rattle.std.proofs.Common.{◌≡◌, zero, suc, ◌+◌, ◌⊎◌, inl, inr, Bool, true, false, not, cond, ◌&&◌, ◌||◌, if◌then◌else◌, List, [], ◌∷◌, ◌++◌, length, take, drop, filter, Ordering, refl, ap, sym, ◌∙◌, subst, arith}
+use Rattle.std.proofs.Common.{◌≡◌, zero, suc, ◌+◌, ◌⊎◌, inl, inr, Bool, true, false, not, cond, ◌&&◌, ◌||◌, ◌≤◌, if◌then◌else◌, List, [], ◌∷◌, ◌++◌, length, take, drop, filter, Ordering, refl, ap, sym, ◌∙◌, subst, arith}
 use Rattle.std.specs.declared.cmp.Ordering.TheVariants.{Less, Equal, Greater}
 use Rattle.std.specs.Cmp.{IsTotalOrder}
 use Rattle.std.specs.List.{All, Contains, insert, list_any}
@@ -8,6 +8,7 @@ use Rattle.std.proofs.lemmas.Cmp.{alike_right}
 use Rattle.std.proofs.lemmas.List.{take-append-drop}
 use Rattle.std.proofs.lemmas.List.Folds.{list_any-append}
 use Rattle.std.proofs.lemmas.List.Kept.{AllPairs-filter}
+use Rattle.std.proofs.lemmas.List.Sums.{count_by-le-length, length-filter}
 use Rattle.std.proofs.lemmas.Bool.{false≢true}
 use Rattle.indexset_core.specs.Order.{IsAscending, IsGapFor, below, above, rank, has_equal, keep, put}
 use Rattle.indexset_set.specs.SetAlgebra.{union, intersection, difference, symmetric_difference}
@@ -33,6 +34,14 @@ module _ {T : Type 0} (cmp : T → T → Ordering) where
   pub intersection_ascending : (l r : List T) → IsAscending cmp l → IsAscending cmp (intersection cmp l r)
   unfolding intersection
   intersection_ascending l r up = AllPairs-filter (λ x y. cmp x y ≡ Less) (has_equal cmp r) l up
+
+  pub intersection_few : (l r : List T) → length (intersection cmp l r) ≤ length l
+  unfolding intersection
+  intersection_few l r = rw (length-filter (has_equal cmp r) l) (count_by-le-length (has_equal cmp r) l)
+
+  pub difference_few : (l r : List T) → length (difference cmp l r) ≤ length l
+  unfolding difference
+  difference_few l r = rw (length-filter (λ x. not (has_equal cmp r x)) l) (count_by-le-length (λ x. not (has_equal cmp r x)) l)
 
   pub difference_ascending : (l r : List T) → IsAscending cmp l → IsAscending cmp (difference cmp l r)
   unfolding difference
@@ -215,3 +224,11 @@ module _ {T : Type 0} (cmp : T → T → Ordering) (o : IsTotalOrder cmp) where
   pub lengths_sum : (l r : List T) → IsAscending cmp l → IsAscending cmp r → length (union cmp l r) + length (intersection cmp l r) ≡ length l + length r
   lengths_sum l r up vp =
       rw (← union_read cmp o l r up vp, ← intersection_read cmp o l r up vp) (rw (lefts_merged, rights_merged) at (read_counts (merged cmp l r)))
+
+  pub union_few : (l r : List T) → IsAscending cmp l → IsAscending cmp r → length (union cmp l r) ≤ length l + length r
+  union_few l r up vp = omega (arith, lengths_sum l r up vp)
+
+  pub symmetric_difference_few : (l r : List T) → IsAscending cmp l → IsAscending cmp r → length (symmetric_difference cmp l r) ≤ length l + length r
+  unfolding symmetric_difference
+  symmetric_difference_few l r up vp =
+      omega (arith, union_few (difference cmp l r) (difference cmp r l) (difference_ascending cmp l r up) (difference_ascending cmp r l vp), difference_few cmp l r, difference_few cmp r l)

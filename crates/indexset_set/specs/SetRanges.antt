@@ -1,4 +1,4 @@
--- What the cut of a set answers, said of its elements in order.
+-- What the cut of a set takes out, said of its elements in order.
 use Rattle.std.specs.Prelude.{List, not, filter}
 use Rattle.std.specs.declared.cmp.Ordering.{Ordering}
 use Rattle.std.specs.Ordering.{is_lt}

@@ -1,5 +1,7 @@
-//! Times the calls of the plain set, for people: nanoseconds an operation.
+//! Times the calls of the plain set and map, for people: nanoseconds an operation.
 #![tactic(auto)]
+
+mod map;
 
 use indexset_core::refusal::Refusal;
 use indexset_set::BTreeSet;
@@ -161,7 +163,10 @@ fn measure(rt: &HostRuntime, keys: u64) -> io::Result<()> {
 fn main(rt: HostRuntime) -> io::Result<()> {
     let mut arguments = env::args(&rt)?;
     match arguments.nth(1).and_then(|text| text.as_str().parse().ok()) {
-        Some(keys) => measure(&rt, keys),
+        Some(keys) => {
+            measure(&rt, keys)?;
+            map::measure(&rt, keys)
+        }
         None => println!(&rt; "usage: indexset_speed KEYS"),
     }
 }

@@ -10,7 +10,7 @@ use Rattle.indexset_core.specs.Nodes.{joined, node_lengths, node_at}
 use Rattle.indexset_spine.specs.Cut.{IsCut, IsSpine, IsSpot, IsItemSpot, position_of, parts_with, with_inserted, without_item, with_replaced, first_spot}
 use Rattle.indexset_core.proofs.CallerLemmas.{joined-append, length-joined, node_lengths-set, joined_around, joined-splice, node_lengths-splice, slice_get-left, slice_get-right}
 
--- an edit within the middle of three vec_items
+-- an edit within the middle of three lists
 module _ {X : Type 0} (fs n bs : List X) (o : ℕ) where
   insert_mid : (v : X) → o ≤ length n → insert (fs ++ (n ++ bs)) (length fs + o) v ≡ fs ++ (insert n o v ++ bs)
   insert_mid v h =

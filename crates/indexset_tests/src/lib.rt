@@ -5,9 +5,13 @@
 pub mod callers;
 
 #[cfg(test)]
+mod counted;
+#[cfg(test)]
 mod logged_walks;
 #[cfg(test)]
 mod map;
+#[cfg(test)]
+mod logged;
 #[cfg(test)]
 mod node;
 #[cfg(test)]

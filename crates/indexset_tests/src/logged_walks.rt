@@ -11,6 +11,7 @@ use indexset_log::set::iter::Iter;
 use indexset_log::set::range::Range;
 use std::alloc::Global;
 use std::ops::Bound::{Excluded, Included, Unbounded};
+use std::process::Abort;
 use std::test::Fail;
 
 // The keys from one up to, but not with, the end, put in ascending.
@@ -30,14 +31,14 @@ fn ascending<Node: NodeLike<u64>>(
     Ok(set)
 }
 
-fn meet_in_the_middle<Node: NodeLike<u64>>(rt: &HostRuntime) -> Result<(), Fail>
+fn meet_in_the_middle<Node: NodeLike<u64>>(rt: &impl Abort, alloc: Global) -> Result<(), Fail>
     requires { 3 ≤ Node.most }
 {
-    let one: BTreeSet<u64, Node> = ascending(rt.alloc(), 3, 1, 2)?;
+    let one: BTreeSet<u64, Node> = ascending(alloc, 3, 1, 2)?;
     let mut walk = one.iter();
     assert_eq!(rt; walk.next().copied(), Some(1));
     assert_eq!(rt; walk.next_back().copied(), None);
-    let three: BTreeSet<u64, Node> = ascending(rt.alloc(), 3, 1, 4)?;
+    let three: BTreeSet<u64, Node> = ascending(alloc, 3, 1, 4)?;
     let mut walk = Iter::new(&three);
     assert_eq!(rt; walk.len(), 3);
     assert_eq!(rt; walk.next().copied(), Some(1));
@@ -46,7 +47,7 @@ fn meet_in_the_middle<Node: NodeLike<u64>>(rt: &HostRuntime) -> Result<(), Fail>
     assert_eq!(rt; walk.next().copied(), Some(2));
     assert_eq!(rt; walk.next().copied(), None);
     assert_eq!(rt; walk.next_back().copied(), None);
-    let twenty: BTreeSet<u64, Node> = ascending(rt.alloc(), 3, 1, 21)?;
+    let twenty: BTreeSet<u64, Node> = ascending(alloc, 3, 1, 21)?;
     let mut walk = (&twenty).into_iter();
     for key in 1..11 {
         assert_eq!(rt; walk.next().copied(), Some(key));
@@ -58,8 +59,8 @@ fn meet_in_the_middle<Node: NodeLike<u64>>(rt: &HostRuntime) -> Result<(), Fail>
 
 #[test]
 fn both_ends_by_turns(rt: HostRuntime) -> Result<(), Fail> {
-    meet_in_the_middle::<Vec<u64>>(&rt)?;
-    meet_in_the_middle::<ArrayNode<u64, 3>>(&rt)
+    meet_in_the_middle::<Vec<u64>>(&rt, rt.alloc())?;
+    meet_in_the_middle::<ArrayNode<u64, 3>>(&rt, rt.alloc())
 }
 
 // Whether the keys from the first to the last, both included, are those in the range, both ways.
@@ -75,10 +76,10 @@ fn holds_all_between<Node: NodeLike<u64>>(
         && set.range(range).rev().copied().eq((first..=last).rev())
 }
 
-fn ranges_of_keys<Node: NodeLike<u64>>(rt: &HostRuntime) -> Result<(), Fail>
+fn ranges_of_keys<Node: NodeLike<u64>>(rt: &impl Abort, alloc: Global) -> Result<(), Fail>
     requires { 10 ≤ Node.most }
 {
-    let set: BTreeSet<u64, Node> = ascending(rt.alloc(), 10, 0, 20)?;
+    let set: BTreeSet<u64, Node> = ascending(alloc, 10, 0, 20)?;
     let middle = (Included(&8), Excluded(&12));
     assert!(rt; set.range(middle).copied().eq([8, 9, 10, 11]));
     let backwards = Range::new(&set, (Included(&10), Excluded(&13))).rev();
@@ -89,11 +90,11 @@ fn ranges_of_keys<Node: NodeLike<u64>>(rt: &HostRuntime) -> Result<(), Fail>
         }
     }
     assert!(rt; set.range((Excluded(&17), Unbounded)).copied().eq([18, 19]));
-    let ten: BTreeSet<u64, Node> = ascending(rt.alloc(), 10, 0, 10)?;
+    let ten: BTreeSet<u64, Node> = ascending(alloc, 10, 0, 10)?;
     assert_eq!(rt; ten.range((Included(&5), Excluded(&1034))).len(), 5);
-    let many: BTreeSet<u64, Node> = ascending(rt.alloc(), 10, 0, 1034)?;
+    let many: BTreeSet<u64, Node> = ascending(alloc, 10, 0, 1034)?;
     assert_eq!(rt; many.range((Included(&0), Excluded(&1024))).len(), 1024);
-    let none: BTreeSet<u64, Node> = ascending(rt.alloc(), 10, 0, 0)?;
+    let none: BTreeSet<u64, Node> = ascending(alloc, 10, 0, 0)?;
     assert!(rt; none.range((Included(&0), Excluded(&1024))).next().is_none());
     assert!(rt; none.iter().next().is_none());
     Ok(())
@@ -101,8 +102,8 @@ fn ranges_of_keys<Node: NodeLike<u64>>(rt: &HostRuntime) -> Result<(), Fail>
 
 #[test]
 fn ranges_from_both_ends(rt: HostRuntime) -> Result<(), Fail> {
-    ranges_of_keys::<Vec<u64>>(&rt)?;
-    ranges_of_keys::<ArrayNode<u64, 10>>(&rt)
+    ranges_of_keys::<Vec<u64>>(&rt, rt.alloc())?;
+    ranges_of_keys::<ArrayNode<u64, 10>>(&rt, rt.alloc())
 }
 
 // Where a search for a key ends.
@@ -117,10 +118,10 @@ fn place_of<Node: NodeLike<u64>>(set: &BTreeSet<u64, Node>, key: &u64) -> (usize
     }
 }
 
-fn nodes_of_four<Node: NodeLike<u64>>(rt: &HostRuntime) -> Result<(), Fail>
+fn nodes_of_four<Node: NodeLike<u64>>(rt: &impl Abort, alloc: Global) -> Result<(), Fail>
     requires { 4 ≤ Node.most }
 {
-    let set: BTreeSet<u64, Node> = ascending(rt.alloc(), 4, 0, 10)?;
+    let set: BTreeSet<u64, Node> = ascending(alloc, 4, 0, 10)?;
     let mut nodes = set.iter_nodes();
     assert_eq!(rt; nodes.len(), 4);
     assert!(rt; nodes.next().is_some_and(|node| node.iter().copied().eq([0, 1])));
@@ -131,7 +132,7 @@ fn nodes_of_four<Node: NodeLike<u64>>(rt: &HostRuntime) -> Result<(), Fail>
     assert!(rt; set.capacity() >= 10);
     let below = set.range_between((0, 0), place_of(&set, &7));
     assert!(rt; below.copied().eq(0..7));
-    let none: BTreeSet<u64, Node> = ascending(rt.alloc(), 4, 0, 0)?;
+    let none: BTreeSet<u64, Node> = ascending(alloc, 4, 0, 0)?;
     assert!(rt; none.iter_nodes().next().is_none());
     assert_eq!(rt; none.capacity(), 0);
     assert_eq!(rt; none.range_between((0, 0), place_of(&none, &7)).len(), 0);
@@ -140,6 +141,6 @@ fn nodes_of_four<Node: NodeLike<u64>>(rt: &HostRuntime) -> Result<(), Fail>
 
 #[test]
 fn nodes_and_places_of_ten(rt: HostRuntime) -> Result<(), Fail> {
-    nodes_of_four::<Vec<u64>>(&rt)?;
-    nodes_of_four::<ArrayNode<u64, 4>>(&rt)
+    nodes_of_four::<Vec<u64>>(&rt, rt.alloc())?;
+    nodes_of_four::<ArrayNode<u64, 4>>(&rt, rt.alloc())
 }

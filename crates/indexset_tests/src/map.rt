@@ -9,6 +9,7 @@ use std::test::Fail;
 
 mod bulk;
 mod compare;
+mod counted;
 mod cursors;
 mod documented;
 mod entries;

@@ -11,7 +11,7 @@ use std::ops::Bound;
 use std::test::Fail;
 
 /// A node of these values, put in one after another.
-fn node_of(alloc: Global, values: &[u64]) -> Result<Vec<u64>, Fail>
+pub(crate) fn node_of(alloc: Global, values: &[u64]) -> Result<Vec<u64>, Fail>
     ensures { IfOk result (λ node. IsAscending nat_cmp node.items) }
 {
     let mut node: Vec<u64> = NodeLike::with_capacity(alloc, values.len())?;

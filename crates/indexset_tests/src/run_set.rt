@@ -1,4 +1,4 @@
-//! Worked examples of vec_items of commands to a set.
+//! Worked examples of lists of commands to a set.
 
 use indexset_bench::set_run::{SetCommand, SetReply, run_set};
 use indexset_set::BTreeSet;

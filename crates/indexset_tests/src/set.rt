@@ -99,6 +99,17 @@ fn two_to_a_node(rt: HostRuntime) -> Result<(), Fail> {
 }
 
 #[test]
+fn an_element_goes_left_of_a_halved_node(rt: HostRuntime) -> Result<(), Fail> {
+    let mut set = BTreeSet::with_maximum_node_size(rt.alloc(), 2)?;
+    for key in [1, 3, 4, 2u64] {
+        add(&mut set, key)?;
+    }
+    assert_eq!(rt; set.node_count(), 3);
+    assert!(rt; set.iter().eq(&[1, 2, 3, 4]));
+    Ok(())
+}
+
+#[test]
 fn few_questions_in_few_nodes(rt: HostRuntime) -> Result<(), Fail> {
     // Six nodes of at most two elements: 3 + 2 + 1 questions at most.
     let set = ascending(rt.alloc(), 2, 7)?;

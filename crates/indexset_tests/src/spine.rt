@@ -9,9 +9,10 @@ use std::alloc::Global;
 use std::test::Fail;
 
 mod reads;
+mod searches;
 
-/// The place behind the last item.
-fn end_place(spine: &Spine<u64>) -> Spot
+/// The spot behind the last item.
+fn end_spot(spine: &Spine<u64>) -> Spot
     ensures { IsSpot spine.now.nodes result }
 {
     let _nodes = spine.node_count();
@@ -33,13 +34,13 @@ fn end_place(spine: &Spine<u64>) -> Spot
 fn holds(spine: &Spine<u64>, node: usize, position: usize, items: &[u64]) -> bool {
     let mut offset = 0usize;
     for item in items {
-        let place = Spot {
+        let spot = Spot {
             node,
             offset,
             found: true,
         };
         let position = position.saturating_add(offset);
-        if spine.spot(position) != Some(place) || spine.get(position) != Some(item) {
+        if spine.spot(position) != Some(spot) || spine.get(position) != Some(item) {
             return false;
         }
         offset = offset.saturating_add(1);
@@ -65,7 +66,7 @@ fn shows(spine: &Spine<u64>, expected: &[&[u64]]) -> bool {
 fn ascending(alloc: Global) -> Result<Spine<u64>, Refusal> {
     let mut spine = Spine::new(alloc, 2)?;
     for x in 1..8 {
-        spine.insert(end_place(&spine), x)?;
+        spine.insert(end_spot(&spine), x)?;
     }
     Ok(spine)
 }
@@ -81,7 +82,7 @@ fn ascending_items_fill_the_last_node(rt: HostRuntime) -> Result<(), Fail> {
 #[test]
 fn descending_items_fill_the_first_node(rt: HostRuntime) -> Result<(), Fail> {
     let mut spine = Spine::new(rt.alloc(), 2)?;
-    spine.insert(end_place(&spine), 7)?;
+    spine.insert(end_spot(&spine), 7)?;
     for x in [6, 5, 4, 3, 2, 1] {
         let first = spine.spot(0).ok_or("an item")?;
         spine.insert(first, x)?;
@@ -104,7 +105,7 @@ fn an_emptied_node_goes(rt: HostRuntime) -> Result<(), Fail> {
 #[test]
 fn the_only_node_stays(rt: HostRuntime) -> Result<(), Fail> {
     let mut spine = Spine::new(rt.alloc(), 2)?;
-    spine.insert(end_place(&spine), 9)?;
+    spine.insert(end_spot(&spine), 9)?;
     let only = spine.spot(0).ok_or("an item")?;
     assert_eq!(rt; spine.replace(only, 8), 9);
     let only = spine.spot(0).ok_or("an item")?;
@@ -114,12 +115,12 @@ fn the_only_node_stays(rt: HostRuntime) -> Result<(), Fail> {
 }
 
 #[test]
-fn splits_at_every_place(rt: HostRuntime) -> Result<(), Fail> {
+fn splits_at_every_position(rt: HostRuntime) -> Result<(), Fail> {
     for position in 0..8usize {
         let mut spine = ascending(rt.alloc())?;
         let rest = match spine.spot(position) {
-            Some(place) => spine.split_off(place)?,
-            None => spine.split_off(end_place(&spine))?,
+            Some(spot) => spine.split_off(spot)?,
+            None => spine.split_off(end_spot(&spine))?,
         };
         assert_eq!(rt; spine.len(), position);
         assert_eq!(rt; rest.len().checked_add(position), Some(7));
@@ -165,7 +166,7 @@ fn moves_the_first_items_of_another(rt: HostRuntime) -> Result<(), Fail> {
     let mut other = ascending(rt.alloc())?;
     for _ in 0..7 {
         if 0 < other.len() {
-            spine.insert_from(end_place(&spine), &mut other)?;
+            spine.insert_from(end_spot(&spine), &mut other)?;
         }
     }
     assert!(rt; shows(&spine, &[&[1], &[2], &[3], &[4], &[5, 6, 7]]));

@@ -245,7 +245,12 @@ impl<T: Ord + Clone + Drop, Node: NodeLike<T>> BTreeSet<T, Node> {
                 split_index: items.len() / 2,
             })?;
         }
-        add_put(&mut log, part_of(items, aim.full, aim.right), &aim.at, value)?;
+        add_put(
+            &mut log,
+            part_of(items, aim.full, aim.right),
+            &aim.at,
+            value,
+        )?;
         Ok(log.events)
     }
 

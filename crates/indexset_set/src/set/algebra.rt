@@ -1,5 +1,5 @@
 //! Two sets as sets: what both have, either has, or one has alone, as walks, and subset tests.
-ghost use Rattle.std.specs.Prelude.{◌≡◌, not};
+ghost use Rattle.std.specs.Prelude.{◌≡◌, ◌+◌, ◌≤◌, length, not};
 ghost use Rattle.std.specs.List.{list_all};
 ghost use Rattle.std.specs.Map.Iter.{ShowsInOrder, deref};
 ghost use Rattle.indexset_spine.specs.Cut.{items};
@@ -24,6 +24,7 @@ impl<T: Ord> BTreeSet<T> {
     /// The elements of either set, ascending. Of two equal ones it gives this set's.
     pub fn union<'a>(&'a self, other: &'a BTreeSet<T>) -> Union<'a, T>
         ensures rest { result ≡ union T.cmp (items self.now) (items other.now) }
+        ensures few { length result ≤ length (items self.now) + length (items other.now) }
         ensures runs { ShowsInOrder (deref {X = T}) }
     {
         Union {
@@ -34,6 +35,7 @@ impl<T: Ord> BTreeSet<T> {
     /// The elements of this set that have an equal one in the other, ascending.
     pub fn intersection<'a>(&'a self, other: &'a BTreeSet<T>) -> Intersection<'a, T>
         ensures rest { result ≡ intersection T.cmp (items self.now) (items other.now) }
+        ensures few { length result ≤ length (items self.now) }
         ensures runs { ShowsInOrder (deref {X = T}) }
     {
         Intersection {
@@ -44,6 +46,7 @@ impl<T: Ord> BTreeSet<T> {
     /// The elements of this set that have no equal one in the other, ascending.
     pub fn difference<'a>(&'a self, other: &'a BTreeSet<T>) -> Difference<'a, T>
         ensures rest { result ≡ difference T.cmp (items self.now) (items other.now) }
+        ensures few { length result ≤ length (items self.now) }
         ensures runs { ShowsInOrder (deref {X = T}) }
     {
         Difference {
@@ -54,6 +57,7 @@ impl<T: Ord> BTreeSet<T> {
     /// The elements of either set that have no equal one in the other, ascending.
     pub fn symmetric_difference<'a>(&'a self, other: &'a BTreeSet<T>) -> SymmetricDifference<'a, T>
         ensures rest { result ≡ symmetric_difference T.cmp (items self.now) (items other.now) }
+        ensures few { length result ≤ length (items self.now) + length (items other.now) }
         ensures runs { ShowsInOrder (deref {X = T}) }
     {
         SymmetricDifference {

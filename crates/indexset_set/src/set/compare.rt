@@ -15,7 +15,10 @@ impl<T: Ord> PartialEq for BTreeSet<T> {
     ghost laws = { on_per items (lists_per T.PartialEq.laws) };
 
     fn eq(&self, other: &BTreeSet<T>) -> bool {
-        self.spine.len() == other.spine.len() && self.spine.iter().eq(other.spine.iter())
+        if self.spine.len() != other.spine.len() {
+            return false;
+        }
+        self.spine.iter().eq(other.spine.iter())
     }
 }
 

@@ -1,5 +1,5 @@
 //! Calls that look for a value: whether an equal element is there, where, and what comes next.
-ghost use Rattle.std.specs.Prelude.{◌≡◌, ◌+◌, ◌≤◌, IsTrue, IfOk, IfErr, None, Some, length, position};
+ghost use Rattle.std.specs.Prelude.{◌≡◌, ◌+◌, ◌≤◌, IsTrue, IfOk, IfErr, None, Some, find, length, position};
 ghost use Rattle.std.specs.Bool.{OnTrue, OnFalse};
 ghost use Rattle.std.specs.Option.{option_copied};
 ghost use Rattle.std.specs.Ordering.{is_eq};
@@ -60,6 +60,21 @@ impl<T: Ord> BTreeSet<T> {
         ensures { option_copied result ≡ lower_element T.cmp (items self.now) value.now }
     {
         self.spine.item_from(&locate(&self.spine, value))
+    }
+
+    /// The first element that the probe answers Equal, where there is one. It asks as `locate_by` does.
+    pub fn get_by<P: Probe<T>>(&self, probe: &mut P) -> Option<&T>
+        requires { FindsInOrder (P.answer probe.old) (items self.now) }
+        ensures value { option_copied result ≡ find (λ x. is_eq (P.answer probe.old x)) (items self.now) }
+        ensures fixed { P.answer probe.new ≡ P.answer probe.old }
+        ensures few { P.asked probe.new ≤ P.asked probe.old + (digits (length self.now.nodes) + digits self.now.size + 1) }
+    {
+        let spot = self.spine.locate_by(probe);
+        if spot.found {
+            Some(self.spine.item(&spot))
+        } else {
+            None
+        }
     }
 
     /// The position of the first element that the probe answers Equal, or where it answers none so,

@@ -1,15 +1,16 @@
 //! The elements between two bounds, or between two positions.
-ghost use Rattle.std.specs.Prelude.{◌≡◌, IsTrue, min};
-ghost use Rattle.std.specs.List.{count_by};
+ghost use Rattle.std.specs.Prelude.{◌≡◌, IsTrue, drop, filter, min, take};
 ghost use Rattle.std.specs.Map.Iter.{ShowsInOrder, ShowsInReverse, deref};
-ghost use Rattle.std.specs.Ordering.{is_le};
+ghost use Rattle.std.specs.Ordering.{is_ge};
 ghost use Rattle.std.specs.Range.Bound.{bound_map, start_index, end_index};
-ghost use Rattle.indexset_core.specs.Bounds.{are_ordered, in_range, in_positions, is_before, is_up_to_end};
-ghost use Rattle.indexset_spine.specs.Cut.{items};
+ghost use Rattle.indexset_core.specs.Bounds.{are_ordered, in_range, in_positions, is_from_start, is_up_to_end};
+ghost use Rattle.indexset_core.specs.Order.{above, below, up_to};
+ghost use Rattle.indexset_spine.specs.Cut.{IsSpot, items, position_of};
 
 use super::BTreeSet;
 use super::iter::Iter;
 use super::lookup::locate;
+use indexset_spine::spot::Spot;
 use std::ops::Bound;
 
 /// The elements of a part of a set that are left, from both ends.
@@ -29,9 +30,8 @@ impl<T: Ord> BTreeSet<T> {
         ensures runs { ShowsInOrder (deref {X = T}) }
         ensures runs_back { ShowsInReverse (deref {X = T}) }
     {
-        let from = self.count_before(range.0);
-        let to = self.count_up_to(range.1);
-        Iter::of(self.spine.iter_between(from, to))
+        let (from, to) = (self.start_of(range.0), self.end_of(range.1));
+        Iter::of(self.spine.iter_from_to(&from, &to))
     }
 
     /// The elements at the positions that satisfy both bounds, in order. There is none where the
@@ -52,37 +52,52 @@ impl<T: Ord> BTreeSet<T> {
         Iter::of(self.spine.iter_between(from, to))
     }
 
-    // How many elements stand before the start.
-    fn count_before(&self, start: Bound<&T>) -> usize
-        ensures { result ≡ count_by (is_before T.cmp (bound_map (λ v. v.now) start.entry)) (items self.now) }
+    // The spot from which on the elements satisfy the start.
+    fn start_of(&self, start: Bound<&T>) -> Spot
+        ensures spot { IsSpot self.now.nodes result }
+        ensures rest { drop (position_of self.now.nodes result) (items self.now) ≡ filter (is_from_start T.cmp (bound_map (λ v. v.now) start.entry)) (items self.now) }
     {
         match start {
-            Bound::Included(v) => self.rank(v),
-            Bound::Excluded(v) => self.count_not_above(v),
-            Bound::Unbounded => 0,
+            Bound::Included(v) => self.after_below(v),
+            Bound::Excluded(v) => self.after_up_to(v),
+            Bound::Unbounded => self.spine.start(),
         }
     }
 
-    // How many elements don't stand past the end.
-    fn count_up_to(&self, end: Bound<&T>) -> usize
-        ensures { result ≡ count_by (is_up_to_end T.cmp (bound_map (λ v. v.now) end.entry)) (items self.now) }
+    // The spot up to which the elements satisfy the end.
+    fn end_of(&self, end: Bound<&T>) -> Spot
+        ensures spot { IsSpot self.now.nodes result }
+        ensures front { take (position_of self.now.nodes result) (items self.now) ≡ filter (is_up_to_end T.cmp (bound_map (λ v. v.now) end.entry)) (items self.now) }
     {
         match end {
-            Bound::Included(v) => self.count_not_above(v),
-            Bound::Excluded(v) => self.rank(v),
-            Bound::Unbounded => self.len(),
+            Bound::Included(v) => self.after_up_to(v),
+            Bound::Excluded(v) => self.after_below(v),
+            Bound::Unbounded => self.spine.end(),
         }
     }
 
-    // How many elements are below the value or equal to it.
-    fn count_not_above(&self, value: &T) -> usize
-        ensures { result ≡ count_by (λ x. is_le (T.cmp x value.now)) (items self.now) }
+    // The spot after the elements that are below the value.
+    fn after_below(&self, value: &T) -> Spot
+        ensures spot { IsSpot self.now.nodes result }
+        ensures front { take (position_of self.now.nodes result) (items self.now) ≡ below T.cmp (items self.now) value.now }
+        ensures rest { drop (position_of self.now.nodes result) (items self.now) ≡ filter (λ x. is_ge (T.cmp x value.now)) (items self.now) }
     {
-        // The length fits, and so does one more than a position.
+        locate(&self.spine, value)
+    }
+
+    // The spot after the elements that are not above the value.
+    fn after_up_to(&self, value: &T) -> Spot
+        ensures spot { IsSpot self.now.nodes result }
+        ensures front { take (position_of self.now.nodes result) (items self.now) ≡ up_to T.cmp (items self.now) value.now }
+        ensures rest { drop (position_of self.now.nodes result) (items self.now) ≡ above T.cmp (items self.now) value.now }
+    {
+        // The length fits, and so does one more than an offset.
         let _len = self.len();
-        let spot = locate(&self.spine, value);
-        let below = self.spine.position(&spot);
-        if spot.found { below + 1 } else { below }
+        let mut spot = locate(&self.spine, value);
+        if spot.found {
+            spot.offset += 1;
+        }
+        spot
     }
 }
 

@@ -30,15 +30,17 @@ fn retain_nodes<T: Drop, F: FnMut(&mut T) -> bool>(nodes: &mut Vec<Vec<T>>, mut 
     ensures { RetainsNodes (CalledAtMut F.FnMut) f (vec_items nodes.old.items) (vec_items nodes.new.items) }
 {
     let alloc = *nodes.allocator();
-    nodes.retain_mut(move |node|
-        requires { F.IsAlwaysCallable f }
-        ensures kept { RetainsTo (CalledAtMut F.FnMut) f.entry node.old.items node.new.items f.exit }
-        ensures callable { F.IsAlwaysCallable f.exit }
-        ensures some { result ≡ not (length node.new.items == 0) }
-    {
-        retain_node(node, &mut f);
-        !node.is_empty()
-    });
+    nodes.retain_mut(
+        move |node|
+            requires { F.IsAlwaysCallable f }
+            ensures kept { RetainsTo (CalledAtMut F.FnMut) f.entry node.old.items node.new.items f.exit }
+            ensures callable { F.IsAlwaysCallable f.exit }
+            ensures some { result ≡ not (length node.new.items == 0) }
+        {
+            retain_node(node, &mut f);
+            !node.is_empty()
+        },
+    );
     if nodes.is_empty() {
         nodes.push_reserved(Vec::new(alloc));
     }

@@ -63,10 +63,28 @@ fn walks_a_part(rt: HostRuntime) -> Result<(), Fail> {
 }
 
 #[test]
+fn walks_a_lent_spine(rt: HostRuntime) -> Result<(), Fail> {
+    let spine = ascending(rt.alloc())?;
+    let mut walk = (&spine).into_iter();
+    assert_eq!(rt; walk.size_hint(), (7, Some(7)));
+    assert_eq!(rt; (walk.next(), walk.next_back()), (Some(&1), Some(&7)));
+    let mut sum = 0u64;
+    for item in &spine {
+        sum = sum.wrapping_add(*item);
+    }
+    assert_eq!(rt; sum, 28);
+    Ok(())
+}
+
+#[test]
 fn walks_and_owns(rt: HostRuntime) -> Result<(), Fail> {
     let mut walk = ascending(rt.alloc())?.into_iter();
+    assert_eq!(rt; walk.size_hint(), (7, Some(7)));
     assert_eq!(rt; (walk.next(), walk.next_back()), (Some(1), Some(7)));
     assert_eq!(rt; (walk.next_back(), walk.next()), (Some(6), Some(2)));
+    assert_eq!(rt; walk.len(), 3);
+    assert_eq!(rt; (walk.next(), walk.next(), walk.next()), (Some(3), Some(4), Some(5)));
+    assert_eq!(rt; (walk.next(), walk.len()), (None, 0));
     Ok(())
 }
 

@@ -50,7 +50,7 @@ pub fn a_union_has_the_elements_of_either<T>()
     ensures from_either { (cmp : T → T → Ordering) (l r : List T) → IsTotalOrder cmp → IsAscending cmp l → (x : T) → Contains (union cmp l r) x → Contains l x ⊎ (Contains r x × (has_equal cmp l x ≡ false)) }
 {}
 
-/// An intersection ascends, and has an equal one of what both vec_items have.
+/// An intersection ascends, and has an equal one of what both lists have.
 pub fn an_intersection_has_what_both_have<T>()
     ensures ascending { (cmp : T → T → Ordering) (l r : List T) → IsAscending cmp l → IsAscending cmp (intersection cmp l r) }
     ensures members { (cmp : T → T → Ordering) (l r : List T) → IsTotalOrder cmp → (x : T) → has_equal cmp (intersection cmp l r) x ≡ (has_equal cmp l x && has_equal cmp r x) }
@@ -68,7 +68,7 @@ pub fn a_symmetric_difference_has_what_either_has_alone<T>()
     ensures members { (cmp : T → T → Ordering) (l r : List T) → IsTotalOrder cmp → IsAscending cmp l → (x : T) → has_equal cmp (symmetric_difference cmp l r) x ≡ ((has_equal cmp l x && not (has_equal cmp r x)) || (has_equal cmp r x && not (has_equal cmp l x))) }
 {}
 
-/// A union is as long as both vec_items, less what they have in common.
+/// A union is as long as both lists, less what they have in common.
 pub fn lengths_of_union_and_intersection<T>()
     ensures { (cmp : T → T → Ordering) (l r : List T) → IsTotalOrder cmp → IsAscending cmp l → IsAscending cmp r → length (union cmp l r) + length (intersection cmp l r) ≡ length l + length r }
 {}

@@ -1,6 +1,4 @@
-use Rattle.std.proofs.Common.{◌≡◌, ◌≤◌, ◌+◌, insert, length, map, arith, ap, refl, ◌∙◌}
-use Rattle.indexset_core.specs.Nodes.{joined}
-use Rattle.indexset_log.specs.Attach.{attach_index, attached}
+use Rattle.std.proofs.Common.{◌≡◌, map, arith, ap, refl, ◌∙◌}
 use Rattle.indexset_log.proofs.Attaches.{attached_lawful, attached_count, attach_index_le, map_insert}
 use Rattle.indexset_log.proofs.Trees.{tree_is}
 use Rattle.indexset_log.proofs.Views.{length_view, lawful_ascends}

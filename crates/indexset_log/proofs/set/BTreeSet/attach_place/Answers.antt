@@ -1,4 +1,4 @@
-use Rattle.std.proofs.Common.{◌≡◌, ◌≤◌, ◌<◌, ◌-◌, ◌∙◌, Bool, true, false, not, length, map, get_or, slice_get, Some, None, arith, ap, sym, refl}
+use Rattle.std.proofs.Common.{◌≡◌, ◌≤◌, ◌-◌, ◌∙◌, true, false, length, map, get_or, slice_get, Some, None, arith, ap, sym}
 use Rattle.std.specs.List.{position_or_len}
 use Rattle.std.specs.Option.{unwrap_or}
 use Rattle.std.specs.Ordering.{is_lt}
@@ -6,7 +6,7 @@ use Rattle.std.proofs.lemmas.List.{get_or_default}
 use Rattle.indexset_core.specs.Nodes.{node_at}
 use Rattle.indexset_core.specs.declared.refusal.Refusal.TheVariants.{Memory}
 use Rattle.indexset_core.proofs.CallerLemmas.{read_item}
-use Rattle.indexset_log.specs.Attach.{lies_apart, attach_refusal}
+use Rattle.indexset_log.specs.Attach.{lies_apart}
 use Rattle.indexset_log.specs.Nodes.{is_ascending, is_filled}
 use Rattle.indexset_log.specs.Replay.{reaches}
 use Rattle.indexset_log.proofs.Attaches.{Attaches, attaches_node, refused_empty, refused_large, refused_unsorted, refused_overlap, not_refused, filled_first, position_le}

@@ -1,4 +1,4 @@
-use Rattle.std.proofs.Common.{◌≡◌, ◌≤◌, ◌+◌, cond, if◌then◌else◌, map, set, arith, ap, refl, ◌∙◌}
+use Rattle.std.proofs.Common.{◌≡◌, ◌+◌, cond, if◌then◌else◌, map, set, arith, ap, refl, ◌∙◌}
 use Rattle.indexset_core.specs.Nodes.{node_at}
 use Rattle.indexset_log.specs.Edits.{with_halved, with_room, put_into_target}
 use Rattle.indexset_log.specs.Table.{part_for}

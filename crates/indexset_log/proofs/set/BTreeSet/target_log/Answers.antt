@@ -1,5 +1,5 @@
 use Rattle.std.proofs.Common.{◌≡◌, ◌≤◌, ◌-◌, ◌+◌, true, false, length, eqb, map, arith, ap, sym, ◌∙◌, slice_get, Some}
-use Rattle.indexset_core.specs.Nodes.{node_at, IsLawful}
+use Rattle.indexset_core.specs.Nodes.{node_at}
 use Rattle.indexset_core.proofs.CallerLemmas.{read_item}
 use Rattle.indexset_log.specs.Replay.{numbered_from}
 use Rattle.indexset_log.specs.Table.{halving_events, part_for}

@@ -1,11 +1,16 @@
-use Rattle.std.proofs.Common.{slice_get, sym, ap, ◌∙◌}
-use Rattle.indexset_map.specs.Contents.{Contents}
-use Rattle.indexset_core.proofs.CallerLemmas.{key_pair, key_no_pair}
+use Rattle.std.proofs.Common.{◌≡◌, ℕ, ap, subst}
+use Rattle.std.specs.Option.{option_copied}
+use Rattle.indexset_spine.specs.Cut.{items}
+use Rattle.indexset_core.specs.Pairs.{pair_of}
+use Rattle.indexset_core.proofs.CallerLemmas.{parted_by_key}
+use Rattle.indexset_set.proofs.CallerLemmas.{in_order}
 use Rattle.indexset_map.proofs.map.BTreeMap.pair.Goals as goal
 
-pub returns-in-Ok : goal.returns-in-Ok
-returns-in-Ok g c =
-    c.get_index.ensures ∙ (ap (λ (m : Contents g.row.K.Denot g.row.V.Denot). slice_get m.pairs c.in-Ok.i) c.self.view_is ∙ sym (key_pair g.K.Ord.cmp _ _ c.in-Ok.i (c.in-Ok.ensures {u = tt}).found))
+pub get_by-requires : goal.get_by-requires
+get_by-requires g c =
+    let l = items c.self.inside.set in
+    in_order (λ p. g.K.Ord.cmp p.key c.new.result.0) l (parted_by_key g.K.Ord.cmp g.met.K.Ord.total l c.len-len.ensures.ascending c.new.result.0)
 
-pub returns-in-Err : goal.returns-in-Err
-returns-in-Err g c = sym (key_no_pair g.K.Ord.cmp _ _ (c.in-Err.ensures {u = tt}).absent)
+pub returns : goal.returns
+returns g c =
+    rw (← c.self.view_is) (subst (λ k. option_copied c.get_by.result ≡ pair_of g.K.Ord.cmp (items c.self.inside.set) k) (ap (λ (t : g.row.K.Denot × ℕ). t.0) c.new.ensures) c.get_by.ensures.value)

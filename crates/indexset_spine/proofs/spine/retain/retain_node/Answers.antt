@@ -1,4 +1,4 @@
-use Rattle.std.proofs.Common.{◌≡◌, ◌+◌, ◌-◌, ◌<◌, length, arith, of_calls}
+use Rattle.std.proofs.Common.{◌≡◌, ◌+◌, ◌-◌, ◌<◌, length, get_or, arith, of_calls}
 use Rattle.std.specs.Fn.{CalledAtMut}
 use Rattle.std.proofs.lemmas.List.{get_or_default, with_items_is}
 use Rattle.std.proofs.RetainMut.{Called-Mut}
@@ -13,7 +13,8 @@ loop-i-preserved g c =
     let R = CalledAtMut g.F.FnMut in
     let called = Called-Mut g.F.FnMut c.f.ensures in
     let inside : at.i < length at.items = omega arith in
-    let read = get_or_default at.items at.i c.index-items-i.result _ inside in
+    let x = get_or at.items at.i c.index-items-i.result in
+    let read = get_or_default at.items at.i c.index-items-i.result x inside in
     let more : at.i + 1 - at.gone ≡ k + 1 = omega arith in
     elim c.if-not-f.branch [
       | then-not-f w ↦ record {
@@ -21,17 +22,17 @@ loop-i-preserved g c =
         callable = search of_calls;
         sifted =
             let same : at.i + 1 - (at.gone + 1) ≡ k = omega arith in
-            rw (w.items-is, w.gone-is, same) (sifted_out R _ _ at.f _ at.items k at.i _ _ (omega arith) inside read at.invariant.sifted (rw w.if-not-f.true at called));
+            rw (w.items-is, w.gone-is, same) (sifted_out R _ _ at.f _ at.items k at.i x _ (omega arith) inside read at.invariant.sifted (rw w.if-not-f.true at called));
       }
       | else-not-f+then-gone-gt0 w ↦ record {
         within = omega (arith, w.gone-is);
         callable = search of_calls;
-        sifted = rw (w.items-is, w.gone-is, w.swap.ensures.after, more) (sifted_moves R _ _ at.f _ at.items k at.i _ _ (omega arith) inside read at.invariant.sifted (omega (arith, w.if-gone-gt0.true)) (rw w.if-not-f.false at called));
+        sifted = rw (w.items-is, w.gone-is, w.swap.ensures.after, more) (sifted_moves R _ _ at.f _ at.items k at.i x _ (omega arith) inside read at.invariant.sifted (omega (arith, w.if-gone-gt0.true)) (rw w.if-not-f.false at called));
       }
       | else-not-f+else-gone-gt0 w ↦ record {
         within = omega (arith, w.gone-is);
         callable = search of_calls;
-        sifted = rw (w.items-is, w.gone-is, more) (sifted_stays R _ _ at.f _ at.items k at.i _ _ (omega arith) inside read at.invariant.sifted (omega (arith, w.if-gone-gt0.false)) (rw w.if-not-f.false at called));
+        sifted = rw (w.items-is, w.gone-is, more) (sifted_stays R _ _ at.f _ at.items k at.i x _ (omega arith) inside read at.invariant.sifted (omega (arith, w.if-gone-gt0.false)) (rw w.if-not-f.false at called));
       }
     ]
 

@@ -1,4 +1,4 @@
-use Rattle.std.proofs.Common.{◌≡◌, None, Option, Some, Result, Ok, Err, IfErr, IfOk, IfSome, OnErr, rules, ap, refl, sym, subst, ◌∙◌}
+use Rattle.std.proofs.Common.{◌≡◌, None, Option, Some, Result, Ok, Err, IfErr, IfOk, IfSome, OnErr, rules, ap, sym, subst, ◌∙◌}
 use Rattle.std.specs.Borrow.{MutBor}
 use Rattle.std.specs.Fn.{FnOnceReturnsAt}
 use Rattle.std.specs.Option.{UnwrapsOrElse}

@@ -1,0 +1,58 @@
+-- What fits a replica.
+use Rattle.std.specs.Prelude.{◌≡◌, Option, Some, None, ℕ, ◌-◌, Bool, true, ◌==◌, ◌&&◌, ◌||◌, not, if◌then◌else◌, nat_lt, nat_le, List, length, get_or, insert, slice_get, unwrap_or}
+use Rattle.std.below.core.specs.declared.int.u64.TheConstants.{MAX}
+use Rattle.std.specs.List.{position_or_len}
+use Rattle.std.specs.Option.{option_map_or}
+use Rattle.std.specs.Ordering.{is_lt, is_eq}
+use Rattle.std.specs.declared.cmp.Ordering.{Ordering}
+use Rattle.indexset_core.specs.Nodes.{joined, node_at}
+use Rattle.indexset_core.specs.declared.refusal.Refusal.{Refusal}
+use Rattle.indexset_core.specs.declared.refusal.Refusal.TheVariants.{Memory, Numbers, Empty, Unsorted, Overlaps, Gap, NoSuchNode, IndexOutside, ValueDiffers, WouldBeEmpty, OutOfOrder, BadSplit}
+use Rattle.indexset_log.specs.Nodes.{is_filled, is_ascending}
+use Rattle.indexset_log.specs.Replay.{edit, event_number, node_named, reaches, unassigned}
+use Rattle.indexset_log.specs.declared.change.ChangeEvent.{ChangeEvent}
+use Rattle.indexset_log.specs.declared.change.ChangeEventUnassigned.{ChangeEventUnassigned}
+use Rattle.indexset_log.specs.declared.change.ChangeEventUnassigned.TheVariants.{InsertAt, RemoveAt, CreateNode, RemoveNode, SplitNode}
+
+-- the first item and the last
+abbrev pub first_item : {T : Type 0} → List T → Option T
+first_item l = slice_get l 0
+
+abbrev pub last_item : {T : Type 0} → List T → Option T
+last_item l = slice_get l (length l - 1)
+
+-- what a replica holds: its nodes, and the number of the next event
+pub record ReplicaState (T : Type 0) : Type 0 where
+  pub nodes : List (List T)
+  pub next : ℕ
+
+module _ {T : Type 0} (cmp : T → T → Ordering) where
+  -- the nodes that an edit leads to would not be ascending as a whole
+  abbrev pub disorder : Option (List (List T)) → Option Refusal
+  disorder edited = option_map_or (λ ns. if is_ascending cmp (joined ns) then None else Some OutOfOrder) edited None
+
+  -- what speaks against an edit of the node named m, where f tells it of that node
+  abbrev pub in_named : List (List T) → T → (List T → Option Refusal) → Option Refusal
+  in_named ns m f = option_map_or (λ p. f (node_at ns p)) (node_named cmp ns m) (Some NoSuchNode)
+
+  -- the first of the reasons why an event does not fit the nodes, where there is one
+  unfoldable pub misfit : List (List T) → ChangeEventUnassigned T → Option Refusal
+  misfit ns (CreateNode m) = disorder (edit cmp ns (CreateNode m))
+  misfit ns (RemoveNode m) = in_named ns m (λ n. None)
+  misfit ns (InsertAt m v i) = in_named ns m (λ n. if nat_lt (length n) i then Some IndexOutside else disorder (edit cmp ns (InsertAt m v i)))
+  misfit ns (RemoveAt m v i) =
+      in_named ns m (λ n. if nat_le (length n) i then Some IndexOutside else if not (is_eq (cmp (get_or n i v) v)) then Some ValueDiffers else if length n == 1 then Some WouldBeEmpty else None)
+  misfit ns (SplitNode m k) = in_named ns m (λ n. if k == 0 || nat_le (length n) k then Some BadSplit else None)
+
+  -- why a replica of these nodes that waits for the event of this number refuses an event, memory aside
+  unfoldable pub apply_refusal : List (List T) → ℕ → ChangeEvent T → Option Refusal
+  apply_refusal ns next e = if not (event_number e == next) then Some Gap else if next == MAX then Some Numbers else misfit ns (unassigned e)
+
+  -- the value is above the item before it and below the item after it, where there are such
+  abbrev pub is_between : Option T → T → Option T → Bool
+  is_between before v after = option_map_or (λ x. is_lt (cmp x v)) before true && option_map_or (λ x. is_lt (cmp v x)) after true
+
+-- the event fits the nodes, and changes them so
+pub record IsEdit {T : Type 0} (cmp : T → T → Ordering) (ns : List (List T)) (e : ChangeEventUnassigned T) (after : List (List T)) : Type 0 where
+  pub fits : misfit cmp ns e ≡ None
+  pub edited : edit cmp ns e ≡ Some after

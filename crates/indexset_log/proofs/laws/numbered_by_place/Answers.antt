@@ -1,0 +1,8 @@
+use Rattle.indexset_log.proofs.Theorem.{numbered_is, numbers_off}
+use Rattle.indexset_log.proofs.laws.numbered_by_place.Goals as goal
+
+pub returns-clause-numbers : goal.returns-clause-numbers
+returns-clause-numbers g c = numbered_is
+
+pub returns-clause-same : goal.returns-clause-same
+returns-clause-same g c = numbers_off

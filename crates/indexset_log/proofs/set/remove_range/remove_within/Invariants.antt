@@ -1,0 +1,17 @@
+-- The nodes so far have lost their items within the bounds.
+use Rattle.std.proofs.Common.{◌≡◌, ◌++◌, length, map, take, drop}
+use Rattle.std.specs.Range.Bound.{bound_map}
+use Rattle.indexset_core.specs.Nodes.{joined}
+use Rattle.indexset_log.specs.Made.{outside}
+use Rattle.indexset_log.proofs.set.remove_range.remove_within.Given as goal
+
+abbrev pub invariant-loop-node : goal.invariant-loop-node
+invariant-loop-node g l =
+    let start = bound_map (λ v. v.now) l.range.0 in
+    let end = bound_map (λ v. v.now) l.range.1 in
+    let old = map (λ v. v.items) l.initial.nodes in
+    let made = map (outside g.T.Ord.cmp start end) old in
+    record {
+      nodes : map (λ v. v.items) l.nodes ≡ take l.node-index made ++ drop l.node-index old;
+      count : l.left ≡ length (joined (take l.node-index made));
+    }

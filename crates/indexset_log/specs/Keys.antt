@@ -1,0 +1,19 @@
+-- What a map's calls tell, by key.
+use Rattle.std.specs.Prelude.{List, []}
+use Rattle.std.specs.Borrow.{Bor}
+use Rattle.std.specs.Option.{option_map_or}
+use Rattle.std.specs.declared.cmp.Ordering.{Ordering}
+use Rattle.indexset_core.specs.declared.pair.Pair.{Pair}
+use Rattle.indexset_core.specs.Nodes.{joined}
+use Rattle.indexset_core.specs.Pairs.{by_key, pair, pair_of}
+use Rattle.indexset_log.specs.declared.change.ChangeEventUnassigned.{ChangeEventUnassigned}
+use Rattle.indexset_log.specs.Table.{removal_events}
+
+module _ {K V : Type 0} where
+  -- the events of the removal of the pair of the key, where there is one
+  unfoldable pub key_removal_events : (K → K → Ordering) → List (List (Pair K V)) → K → List (ChangeEventUnassigned (Pair K V))
+  key_removal_events cmp ns k = option_map_or (λ p. removal_events (by_key cmp) ns p) (pair_of cmp (joined ns) k) []
+
+  -- what a `(&K, &V)` points to
+  abbrev pub pair_shown : Bor K × Bor V → Pair K V
+  pair_shown p = pair p.0.now p.1.now

@@ -1,0 +1,47 @@
+//! Laws over the definitions that the contracts of this crate cite. Each function does nothing; its
+//! contract is the law, for all values, and so holds of the calls that cite the same definitions.
+ghost use Rattle.std.specs.Prelude.{◌≡◌, ℕ, true, List, [], ◌∷◌, ◌++◌, map, Some, None};
+ghost use Rattle.std.specs.Option.{option_and_then};
+ghost use Rattle.std.specs.Ordering.{nat_cmp};
+ghost use Rattle.indexset_core.specs.Nodes.{IsNodeList};
+ghost use Rattle.indexset_log.specs.Nodes.{are_nodes};
+ghost use Rattle.indexset_log.specs.Replay.{step, step_plain, replay, numbered_from, unassigned, IsNumberedFrom};
+ghost use Rattle.indexset_log.specs.Table.{put_events, removal_events};
+ghost use Rattle.indexset_log.specs.declared.change.ChangeEvent.{ChangeEvent};
+ghost use Rattle.indexset_log.specs.declared.change.ChangeEventUnassigned.{ChangeEventUnassigned};
+ghost use Rattle.indexset_log.specs.declared.change.ChangeEventUnassigned.TheVariants.{InsertAt, RemoveAt, CreateNode, RemoveNode, SplitNode};
+
+/// Events replayed in two parts lead where they lead in one.
+pub fn replay_in_parts<T: Ord>()
+    ensures { (ns : List (List T)) (first rest : List (ChangeEvent T)) → replay T.cmp ns (first ++ rest) ≡ option_and_then (λ middle. replay T.cmp middle rest) (replay T.cmp ns first) }
+{}
+
+/// `numbered_from s` gives the event at place i the number s + i, and changes nothing else.
+pub fn numbered_by_place<T>()
+    ensures numbers { (s : ℕ) (events : List (ChangeEventUnassigned T)) → IsNumberedFrom s (numbered_from s events) }
+    ensures same { (s : ℕ) (events : List (ChangeEventUnassigned T)) → map unassigned (numbered_from s events) ≡ events }
+{}
+
+/// The test of nodes holds just where no node is empty and the items of all ascend, and a step leads
+/// to nothing else.
+pub fn steps_lead_to_nodes<T: Ord>()
+    ensures passed { (ns : List (List T)) → are_nodes T.cmp ns ≡ true → IsNodeList T.cmp ns }
+    ensures passes { (ns : List (List T)) → IsNodeList T.cmp ns → are_nodes T.cmp ns ≡ true }
+    ensures step { (ns after : List (List T)) (event : ChangeEvent T) → step T.cmp ns event ≡ Some after → IsNodeList T.cmp after }
+{}
+
+/// The table of events, at numbers.
+pub fn events_at_numbers()
+    ensures first { put_events nat_cmp 4 [] 7 ≡ CreateNode 7 ∷ [] }
+    ensures halved_then_inserted { put_events nat_cmp 2 ((5 ∷ 6 ∷ []) ∷ []) 7 ≡ SplitNode 6 1 ∷ InsertAt 6 7 1 ∷ [] }
+    ensures halved_then_only { put_events nat_cmp 2 ((5 ∷ 6 ∷ []) ∷ []) 5 ≡ SplitNode 6 1 ∷ RemoveNode 5 ∷ CreateNode 5 ∷ [] }
+    ensures halved_then_last { put_events nat_cmp 4 ((0 ∷ 1 ∷ 2 ∷ 3 ∷ []) ∷ []) 1 ≡ SplitNode 3 2 ∷ RemoveAt 1 1 1 ∷ InsertAt 0 1 1 ∷ [] }
+    ensures inner { put_events nat_cmp 4 ((0 ∷ 1 ∷ 2 ∷ []) ∷ []) 1 ≡ RemoveAt 2 1 1 ∷ InsertAt 2 1 1 ∷ [] }
+    ensures removed { removal_events nat_cmp ((0 ∷ 1 ∷ []) ∷ (2 ∷ 3 ∷ []) ∷ []) 3 ≡ RemoveAt 3 3 1 ∷ [] }
+    ensures removed_only { removal_events nat_cmp ((7 ∷ []) ∷ []) 7 ≡ RemoveNode 7 ∷ [] }
+    ensures absent { removal_events nat_cmp ((7 ∷ []) ∷ []) 9 ≡ [] }
+    ensures split { step_plain nat_cmp ((5 ∷ 6 ∷ []) ∷ []) (SplitNode 6 1) ≡ Some ((5 ∷ []) ∷ (6 ∷ []) ∷ []) }
+    ensures replaced { step_plain nat_cmp ((0 ∷ 1 ∷ []) ∷ (2 ∷ 3 ∷ []) ∷ []) (RemoveAt 1 1 1) ≡ Some ((0 ∷ []) ∷ (2 ∷ 3 ∷ []) ∷ []) }
+    ensures out_of_order { step_plain nat_cmp ((0 ∷ 1 ∷ []) ∷ []) (InsertAt 1 9 0) ≡ None }
+    ensures no_such_node { step_plain nat_cmp ((0 ∷ 1 ∷ []) ∷ []) (RemoveAt 5 1 1) ≡ None }
+{}

@@ -1,0 +1,42 @@
+//! Sets made of items.
+ghost use Rattle.std.specs.Prelude.{◌≡◌, ◌⊎◌, [], IfOk, IfErr, fold};
+ghost use Rattle.std.specs.Iterator.{IsFiniteIterable};
+ghost use Rattle.std.specs.Iterator.Runs.{WholeRun};
+ghost use Rattle.indexset_core.specs.Nodes.{joined};
+ghost use Rattle.indexset_core.specs.Order.{keep};
+ghost use Rattle.indexset_log.specs.Made.{inserted};
+ghost use Rattle.indexset_log.specs.Tree.{fresh};
+
+use super::BTreeSet;
+use indexset_core::constants::DEFAULT_INNER_SIZE;
+use indexset_core::refusal::Refusal;
+use std::alloc::Global;
+
+impl<T: Ord + Clone + Drop> BTreeSet<T, Vec<T>> {
+    /// The tree of what an iterator gives, each item put in by `insert`: of equal ones the first
+    /// stays. Refused for want of memory or of numbers, and then all are let go.
+    pub fn from_iter<I: IntoIterator<Item = T>>(alloc: Global, iter: I) -> Result<Self, Refusal>
+        requires { IsFiniteIterable I.into_iter_gives I.IntoIter.can_next I.IntoIter.remaining iter }
+        ensures contents { IfOk result (λ s. (it : I.IntoIter) × I.into_iter_gives iter it
+            × WholeRun I.IntoIter.next_gives it (λ run. joined s.nodes ≡ fold (keep T.cmp) [] run.items)) }
+        ensures tree { IfOk result (λ s. (it : I.IntoIter) × I.into_iter_gives iter it
+            × WholeRun I.IntoIter.next_gives it (λ run. s ≡ fold (inserted T.cmp) (fresh DEFAULT_INNER_SIZE) run.items)) }
+        ensures refusal { IfErr result (λ e. (e ≡ Refusal.Memory) ⊎ (e ≡ Refusal.Numbers)) }
+    {
+        let rest = iter.into_iter();
+        let mut set = Self::new(alloc);
+        for value in rest {
+            set.insert(value).map_err(|refused| refused.cause)?;
+        }
+        Ok(set)
+    }
+
+    /// The tree of the values, as `from_iter` makes it.
+    pub fn from(alloc: Global, values: Vec<T>) -> Result<Self, Refusal>
+        ensures contents { IfOk result (λ s. joined s.nodes ≡ fold (keep T.cmp) [] values.items) }
+        ensures tree { IfOk result (λ s. s ≡ fold (inserted T.cmp) (fresh DEFAULT_INNER_SIZE) values.items) }
+        ensures refusal { IfErr result (λ e. (e ≡ Refusal.Memory) ⊎ (e ≡ Refusal.Numbers)) }
+    {
+        Self::from_iter(alloc, values)
+    }
+}

@@ -1,0 +1,55 @@
+//! Ranges taken out.
+ghost use Rattle.std.specs.Prelude.{◌≡◌, ◌^◌, ◌<◌, ℕ, length, map};
+ghost use Rattle.std.specs.Range.Bound.{bound_map};
+ghost use Rattle.indexset_core.specs.Bounds.{is_within};
+ghost use Rattle.indexset_core.specs.Nodes.{joined};
+ghost use Rattle.indexset_log.specs.Made.{outside, without_range};
+
+use super::BTreeSet;
+use std::ops::Bound;
+
+impl<T: Ord + Clone + Drop> BTreeSet<T, Vec<T>> {
+    /// Takes out the items that satisfy both bounds. Each node loses just its own, and one that is left
+    /// empty goes. No event is given, no number is used up and no memory is taken. Bounds that are the
+    /// wrong way round hold nothing. (The Rust crate panics there.)
+    pub fn remove_range(&mut self, range: (Bound<&T>, Bound<&T>))
+        ensures nodes { self.new.nodes ≡ without_range T.cmp self.old.nodes (bound_map (λ v. v.now) range.entry.0) (bound_map (λ v. v.now) range.entry.1) }
+        ensures contents { joined self.new.nodes ≡ outside T.cmp (bound_map (λ v. v.now) range.entry.0) (bound_map (λ v. v.now) range.entry.1) (joined self.old.nodes) }
+        ensures size { self.new.size ≡ self.old.size }
+        ensures next { self.new.next ≡ self.old.next }
+    {
+        self.len = remove_within(self.nodes.as_mut_slice(), range);
+        self.nodes.retain(|node| !node.is_empty());
+    }
+}
+
+// Takes the items that satisfy both bounds out of each node, and answers how many are left.
+fn remove_within<T: Ord + Drop>(nodes: &mut [Vec<T>], range: (Bound<&T>, Bound<&T>)) -> usize
+    requires { length (joined (map (λ v. v.items) nodes.old)) < 2 ^ 64 }
+    ensures nodes { map (λ v. v.items) nodes.new ≡ map (outside T.cmp (bound_map (λ v. v.now) range.entry.0) (bound_map (λ v. v.now) range.entry.1)) (map (λ v. v.items) nodes.old) }
+    ensures count { result ≡ length (joined (map (λ v. v.items) nodes.new)) }
+{
+    let mut left = 0;
+    for node in nodes.iter_mut() {
+        node.retain(|item| !is_within(item, range));
+        left += node.len();
+    }
+    left
+}
+
+// Whether an item satisfies both bounds.
+fn is_within<T: Ord>(item: &T, range: (Bound<&T>, Bound<&T>)) -> bool
+    ensures { result ≡ is_within T.cmp (bound_map (λ v. v.now) range.entry.0) (bound_map (λ v. v.now) range.entry.1) item.now }
+{
+    let is_from_start = match range.0 {
+        Bound::Included(start) => item.cmp(start).is_ge(),
+        Bound::Excluded(start) => item.cmp(start).is_gt(),
+        Bound::Unbounded => true,
+    };
+    let is_up_to_end = match range.1 {
+        Bound::Included(end) => item.cmp(end).is_le(),
+        Bound::Excluded(end) => item.cmp(end).is_lt(),
+        Bound::Unbounded => true,
+    };
+    is_from_start && is_up_to_end
+}

@@ -1,0 +1,75 @@
+//! Searches of a list cut into nodes.
+ghost use Rattle.std.specs.Prelude.{◌≡◌, ◌≤◌, IfOk};
+ghost use Rattle.std.specs.Ordering.{nat_cmp};
+ghost use Rattle.indexset_core.specs.Order.{IsAscending};
+ghost use Rattle.indexset_spine.specs.Cut.{items};
+
+use crate::node::node_of;
+use indexset_core::probe::{ByItem, Counting};
+use indexset_core::search;
+use indexset_spine::spine::Spine;
+use indexset_spine::spot::Spot;
+use std::alloc::Global;
+use std::test::Fail;
+
+/// A spine of these values, each put behind the last.
+fn spine_of(alloc: Global, size: usize, values: &[u64]) -> Result<Spine<u64>, Fail>
+    requires { 2 ≤ size }
+    ensures { IfOk result (λ spine. items spine ≡ values.now) }
+{
+    let mut spine = Spine::new(alloc, size)?;
+    for value in values {
+        let end = spine.spot_after(spine.len());
+        spine.insert(end, *value).map_err(|refused| refused.cause)?;
+    }
+    Ok(spine)
+}
+
+/// Where a search finds the value, and how many questions it asks.
+fn questions(spine: &Spine<u64>, value: u64) -> (Spot, u64)
+    requires { IsAscending nat_cmp (items spine.now) }
+{
+    let mut probe = Counting::new(ByItem::new(&value));
+    let spot = spine.locate_by(&mut probe);
+    (spot, probe.asked())
+}
+
+#[test]
+fn a_spot_by_few_questions(rt: HostRuntime) -> Result<(), Fail> {
+    let node = node_of(rt.alloc(), &[2, 4, 6, 8, 10])?;
+    let spine = spine_of(rt.alloc(), 2, node.as_slice())?;
+    // Nodes [2] [4] [6] [8, 10]: 3 + 2 + 1 questions at most.
+    assert_eq!(rt; spine.node_count(), 4);
+    let table = [
+        (1, (0, 0, false)),
+        (2, (0, 0, true)),
+        (6, (2, 0, true)),
+        (7, (3, 0, false)),
+        (10, (3, 1, true)),
+        (11, (3, 2, false)),
+    ];
+    for (value, (node, offset, found)) in table {
+        let (spot, asked) = questions(&spine, value);
+        let expected = Spot {
+            node,
+            offset,
+            found,
+        };
+        assert_eq!(rt; spot, expected, "of {value}");
+        assert!(rt; asked <= 6, "of {value}");
+    }
+    Ok(())
+}
+
+#[test]
+fn an_index_in_a_slice(rt: HostRuntime) -> Result<(), Fail> {
+    let node = node_of(rt.alloc(), &[2, 4, 6])?;
+    assert_eq!(rt; search::find(node.as_slice(), &4), Ok(1));
+    assert_eq!(rt; search::find(node.as_slice(), &5), Err(2));
+    assert_eq!(rt; search::find(node.as_slice(), &7), Err(3));
+    let mut probe = Counting::new(ByItem::new(&6));
+    assert!(rt; search::is_equal_at(node.as_slice(), 2, &mut probe));
+    assert!(rt; !search::is_equal_at(node.as_slice(), 3, &mut probe));
+    assert_eq!(rt; probe.asked(), 1);
+    Ok(())
+}

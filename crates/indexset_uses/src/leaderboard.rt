@@ -1,0 +1,31 @@
+//! A leaderboard: scores with their ranks.
+ghost use Rattle.std.specs.Prelude.{◌≡◌, ◌+◌, ◌-◌, true, length, slice_get, IfOk};
+ghost use Rattle.std.specs.Option.{option_copied};
+ghost use Rattle.std.specs.Ordering.{nat_cmp};
+ghost use Rattle.indexset_core.specs.Order.{rank};
+ghost use Rattle.indexset_spine.specs.Cut.{items};
+
+use indexset::base::refusal::Refusal;
+use indexset::BTreeSet;
+
+/// Enters a score, and tells whether it is on the board, as it then always is.
+pub fn enter(board: &mut BTreeSet<u64>, score: u64) -> Result<bool, Refusal>
+    ensures { IfOk result (λ on_board. on_board ≡ true) }
+{
+    board.insert(score)?;
+    Ok(board.contains(&score))
+}
+
+/// The best score.
+pub fn best(board: &BTreeSet<u64>) -> Option<u64>
+    ensures { result ≡ slice_get (items board.now) (length (items board.now) - 1) }
+{
+    board.last().copied()
+}
+
+/// How many scores are not below this one.
+pub fn scores_from(board: &BTreeSet<u64>, score: u64) -> usize
+    ensures { result + rank nat_cmp (items board.now) score ≡ length (items board.now) }
+{
+    board.len() - board.rank(&score)
+}

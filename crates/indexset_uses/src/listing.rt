@@ -1,0 +1,31 @@
+//! A paged listing: the elements page by page.
+ghost use Rattle.std.specs.Prelude.{◌≡◌, ◌<◌, ◌^◌, ◌+◌, ◌*◌, IfOk};
+ghost use Rattle.std.specs.declared.ops.Bound.TheVariants.{Included, Excluded};
+ghost use Rattle.indexset_core.specs.Bounds.{in_positions};
+ghost use Rattle.indexset_spine.specs.Cut.{items};
+
+use indexset::BTreeSet;
+use std::alloc::{AllocError, Global};
+use std::ops::Bound;
+
+/// The elements from a position on, a page of at most `size`.
+pub fn page(
+    alloc: Global,
+    set: &BTreeSet<u64>,
+    from: usize,
+    size: usize,
+) -> Result<Vec<u64>, AllocError>
+    requires { from + size < 2 ^ 64 }
+    ensures { IfOk result (λ page. page.items
+        ≡ in_positions (items set.now) (Included from) (Excluded (from + size))) }
+{
+    let bounds = (Bound::Included(from), Bound::Excluded(from + size));
+    set.range_idx(bounds).copied().collect(alloc)
+}
+
+/// How many pages there are.
+pub fn page_count(set: &BTreeSet<u64>, size: usize) -> usize
+    requires { 0 < size }
+{
+    set.len().div_ceil(size)
+}
