@@ -1,5 +1,6 @@
 pub mod CallerLemmas
 pub mod CompareLemmas
+pub mod LentPairs
 pub mod MergeLemmas
 pub mod SetAlgebraLaws
 pub mod SetAlgebraLemmas
