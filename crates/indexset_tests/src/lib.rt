@@ -3,8 +3,6 @@
 #![tactic(auto)]
 
 #[cfg(test)]
-mod logged_map;
-#[cfg(test)]
 mod logged_walks;
 #[cfg(test)]
 mod map;
