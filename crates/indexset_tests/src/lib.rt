@@ -9,8 +9,6 @@ mod counted;
 #[cfg(test)]
 mod logged;
 #[cfg(test)]
-mod logged_map;
-#[cfg(test)]
 mod logged_walks;
 #[cfg(test)]
 mod map;

@@ -64,11 +64,7 @@ fn both_ends_by_turns(rt: HostRuntime) -> Result<(), Fail> {
 }
 
 // Whether the keys from the first to the last, both included, are those in the range, both ways.
-fn holds_all_between<Node: NodeLike<u64>>(
-    set: &BTreeSet<u64, Node>,
-    first: u64,
-    last: u64,
-) -> bool
+fn holds_all_between<Node: NodeLike<u64>>(set: &BTreeSet<u64, Node>, first: u64, last: u64) -> bool
     requires { first ≤ last }
 {
     let range = (Included(&first), Included(&last));
@@ -124,10 +120,26 @@ fn nodes_of_four<Node: NodeLike<u64>>(rt: &impl Abort, alloc: Global) -> Result<
     let set: BTreeSet<u64, Node> = ascending(alloc, 4, 0, 10)?;
     let mut nodes = set.iter_nodes();
     assert_eq!(rt; nodes.len(), 4);
-    assert!(rt; nodes.next().is_some_and(|node| node.iter().copied().eq([0, 1])));
-    assert!(rt; nodes.next().is_some_and(|node| node.iter().copied().eq([2, 3])));
-    assert!(rt; nodes.next_back().is_some_and(|node| node.iter().copied().eq([6, 7, 8, 9])));
-    assert!(rt; nodes.next().is_some_and(|node| node.iter().copied().eq([4, 5])));
+    assert!(rt;
+        nodes
+            .next()
+            .is_some_and(|node| node.iter().copied().eq([0, 1]))
+    );
+    assert!(rt;
+        nodes
+            .next()
+            .is_some_and(|node| node.iter().copied().eq([2, 3]))
+    );
+    assert!(rt;
+        nodes
+            .next_back()
+            .is_some_and(|node| node.iter().copied().eq([6, 7, 8, 9]))
+    );
+    assert!(rt;
+        nodes
+            .next()
+            .is_some_and(|node| node.iter().copied().eq([4, 5]))
+    );
     assert!(rt; nodes.next().is_none());
     assert!(rt; set.capacity() >= 10);
     let below = set.range_between((0, 0), place_of(&set, &7));
