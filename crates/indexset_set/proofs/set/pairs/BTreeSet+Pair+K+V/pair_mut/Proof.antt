@@ -1,34 +1,15 @@
 -- The next pair is lent as an `Option`, which the borrow checker does not cover. First `ready` is asked, of the walk lent again for a lifetime within the old one; then `next_pair` lends the pair as it is.
-use Rattle.std.proofs.Common.{◌≡◌, ℕ, ◌<◌, Bool, true, false, T, not, [], ◌∷◌, ◌++◌, length, Option, Some, None, slice_get, refl, sym, ap, ◌∙◌, lit<, nat_lt, ◌≤◌, w64, arith, if◌then◌else◌}
-use Rattle.std.proofs.raw_atomic.Walks.{proved, leaves}
-use Rattle.std.proofs.VecSteps.Element.{Some-of, none_of}
-use Rattle.std.specs.Option.{option_map}
-use mir.Syntax.{a_type, named, dcons, dnil}
-use mir.Val.{Val, vptr, vint, vstruct, vcons, vnil, of_list, vbool}
-use mir.MapTy.{inst_fn}
-use base.Logic.{SProp, emp, id⊢, sep, wand, apply∗}
-use base.Fml.{ftrue, flft, fdead, fres, Lft, GName}
-use types.Kit.{Item, ‵, raw, ◌⊛◌, some, later, at_ret, ◌$◌, ◌∵◌, !, qed, by, move, keep, drop, split, split3, join, fsplit, fsplit3, fjoin, pick, use0, use1, use2, use3, feq_l, await, rewrite}
-use types.Run.{stop, addr, lit, of_opd, no_more, and_then, first, branches, skips, exec, returns, returns_within, enter}
-use types.ByLocal.{alloc_all, pass_all, free_all, look_at, get, through, sets, lands_as, env}
-use types.Part.{agg}
-use types.Match.{live}
-use contract.Running.{tables}
-use contract.Monad.{fact, fact_i}
-use contract.BorrowLft.{◌⊑◌}
-use denote.Exit.{yes, no}
-use denote.Lend.{LentAgain, lends_again, comes_back}
-use types.Tokens.{lft_new, lft_end, lft-common}
-use base.FractionLaws.{common}
 use Rattle.indexset_set.proofs.LentPairs.{proved, leaves, Some-of, none_of, a_type, named, dcons, dnil, Val, vptr, vstruct, vcons, vnil, of_list, inst_fn, SProp, emp, id⊢, sep, wand, apply∗, ftrue, flft, fdead, fres, Lft, GName, Item, ‵, raw, ◌⊛◌, some, later, at_ret, ◌$◌, ◌∵◌, !, qed, by, move, keep, drop, split, split3, join, fsplit, fsplit3, fjoin, pick, use0, use1, use2, use3, feq_l, await, rewrite, stop, addr, lit, of_opd, no_more, and_then, first, branches, skips, exec, returns, returns_within, enter, alloc_all, pass_all, free_all, look_at, get, through, sets, lands_as, env, agg, live, tables, fact, fact_i, ◌⊑◌, Lfts, no, LentAgain, lends_again, comes_back, lft_new, lft_end, lft-common, common, mem-append_left, mem-append_right, full_share, RattleType, owns, types_at, plain, named_lft, RefMutOf, bool, MutRef, ShrRef, MutBor, mut_vals, mut_Tells, nothing, only, peeks, heard, Is, shows, param, bounded, Tuple, lasts, triple_of, calls_at, framed, Stays, stay_dropped, walk_of, Goes-spent_ref, after, is_true, is_false, is_low}
+use Rattle.std.proofs.Common.{◌≡◌, ℕ, ◌<◌, Bool, false, [], ◌∷◌, ◌++◌, length, Option, Some, None, slice_get, if◌then◌else◌, refl, sym, ap, ◌∙◌, lit<, nat_lt, ◌≤◌, w64, arith}
+use Rattle.std.specs.Option.{option_map}
+use mir.Val.{vint, vbool}
+use denote.Exit.{yes}
 use base.Share
 use Rattle.std.proofs.lemmas.Bool.Decides.{nat_tests}
 use denote.Follow.{follows, follows_by}
 use Rattle.indexset_set.specs.contracts.set.pairs.BTreeSet+Pair+K+V.reaches as r
 use Rattle.indexset_set.proofs.set.pairs.BTreeSet+Pair+K+V.reaches.Met as ready
-use denote.RattleType.{RattleType, owns}
-use denote.Signature.{types_at, plain}
-use denote.Builtin.{RefMutOf, usize, bool}
+use denote.Builtin.{usize}
 use denote.Plain.{uint_vals, uint_Tells, uint_Makes}
 use denote.Steps.{owned}
 use denote.Triple.Walked.{Goes-dropped}
