@@ -36,12 +36,12 @@ module _ {T : Type 0} (answer : T → Ordering) where
       let whole = equal_joined answer ns some filled parted in
       let told : Bool → Result (ℕ × ℕ) (ℕ × ℕ) = λ b. if b then Ok (k, i) else Err (k, i) in
       let end : (b : Bool) → equal_at answer (node_at ns k) i ≡ b → IsEnd b ns (k, i) = λ b e.
-          record {
-            place = record { node_in = omega (arith, inside); offset_in = fits };
-            after = λ yes. record { node_in = omega (arith, inside); offset_in = omega (arith, equal_inside answer (node_at ns k) i (e ∙ yes)) };
-            before = at;
-            equal = whole ∙ e;
-          } in
+      record {
+        place = record { node_in = omega (arith, inside); offset_in = fits };
+        after = λ yes. record { node_in = omega (arith, inside); offset_in = omega (arith, equal_inside answer (node_at ns k) i (e ∙ yes)) };
+        before = at;
+        equal = whole ∙ e;
+      } in
       elim (equal_at answer (node_at ns k) i) as (λ b. equal_at answer (node_at ns k) i ≡ b → Ends ns (told b)) [
         | true ↦ λ e. (end true e, tt)
         | false ↦ λ e. (tt, end false e)

@@ -31,8 +31,7 @@ pub struct BTreeMap<K: Ord + Clone + Drop, V: Clone + Drop, Node: NodeLike<Pair<
 }
 
 impl<K: Ord + Clone + Drop, V: Clone + Drop, Node: NodeLike<Pair<K, V>>> Model
-    for BTreeMap<K, V, Node>
-{
+    for BTreeMap<K, V, Node> {
     ghost use Rattle.indexset_core.specs.declared.pair.Pair.{Pair};
     ghost use Rattle.indexset_log.specs.Tree.{Tree};
 

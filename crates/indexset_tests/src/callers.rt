@@ -39,10 +39,7 @@ pub fn count_word(counts: &mut BTreeMap<u8, u32>, word: u8) -> Result<(), Refuse
 }
 
 /// Counts each word in turn.
-pub fn count_words(
-    counts: &mut BTreeMap<u8, u32>,
-    words: &[u8],
-) -> Result<(), Refused<(u8, u32)>>
+pub fn count_words(counts: &mut BTreeMap<u8, u32>, words: &[u8]) -> Result<(), Refused<(u8, u32)>>
     ensures { OnOk result (counts.new.pairs ≡ fold counted counts.old.pairs words.now) }
 {
     for i in 0..words.len() {

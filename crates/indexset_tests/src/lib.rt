@@ -3,17 +3,16 @@
 #![tactic(auto)]
 
 pub mod callers;
-
 #[cfg(test)]
 mod counted;
 #[cfg(test)]
 mod logged;
 #[cfg(test)]
+mod logged_run;
+#[cfg(test)]
 mod logged_walks;
 #[cfg(test)]
 mod map;
-#[cfg(test)]
-mod logged_run;
 #[cfg(test)]
 mod node;
 #[cfg(test)]
@@ -27,8 +26,9 @@ mod readme;
 #[cfg(test)]
 mod refusal;
 #[cfg(test)]
-mod run_map;
 mod replica;
+#[cfg(test)]
+mod run_map;
 #[cfg(test)]
 mod run_set;
 #[cfg(test)]

@@ -47,7 +47,8 @@ fn split(id: u64, max_value: Tagged, split_index: usize) -> ChangeEvent<Tagged> 
 // Whether a node is of these keys and tags.
 fn is_node(node: &Vec<Tagged>, items: &[(u64, char)]) -> bool {
     let mut pairs = node.iter().zip(items);
-    node.len() == items.len() && pairs.all(|(item, (key, tag))| item.key == *key && item.tag == *tag)
+    node.len() == items.len()
+        && pairs.all(|(item, (key, tag))| item.key == *key && item.tag == *tag)
 }
 
 // The events of four first puts into a node of four, and of a put over the second item.
@@ -182,7 +183,10 @@ fn a_node_goes_between_its_neighbours(rt: HostRuntime) -> Result<(), Fail> {
         Ok(()) => None,
         Err(refused) => Some(refused.cause),
     };
-    assert_eq!(rt; refusal(replica.attach(Vec::new(rt.alloc()))), Some(Refusal::Empty));
+    assert_eq!(rt;
+        refusal(replica.attach(Vec::new(rt.alloc()))),
+        Some(Refusal::Empty)
+    );
     let twice = vec![in rt.alloc(); 7, 7]?;
     assert_eq!(rt; refusal(replica.attach(twice)), Some(Refusal::Unsorted));
     let shared = vec![in rt.alloc(); 6, 7]?;

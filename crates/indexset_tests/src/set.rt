@@ -12,6 +12,7 @@ use std::test::Fail;
 mod algebra;
 mod bulk;
 mod counted;
+mod cursors;
 mod documented;
 mod ranges;
 mod tagged;

@@ -117,10 +117,7 @@ fn create_node<T: Ord + Clone + Drop>(nodes: &mut Vec<Vec<T>>, value: &T) -> Res
 }
 
 // Room for one more node, and a node of this item alone.
-fn room_for_node_of<T: Clone + Drop>(
-    nodes: &mut Vec<Vec<T>>,
-    value: &T,
-) -> Result<Vec<T>, Refusal>
+fn room_for_node_of<T: Clone + Drop>(nodes: &mut Vec<Vec<T>>, value: &T) -> Result<Vec<T>, Refusal>
     requires clones { (x y : T) → T.is_clone x y → y ≡ x }
     ensures nodes { nodes.new.items ≡ nodes.old.items }
     ensures room { OnOk result (vec_len nodes.new < vec_capacity nodes.new) }

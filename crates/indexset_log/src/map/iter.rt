@@ -19,8 +19,7 @@ pub struct Iter<'a, K: Ord + Clone + Drop, V: Clone + Drop, Node: NodeLike<Pair<
 }
 
 impl<'a, K: Ord + Clone + Drop, V: Clone + Drop, Node: NodeLike<Pair<K, V>>> Model
-    for Iter<'a, K, V, Node>
-{
+    for Iter<'a, K, V, Node> {
     ghost use Rattle.std.specs.Prelude.{List};
     ghost use Rattle.indexset_core.specs.declared.pair.Pair.{Pair};
 
@@ -30,8 +29,7 @@ impl<'a, K: Ord + Clone + Drop, V: Clone + Drop, Node: NodeLike<Pair<K, V>>> Mod
 }
 
 impl<'a, K: Ord + Clone + Drop, V: Clone + Drop, Node: NodeLike<Pair<K, V>>> Iterator
-    for Iter<'a, K, V, Node>
-{
+    for Iter<'a, K, V, Node> {
     type Item = (&'a K, &'a V);
 
     ghost next_gives = { TakesFirst pair_shown };
@@ -49,8 +47,7 @@ impl<'a, K: Ord + Clone + Drop, V: Clone + Drop, Node: NodeLike<Pair<K, V>>> Ite
 }
 
 impl<'a, K: Ord + Clone + Drop, V: Clone + Drop, Node: NodeLike<Pair<K, V>>> DoubleEndedIterator
-    for Iter<'a, K, V, Node>
-{
+    for Iter<'a, K, V, Node> {
     ghost next_back_gives = { TakesLast pair_shown };
 
     fn next_back(&mut self) -> Option<(&'a K, &'a V)> {
@@ -60,17 +57,14 @@ impl<'a, K: Ord + Clone + Drop, V: Clone + Drop, Node: NodeLike<Pair<K, V>>> Dou
 }
 
 impl<'a, K: Ord + Clone + Drop, V: Clone + Drop, Node: NodeLike<Pair<K, V>>> ExactSizeIterator
-    for Iter<'a, K, V, Node>
-{
+    for Iter<'a, K, V, Node> {
     fn len(&self) -> usize {
         self.rest.len()
     }
 }
 
 impl<'a, K: Ord + Clone + Drop, V: Clone + Drop, Node: NodeLike<Pair<K, V>>> FusedIterator
-    for Iter<'a, K, V, Node>
-{
-}
+    for Iter<'a, K, V, Node> {}
 
 impl<K: Ord + Clone + Drop, V: Clone + Drop, Node: NodeLike<Pair<K, V>>> BTreeMap<K, V, Node> {
     /// The pairs, in order.

@@ -25,8 +25,7 @@ pub struct Range<'a, K: Ord + Clone + Drop, V: Clone + Drop, Node: NodeLike<Pair
 }
 
 impl<'a, K: Ord + Clone + Drop, V: Clone + Drop, Node: NodeLike<Pair<K, V>>> Model
-    for Range<'a, K, V, Node>
-{
+    for Range<'a, K, V, Node> {
     ghost use Rattle.std.specs.Prelude.{List};
     ghost use Rattle.indexset_core.specs.declared.pair.Pair.{Pair};
 
@@ -36,8 +35,7 @@ impl<'a, K: Ord + Clone + Drop, V: Clone + Drop, Node: NodeLike<Pair<K, V>>> Mod
 }
 
 impl<'a, K: Ord + Clone + Drop, V: Clone + Drop, Node: NodeLike<Pair<K, V>>> Iterator
-    for Range<'a, K, V, Node>
-{
+    for Range<'a, K, V, Node> {
     type Item = (&'a K, &'a V);
 
     ghost next_gives = { TakesFirst pair_shown };
@@ -55,8 +53,7 @@ impl<'a, K: Ord + Clone + Drop, V: Clone + Drop, Node: NodeLike<Pair<K, V>>> Ite
 }
 
 impl<'a, K: Ord + Clone + Drop, V: Clone + Drop, Node: NodeLike<Pair<K, V>>> DoubleEndedIterator
-    for Range<'a, K, V, Node>
-{
+    for Range<'a, K, V, Node> {
     ghost next_back_gives = { TakesLast pair_shown };
 
     fn next_back(&mut self) -> Option<(&'a K, &'a V)> {
@@ -66,17 +63,14 @@ impl<'a, K: Ord + Clone + Drop, V: Clone + Drop, Node: NodeLike<Pair<K, V>>> Dou
 }
 
 impl<'a, K: Ord + Clone + Drop, V: Clone + Drop, Node: NodeLike<Pair<K, V>>> ExactSizeIterator
-    for Range<'a, K, V, Node>
-{
+    for Range<'a, K, V, Node> {
     fn len(&self) -> usize {
         self.rest.len()
     }
 }
 
 impl<'a, K: Ord + Clone + Drop, V: Clone + Drop, Node: NodeLike<Pair<K, V>>> FusedIterator
-    for Range<'a, K, V, Node>
-{
-}
+    for Range<'a, K, V, Node> {}
 
 impl<K: Ord + Clone + Drop, V: Clone + Drop, Node: NodeLike<Pair<K, V>>> BTreeMap<K, V, Node> {
     /// The pairs whose keys satisfy both bounds, in order. The start must not be past the end, nor at

@@ -83,7 +83,10 @@ fn walks_and_owns(rt: HostRuntime) -> Result<(), Fail> {
     assert_eq!(rt; (walk.next(), walk.next_back()), (Some(1), Some(7)));
     assert_eq!(rt; (walk.next_back(), walk.next()), (Some(6), Some(2)));
     assert_eq!(rt; walk.len(), 3);
-    assert_eq!(rt; (walk.next(), walk.next(), walk.next()), (Some(3), Some(4), Some(5)));
+    assert_eq!(rt;
+        (walk.next(), walk.next(), walk.next()),
+        (Some(3), Some(4), Some(5))
+    );
     assert_eq!(rt; (walk.next(), walk.len()), (None, 0));
     Ok(())
 }

@@ -1,0 +1,120 @@
+//! Entries: words counted, and each call of an entry.
+use super::{five, tens};
+use indexset_core::refusal::Refusal;
+use indexset_map::{BTreeMap, Entry, OccupiedEntry, VacantEntry};
+use std::test::Fail;
+
+// Counts a word.
+fn count(counts: &mut BTreeMap<&'static str, u64>, word: &'static str) -> Result<(), Refusal> {
+    let entry = counts.entry(word).and_modify(|n: &mut u64| {
+        *n = n.saturating_add(1);
+    });
+    match entry.or_insert(1) {
+        Ok(_) => Ok(()),
+        Err(refused) => Err(refused.cause),
+    }
+}
+
+// The entry of a key that is there.
+fn occupied(map: &mut BTreeMap<u64, u64>, key: u64) -> Option<OccupiedEntry<'_, u64, u64>> {
+    match map.entry(key) {
+        Entry::Occupied(entry) => Some(entry),
+        Entry::Vacant(_) => None,
+    }
+}
+
+// The entry of a key that is not there.
+fn vacant(map: &mut BTreeMap<u64, u64>, key: u64) -> Option<VacantEntry<'_, u64, u64>> {
+    match map.entry(key) {
+        Entry::Occupied(_) => None,
+        Entry::Vacant(entry) => Some(entry),
+    }
+}
+
+#[test]
+fn words_are_counted(rt: HostRuntime) -> Result<(), Fail> {
+    let mut counts = BTreeMap::new(rt.alloc())?;
+    for word in ["a", "b", "a", "c", "a", "b"] {
+        count(&mut counts, word)?;
+    }
+    assert!(rt; counts.keys().copied().eq(["a", "b", "c"]));
+    assert!(rt; counts.values().copied().eq([3, 2, 1]));
+    Ok(())
+}
+
+#[test]
+fn each_call_of_an_occupied_entry(rt: HostRuntime) -> Result<(), Fail> {
+    let mut map = tens(rt.alloc(), 2, 4)?;
+    let mut entry = occupied(&mut map, 1).ok_or("the key is there")?;
+    assert_eq!(rt; *entry.key(), 1);
+    assert_eq!(rt; *entry.get(), 10);
+    *entry.get_mut() = 11;
+    assert_eq!(rt; entry.insert(12), 11);
+    let value = entry.into_mut();
+    assert_eq!(rt; *value, 12);
+    *value = 13;
+    let entry = occupied(&mut map, 1).ok_or("the key is there")?;
+    assert_eq!(rt; entry.remove(), 13);
+    let entry = occupied(&mut map, 2).ok_or("the key is there")?;
+    assert_eq!(rt; entry.remove_entry(), (2, 20));
+    assert!(rt; map.keys().copied().eq([0, 3]));
+    assert!(rt; map.values().copied().eq([0, 30]));
+    Ok(())
+}
+
+#[test]
+fn each_call_of_a_vacant_entry(rt: HostRuntime) -> Result<(), Fail> {
+    let mut map = tens(rt.alloc(), 2, 2)?;
+    let entry = vacant(&mut map, 7).ok_or("the key is not there")?;
+    assert_eq!(rt; *entry.key(), 7);
+    assert_eq!(rt; entry.into_key(), 7);
+    assert_eq!(rt; map.len(), 2);
+    let entry = vacant(&mut map, 7).ok_or("the key is not there")?;
+    match entry.insert(70) {
+        Ok(value) => *value = 71,
+        Err(refused) => return Err(refused.cause.into()),
+    }
+    assert!(rt; map.keys().copied().eq([0, 1, 7]));
+    assert!(rt; map.values().copied().eq([0, 10, 71]));
+    Ok(())
+}
+
+#[test]
+fn defaults_of_entries(rt: HostRuntime) -> Result<(), Fail> {
+    let mut map = tens(rt.alloc(), 2, 2)?;
+    for key in [1, 4] {
+        if let Err(refused) = map.entry(key).or_insert_with(|| 5) {
+            return Err(refused.cause.into());
+        }
+    }
+    for key in [1, 6] {
+        if let Err(refused) = map.entry(key).or_insert_with_key(|k: &u64| *k) {
+            return Err(refused.cause.into());
+        }
+    }
+    for key in [1, 8] {
+        if let Err(refused) = map.entry(key).or_default() {
+            return Err(refused.cause.into());
+        }
+    }
+    assert!(rt; map.keys().copied().eq([0, 1, 4, 6, 8]));
+    assert!(rt; map.values().copied().eq([0, 10, 5, 6, 0]));
+    let entry = map.entry(6);
+    assert_eq!(rt; *entry.key(), 6);
+    Ok(())
+}
+
+#[test]
+fn the_entries_at_both_ends(rt: HostRuntime) -> Result<(), Fail> {
+    let mut map = five(rt.alloc())?;
+    let first = map.first_entry().ok_or("there are five")?;
+    assert_eq!(rt; first.remove_entry(), (1, "a"));
+    let mut last = map.last_entry().ok_or("there are four")?;
+    assert_eq!(rt; last.insert("z"), "e");
+    assert_eq!(rt; map.last_key_value(), Some((&41, &"z")));
+    assert_eq!(rt; map.len(), 4);
+    map.clear();
+    assert!(rt; map.first_entry().is_none());
+    assert!(rt; map.last_entry().is_none());
+    Ok(())
+}

@@ -1,0 +1,167 @@
+//! Walks that lend values to write, and the pairs that are kept.
+use super::{put, tens};
+use indexset_core::refusal::Refusal;
+use indexset_map::BTreeMap;
+use std::alloc::Global;
+use std::ops::Bound;
+use std::test::Fail;
+
+// The keys from 1 up to the last at 0, put in from the least up, two to a node.
+fn zeros(alloc: Global, last: u64) -> Result<BTreeMap<u64, u64>, Refusal> {
+    let mut map = BTreeMap::with_maximum_node_size(alloc, 2)?;
+    for key in 1..=last {
+        put(&mut map, key, 0)?;
+    }
+    Ok(map)
+}
+
+// The pairs that a walk over positions lends from the front, asked so often.
+fn lent(
+    map: &mut BTreeMap<u64, u64>,
+    range: (Bound<usize>, Bound<usize>),
+    turns: usize,
+    alloc: Global,
+) -> Result<Vec<(u64, u64)>, Fail> {
+    let mut pairs = Vec::new(alloc);
+    let mut walk = map.range_mut_idx(range);
+    for _ in 0..turns {
+        if let Some((key, value)) = walk.next() {
+            pairs.push((*key, *value))?;
+        }
+    }
+    Ok(pairs)
+}
+
+// The pairs that a walk over all lends from the back, asked so often.
+fn lent_back(
+    map: &mut BTreeMap<u64, u64>,
+    turns: usize,
+    alloc: Global,
+) -> Result<Vec<(u64, u64)>, Fail> {
+    let mut pairs = Vec::new(alloc);
+    let mut walk = map.iter_mut();
+    for _ in 0..turns {
+        if let Some((key, value)) = walk.next_back() {
+            pairs.push((*key, *value))?;
+        }
+    }
+    Ok(pairs)
+}
+
+#[test]
+fn a_walk_dropped_half_way(rt: HostRuntime) -> Result<(), Fail> {
+    let mut map = zeros(rt.alloc(), 7)?;
+    let mut walk = map.iter_mut();
+    if let Some((key, value)) = walk.next() {
+        assert_eq!(rt; *key, 1);
+        *value = 1;
+    }
+    if let Some((key, value)) = walk.next_back() {
+        assert_eq!(rt; *key, 7);
+        *value = 2;
+    }
+    assert!(rt; map.values().copied().eq([1, 0, 0, 0, 0, 0, 2]));
+    Ok(())
+}
+
+#[test]
+fn ten_more_in_each(rt: HostRuntime) -> Result<(), Fail> {
+    let mut map = zeros(rt.alloc(), 4)?;
+    assert_eq!(rt; map.node_count(), 3);
+    let mut walk = map.iter_mut();
+    while walk.has_next() {
+        let (_, value) = walk.next_pair();
+        *value = value.saturating_add(10);
+    }
+    assert!(rt; map.values().copied().eq([10, 10, 10, 10]));
+    let mut values = map.values_mut();
+    while let Some(value) = values.next_back() {
+        *value = value.saturating_add(1);
+    }
+    assert!(rt; map.values().copied().eq([11, 11, 11, 11]));
+    Ok(())
+}
+
+#[test]
+fn each_place_once_from_both_ends(rt: HostRuntime) -> Result<(), Fail> {
+    let mut map = tens(rt.alloc(), 2, 3)?;
+    let mut walk = map.iter_mut();
+    assert!(rt; walk.next().is_some_and(|pair| *pair.0 == 0));
+    assert!(rt; walk.next_back().is_some_and(|pair| *pair.0 == 2));
+    assert!(rt; walk.has_next());
+    assert!(rt; walk.next().is_some_and(|pair| *pair.0 == 1));
+    assert!(rt; !walk.has_next());
+    assert!(rt; walk.next().is_none());
+    assert!(rt; walk.next_back().is_none());
+    let mut values = map.values_mut();
+    assert!(rt; values.next().is_some_and(|value| *value == 0));
+    assert!(rt; values.next_back().is_some_and(|value| *value == 20));
+    assert!(rt; values.next_back().is_some_and(|value| *value == 10));
+    assert!(rt; values.next_back().is_none());
+    assert!(rt; values.next().is_none());
+    Ok(())
+}
+
+#[test]
+fn many_nodes_both_ways(rt: HostRuntime) -> Result<(), Fail> {
+    let mut map = tens(rt.alloc(), 1024, 10240)?;
+    let all = (Bound::Unbounded, Bound::Unbounded);
+    let forwards = lent(&mut map, all, 10241, rt.alloc())?;
+    let expected = (0..10240u64).map(|key| (key, key.wrapping_mul(10)));
+    assert!(rt; forwards.iter().copied().eq(expected));
+    let backwards = lent_back(&mut map, 10241, rt.alloc())?;
+    let expected = (0..10240u64).rev().map(|key| (key, key.wrapping_mul(10)));
+    assert!(rt; backwards.iter().copied().eq(expected));
+    Ok(())
+}
+
+#[test]
+fn balances_over_a_range_of_names(rt: HostRuntime) -> Result<(), Fail> {
+    let names = vec![in rt.alloc(); ("Alice", 0u64), ("Bob", 0), ("Carol", 0), ("Cheryl", 0)]?;
+    let mut balances = BTreeMap::from(rt.alloc(), names)?;
+    let mut walk = balances.range_mut((Bound::Included(&"B"), Bound::Excluded(&"Cheryl")));
+    while walk.has_next() {
+        let (_, balance) = walk.next_pair();
+        *balance = balance.saturating_add(100);
+    }
+    assert!(rt; balances.values().copied().eq([0, 100, 100, 0]));
+    Ok(())
+}
+
+#[test]
+fn positions_to_write(rt: HostRuntime) -> Result<(), Fail> {
+    let mut map = tens(rt.alloc(), 2, 10)?;
+    let ranges = [
+        (Bound::Unbounded, Bound::Unbounded, 0, 10),
+        (Bound::Included(0), Bound::Unbounded, 0, 10),
+        (Bound::Included(0), Bound::Excluded(10), 0, 10),
+        (Bound::Included(1), Bound::Excluded(2), 1, 2),
+        (Bound::Included(3), Bound::Unbounded, 3, 10),
+        (Bound::Unbounded, Bound::Excluded(4), 0, 4),
+        (Bound::Included(5), Bound::Included(6), 5, 7),
+        (Bound::Unbounded, Bound::Included(7), 0, 8),
+        (Bound::Included(7), Bound::Included(3), 0, 0),
+        (Bound::Excluded(usize::MAX), Bound::Unbounded, 0, 0),
+    ];
+    for (start, end, first, past) in ranges {
+        let pairs = lent(&mut map, (start, end), 11, rt.alloc())?;
+        let expected = (first..past).map(|key: u64| (key, key.wrapping_mul(10)));
+        assert!(rt; pairs.iter().copied().eq(expected));
+    }
+    Ok(())
+}
+
+#[test]
+fn even_keys_are_kept(rt: HostRuntime) -> Result<(), Fail> {
+    let mut map = tens(rt.alloc(), 2, 8)?;
+    map.retain(|key: &u64, _value: &mut u64| -> bool { *key % 2 == 0 });
+    assert!(rt; map.keys().copied().eq([0, 2, 4, 6]));
+    assert!(rt; map.values().copied().eq([0, 20, 40, 60]));
+    map.retain(|key: &u64, value: &mut u64| -> bool {
+        *value = *key;
+        *key < 3
+    });
+    assert!(rt; map.keys().copied().eq([0, 2]));
+    assert!(rt; map.values().copied().eq([0, 2]));
+    Ok(())
+}
