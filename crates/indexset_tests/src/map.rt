@@ -100,6 +100,7 @@ fn put_and_taken_out(rt: HostRuntime) -> Result<(), Fail> {
         assert_eq!(rt; map.remove_entry(&4), None);
         assert_eq!(rt; map.pop_first(), Some((0, 0)));
         assert_eq!(rt; map.pop_last(), Some((8, 80)));
+        assert_eq!(rt; map.len(), 4);
         assert_eq!(rt; map.pop_index(1), (2, 20));
         assert!(rt; map.keys().copied().eq([1, 5, 6]));
     }
@@ -110,7 +111,9 @@ fn put_and_taken_out(rt: HostRuntime) -> Result<(), Fail> {
 fn of_equal_keys_the_last_value(rt: HostRuntime) -> Result<(), Fail> {
     let map = BTreeMap::from_iter(rt.alloc(), [(2u64, 'a'), (1, 'b'), (2, 'c')])?;
     assert_eq!(rt; map.len(), 2);
+    assert!(rt; map.contains_key(&1));
     assert_eq!(rt; map[&1], 'b');
+    assert!(rt; map.contains_key(&2));
     assert_eq!(rt; map[&2], 'c');
     Ok(())
 }

@@ -41,8 +41,7 @@ fn a_map_and_a_set(rt: HostRuntime) -> Result<(), Fail> {
         set.insert(Pair { key, value })
             .map_err(|refused| refused.cause)?;
     }
-    let _len = set.len();
-    assert_eq!(rt; set.locate_by(&mut ByKey::new(&4)), Err(3));
+    assert_eq!(rt; set.len(), 3);
     Ok(())
 }
 

@@ -32,6 +32,7 @@ fn by_key_and_by_position(rt: HostRuntime) -> Result<(), Fail> {
     for (key, rank) in [(0, 0), (1, 0), (3, 2), (4, 3), (41, 4), (100, 5)] {
         assert_eq!(rt; map.rank(&key), rank, "of {key}");
     }
+    assert!(rt; map.contains_key(&2));
     assert_eq!(rt; map[&2], "b");
     Ok(())
 }
