@@ -4,7 +4,6 @@ use indexset::base::bounds::bounds_are_ordered;
 use indexset::base::constants::DEFAULT_INNER_SIZE;
 use indexset::base::node::NodeLike;
 use indexset::base::pair::Pair;
-use indexset::base::probe::ByKey;
 use indexset::base::refusal::Refusal;
 use indexset::{BTreeMap, BTreeSet, IntoIterMap, IterMap, RangeMap};
 use std::alloc::Global;

@@ -3,8 +3,7 @@
 use indexset_bench::{RunFault, run};
 use indexset_core::refusal::Refusal;
 use std::alloc::Global;
-use std::cell::Cell;
-use std::io::{self, BufReader, BufWriter, ErrorKind, Read, Write};
+use std::io::{self, BufReader, ErrorKind, Read, Write};
 use std::test::Fail;
 
 /// The text that a run over memory writes.
@@ -77,61 +76,6 @@ impl Write for Stuck {
     fn flush(&mut self) -> io::Result<()> {
         Err(io::Error::from(ErrorKind::BrokenPipe))
     }
-}
-
-/// Counts the bytes that reach it.
-#[derive(Drop)]
-struct Screen<'a> {
-    shown: &'a Cell<usize>,
-}
-
-impl Write for Screen<'_> {
-    fn write(&mut self, buf: &[u8]) -> io::Result<usize> {
-        self.shown.set(self.shown.get().saturating_add(buf.len()));
-        Ok(buf.len())
-    }
-
-    fn flush(&mut self) -> io::Result<()> {
-        Ok(())
-    }
-}
-
-/// Gives a piece at a time, and before each notes how much the screen shows.
-#[derive(Drop)]
-struct Keyboard<'a> {
-    pieces: &'a [&'a [u8]],
-    shown: &'a Cell<usize>,
-    seen: Vec<usize>,
-}
-
-impl Read for Keyboard<'_> {
-    fn read(&mut self, buf: &mut [u8]) -> io::Result<usize> {
-        self.seen.push(self.shown.get())?;
-        let Some((piece, rest)) = self.pieces.split_first() else {
-            return Ok(0);
-        };
-        self.pieces = rest;
-        let mut piece: &[u8] = piece;
-        piece.read(buf)
-    }
-}
-
-#[test]
-fn shows_each_reply_before_it_waits_for_more(rt: HostRuntime) -> Result<(), Fail> {
-    let pieces: [&[u8]; 5] = [b"add 5\n", b"add 5\nra", b"nk 9\n", b"len\nhas 5\n", b"bad"];
-    let shown = Cell::new(0);
-    let mut keyboard = Keyboard {
-        pieces: &pieces,
-        shown: &shown,
-        seen: Vec::new(rt.alloc()),
-    };
-    let mut reader = BufReader::new(rt.alloc(), &mut keyboard)?;
-    let mut writer = BufWriter::new(rt.alloc(), Screen { shown: &shown })?;
-    assert_eq!(rt; run(rt.alloc(), &mut reader, &mut writer), Ok(()));
-    // new, old, 1, 1 and yes, bad: a look at the end of the input comes before and after the last.
-    assert_eq!(rt; keyboard.seen.as_slice(), [0, 4, 8, 10, 16, 16].as_slice());
-    assert_eq!(rt; shown.get(), 20);
-    Ok(())
 }
 
 #[test]

@@ -19,6 +19,7 @@ fn split_off_whole(rt: HostRuntime) -> Result<(), Fail> {
     assert_eq!(rt; map.len(), 0);
     assert_eq!(rt; rest.len(), 5);
     assert_eq!(rt; put(&mut map, 2, "z")?, None);
+    assert!(rt; map.contains_key(&2));
     assert_eq!(rt; map[&2], "z");
     Ok(())
 }
@@ -46,6 +47,7 @@ fn the_other_map_wins(rt: HostRuntime) -> Result<(), Fail> {
     map.append(&mut other)?;
     assert_eq!(rt; map.len(), 5);
     assert_eq!(rt; other.len(), 0);
+    assert!(rt; map.contains_key(&3));
     assert_eq!(rt; map[&3], "d");
     assert!(rt; map.values().copied().eq(["a", "b", "d", "e", "f"]));
     Ok(())

@@ -69,14 +69,18 @@ fn ten_more_in_each(rt: HostRuntime) -> Result<(), Fail> {
     let mut map = zeros(rt.alloc(), 4)?;
     assert_eq!(rt; map.node_count(), 3);
     let mut walk = map.iter_mut();
-    while walk.has_next() {
-        let (_, value) = walk.next_pair();
-        *value = value.saturating_add(10);
+    for _ in 0..4 {
+        if walk.has_next() {
+            let (_, value) = walk.next_pair();
+            *value = value.saturating_add(10);
+        }
     }
     assert!(rt; map.values().copied().eq([10, 10, 10, 10]));
     let mut values = map.values_mut();
-    while let Some(value) = values.next_back() {
-        *value = value.saturating_add(1);
+    for _ in 0..5 {
+        if let Some(value) = values.next_back() {
+            *value = value.saturating_add(1);
+        }
     }
     assert!(rt; map.values().copied().eq([11, 11, 11, 11]));
     Ok(())
@@ -120,9 +124,11 @@ fn balances_over_a_range_of_names(rt: HostRuntime) -> Result<(), Fail> {
     let names = vec![in rt.alloc(); ("Alice", 0u64), ("Bob", 0), ("Carol", 0), ("Cheryl", 0)]?;
     let mut balances = BTreeMap::from(rt.alloc(), names)?;
     let mut walk = balances.range_mut((Bound::Included(&"B"), Bound::Excluded(&"Cheryl")));
-    while walk.has_next() {
-        let (_, balance) = walk.next_pair();
-        *balance = balance.saturating_add(100);
+    for _ in 0..4 {
+        if walk.has_next() {
+            let (_, balance) = walk.next_pair();
+            *balance = balance.saturating_add(100);
+        }
     }
     assert!(rt; balances.values().copied().eq([0, 100, 100, 0]));
     Ok(())
