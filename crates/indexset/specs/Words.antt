@@ -1,4 +1,4 @@
--- The words of contracts on sets and maps, for callers that list this crate alone.
+-- The words of contracts on sets, maps and logged trees, for callers that list this crate alone.
 pub use Rattle.indexset_spine.specs.Cut.{items}
 pub use Rattle.indexset_core.specs.Order.{IsAscending, below, above, rank, has_equal, equal_element, lower_element, put, keep, without}
 pub use Rattle.indexset_core.specs.Bounds.{are_ordered, is_within, in_range, in_positions}
@@ -6,3 +6,7 @@ pub use Rattle.indexset_core.specs.Digits.{digits}
 pub use Rattle.indexset_core.specs.Pairs.{entry_of, has_key, key_rank, pair_of, value_of}
 pub use Rattle.indexset_set.specs.SetAlgebra.{difference, intersection, symmetric_difference, union, put_all}
 pub use Rattle.indexset_map.specs.Contents.{with_put, without_pair, without_at}
+pub use Rattle.indexset_core.specs.Nodes.{joined}
+pub use Rattle.indexset_log.specs.Tree.{Tree}
+pub use Rattle.indexset_log.specs.Table.{put_events, checked_put_events, removal_events}
+pub use Rattle.indexset_log.specs.Replay.{IsNumberedFrom, numbered_from, replay, step}

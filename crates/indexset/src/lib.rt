@@ -3,7 +3,20 @@
 
 /// What the collections stand on. The Rust crate calls this module `core`.
 pub mod base {
-    pub use indexset_core::{bounds, constants, node, pair, probe, refusal, search};
+    pub use indexset_core::{
+        array_node, bounds, constants, multipair, node, pair, probe, refusal, search,
+    };
+}
+
+/// Trees whose changes go out as events. There are no threads: each has one owner. The module has the
+/// Rust crate's name.
+pub mod concurrent {
+    pub use indexset_log::{map, set};
+}
+
+/// The events of a tree's changes.
+pub mod cdc {
+    pub use indexset_log::change;
 }
 
 pub use indexset_map::{

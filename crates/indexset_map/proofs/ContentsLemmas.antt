@@ -17,7 +17,7 @@ use Rattle.indexset_set.specs.SetPairs as cut
 use Rattle.indexset_core.proofs.CallerLemmas.{gap_put, is_some-find}
 use Rattle.indexset_set.proofs.CallerLemmas.{items-with_value_at, size-with_value_at}
 use Rattle.indexset_map.specs.Contents.{Contents, contents, with_value_at}
-use Rattle.indexset_map.proofs.LengthLemmas.{node_lengths-set_joined}
+use Rattle.indexset_spine.proofs.CallerLemmas.{node_lengths-set_joined}
 
 module _ {K V : Type 0} where
   node_lengths-with_value_at : (s : Cut (Pair K V)) (i : ℕ) (w : V) → node_lengths (cut.with_value_at s i w).nodes ≡ node_lengths s.nodes

@@ -10,9 +10,10 @@ use Rattle.indexset_core.specs.Order.{IsAscending, has_equal, keep, put}
 use Rattle.indexset_core.specs.Pairs.{pair, by_key, has_key, key_rank, put_value, without_key}
 use Rattle.indexset_core.proofs.CallerLemmas.{found_rank, found_without, parted_by_key, key_there, key_found, key_inside, key_written, absent_without, without-pair}
 use Rattle.indexset_map.specs.Contents.{Contents, contents, with_put, with_value_at, without_at, without_pair}
-use Rattle.indexset_map.specs.Lengths.{lengths_with, lengths_without}
+use Rattle.indexset_spine.specs.Lengths.{lengths_with, lengths_without}
 use Rattle.indexset_map.proofs.ContentsLemmas.{put_new, put_there}
-use Rattle.indexset_map.proofs.LengthLemmas.{node_lengths-inserted, node_lengths-without}
+use Rattle.indexset_map.proofs.LengthLemmas.{node_lengths-put}
+use Rattle.indexset_spine.proofs.CallerLemmas.{node_lengths-without}
 use Rattle.indexset_set.specs.SetNodes.{IsWithoutAt, nodes_kept, spot_of}
 
 module _ {K V : Type 0} (cmp : K → K → Ordering) (l : List (Pair K V)) (k : K) where
@@ -45,7 +46,7 @@ module _ {K V : Type 0} (cmp : K → K → Ordering) where
       let none : has_key cmp (items s) k ≡ false = ap (λ (n : Contents K V). has_key cmp n.pairs k) e ∙ h in
       let new : items t ≡ put_value cmp (items s) k v = is ∙ (keep_new (items s) (pair k v) none ∙ sym (put_new cmp (items s) k none v)) in
       let lengths : node_lengths t.nodes ≡ lengths_with s.size (node_lengths s.nodes) (key_rank cmp (items s) k)
-      = ap node_lengths nodes ∙ (ap node_lengths (nodes_new s (pair k v) none) ∙ node_lengths-inserted (by_key cmp) s.size s.nodes (pair k v) total up cut) in
+      = ap node_lengths nodes ∙ (ap node_lengths (nodes_new s (pair k v) none) ∙ node_lengths-put (by_key cmp) s.size s.nodes (pair k v) total up cut) in
       let chosen = lengths ∙ sym (ap (λ (b : Bool). if b then node_lengths s.nodes else lengths_with s.size (node_lengths s.nodes) (key_rank cmp (items s) k)) none) in
       let same : contents t ≡ with_put cmp (contents s) k v = λ j. record { pairs = new j; lengths = chosen j; size = size j } in
       same ∙ ap (λ (n : Contents K V). with_put cmp n k v) e

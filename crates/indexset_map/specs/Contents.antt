@@ -9,7 +9,7 @@ use Rattle.indexset_core.specs.declared.pair.Pair.{Pair}
 use Rattle.indexset_core.specs.Nodes.{node_lengths}
 use Rattle.indexset_spine.specs.Cut.{Cut, items}
 use Rattle.indexset_core.specs.Pairs.{pair, entry_of, valued, has_key, key_rank, set_value_at, set_value, put_value, without_key}
-use Rattle.indexset_map.specs.Lengths.{lengths_with, lengths_without}
+use Rattle.indexset_spine.specs.Lengths.{lengths_with, lengths_without}
 
 pub record Contents (K V : Type 0) : Type 0 where
   pub pairs : List (Pair K V)

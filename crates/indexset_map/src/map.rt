@@ -19,6 +19,7 @@ mod make;
 pub mod owned;
 pub mod range;
 pub mod range_mut;
+mod traits;
 pub mod values_mut;
 
 use indexset_core::pair::Pair;

@@ -40,12 +40,12 @@ pub use types.Tokens.{lft_new, lft_end, lft-common}
 
 -- a test and what it says
 pub is_true : (b : Bool) → T b → b ≡ true
-is_true true t = refl
 is_true false t = absurd t
-
-pub is_false : (b : Bool) → T (not b) → b ≡ false
-is_false true t = absurd t
-is_false false t = refl
+is_true true t = refl
 
 pub is_low : (a b : ℕ) (u : Bool) → u ≡ nat_lt a b → u ≡ true → a < b
 is_low a b u e h = let t : nat_lt a b ≡ true = sym e ∙ h in grind (arith, nat_tests)
+
+pub is_false : (b : Bool) → T (not b) → b ≡ false
+is_false false t = refl
+is_false true t = absurd t

@@ -1,3 +1,4 @@
 pub mod Cut
 pub mod Edits
+pub mod Lengths
 pub mod SpineLends

@@ -37,3 +37,5 @@ mod set;
 mod spine;
 #[cfg(test)]
 mod tagged;
+#[cfg(test)]
+mod terminal;

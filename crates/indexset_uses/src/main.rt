@@ -2,18 +2,22 @@
 //! The program prints what they answer.
 #![tactic(auto)]
 
+mod change_log;
 mod counting;
 mod leaderboard;
 mod listing;
 mod order_book;
+mod prices;
 
 use anyhow::Result;
-use indexset::BTreeSet;
+use indexset::{BTreeMap, BTreeSet};
 
 fn main(rt: HostRuntime) -> Result<()> {
     show_leaderboard(&rt)?;
     show_order_book(&rt)?;
-    show_counts(&rt)
+    show_counts(&rt)?;
+    show_prices(&rt)?;
+    show_changes(&rt)
 }
 
 fn show_leaderboard(rt: &HostRuntime) -> Result<()> {
@@ -50,5 +54,26 @@ fn show_counts(rt: &HostRuntime) -> Result<()> {
     println!(rt; "both: {}", counting::count_of_both(&low, &high))?;
     println!(rt; "place of 950: {:?}", counting::place_of(&high, 950))?;
     println!(rt; "few questions: {}", counting::questions(&high, 950) <= 17)?;
+    Ok(())
+}
+
+fn show_prices(rt: &HostRuntime) -> Result<()> {
+    let mut prices = BTreeMap::new(rt.alloc())?;
+    for (item, price) in [(7, 120), (3, 80), (7, 130)] {
+        prices::set_price(&mut prices, item, price)?;
+    }
+    println!(rt; "prices: {prices:?}")?;
+    println!(rt; "price of 7: {:?}", prices::price_of(&prices, 7))?;
+    Ok(())
+}
+
+fn show_changes(rt: &HostRuntime) -> Result<()> {
+    let mut tree = change_log::Numbers::with_maximum_node_size(rt.alloc(), 2);
+    for number in [10, 20, 30] {
+        let events = change_log::put(&mut tree, number)?;
+        println!(rt; "put {number}: {} events", events.len())?;
+    }
+    let events = change_log::take(&mut tree, 10)?;
+    println!(rt; "take 10: {} events", events.len())?;
     Ok(())
 }

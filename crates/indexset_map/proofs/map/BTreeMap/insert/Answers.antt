@@ -1,9 +1,11 @@
-use Rattle.std.proofs.Common.{Some, sym, ap, ◌∙◌}
+use Rattle.std.proofs.Common.{◌≡◌, Some, sym, ap, ◌∙◌}
 use Rattle.std.proofs.lemmas.Bool.{false≢true}
 use Rattle.std.specs.Option.{option_map}
 use Rattle.indexset_core.proofs.CallerLemmas.{key_pair, key_no_pair, key_absent}
-use Rattle.indexset_map.specs.Contents.{with_value_at}
+use Rattle.indexset_core.specs.Pairs.{value_of}
+use Rattle.indexset_map.specs.Contents.{with_put, with_value_at}
 use Rattle.indexset_map.proofs.KeyLemmas.{put_found}
+use Rattle.indexset_map.proofs.ThereLemmas.{value_there}
 use Rattle.indexset_map.proofs.map.BTreeMap.insert.Goals as goal
 
 pub put-requires : goal.put-requires
@@ -25,3 +27,13 @@ returns-in_ok-put-in-Err-clause-old g c = sym (ap (option_map (λ p. p.value)) (
 
 pub returns-in_ok-put-in-Err-clause-ok : goal.returns-in_ok-put-in-Err-clause-ok
 returns-in_ok-put-in-Err-clause-ok g c = (c.in_ok-put-in-Err.ensures {u = tt}).ok
+
+pub returns-in-Ok-clause-there : goal.returns-in-Ok-clause-there
+returns-in-Ok-clause-there g c =
+    let put : with_value_at c.args.self.now c.in-Ok.i c.replace.new.dest ≡ with_put g.K.Ord.cmp c.args.self.now c.args.key c.args.value
+    = ap (λ w. with_value_at c.args.self.now c.in-Ok.i w) c.replace.ensures.after ∙ put_found g.K.Ord.cmp c.args.self.now c.args.key c.in-Ok.i (c.in-Ok.ensures {u = tt}).found _ in
+    ap (λ m. value_of g.K.Ord.cmp m.pairs c.args.key) put ∙ value_there g.K.Ord.cmp g.met.K.Ord.total c.args.self.now.pairs c.args.key c.args.value
+
+pub returns-in_ok-put-in-Err-clause-there : goal.returns-in_ok-put-in-Err-clause-there
+returns-in_ok-put-in-Err-clause-there g c =
+    ap (λ m. value_of g.K.Ord.cmp m.pairs c.args.key) (c.in_ok-put-in-Err.ensures {u = tt}).ok ∙ value_there g.K.Ord.cmp g.met.K.Ord.total c.args.self.now.pairs c.args.key c.args.value

@@ -1,0 +1,33 @@
+//! A change log: what a copy of a tree elsewhere needs to be told.
+ghost use Rattle.std.specs.Prelude.{◌≡◌, Some, IfOk, OnErr};
+ghost use Rattle.std.specs.Ordering.{nat_cmp};
+ghost use Rattle.indexset.specs.Words.{IsNumberedFrom, joined, put, replay, without};
+
+use indexset::base::refusal::{Refusal, Refused};
+use indexset::cdc::change::ChangeEvent;
+use indexset::concurrent::set::BTreeSet;
+
+/// A logged set of numbers.
+pub type Numbers = BTreeSet<u64, Vec<u64>>;
+
+/// Puts a number in, and answers the events, which make of a copy's nodes the nodes that are here now.
+pub fn put(tree: &mut Numbers, value: u64) -> Result<Vec<ChangeEvent<u64>>, Refused<u64>>
+    ensures contents { IfOk result (λ _. joined tree.new.nodes ≡ put nat_cmp (joined tree.old.nodes) value) }
+    ensures replay { IfOk result (λ events. replay nat_cmp tree.old.nodes events.items ≡ Some tree.new.nodes) }
+    ensures numbered { IfOk result (λ events. IsNumberedFrom tree.old.next events.items) }
+    ensures same { OnErr result (tree.new ≡ tree.old) }
+{
+    let (_, events) = tree.put_cdc(value)?;
+    Ok(events)
+}
+
+/// Takes a number out, and answers the events.
+pub fn take(tree: &mut Numbers, value: u64) -> Result<Vec<ChangeEvent<u64>>, Refusal>
+    ensures contents { IfOk result (λ _. joined tree.new.nodes ≡ without nat_cmp (joined tree.old.nodes) value) }
+    ensures replay { IfOk result (λ events. replay nat_cmp tree.old.nodes events.items ≡ Some tree.new.nodes) }
+    ensures numbered { IfOk result (λ events. IsNumberedFrom tree.old.next events.items) }
+    ensures same { OnErr result (tree.new ≡ tree.old) }
+{
+    let (_, events) = tree.remove_cdc(&value)?;
+    Ok(events)
+}

@@ -1,0 +1,27 @@
+//! Prices: a map from items to what they cost.
+ghost use Rattle.std.specs.Prelude.{◌≡◌, Some, IfOk, OnErr};
+ghost use Rattle.std.specs.Ordering.{nat_cmp};
+ghost use Rattle.indexset.specs.Words.{value_of};
+
+use indexset::BTreeMap;
+use indexset::base::refusal::Refused;
+
+/// Writes a price, and answers the price that the item has then.
+pub fn set_price(
+    prices: &mut BTreeMap<u64, u64>,
+    item: u64,
+    price: u64,
+) -> Result<Option<u64>, Refused<(u64, u64)>>
+    ensures now { IfOk result (λ now. now ≡ Some price) }
+    ensures same { OnErr result (prices.new ≡ prices.old) }
+{
+    prices.insert(item, price)?;
+    Ok(prices.get(&item).copied())
+}
+
+/// The price of an item, where it has one.
+pub fn price_of(prices: &BTreeMap<u64, u64>, item: u64) -> Option<u64>
+    ensures { result ≡ value_of nat_cmp prices.now.pairs item }
+{
+    prices.get(&item).copied()
+}
