@@ -1,6 +1,7 @@
-//! Times the calls of the plain set and map, for people: nanoseconds an operation.
+//! Times the calls of the plain set and map and of the logged set, for people: nanoseconds an operation.
 #![tactic(auto)]
 
+mod log;
 mod map;
 
 use indexset_core::refusal::Refusal;
@@ -165,7 +166,8 @@ fn main(rt: HostRuntime) -> io::Result<()> {
     match arguments.nth(1).and_then(|text| text.as_str().parse().ok()) {
         Some(keys) => {
             measure(&rt, keys)?;
-            map::measure(&rt, keys)
+            map::measure(&rt, keys)?;
+            log::measure(&rt, keys)
         }
         None => println!(&rt; "usage: indexset_speed KEYS"),
     }
