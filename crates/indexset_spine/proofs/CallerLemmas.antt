@@ -1,4 +1,4 @@
 -- What crates above this one may cite of its proofs.
 pub use Rattle.indexset_spine.proofs.CutEdits.{node_filled}
 pub use Rattle.indexset_spine.proofs.CutLemmas.{joined-set}
-pub use Rattle.indexset_spine.proofs.LengthLemmas.{node_lengths-inserted, node_lengths-set_joined, node_lengths-without}
+pub use Rattle.indexset_spine.proofs.NodeLengthLemmas.{node_lengths-inserted, node_lengths-set_joined, node_lengths-without}

@@ -5,7 +5,7 @@ pub mod CutLemmas
 pub mod CutSplits
 pub mod EditSteps
 pub mod IterLemmas
-pub mod LengthLemmas
+pub mod NodeLengthLemmas
 pub mod PartLemmas
 pub mod RemoveSteps
 pub mod RetainSteps
