@@ -1,11 +1,17 @@
 pub mod CallerLemmas
+pub mod CellExamples
+pub mod CellLemmas
 pub mod CutEdits
 pub mod CutExamples
 pub mod CutLemmas
 pub mod CutSplits
 pub mod EditSteps
+pub mod FindLemmas
 pub mod IterLemmas
+pub mod LengthLemmas
+pub mod LowbitLemmas
 pub mod PartLemmas
+pub mod PrefixLemmas
 pub mod RemoveSteps
 pub mod RetainSteps
 pub mod SpineReads
