@@ -7,6 +7,7 @@ pub mod CutLemmas
 pub mod CutSplits
 pub mod EditSteps
 pub mod FindLemmas
+pub mod IndexLemmas
 pub mod IterLemmas
 pub mod LengthLemmas
 pub mod LowbitLemmas

@@ -37,9 +37,8 @@ spine_end vs size s view k o v last at end =
 
 module _ {X Z : Type 0} (vs : List (Vec X Z)) (a b : ℕ) where
   -- how many items the nodes from a up to b hold
-  pub part_total : a ≤ b → length (joined (take a (vec_items vs))) + length (joined (take (length (between a b vs)) (vec_items (between a b vs)))) ≡ length (joined (take b (vec_items vs)))
-  part_total le =
-      rw (take_all (length (between a b vs)) (vec_items (between a b vs)) (omega (arith, length-vec_items (between a b vs))), between-vec_items vs a b) (parted (vec_items vs) a b le)
+  pub part_total : a ≤ b → length (joined (take a (vec_items vs))) + length (joined (vec_items (between a b vs))) ≡ length (joined (take b (vec_items vs)))
+  part_total le = rw (between-vec_items vs a b) (parted (vec_items vs) a b le)
 
   pub part_within : a ≤ b → length (joined (vec_items (between a b vs))) ≤ length (joined (vec_items vs))
   part_within le = rw (between-vec_items vs a b) (omega (arith, parted (vec_items vs) a b le, length-joined-take (vec_items vs) b))
