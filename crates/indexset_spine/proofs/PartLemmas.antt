@@ -1,13 +1,14 @@
 -- How many items stand between two places.
-use Rattle.std.proofs.Common.{◌≡◌, ℕ, ◌+◌, ◌<◌, ◌≤◌, List, [], ◌++◌, length, take, get_or, subst, arith, length-append, sym, ap, ◌∙◌}
+use Rattle.std.proofs.Common.{◌≡◌, ℕ, zero, suc, ◌+◌, ◌-◌, ◌<◌, ◌≤◌, List, [], ◌++◌, length, take, get_or, refl, subst, arith, length-append, sym, ap, ◌∙◌}
 use Rattle.std.proofs.lemmas.List.{take_all, take-append-drop, take-take}
 use Rattle.std.proofs.lemmas.Slice.{between_is}
 use Rattle.std.specs.List.{between}
 use Rattle.std.specs.declared.vec.Vec.{Vec}
 use Rattle.indexset_spine.specs.declared.spot.Spot.{Spot}
-use Rattle.indexset_core.specs.Nodes.{joined, node_at}
+use Rattle.indexset_core.specs.Nodes.{joined, node_at, node_lengths}
 use Rattle.indexset_core.proofs.CallerLemmas.{joined-append, length-joined-more, length-joined-mono, length-joined-take, offset-le}
-use Rattle.indexset_spine.specs.Cut.{Cut, cut, items, vec_items, IsSpot, position_of}
+use Rattle.indexset_spine.specs.Cut.{Cut, cut, items, vec_items, IsCut, IsSpot, IsItemSpot, position_of}
+use Rattle.indexset_spine.proofs.CutEdits.{node_filled}
 use Rattle.indexset_spine.proofs.IterLemmas.{between-vec_items}
 use Rattle.indexset_spine.proofs.VecNodes.{length-vec_items, node_read}
 
@@ -28,6 +29,18 @@ module _ {X : Type 0} (ns : List (List X)) where
   last_place : (k o : ℕ) → k + 1 ≡ length ns → o ≡ length (node_at ns k) → length (joined (take k ns)) + o ≡ length (joined ns)
   last_place k o last at =
       omega (arith, length-joined-more ns k (omega arith), ap (λ (l : List (List X)). length (joined l)) (take_all (k + 1) ns (omega arith)))
+
+  -- the last node has the last item
+  pub last_filled : (size k : ℕ) → IsCut (node_lengths ns) size → 0 < length (joined ns) → k + 1 ≡ length ns → 1 ≤ length (node_at ns k)
+  last_filled size zero is some last = omega (arith, some, last_place 0 (length (node_at ns 0)) last refl)
+  last_filled size (suc k) is some last = node_filled ns (suc k) size (omega arith) (omega arith) is
+
+  -- the spot of the last item
+  pub last_spot_in : (size : ℕ) (p : Spot) → IsCut (node_lengths ns) size → 0 < length (joined ns) → p.node + 1 ≡ length ns → p.offset ≡ length (node_at ns p.node) - 1 → IsItemSpot ns p × (position_of ns p ≡ length (joined ns) - 1)
+  last_spot_in size p is some last at =
+      let filled = last_filled size p.node is some last in
+      let whole = last_place p.node (length (node_at ns p.node)) last refl in
+      (record { node_in = omega arith; offset_in = omega arith }, omega arith)
 
 -- the end of the last node of a spine
 pub spine_end : {X Z : Type 0} (vs : List (Vec X Z)) (size : ℕ) (s : Cut X) → cut (vec_items vs) size ≡ s → (k o : ℕ) (v : Vec X Z) → k + 1 ≡ length vs → v ≡ get_or vs k v → o ≡ length v.items → length (joined (take k s.nodes)) + o ≡ length (items s)

@@ -1,4 +1,4 @@
-use Rattle.std.proofs.Common.{◌≡◌, ◌+◌, length, sum, refl, arith, ap}
+use Rattle.std.proofs.Common.{length, sum, refl, arith, ap}
 use Rattle.indexset_core.proofs.CallerLemmas.{length-joined}
 use Rattle.indexset_spine.specs.Cut.{items, vec_items}
 use Rattle.indexset_spine.proofs.IndexLemmas.{spot_found}
