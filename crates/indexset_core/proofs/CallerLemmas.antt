@@ -1,7 +1,7 @@
 -- What crates above this one may cite of its proofs.
 pub use Rattle.indexset_core.proofs.AscendingLemmas.{equal_inside, found_ascending, found_equal, gap_equal, is_some-find, located_found, located_gap, position_absent, position_found, rank-slice_get, remove_ascending, slice_get-rank, slice_get-rank_equal, told_found, told_gap, told_has_equal}
 pub use Rattle.indexset_core.proofs.BoundLemmas.{at_position}
-pub use Rattle.indexset_core.proofs.DigitsLemmas.{digits-above, digits-half, digits-left, digits-mono, digits-right}
+pub use Rattle.indexset_core.proofs.DigitsLemmas.{digits-above, digits-half, digits-least, digits-left, digits-mono, digits-most, digits-right, digits-zero}
 pub use Rattle.indexset_core.proofs.KeyRangeLemmas.{key_range_is, key_range_order, pairs_total, past_absent, past_found}
 pub use Rattle.indexset_core.proofs.LocateLemmas.{ends_for, ends_last, ends_until, equal_none, equal_read, node_ends, node_found, node_some, parted_node, place_for}
 pub use Rattle.indexset_core.proofs.NodeLemmas.{around, get_in_node, held-set, held-splice, item_read, joined-append, joined-splice, joined_around, length-held, length-joined, length-joined-mono, length-joined-more, length-joined-take, more_read, node_lengths-set, node_lengths-splice, node_read, offset-le, slice_get-left, slice_get-right}

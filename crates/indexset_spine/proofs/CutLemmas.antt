@@ -10,7 +10,7 @@ use Rattle.indexset_spine.specs.declared.spot.Spot.{Spot}
 use Rattle.indexset_core.proofs.CallerLemmas.{length-joined, node_lengths-set}
 use Rattle.indexset_spine.proofs.VecNodes.{length-vec_items, vec_items-set, node_read, item_read}
 use Rattle.indexset_core.specs.Nodes.{joined, node_lengths}
-use Rattle.indexset_spine.specs.Cut.{Cut, cut, with_item_at, IsCut, IsSpine, items, set_joined, vec_items, IsItemSpot, position_of}
+use Rattle.indexset_spine.specs.Cut.{Cut, cut, with_item_at, IsCut, IsSpine, IsIndexed, items, set_joined, vec_items, IsItemSpot, position_of}
 
 -- n numbers above 0 add up to n at least
 sum-filled : (ls : List ℕ) → All (λ n. 1 ≤ n) ls → length ls ≤ sum ls
@@ -83,10 +83,10 @@ module _ {X : Type 0} where
           ap (λ l. slice_set (vec_items vs) p.node (slice_set l p.offset w)) (sym m) ∙ sym (set_spot (vec_items vs) i p.node p.offset w here inside.offset_in inside.node_in) in
           ap (λ ns. cut ns n) (a ∙ b) ∙ ap (λ (t : Cut X). with_item_at t i w) view
 
-      -- it keeps the spine's rule
-      pub spot_keeps : (total : ℕ) → IsSpine (node_lengths (vec_items vs)) n total → IsSpine (node_lengths (vec_items (slice_set vs p.node (with_item v p.offset w)))) n total
-      spot_keeps total is =
+      -- it keeps what holds of the spine
+      pub spot_keeps : (total : ℕ) (index : List ℕ) → IsIndexed (node_lengths (vec_items vs)) n total index → IsIndexed (node_lengths (vec_items (slice_set vs p.node (with_item v p.offset w)))) n total index
+      spot_keeps total index is =
           let same : node_lengths (vec_items (slice_set vs p.node (with_item v p.offset w))) ≡ node_lengths (vec_items vs) =
           ap node_lengths (vec_items-set vs p.node (with_item v p.offset w))
           ∙ node_lengths-set (vec_items vs) p.node (slice_set v.items p.offset w) (length-set v.items p.offset w ∙ ap (λ (l : List X). length l) (sym (node_read vs p.node v node_in at []))) in
-          subst (λ (ls : List ℕ). IsSpine ls n total) (sym same) is
+          subst (λ (ls : List ℕ). IsIndexed ls n total index) (sym same) is

@@ -31,7 +31,7 @@ module _ {X : Type 0} where
   drop_mid (f ∷ fs) n bs (suc i) o e h = drop_mid fs n bs i o (omega arith) h
 
   -- an empty node holds no item
-  joined_emptied : (ns : List (List X)) (k : ℕ) → k < length ns → joined (without_emptied ns k) ≡ joined ns
+  pub joined_emptied : (ns : List (List X)) (k : ℕ) → k < length ns → joined (without_emptied ns k) ≡ joined ns
   unfolding without_emptied
   joined_emptied ns k h =
       elim ((length (node_at ns k) == 0) && nat_lt 1 (length ns)) as (λ b. (length (node_at ns k) == 0) && nat_lt 1 (length ns) ≡ b → joined (if b then remove ns k else ns) ≡ joined ns) [

@@ -10,7 +10,7 @@ use Rattle.std.specs.declared.vec.Vec.{Vec}
 use Rattle.indexset_spine.specs.declared.spot.Spot.{Spot}
 use Rattle.indexset_core.specs.Nodes.{node_at}
 use Rattle.indexset_spine.specs.Cut.{Cut, cut, vec_items, IsSpot, IsItemSpot, with_inserted, parts_with}
-use Rattle.indexset_spine.specs.Edits.{with_item_in}
+use Rattle.indexset_spine.specs.Edits.{with_item_in, with_halved}
 use Rattle.indexset_spine.proofs.VecNodes.{length-vec_items, vec_items-set, vec_items-splice, node_read}
 
 -- a node that is cut in two is two nodes
@@ -134,6 +134,10 @@ module _ {X Z : Type 0} where
         ∙ (ap (λ i. splice (vec_items vs) s.node (s.node + 1) (take i u.items ∷ drop i u.items ∷ [])) (sym half_is)
         ∙ (ap (λ n. splice (vec_items vs) s.node (s.node + 1) (take half n ∷ drop half n ∷ [])) (sym (node_is vs s.node u h at))
         ∙ ap (λ ms. splice ms s.node (s.node + 1) (take half (node_at ms s.node) ∷ drop half (node_at ms s.node) ∷ [])) same)))))
+
+    pub halved_lists : vec_items (insert (slice_set vs s.node w) (s.node + 1) r) ≡ with_halved ns s.node
+    unfolding with_halved
+    halved_lists = cut_lists ∙ ap (λ i. splice ns s.node (s.node + 1) (take i (node_at ns s.node) ∷ drop i (node_at ns s.node) ∷ [])) half_of
 
     pub right_puts : (v : X) → half < s.offset → with_item_in (vec_items (insert (slice_set vs s.node w) (s.node + 1) r)) record { node = s.node + 1; offset = s.offset - half; found = s.found } v ≡ with_inserted (length (node_at ns s.node)) ns s v
     right_puts v above =

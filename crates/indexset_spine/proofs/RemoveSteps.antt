@@ -56,11 +56,16 @@ module _ {X Z : Type 0} where
       map-append held (take k vs) (drop (suc k) vs)
       ∙ (ap (λ l. l ++ vec_items (drop (suc k) vs)) (sym (take-map held k vs)) ∙ ap (λ l. take k (vec_items vs) ++ l) (sym (drop-map held (suc k) vs)))
 
+  -- the nodes once the item at the spot is out
+  pub item_out : (vs : List (Vec X Z)) (s : Spot) (u w : Vec X Z) → IsItemSpot (vec_items vs) s → u ≡ get_or vs s.node u → w.items ≡ remove u.items s.offset
+      → vec_items (slice_set vs s.node w) ≡ slice_set (vec_items vs) s.node (remove (node_at (vec_items vs) s.node) s.offset)
+  item_out vs s u w h at is =
+      vec_items-set vs s.node w ∙ ap (λ n. slice_set (vec_items vs) s.node n) (is ∙ ap (λ n. remove n s.offset) (sym (node_is vs s.node u h.node_in at)))
+
   pub item_taken : (vs : List (Vec X Z)) (s : Spot) (u w : Vec X Z) → IsItemSpot (vec_items vs) s → u ≡ get_or vs s.node u → w.items ≡ remove u.items s.offset
       → without_emptied (vec_items (slice_set vs s.node w)) s.node ≡ without_item (vec_items vs) s
   item_taken vs s u w h at is =
-      ap (λ ms. without_emptied ms s.node) (vec_items-set vs s.node w ∙ ap (λ n. slice_set (vec_items vs) s.node n) (is ∙ ap (λ n. remove n s.offset) (sym (node_is vs s.node u h.node_in at))))
-      ∙ item_goes (vec_items vs) s h
+      ap (λ ms. without_emptied ms s.node) (item_out vs s u w h at is) ∙ item_goes (vec_items vs) s h
 
   -- w is written over the item of the spot
   pub respot_writes : (vs : List (Vec X Z)) (size : ℕ) (t : Cut X) (s : Spot) (u : Vec X Z) (w : X) → cut (vec_items vs) size ≡ t → IsItemSpot t.nodes s → u ≡ get_or vs s.node u

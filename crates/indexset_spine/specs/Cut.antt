@@ -23,6 +23,11 @@ pub record IsSpine (lengths : List ℕ) (size total : ℕ) : Type 0 where
   pub is_cut : IsCut lengths size
   pub total_is : total ≡ sum lengths
 
+-- the same, with the lengths that the index holds
+pub record IsIndexed (lengths : List ℕ) (size total : ℕ) (index : List ℕ) : Type 0 where
+  pub is_spine : IsSpine lengths size total
+  pub index_is : index ≡ lengths
+
 -- the spot of the first item
 abbrev pub first_spot : Spot
 first_spot = record { node = 0; offset = 0; found = true }

@@ -1,5 +1,6 @@
 -- What the steps of an edit do to the nodes.
-use Rattle.std.specs.Prelude.{◌≡◌, ℕ, ◌+◌, ◌==◌, ◌&&◌, Bool, List, [], ◌∷◌, ◌++◌, length, not, cond, filter, take, drop, slice_set, insert, remove, if◌then◌else◌, nat_lt}
+use Rattle.std.specs.Prelude.{◌≡◌, ℕ, ◌+◌, ◌/◌, ◌==◌, ◌&&◌, Bool, List, [], ◌∷◌, ◌++◌, length, not, cond, filter, take, drop, slice_set, insert, remove, if◌then◌else◌, nat_lt}
+use Rattle.std.specs.List.{splice}
 use Rattle.indexset_spine.specs.declared.spot.Spot.{Spot}
 use Rattle.indexset_core.specs.Nodes.{node_at}
 
@@ -7,6 +8,12 @@ module _ {X : Type 0} where
   -- the nodes with v inserted into the node of the spot
   unfoldable pub with_item_in : List (List X) → Spot → X → List (List X)
   with_item_in ns s v = slice_set ns s.node (insert (node_at ns s.node) s.offset v)
+
+  -- the nodes with the k-th cut in two at half its length
+  unfoldable pub with_halved : List (List X) → ℕ → List (List X)
+  with_halved ns k =
+      let half = length (node_at ns k) / 2 in
+      splice ns k (k + 1) (take half (node_at ns k) ∷ drop half (node_at ns k) ∷ [])
 
   -- one empty node where there is none
   abbrev pub or_one_empty : List (List X) → List (List X)

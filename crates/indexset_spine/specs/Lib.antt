@@ -1,4 +1,5 @@
 pub mod Cut
 pub mod Edits
+pub mod Fenwick
 pub mod Lengths
 pub mod SpineLends

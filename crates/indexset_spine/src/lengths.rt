@@ -1,18 +1,35 @@
-//! The lengths of nodes, added up.
-ghost use Rattle.std.specs.Prelude.{◌≡◌, ◌^◌, ◌+◌, ◌<◌, ◌≤◌, length, sum, take, map, MatchOption};
-ghost use Rattle.indexset_core.specs.Nodes.{joined, node_at};
+//! The lengths of nodes, added up: by an index, or one by one.
+ghost use Rattle.std.specs.Prelude.{◌≡◌, ◌^◌, ◌+◌, ◌<◌, ◌≤◌, length, sum, slice_index, MatchOption};
+ghost use Rattle.indexset_core.specs.Nodes.{joined};
 ghost use Rattle.indexset_spine.specs.Cut.{vec_items, IsSpot, position_of};
+ghost use Rattle.indexset_spine.specs.Fenwick.{prefix_sum};
 
+use crate::fenwick::Fenwick;
+use crate::fenwick::sums::{find_in, prefix_in};
 use crate::spot::Spot;
 
-/// How many items the first `k` nodes hold.
-pub(crate) fn prefix_in<T>(nodes: &[Vec<T>], k: usize) -> usize
-    requires within { k ≤ length nodes.now }
-    requires fits { length (joined (vec_items nodes.now)) < 2 ^ 64 }
-    ensures { result ≡ length (joined (take k (vec_items nodes.now))) }
+/// The sum of the first `k` lengths.
+pub(crate) fn items_before(index: &Fenwick, k: usize) -> usize
+    requires { k ≤ length index.now.lengths }
+    ensures { result ≡ prefix_sum index.now.lengths k }
+{
+    prefix_in(&mut index.cells(), k)
+}
+
+/// The node of a position, and the offset in that node.
+pub(crate) fn node_and_offset(index: &Fenwick, position: usize) -> Option<(usize, usize)>
+    ensures { MatchOption result (sum index.now.lengths ≤ position) (λ p. (p.0 < length index.now.lengths) × (p.1 < slice_index index.now.lengths p.0) × (prefix_sum index.now.lengths p.0 + p.1 ≡ position)) }
+{
+    find_in(&mut index.cells(), position)
+}
+
+/// How many items the nodes hold.
+pub(crate) fn total_in<T>(nodes: &[Vec<T>]) -> usize
+    requires { length (joined (vec_items nodes.now)) < 2 ^ 64 }
+    ensures { result ≡ length (joined (vec_items nodes.now)) }
 {
     let mut total = 0;
-    for node in &nodes[..k] {
+    for node in nodes {
         total += node.len();
     }
     total
@@ -29,20 +46,5 @@ pub(crate) fn distance_in<T>(nodes: &[Vec<T>], start: &Spot, end: &Spot) -> usiz
     if end.node < start.node {
         return 0;
     }
-    let between = &nodes[start.node..end.node];
-    prefix_in(between, between.len()) + end.offset - start.offset
-}
-
-/// The index of the node of a position, and the offset in that node.
-pub(crate) fn find_in<T>(nodes: &[Vec<T>], position: usize) -> Option<(usize, usize)>
-    ensures { MatchOption result (length (joined (vec_items nodes.now)) ≤ position) (λ p. (p.0 < length nodes.now) × (p.1 < length (node_at (vec_items nodes.now) p.0)) × (length (joined (take p.0 (vec_items nodes.now))) + p.1 ≡ position)) }
-{
-    let mut left = position;
-    for (k, node) in nodes.iter().enumerate() {
-        if left < node.len() {
-            return Some((k, left));
-        }
-        left -= node.len();
-    }
-    None
+    total_in(&nodes[start.node..end.node]) + end.offset - start.offset
 }

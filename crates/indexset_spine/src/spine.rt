@@ -9,6 +9,7 @@ ghost use Rattle.indexset_core.specs.Parted.{IsParted, less_count};
 ghost use Rattle.indexset_core.specs.Nodes.{node_at, node_for, equal_at, node_lengths};
 ghost use Rattle.indexset_spine.specs.Cut.{items, vec_items, IsCut, IsSpot, IsItemSpot, position_of};
 
+mod ends;
 mod insert;
 mod make;
 mod part;
@@ -16,6 +17,7 @@ mod remove;
 mod retain;
 mod split;
 
+use crate::fenwick::Fenwick;
 use crate::into_iter::IntoIter;
 use crate::iter::Iter;
 use crate::spot::Spot;
@@ -32,17 +34,19 @@ pub struct Spine<T> {
     size: usize,
     // How many items there are, as the lengths of the nodes add up.
     len: usize,
+    // The lengths of the nodes.
+    index: Fenwick,
 }
 
 impl<T> Model for Spine<T> {
     ghost use Rattle.indexset_core.specs.Nodes.{node_lengths};
-    ghost use Rattle.indexset_spine.specs.Cut.{Cut, cut, cut_code, vec_items, IsSpine};
+    ghost use Rattle.indexset_spine.specs.Cut.{Cut, cut, cut_code, vec_items, IsIndexed};
 
     ghost Value = { Cut T };
 
     ghost view = { λ s. cut (vec_items s.nodes.items) s.size };
 
-    ghost invariant = { λ s. IsSpine (node_lengths (vec_items s.nodes.items)) s.size s.len };
+    ghost invariant = { λ s. IsIndexed (node_lengths (vec_items s.nodes.items)) s.size s.len s.index.lengths };
 }
 
 impl<T> Spine<T> {
@@ -108,14 +112,14 @@ impl<T> Spine<T> {
     {
         // The sum of all lengths fits, so each sum of some does.
         let _len = self.len;
-        lengths::prefix_in(self.nodes.as_slice(), spot.node) + spot.offset
+        lengths::items_before(&self.index, spot.node) + spot.offset
     }
 
     /// The spot of the item at a position, or `None` past the end.
     pub fn spot(&self, i: usize) -> Option<Spot>
         ensures { MatchOption result (length (items self.now) ≤ i) (λ s. IsItemSpot self.now.nodes s × (position_of self.now.nodes s ≡ i) × IsTrue s.found) }
     {
-        let (node, offset) = lengths::find_in(self.nodes.as_slice(), i)?;
+        let (node, offset) = lengths::node_and_offset(&self.index, i)?;
         Some(Spot {
             node,
             offset,
@@ -249,6 +253,7 @@ impl<T: Drop> IntoIterator for Spine<T> {
             nodes,
             size: _,
             len,
+            index: _,
         } = self;
         IntoIter::over(nodes, len)
     }

@@ -6,6 +6,8 @@ pub mod callers;
 #[cfg(test)]
 mod counted;
 #[cfg(test)]
+mod fenwick;
+#[cfg(test)]
 mod logged;
 #[cfg(test)]
 mod logged_run;

@@ -90,7 +90,7 @@ impl<T: Ord + Drop> BTreeSet<T> {
         ensures err { OnErr result (self.new ≡ self.old) }
         ensures other_err { OnErr result (other.new ≡ other.old) }
     {
-        let Some(first) = other.spine.spot(0) else {
+        let Some(first) = other.spine.first_spot() else {
             unreachable!()
         };
         let spot = locate(&self.spine, other.spine.item(&first));

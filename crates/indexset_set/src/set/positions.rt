@@ -38,7 +38,7 @@ impl<T: Ord + Drop> BTreeSet<T> {
         ensures nodes { MatchOption result (self.new ≡ self.old) (λ _. IsWithoutAt self.old.nodes 0 self.new.nodes) }
         ensures size { self.new.size ≡ self.old.size }
     {
-        let spot = self.spine.spot(0)?;
+        let spot = self.spine.first_spot()?;
         Some(self.spine.remove(spot))
     }
 
@@ -49,8 +49,7 @@ impl<T: Ord + Drop> BTreeSet<T> {
         ensures nodes { MatchOption result (self.new ≡ self.old) (λ _. IsWithoutAt self.old.nodes (length (items self.old) - 1) self.new.nodes) }
         ensures size { self.new.size ≡ self.old.size }
     {
-        let last = self.spine.len().saturating_sub(1);
-        let spot = self.spine.spot(last)?;
+        let spot = self.spine.last_spot()?;
         Some(self.spine.remove(spot))
     }
 

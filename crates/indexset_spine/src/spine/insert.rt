@@ -1,12 +1,12 @@
 //! Calls that insert an item.
-ghost use Rattle.std.specs.Prelude.{◌≡◌, ◌<◌, ◌≤◌, IfOk, OnOk, IfErr, OnErr, IfSome, length, drop, insert, slice_get, vec_len, vec_capacity};
+ghost use Rattle.std.specs.Prelude.{◌≡◌, ◌+◌, ◌^◌, ◌<◌, ◌≤◌, IfOk, OnOk, IfErr, OnErr, IfSome, length, sum, drop, insert, slice_get, vec_len, vec_capacity};
 ghost use Rattle.std.specs.List.{HoldsAt};
-ghost use Rattle.indexset_core.specs.Nodes.{node_at};
+ghost use Rattle.indexset_core.specs.Nodes.{node_at, node_lengths};
 ghost use Rattle.indexset_spine.specs.Cut.{items, vec_items, IsSpot, position_of, with_inserted, without_item, first_spot};
-ghost use Rattle.indexset_spine.specs.Edits.{with_item_in};
+ghost use Rattle.indexset_spine.specs.Edits.{with_item_in, with_halved};
 
 use super::Spine;
-use super::remove::take_out;
+use crate::fenwick::Fenwick;
 use crate::spot::Spot;
 use indexset_core::halve::halve_node;
 use indexset_core::moves::insert_item;
@@ -29,9 +29,9 @@ impl<T: Drop> Spine<T> {
                 cause: Refusal::Memory,
             });
         }
-        match make_room(&mut self.nodes, self.size, spot) {
+        match make_room(&mut self.nodes, &mut self.index, self.size, spot) {
             Ok(to) => {
-                insert_in_room(&mut self.nodes, to, value);
+                insert_in_room(&mut self.nodes, &mut self.index, to, value);
                 self.len += 1;
                 Ok(())
             }
@@ -57,28 +57,38 @@ impl<T: Drop> Spine<T> {
         if self.len == usize::MAX {
             return Err(Refusal::Memory);
         }
-        let to = make_room(&mut self.nodes, self.size, spot)?;
+        let to = make_room(&mut self.nodes, &mut self.index, self.size, spot)?;
         let first = Spot {
             node: 0,
             offset: 0,
             found: true,
         };
-        other.len -= 1;
-        let value = take_out(&mut other.nodes, first);
-        insert_in_room(&mut self.nodes, to, value);
+        // Where there is an item, the first node has one.
+        let _count = other.node_count();
+        let value = other.remove(first);
+        insert_in_room(&mut self.nodes, &mut self.index, to, value);
         self.len += 1;
         Ok(())
     }
 }
 
 // Makes room for one more item at a spot, and answers the spot where it then goes: a full node is
-// halved first. A refused call changes nothing.
-fn make_room<T>(nodes: &mut Vec<Vec<T>>, size: usize, spot: Spot) -> Result<Spot, Refusal>
+// halved first. The index stays that of the nodes. A refused call changes nothing.
+fn make_room<T>(
+    nodes: &mut Vec<Vec<T>>,
+    index: &mut Fenwick,
+    size: usize,
+    spot: Spot,
+) -> Result<Spot, Refusal>
     requires spot { IsSpot (vec_items nodes.old.items) spot }
     requires two { 2 ≤ size }
+    requires index { index.old.lengths ≡ node_lengths (vec_items nodes.old.items) }
+    requires fits { sum index.old.lengths < 2 ^ 64 }
     ensures spot { IfOk result (λ to. IsSpot (vec_items nodes.new.items) to) }
     ensures room { IfOk result (λ to. HoldsAt (λ node. vec_len node < vec_capacity node) nodes.new.items to.node) }
     ensures nodes { IfOk result (λ to. (value : T) → with_item_in (vec_items nodes.new.items) to value ≡ with_inserted size (vec_items nodes.old.items) spot value) }
+    ensures index { index.new.lengths ≡ node_lengths (vec_items nodes.new.items) }
+    ensures sum { sum index.new.lengths ≡ sum index.old.lengths }
     ensures refusal { IfErr result (λ e. e ≡ Refusal.Memory) }
     ensures err { OnErr result (vec_items nodes.new.items ≡ vec_items nodes.old.items) }
 {
@@ -86,7 +96,10 @@ fn make_room<T>(nodes: &mut Vec<Vec<T>>, size: usize, spot: Spot) -> Result<Spot
         nodes[spot.node].reserve(1)?;
         return Ok(spot);
     }
-    halve_at(nodes, spot)
+    index.reserve_one()?;
+    let to = halve_at(nodes, spot)?;
+    index.rebuild_from(spot.node, nodes.as_slice());
+    Ok(to)
 }
 
 // Halves the node of a spot, and answers where that spot then is. A refused call changes nothing.
@@ -96,6 +109,7 @@ fn halve_at<T>(nodes: &mut Vec<Vec<T>>, spot: Spot) -> Result<Spot, Refusal>
     ensures spot { IfOk result (λ to. IsSpot (vec_items nodes.new.items) to) }
     ensures room { IfOk result (λ to. HoldsAt (λ node. vec_len node < vec_capacity node) nodes.new.items to.node) }
     ensures nodes { IfOk result (λ to. (value : T) → with_item_in (vec_items nodes.new.items) to value ≡ with_inserted (length (node_at (vec_items nodes.old.items) spot.node)) (vec_items nodes.old.items) spot value) }
+    ensures halved { OnOk result (vec_items nodes.new.items ≡ with_halved (vec_items nodes.old.items) spot.node) }
     ensures refusal { IfErr result (λ e. e ≡ Refusal.Memory) }
     ensures err { OnErr result (vec_items nodes.new.items ≡ vec_items nodes.old.items) }
 {
@@ -114,11 +128,15 @@ fn halve_at<T>(nodes: &mut Vec<Vec<T>>, spot: Spot) -> Result<Spot, Refusal>
     Ok(spot)
 }
 
-// Inserts an item into a node that has room.
-fn insert_in_room<T>(nodes: &mut Vec<Vec<T>>, to: Spot, value: T)
+// Inserts an item into a node that has room. The index stays that of the nodes.
+fn insert_in_room<T>(nodes: &mut Vec<Vec<T>>, index: &mut Fenwick, to: Spot, value: T)
     requires spot { IsSpot (vec_items nodes.old.items) to }
     requires room { HoldsAt (λ node. vec_len node < vec_capacity node) nodes.old.items to.node }
-    ensures { vec_items nodes.new.items ≡ with_item_in (vec_items nodes.old.items) to value }
+    requires index { index.old.lengths ≡ node_lengths (vec_items nodes.old.items) }
+    requires fits { sum index.old.lengths + 1 < 2 ^ 64 }
+    ensures nodes { vec_items nodes.new.items ≡ with_item_in (vec_items nodes.old.items) to value }
+    ensures index { index.new.lengths ≡ node_lengths (vec_items nodes.new.items) }
 {
     insert_item(&mut nodes[to.node], to.offset, value);
+    index.add(to.node, 1);
 }

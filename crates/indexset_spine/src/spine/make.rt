@@ -3,6 +3,7 @@ ghost use Rattle.std.specs.Prelude.{◌≡◌, ◌≤◌, [], ◌∷◌, IfOk, I
 ghost use Rattle.indexset_spine.specs.Cut.{vec_items};
 
 use super::Spine;
+use crate::fenwick::Fenwick;
 use indexset_core::refusal::Refusal;
 use std::alloc::Global;
 
@@ -15,11 +16,13 @@ impl<T: Drop> Spine<T> {
         ensures refusal { IfErr result (λ e. e ≡ Refusal.Memory) }
     {
         let mut nodes = Vec::with_capacity(alloc, 1)?;
+        let index = Fenwick::from_lengths(alloc, &[0])?;
         match nodes.push(Vec::new(alloc)) {
             Ok(()) => Ok(Spine {
                 nodes,
                 size,
                 len: 0,
+                index,
             }),
             Err(_) => Err(Refusal::Memory),
         }
@@ -33,10 +36,15 @@ impl<T: Drop> Spine<T> {
         ensures ok { IfOk result (λ s. s ≡ self.now) }
         ensures refusal { IfErr result (λ e. e ≡ Refusal.Memory) }
     {
+        let alloc = *self.nodes.allocator();
+        let nodes = clone_nodes(alloc, self.nodes.as_slice())?;
+        let mut index = Fenwick::with_capacity(alloc, self.index.len())?;
+        index.rebuild(nodes.as_slice());
         Ok(Spine {
-            nodes: clone_nodes(*self.nodes.allocator(), self.nodes.as_slice())?,
+            nodes,
             size: self.size,
             len: self.len,
+            index,
         })
     }
 
@@ -48,6 +56,9 @@ impl<T: Drop> Spine<T> {
         self.nodes.truncate(1);
         self.nodes[0].clear();
         self.len = 0;
+        // There is room for as many lengths as there were.
+        let _count = self.index.len();
+        self.index.rebuild(self.nodes.as_slice());
     }
 }
 

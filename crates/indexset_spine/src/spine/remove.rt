@@ -1,10 +1,11 @@
 //! Calls that take an item out, or write another over it.
-ghost use Rattle.std.specs.Prelude.{◌≡◌, ◌<◌, Some, length, remove, slice_get, slice_set};
-ghost use Rattle.indexset_core.specs.Nodes.{node_at};
+ghost use Rattle.std.specs.Prelude.{◌≡◌, ◌<◌, false, Some, length, remove, slice_get, slice_set};
+ghost use Rattle.indexset_core.specs.Nodes.{node_at, node_lengths};
 ghost use Rattle.indexset_spine.specs.Cut.{items, vec_items, IsItemSpot, position_of, without_item, with_replaced};
 ghost use Rattle.indexset_spine.specs.Edits.{without_emptied};
 
 use super::Spine;
+use crate::fenwick::Fenwick;
 use crate::spot::Spot;
 use indexset_core::moves::remove_item;
 use std::mem;
@@ -19,7 +20,7 @@ impl<T: Drop> Spine<T> {
         ensures size { self.new.size ≡ self.old.size }
     {
         self.len -= 1;
-        take_out(&mut self.nodes, spot)
+        take_out(&mut self.nodes, &mut self.index, spot)
     }
 
     /// Writes an item over the one at a spot, and answers that one.
@@ -35,23 +36,44 @@ impl<T: Drop> Spine<T> {
     }
 }
 
-// Takes out the item at a spot, and an emptied node with it, unless it is the only one.
-pub(super) fn take_out<T: Drop>(nodes: &mut Vec<Vec<T>>, spot: Spot) -> T
-    requires { IsItemSpot (vec_items nodes.old.items) spot }
+// Takes out the item at a spot, and an emptied node with it, unless it is the only one. The index
+// stays that of the nodes.
+fn take_out<T: Drop>(nodes: &mut Vec<Vec<T>>, index: &mut Fenwick, spot: Spot) -> T
+    requires spot { IsItemSpot (vec_items nodes.old.items) spot }
+    requires index { index.old.lengths ≡ node_lengths (vec_items nodes.old.items) }
     ensures value { slice_get (node_at (vec_items nodes.old.items) spot.node) spot.offset ≡ Some result }
     ensures nodes { vec_items nodes.new.items ≡ without_item (vec_items nodes.old.items) spot }
+    ensures index { index.new.lengths ≡ node_lengths (vec_items nodes.new.items) }
 {
     let value = remove_item(&mut nodes[spot.node], spot.offset);
-    drop_if_empty(nodes, spot.node);
+    index.sub(spot.node, 1);
+    drop_indexed_if_empty(nodes, index, spot.node);
     value
 }
 
-// Takes out a node if it is empty and not the only one.
-pub(super) fn drop_if_empty<T: Drop>(nodes: &mut Vec<Vec<T>>, k: usize)
+// Takes out a node if it is empty and not the only one. The index stays that of the nodes.
+fn drop_indexed_if_empty<T: Drop>(nodes: &mut Vec<Vec<T>>, index: &mut Fenwick, k: usize)
+    requires node { k < length (vec_items nodes.old.items) }
+    requires index { index.old.lengths ≡ node_lengths (vec_items nodes.old.items) }
+    ensures nodes { vec_items nodes.new.items ≡ without_emptied (vec_items nodes.old.items) k }
+    ensures index { index.new.lengths ≡ node_lengths (vec_items nodes.new.items) }
+{
+    if drop_if_empty(nodes, k) {
+        // There is room for as many lengths as there were, and their sum fits.
+        let _count = index.len();
+        index.rebuild_from(k, nodes.as_slice());
+    }
+}
+
+// Takes out a node if it is empty and not the only one, and answers whether it did.
+pub(super) fn drop_if_empty<T: Drop>(nodes: &mut Vec<Vec<T>>, k: usize) -> bool
     requires { k < length (vec_items nodes.old.items) }
-    ensures { vec_items nodes.new.items ≡ without_emptied (vec_items nodes.old.items) k }
+    ensures nodes { vec_items nodes.new.items ≡ without_emptied (vec_items nodes.old.items) k }
+    ensures stays { result ≡ false → vec_items nodes.new.items ≡ vec_items nodes.old.items }
 {
     if nodes[k].is_empty() && 1 < nodes.len() {
         drop(remove_item(nodes, k));
+        return true;
     }
+    false
 }

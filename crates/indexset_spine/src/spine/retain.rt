@@ -18,7 +18,10 @@ impl<T: Drop> Spine<T> {
         ensures size { self.new.size ≡ self.old.size }
     {
         retain_nodes(&mut self.nodes, f);
-        self.len = lengths::prefix_in(self.nodes.as_slice(), self.nodes.len());
+        self.len = lengths::total_in(self.nodes.as_slice());
+        // There is room for as many lengths as there were.
+        let _count = self.index.len();
+        self.index.rebuild(self.nodes.as_slice());
     }
 }
 

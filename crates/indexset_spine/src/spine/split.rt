@@ -5,6 +5,7 @@ ghost use Rattle.indexset_spine.specs.Edits.{left_nodes, right_nodes};
 
 use super::Spine;
 use super::remove::drop_if_empty;
+use crate::fenwick::Fenwick;
 use crate::spot::Spot;
 use indexset_core::moves::move_tail;
 use indexset_core::refusal::Refusal;
@@ -25,11 +26,17 @@ impl<T: Drop> Spine<T> {
         ensures err { OnErr result (self.new ≡ self.old) }
     {
         let left = self.position(&spot);
+        let alloc = *self.nodes.allocator();
+        let count = self.index.len();
+        let mut index = Fenwick::with_capacity(alloc, count - spot.node)?;
         let nodes = split_nodes(&mut self.nodes, spot)?;
+        index.rebuild(nodes.as_slice());
+        self.index.rebuild_from(spot.node, self.nodes.as_slice());
         let right = Spine {
             nodes,
             size: self.size,
             len: self.len - left,
+            index,
         };
         self.len = left;
         Ok(right)

@@ -6,18 +6,18 @@ use Rattle.indexset_spine.proofs.lengths.distance_in.Goals as goal
 pub returns-then-end-start : goal.returns-then-end-start
 returns-then-end-start g c = omega (arith, same_place (vec_items c.args.nodes.now) c.args.start.now c.args.end.now c.requires.end c.if-end-start.true c.requires.order)
 
-pub prefix_in-requires-clause-fits : goal.prefix_in-requires-clause-fits
-prefix_in-requires-clause-fits g c =
+pub total_in-requires : goal.total_in-requires
+total_in-requires g c =
     omega (arith, part_within c.args.nodes.now c.args.start.now.node c.args.end.now.node c.if-end-start.false, c.requires.fits)
 
 pub overflow_add-result : goal.overflow_add-result
 overflow_add-result g c =
-    omega (arith, c.prefix_in.ensures, part_total c.args.nodes.now c.args.start.now.node c.args.end.now.node c.if-end-start.false, place_within (vec_items c.args.nodes.now) c.args.end.now c.requires.end)
+    omega (arith, c.total_in.ensures, part_total c.args.nodes.now c.args.start.now.node c.args.end.now.node c.if-end-start.false, place_within (vec_items c.args.nodes.now) c.args.end.now c.requires.end)
 
 pub overflow_sub-result : goal.overflow_sub-result
 overflow_sub-result g c =
-    omega (arith, c.prefix_in.ensures, part_total c.args.nodes.now c.args.start.now.node c.args.end.now.node c.if-end-start.false, c.requires.order)
+    omega (arith, c.total_in.ensures, part_total c.args.nodes.now c.args.start.now.node c.args.end.now.node c.if-end-start.false, c.requires.order)
 
 pub returns : goal.returns
 returns g c =
-    omega (arith, c.prefix_in.ensures, part_total c.args.nodes.now c.args.start.now.node c.args.end.now.node c.if-end-start.false, c.requires.order)
+    omega (arith, c.total_in.ensures, part_total c.args.nodes.now c.args.start.now.node c.args.end.now.node c.if-end-start.false, c.requires.order)

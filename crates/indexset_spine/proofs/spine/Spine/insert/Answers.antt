@@ -1,17 +1,29 @@
-use Rattle.std.proofs.Common.{◌∙◌, ap, insert}
+use Rattle.std.proofs.Common.{◌∙◌, ap, arith, insert, sum}
 use Rattle.indexset_core.specs.Nodes.{joined}
 use Rattle.indexset_spine.specs.Cut.{Cut, items, position_of}
 use Rattle.indexset_spine.proofs.EditSteps.{spot_in}
 use Rattle.indexset_spine.proofs.CutEdits.{spine_inserted, joined_inserted}
 use Rattle.indexset_spine.proofs.spine.Spine.insert.Goals as goal
 
+pub make_room-requires-clause-index : goal.make_room-requires-clause-index
+make_room-requires-clause-index g c = c.self.invariant.index_is
+
+pub make_room-requires-clause-fits : goal.make_room-requires-clause-fits
+make_room-requires-clause-fits g c = omega (arith, c.self.invariant.is_spine.total_is, ap sum c.self.invariant.index_is)
+
+pub insert_in_room-requires-clause-fits : goal.insert_in_room-requires-clause-fits
+insert_in_room-requires-clause-fits g c = omega (arith, c.self.invariant.is_spine.total_is, ap sum c.self.invariant.index_is, c.make_room.ensures.sum)
+
 pub invariant_of-self : goal.invariant_of-self
 invariant_of-self g c =
     let spot = spot_in _ _ c.args.self.now c.args.spot c.self.view_is c.requires in
-    rw (c.insert_in_room.ensures ∙ c.in-Ok.ensures.nodes c.args.value) (spine_inserted _ _ _ c.args.spot c.args.value spot c.self.invariant)
+    record {
+      is_spine = rw (c.insert_in_room.ensures.nodes ∙ c.in-Ok.ensures.nodes c.args.value) (spine_inserted _ _ _ c.args.spot c.args.value spot c.self.invariant.is_spine);
+      index_is = c.insert_in_room.ensures.index;
+    }
 
 pub returns-in-Ok-clause-items : goal.returns-in-Ok-clause-items
 returns-in-Ok-clause-items g c =
     let spot = spot_in _ _ c.args.self.now c.args.spot c.self.view_is c.requires in
-    ap joined (c.insert_in_room.ensures ∙ c.in-Ok.ensures.nodes c.args.value)
+    ap joined (c.insert_in_room.ensures.nodes ∙ c.in-Ok.ensures.nodes c.args.value)
     ∙ (joined_inserted _ _ c.args.spot c.args.value spot ∙ ap (λ (t : Cut g.row.T.Denot). insert (items t) (position_of t.nodes c.args.spot) c.args.value) c.self.view_is)

@@ -17,4 +17,4 @@ returns-in-None g c =
     let end = rw c.deref.ensures.value at c.in-None.ensures in
     let next = rw (c.deref-in-None.ensures.value, add-one) at c.item_in-in-None.ensures in
     let spot = rw (← c.self.view_is) at c.requires in
-    rw (← c.self.view_is) (next ∙ sym (joined_next ns k c.args.spot.now.offset spot.node_in spot.offset_in (later_filled ns c.self.inside.size k c.self.invariant.is_cut) (sym end)))
+    rw (← c.self.view_is) (next ∙ sym (joined_next ns k c.args.spot.now.offset spot.node_in spot.offset_in (later_filled ns c.self.inside.size k c.self.invariant.is_spine.is_cut) (sym end)))

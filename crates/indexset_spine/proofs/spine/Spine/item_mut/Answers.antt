@@ -5,7 +5,7 @@ use Rattle.indexset_spine.proofs.spine.Spine.item_mut.Goals as goal
 
 pub invariant_of-self-lent : goal.invariant_of-self-lent
 invariant_of-self-lent g c =
-    λ w. spot_keeps _ _ c.args.self.now c.args.spot _ w c.self.view_is c.requires.spot c.index_mut-items.ensures.value _ c.self.invariant
+    λ w. spot_keeps _ _ c.args.self.now c.args.spot _ w c.self.view_is c.requires.spot c.index_mut-items.ensures.value _ _ c.self.invariant
 
 pub returns : goal.returns
 returns g c = (

@@ -12,4 +12,4 @@ pub returns-clause-runs_back : goal.returns-clause-runs_back
 returns-clause-runs_back g c = shows_in_reverse deref
 
 pub over-requires : goal.over-requires
-over-requires g c = rw c.as_slice.ensures.value (c.self.invariant.total_is ∙ sym (length-joined (vec_items c.self.inside.nodes.items)))
+over-requires g c = rw c.as_slice.ensures.value (c.self.invariant.is_spine.total_is ∙ sym (length-joined (vec_items c.self.inside.nodes.items)))

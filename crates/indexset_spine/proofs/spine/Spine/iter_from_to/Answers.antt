@@ -13,4 +13,4 @@ returns-clause-runs_back g c = shows_in_reverse deref
 
 pub distance_in-requires-clause-fits : goal.distance_in-requires-clause-fits
 distance_in-requires-clause-fits g c =
-    rw c.as_slice-nodes.ensures.value (omega (arith, spine_len _ _ _ _ c.self.view_is c.self.invariant, ap (λ t. length (items t)) c.self.view_is))
+    rw c.as_slice-nodes.ensures.value (omega (arith, spine_len _ _ _ _ c.self.view_is c.self.invariant.is_spine, ap (λ t. length (items t)) c.self.view_is))

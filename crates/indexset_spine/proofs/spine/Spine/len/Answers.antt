@@ -2,4 +2,4 @@ use Rattle.indexset_spine.proofs.CutLemmas.{spine_len}
 use Rattle.indexset_spine.proofs.spine.Spine.len.Goals as goal
 
 pub returns : goal.returns
-returns g c = spine_len _ _ _ c.args.self.now c.self.view_is c.self.invariant
+returns g c = spine_len _ _ _ c.args.self.now c.self.view_is c.self.invariant.is_spine

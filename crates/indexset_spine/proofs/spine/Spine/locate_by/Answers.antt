@@ -6,17 +6,17 @@ use Rattle.indexset_spine.proofs.spine.Spine.locate_by.Goals as goal
 
 pub first_not_less-offset-requires : goal.first_not_less-offset-requires
 first_not_less-offset-requires g c =
-    let here = read_node _ _ c.args.self.now c.self.view_is c.self.invariant.is_cut _ _ c.index.result.now (rw c.as_slice.ensures.value at c.node_by-node.ensures.node) c.index.ensures in
+    let here = read_node _ _ c.args.self.now c.self.view_is c.self.invariant.is_spine.is_cut _ _ c.index.result.now (rw c.as_slice.ensures.value at c.node_by-node.ensures.node) c.index.ensures in
     rw (c.node_by-node.ensures.fixed, c.as_slice-items.ensures.value) (node_parted _ _ _ _ here c.requires)
 
 pub returns-clause-position : goal.returns-clause-position
 returns-clause-position g c =
-    let here = read_node _ _ c.args.self.now c.self.view_is c.self.invariant.is_cut _ _ c.index.result.now (rw c.as_slice.ensures.value at c.node_by-node.ensures.node) c.index.ensures in
+    let here = read_node _ _ c.args.self.now c.self.view_is c.self.invariant.is_spine.is_cut _ _ c.index.result.now (rw c.as_slice.ensures.value at c.node_by-node.ensures.node) c.index.ensures in
     located _ _ _ _ here c.requires _ (rw (c.node_by-node.ensures.fixed, c.as_slice-items.ensures.value) at c.first_not_less-offset.ensures.count)
 
 pub returns-clause-found : goal.returns-clause-found
 returns-clause-found g c =
-    let here = read_node _ _ c.args.self.now c.self.view_is c.self.invariant.is_cut _ _ c.index.result.now (rw c.as_slice.ensures.value at c.node_by-node.ensures.node) c.index.ensures in
+    let here = read_node _ _ c.args.self.now c.self.view_is c.self.invariant.is_spine.is_cut _ _ c.index.result.now (rw c.as_slice.ensures.value at c.node_by-node.ensures.node) c.index.ensures in
     let offset = rw (c.node_by-node.ensures.fixed, c.as_slice-items.ensures.value) at c.first_not_less-offset.ensures.count in
     let equal = rw (c.first_not_less-offset.ensures.fixed, c.node_by-node.ensures.fixed, c.as_slice-items.ensures.value) at c.is_equal_at-found.ensures.found in
     equal ∙ told _ _ _ _ here c.requires _ offset
@@ -24,7 +24,7 @@ returns-clause-found g c =
 pub returns-clause-few : goal.returns-clause-few
 returns-clause-few g c =
     let s = c.args.self.now in
-    let here = read_node _ _ s c.self.view_is c.self.invariant.is_cut _ _ c.index.result.now (rw c.as_slice.ensures.value at c.node_by-node.ensures.node) c.index.ensures in
+    let here = read_node _ _ s c.self.view_is c.self.invariant.is_spine.is_cut _ _ c.index.result.now (rw c.as_slice.ensures.value at c.node_by-node.ensures.node) c.index.ensures in
     let within = node_within _ _ _ _ here in
     let node = ap (λ l. length l) c.as_slice-items.ensures.value in
     let nodes = ap (λ l. length l) c.as_slice.ensures.value in

@@ -1,14 +1,22 @@
 use Rattle.std.proofs.Common.{arith, ap, length}
-use Rattle.indexset_spine.specs.Cut.{position_of, items}
-use Rattle.indexset_spine.proofs.CutLemmas.{spine_len}
 use Rattle.indexset_core.proofs.CallerLemmas.{offset-le}
+use Rattle.indexset_spine.specs.Cut.{position_of, vec_items}
+use Rattle.indexset_spine.proofs.CutLemmas.{spine_len}
+use Rattle.indexset_spine.proofs.IndexLemmas.{count-lengths, prefix-joined}
 use Rattle.indexset_spine.proofs.spine.Spine.position.Goals as goal
 
-pub prefix_in-requires-clause-fits : goal.prefix_in-requires-clause-fits
-prefix_in-requires-clause-fits g c = rw c.as_slice.ensures.value (omega (arith, spine_len _ _ _ _ c.self.view_is c.self.invariant, ap (λ t. length (items t)) c.self.view_is))
+pub items_before-requires : goal.items_before-requires
+items_before-requires g c =
+    omega (arith, c.requires.node_in, ap (λ l. length l) c.self.invariant.index_is, count-lengths (vec_items c.self.inside.nodes.items), ap (λ t. length t.nodes) c.self.view_is)
 
 pub overflow_add-result : goal.overflow_add-result
 overflow_add-result g c =
     let s = c.args.self.now in
-    let e = rw c.as_slice.ensures.value at c.prefix_in.ensures in
-    record { fits = omega (arith, spine_len _ _ _ s c.self.view_is c.self.invariant, offset-le s.nodes c.args.spot.now.node c.args.spot.now.offset c.requires.node_in c.requires.offset_in, ap (λ t. position_of t.nodes c.args.spot.now) c.self.view_is) }
+    let k = c.args.spot.now.node in
+    let e = rw c.self.invariant.index_is at c.items_before.ensures in
+    record { fits = omega (arith, e, prefix-joined (vec_items c.self.inside.nodes.items) k, spine_len _ _ _ s c.self.view_is c.self.invariant.is_spine, offset-le s.nodes k c.args.spot.now.offset c.requires.node_in c.requires.offset_in, ap (λ t. position_of t.nodes c.args.spot.now) c.self.view_is) }
+
+pub returns : goal.returns
+returns g c =
+    let e = rw c.self.invariant.index_is at c.items_before.ensures in
+    omega (arith, e, prefix-joined (vec_items c.self.inside.nodes.items) c.args.spot.now.node, ap (λ t. position_of t.nodes c.args.spot.now) c.self.view_is)

@@ -7,12 +7,15 @@ use Rattle.indexset_spine.proofs.spine.Spine.remove.Goals as goal
 
 pub overflow_sub-self : goal.overflow_sub-self
 overflow_sub-self g c =
-    one_inside _ _ _ c.args.spot (item_spot_in _ _ c.args.self.now c.args.spot c.self.view_is c.requires) c.self.invariant
+    one_inside _ _ _ c.args.spot (item_spot_in _ _ c.args.self.now c.args.spot c.self.view_is c.requires) c.self.invariant.is_spine
 
 pub invariant_of-self : goal.invariant_of-self
 invariant_of-self g c =
     let spot = item_spot_in _ _ c.args.self.now c.args.spot c.self.view_is c.requires in
-    rw c.take_out.ensures.nodes (spine_without _ _ _ c.args.spot spot c.self.invariant)
+    record {
+      is_spine = rw c.take_out.ensures.nodes (spine_without _ _ _ c.args.spot spot c.self.invariant.is_spine);
+      index_is = c.take_out.ensures.index;
+    }
 
 pub returns-clause-value : goal.returns-clause-value
 returns-clause-value g c =

@@ -1,14 +1,18 @@
-use Rattle.std.proofs.Common.{◌∙◌, ap, slice_set}
+use Rattle.std.proofs.Common.{◌∙◌, ap, slice_set, sym}
 use Rattle.indexset_core.specs.Nodes.{joined}
-use Rattle.indexset_spine.specs.Cut.{position_of, with_replaced}
-use Rattle.indexset_spine.proofs.CutEdits.{joined_replaced, spine_replaced}
+use Rattle.indexset_spine.specs.Cut.{vec_items, position_of, with_replaced}
+use Rattle.indexset_spine.proofs.CutEdits.{joined_replaced, node_lengths-replaced, spine_replaced}
 use Rattle.indexset_spine.proofs.RemoveSteps.{respot_writes, item_read}
 use Rattle.indexset_spine.proofs.spine.Spine.replace.Goals as goal
 
 pub invariant_of-self : goal.invariant_of-self
 invariant_of-self g c =
-    rw (respot_writes _ _ c.args.self.now c.args.spot _ c.replace.new.dest c.self.view_is c.requires c.index_mut-node.ensures.value, ← c.self.view_is)
-    (spine_replaced _ _ _ c.args.spot c.replace.new.dest c.self.invariant)
+    let written = respot_writes _ _ c.args.self.now c.args.spot _ c.replace.new.dest c.self.view_is c.requires c.index_mut-node.ensures.value in
+    let lengths = node_lengths-replaced (vec_items c.self.inside.nodes.items) c.args.spot c.replace.new.dest in
+    rw (written, ← c.self.view_is) (record {
+      is_spine = spine_replaced _ _ _ c.args.spot c.replace.new.dest c.self.invariant.is_spine;
+      index_is = c.self.invariant.index_is ∙ sym lengths;
+    })
 
 pub returns-clause-value : goal.returns-clause-value
 returns-clause-value g c =

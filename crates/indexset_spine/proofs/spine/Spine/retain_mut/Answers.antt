@@ -1,24 +1,38 @@
-use Rattle.std.proofs.Common.{length, ◌∙◌, ap, arith}
-use Rattle.std.proofs.lemmas.List.{take_all}
+use Rattle.std.proofs.Common.{length, sum, ap, arith, ◌∙◌}
 use Rattle.std.specs.Fn.{CalledAtMut}
-use Rattle.indexset_core.specs.Nodes.{joined}
+use Rattle.indexset_core.specs.Nodes.{node_lengths}
 use Rattle.indexset_core.proofs.CallerLemmas.{length-joined}
 use Rattle.indexset_spine.specs.Cut.{vec_items}
+use Rattle.indexset_spine.proofs.IndexLemmas.{count-lengths, retained_few}
 use Rattle.indexset_spine.proofs.VecNodes.{length-vec_items}
 use Rattle.indexset_spine.proofs.RetainSteps.{nodes_joined, nodes_shorter, nodes_spine}
 use Rattle.indexset_spine.proofs.spine.Spine.retain_mut.Goals as goal
 
-pub prefix_in-self-inside-requires-clause-fits : goal.prefix_in-self-inside-requires-clause-fits
-prefix_in-self-inside-requires-clause-fits g c =
+pub total_in-self-inside-requires : goal.total_in-self-inside-requires
+total_in-self-inside-requires g c =
     let few = nodes_shorter (CalledAtMut g.F.FnMut) _ _ _ c.retain_nodes.ensures in
-    rw c.as_slice.ensures.value (omega (arith, few, c.self.invariant.total_is, length-joined (vec_items c.self.inside.nodes.items)))
+    rw c.as_slice.ensures.value (omega (arith, few, c.self.invariant.is_spine.total_is, length-joined (vec_items c.self.inside.nodes.items)))
+
+pub rebuild-requires-clause-room : goal.rebuild-requires-clause-room
+rebuild-requires-clause-room g c =
+    let ns = vec_items c.self.inside.nodes.items in
+    let some = c.self.invariant.is_spine.is_cut.some in
+    let few = retained_few (CalledAtMut g.F.FnMut) _ _ _ c.retain_nodes.ensures (omega (arith, some, count-lengths ns)) in
+    let nodes = ap (λ v. length v) c.as_slice-2.ensures.value in
+    omega (arith, few, nodes, length-vec_items c.retain_nodes.new.nodes.items, count-lengths ns, c.len-count.ensures.within, ap (λ l. length l) c.self.invariant.index_is)
+
+pub rebuild-requires-clause-fits : goal.rebuild-requires-clause-fits
+rebuild-requires-clause-fits g c =
+    let few = nodes_shorter (CalledAtMut g.F.FnMut) _ _ _ c.retain_nodes.ensures in
+    let nodes = c.retain_nodes.new.nodes.items in
+    omega (arith, few, c.len-count.ensures.fits, ap sum c.self.invariant.index_is, length-joined (vec_items c.self.inside.nodes.items), length-joined (vec_items nodes), ap (λ v. sum (node_lengths (vec_items v))) c.as_slice-2.ensures.value)
 
 pub invariant_of-self : goal.invariant_of-self
-invariant_of-self g c =
-    let nodes = c.retain_nodes.new.nodes in
-    let all = take_all c.len.result (vec_items nodes.items) (omega (arith, length-vec_items nodes.items, c.len.ensures, nodes.ok)) in
-    let counted = rw c.as_slice.ensures.value at c.prefix_in-self-inside.ensures in
-    nodes_spine (CalledAtMut g.F.FnMut) _ _ _ c.retain_nodes.ensures c.self.inside.size c.prefix_in-self-inside.result c.self.invariant.is_cut (counted ∙ ap (λ ns. length (joined ns)) all)
+invariant_of-self g c = record {
+  is_spine =
+      nodes_spine (CalledAtMut g.F.FnMut) _ _ _ c.retain_nodes.ensures c.self.inside.size c.total_in-self-inside.result c.self.invariant.is_spine.is_cut (rw c.as_slice.ensures.value at c.total_in-self-inside.ensures);
+  index_is = c.rebuild.ensures.lengths ∙ ap (λ v. node_lengths (vec_items v)) c.as_slice-2.ensures.value;
+}
 
 pub returns-clause-kept : goal.returns-clause-kept
 returns-clause-kept g c = rw (← c.self.view_is) (nodes_joined (CalledAtMut g.F.FnMut) _ _ _ c.retain_nodes.ensures)

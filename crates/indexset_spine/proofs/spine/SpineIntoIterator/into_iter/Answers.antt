@@ -5,7 +5,7 @@ use Rattle.indexset_core.proofs.CallerLemmas.{length-joined}
 use Rattle.indexset_spine.proofs.spine.SpineIntoIterator.into_iter.Goals as goal
 
 pub over-requires : goal.over-requires
-over-requires g c = c.self.invariant.total_is ∙ sym (length-joined (vec_items c.self.inside.nodes.items))
+over-requires g c = c.self.invariant.is_spine.total_is ∙ sym (length-joined (vec_items c.self.inside.nodes.items))
 
 pub returns : goal.returns
 returns g c = record { into_iter_gives = (c.over.ensures ∙ ap (λ s. items s) c.self.view_is, gives_in_order, gives_in_reverse) }

@@ -1,7 +1,7 @@
 use Rattle.std.proofs.Common.{◌∙◌, ap}
 use Rattle.indexset_spine.specs.Cut.{vec_items}
 use Rattle.indexset_core.proofs.CallerLemmas.{on_err}
-use Rattle.indexset_spine.proofs.EditSteps.{lists_kept, right_puts, left_puts, right_room, left_room, half_len}
+use Rattle.indexset_spine.proofs.EditSteps.{lists_kept, right_puts, left_puts, right_room, left_room, half_len, halved_lists}
 use Rattle.indexset_spine.proofs.spine.insert.halve_at.Goals as goal
 
 pub returns-in_err-right-clause-err : goal.returns-in_err-right-clause-err
@@ -33,3 +33,15 @@ returns-clause-nodes g c =
     let e = c.reserve.ensures.items in let ok = c.in_ok-right.ensures {u = tt} in
     λ value. rw c.insert_item.ensures.items
     (left_puts _ _ (ap vec_items e) c.args.spot _ _ c.in_ok-right.right (rw e c.requires.spot.node_in) c.index_mut-node.ensures.value ok.left ok.right _ (c.len-half.ensures ∙ half_len c.index_mut-node.result.now c.halve_node.new.node ok.left) value c.if-half-spot.false)
+
+pub returns-then-half-spot-clause-halved : goal.returns-then-half-spot-clause-halved
+returns-then-half-spot-clause-halved g c =
+    let e = c.reserve.ensures.items in let ok = c.in_ok-right.ensures {u = tt} in
+    ap vec_items c.insert_item.ensures.items
+    ∙ halved_lists (vec_items c.args.nodes.now.items) _ (ap vec_items e) c.args.spot _ _ c.in_ok-right.right (rw e c.requires.spot.node_in) c.index_mut-node.ensures.value ok.left ok.right _ (c.len-half.ensures ∙ half_len c.index_mut-node.result.now c.halve_node.new.node ok.left)
+
+pub returns-clause-halved : goal.returns-clause-halved
+returns-clause-halved g c =
+    let e = c.reserve.ensures.items in let ok = c.in_ok-right.ensures {u = tt} in
+    ap vec_items c.insert_item.ensures.items
+    ∙ halved_lists (vec_items c.args.nodes.now.items) _ (ap vec_items e) c.args.spot _ _ c.in_ok-right.right (rw e c.requires.spot.node_in) c.index_mut-node.ensures.value ok.left ok.right _ (c.len-half.ensures ∙ half_len c.index_mut-node.result.now c.halve_node.new.node ok.left)

@@ -7,13 +7,13 @@ use Rattle.indexset_spine.proofs.RemoveSteps.{vec_items-remove, emptied_goes, on
 use Rattle.indexset_spine.proofs.spine.remove.drop_if_empty.Goals.{else-is_empty-via-then-is_empty+else-len-gt1, else-is_empty-via-else-is_empty}
 use Rattle.indexset_spine.proofs.spine.remove.drop_if_empty.Goals as goal
 
-pub returns-then-len-gt1 : goal.returns-then-len-gt1
-returns-then-len-gt1 g c =
+pub returns-then-len-gt1-clause-nodes : goal.returns-then-len-gt1-clause-nodes
+returns-then-len-gt1-clause-nodes g c =
     let long = node_len c.args.nodes.now.items c.args.k _ c.requires c.index.ensures in
     ap vec_items c.remove_item.ensures.items ∙ (vec_items-remove c.args.nodes.now.items c.args.k ∙ sym (emptied_goes (vec_items c.args.nodes.now.items) c.args.k (grind (arith, nat_tests)) (omega (arith, length-vec_items c.args.nodes.now.items, c.len.ensures))))
 
-pub returns-else-is_empty : goal.returns-else-is_empty
-returns-else-is_empty g c =
+pub returns-clause-nodes : goal.returns-clause-nodes
+returns-clause-nodes g c =
     let long = node_len c.args.nodes.now.items c.args.k _ c.requires c.index.ensures in
     elim c.else-is_empty.branch [
       | else-is_empty-via-then-is_empty+else-len-gt1 w ↦ sym (only_stays (vec_items c.args.nodes.now.items) c.args.k (omega (arith, length-vec_items c.args.nodes.now.items, w.len.ensures)))

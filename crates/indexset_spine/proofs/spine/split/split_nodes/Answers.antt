@@ -14,7 +14,7 @@ pub returns-clause-left : goal.returns-clause-left
 unfolding left_nodes
 returns-clause-left g c =
     let cut = c.in_ok-back.ensures {u = tt} in let k = c.args.spot.node in
-    c.drop_if_empty.ensures
+    c.drop_if_empty.ensures.nodes
     ∙ (ap (λ vs. without_emptied (vec_items vs) k) c.move_tail.ensures.left
     ∙ ap (λ ns. without_emptied ns k) (left_lists c.args.nodes.now.items k c.args.spot.offset _ c.take_back.new.node c.in_ok-back.back c.requires.node_in c.index_mut.ensures.value cut.front))
 
@@ -22,6 +22,6 @@ pub returns-clause-right : goal.returns-clause-right
 unfolding right_nodes
 returns-clause-right g c =
     let cut = c.in_ok-back.ensures {u = tt} in let k = c.args.spot.node in
-    c.drop_if_empty-2.ensures
+    c.drop_if_empty-2.ensures.nodes
     ∙ (ap (λ vs. without_emptied (vec_items vs) 0) (rw (c.push_reserved.ensures.items, (c.in_ok-right.ensures {u = tt}).items) at c.move_tail.ensures.moved)
     ∙ ap (λ ns. without_emptied ns 0) (right_lists c.args.nodes.now.items k c.args.spot.offset _ c.take_back.new.node c.in_ok-back.back c.requires.node_in c.index_mut.ensures.value cut.back))

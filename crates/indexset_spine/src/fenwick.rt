@@ -1,0 +1,141 @@
+//! A Fenwick index: lengths, kept as sums that are quick to add up, to search and to change.
+ghost use Rattle.std.specs.Prelude.{◌≡◌, ◌+◌, ◌-◌, ◌<◌, ◌≤◌, ◌^◌, [], ◌∷◌, ◌++◌, length, sum, take, slice_index, slice_set, IfOk, IfErr, OnOk};
+ghost use Rattle.indexset_core.specs.Nodes.{node_lengths};
+ghost use Rattle.indexset_spine.specs.Cut.{vec_items};
+
+pub mod cells;
+pub mod laws;
+pub mod sums;
+mod table;
+
+use indexset_core::refusal::Refusal;
+use std::alloc::Global;
+use std::marker::Model;
+
+/// An index of lengths, whose sum is at most the greatest usize.
+#[derive(Drop)]
+pub struct Fenwick {
+    // Cell i, counted from 1, is the sum of as many lengths up to the i-th as the lowest one bit of i says.
+    cells: Vec<usize>,
+}
+
+impl Model for Fenwick {
+    ghost use Rattle.std.specs.Prelude.{vec_capacity};
+    ghost use Rattle.indexset_spine.specs.Fenwick.{Lengths, lengths_of, IsFenwick};
+
+    ghost Value = { Lengths };
+
+    ghost view = { λ f. record { lengths = lengths_of f.cells.items; room = vec_capacity f.cells } };
+
+    ghost invariant = { λ f. IsFenwick f.cells.items };
+}
+
+impl Fenwick {
+    /// No length, and room for some.
+    pub fn with_capacity(alloc: Global, capacity: usize) -> Result<Self, Refusal>
+        ensures empty { IfOk result (λ f. f.lengths ≡ []) }
+        ensures room { IfOk result (λ f. capacity ≤ f.room) }
+        ensures refusal { IfErr result (λ e. e ≡ Refusal.Memory) }
+    {
+        Ok(Fenwick {
+            cells: Vec::with_capacity(alloc, capacity)?,
+        })
+    }
+
+    /// The index of these lengths.
+    pub fn from_lengths(alloc: Global, lengths: &[usize]) -> Result<Self, Refusal>
+        requires { sum lengths.now < 2 ^ 64 }
+        ensures ok { IfOk result (λ f. f.lengths ≡ lengths.now) }
+        ensures refusal { IfErr result (λ e. e ≡ Refusal.Memory) }
+    {
+        let mut index = Fenwick::with_capacity(alloc, lengths.len())?;
+        for length in lengths {
+            index.push(*length);
+        }
+        Ok(index)
+    }
+
+    /// How many lengths there are: at most as many as there is room for.
+    pub fn len(&self) -> usize
+        ensures value { result ≡ length self.now.lengths }
+        ensures within { length self.now.lengths ≤ self.now.room }
+        ensures fits { sum self.now.lengths < 2 ^ 64 }
+    {
+        self.cells.len()
+    }
+
+    /// Makes room for one more length. A refused call changes nothing.
+    pub fn reserve_one(&mut self) -> Result<(), Refusal>
+        ensures room { OnOk result (length self.new.lengths < self.new.room) }
+        ensures lengths { self.new.lengths ≡ self.old.lengths }
+        ensures kept { self.old.room ≤ self.new.room }
+        ensures refusal { IfErr result (λ e. e ≡ Refusal.Memory) }
+    {
+        self.cells.reserve(1)?;
+        Ok(())
+    }
+
+    /// One length more, where there is room. It takes no memory.
+    pub fn push(&mut self, last: usize)
+        requires room { length self.old.lengths < self.old.room }
+        requires fits { sum self.old.lengths + last < 2 ^ 64 }
+        ensures lengths { self.new.lengths ≡ self.old.lengths ++ last ∷ [] }
+        ensures room { self.new.room ≡ self.old.room }
+    {
+        let cell = table::next_cell(self.cells.as_slice(), last);
+        self.cells.push_reserved(cell);
+    }
+
+    /// Keeps the first `k` lengths.
+    pub fn truncate(&mut self, k: usize)
+        ensures lengths { self.new.lengths ≡ take k self.old.lengths }
+        ensures room { self.new.room ≡ self.old.room }
+    {
+        self.cells.truncate(k);
+    }
+
+    /// Adds to the i-th length, counted from 0.
+    pub fn add(&mut self, i: usize, n: usize)
+        requires inside { i < length self.old.lengths }
+        requires fits { sum self.old.lengths + n < 2 ^ 64 }
+        ensures lengths { self.new.lengths ≡ slice_set self.old.lengths i (slice_index self.old.lengths i + n) }
+        ensures room { self.new.room ≡ self.old.room }
+    {
+        table::raise(self.cells.as_mut_slice(), i, n);
+    }
+
+    /// Takes from the i-th length, counted from 0.
+    pub fn sub(&mut self, i: usize, n: usize)
+        requires inside { i < length self.old.lengths }
+        requires enough { n ≤ slice_index self.old.lengths i }
+        ensures lengths { self.new.lengths ≡ slice_set self.old.lengths i (slice_index self.old.lengths i - n) }
+        ensures room { self.new.room ≡ self.old.room }
+    {
+        table::lower(self.cells.as_mut_slice(), i, n);
+    }
+
+    /// The lengths of these nodes, where there is room. It takes no memory.
+    pub fn rebuild<T>(&mut self, nodes: &[Vec<T>])
+        requires room { length nodes.now ≤ self.old.room }
+        requires fits { sum (node_lengths (vec_items nodes.now)) < 2 ^ 64 }
+        ensures lengths { self.new.lengths ≡ node_lengths (vec_items nodes.now) }
+        ensures room { self.new.room ≡ self.old.room }
+    {
+        self.rebuild_from(0, nodes);
+    }
+
+    /// The lengths of these nodes, of which the first `k` are there already. It takes no memory.
+    pub fn rebuild_from<T>(&mut self, k: usize, nodes: &[Vec<T>])
+        requires same { take k self.old.lengths ≡ take k (node_lengths (vec_items nodes.now)) }
+        requires within { k ≤ length nodes.now }
+        requires room { length nodes.now ≤ self.old.room }
+        requires fits { sum (node_lengths (vec_items nodes.now)) < 2 ^ 64 }
+        ensures lengths { self.new.lengths ≡ node_lengths (vec_items nodes.now) }
+        ensures room { self.new.room ≡ self.old.room }
+    {
+        self.truncate(k);
+        for node in &nodes[k..] {
+            self.push(node.len());
+        }
+    }
+}

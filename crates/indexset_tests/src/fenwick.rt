@@ -1,0 +1,143 @@
+//! Worked figures of an index of the lengths 2, 2, 2, 4, and how many cells each answer reads.
+ghost use Rattle.std.specs.Prelude.{◌≡◌, ◌≤◌, length};
+ghost use Rattle.indexset_spine.specs.Fenwick.{cell_of};
+
+use indexset_spine::fenwick::Fenwick;
+use indexset_spine::fenwick::cells::Cells;
+use indexset_spine::fenwick::sums::{find_in, prefix_in};
+use std::test::Fail;
+
+/// Cells that show how often they were read.
+#[derive(Drop)]
+struct Watched<C> {
+    cells: C,
+    reads: u64,
+}
+
+impl<C: Cells> Cells for Watched<C> {
+    ghost number = { λ s. C.number s.cells };
+
+    ghost cell = { λ s. C.cell s.cells };
+
+    ghost asked = { λ s. C.asked s.cells };
+
+    fn count(&self) -> usize {
+        self.cells.count()
+    }
+
+    fn read(&mut self, i: usize) -> usize {
+        self.reads = self.reads.saturating_add(1);
+        self.cells.read(i)
+    }
+}
+
+/// The sum of the first `k` lengths, and how many cells were read.
+fn prefix(index: &Fenwick, k: usize) -> (usize, u64)
+    requires { k ≤ length index.now.lengths }
+{
+    let mut cells = Watched {
+        cells: index.cells(),
+        reads: 0,
+    };
+    let sum = prefix_in(&mut cells, k);
+    (sum, cells.reads)
+}
+
+/// The node of a position and the offset in it, and how many cells were read.
+fn find(index: &Fenwick, position: usize) -> (Option<(usize, usize)>, u64) {
+    let mut cells = Watched {
+        cells: index.cells(),
+        reads: 0,
+    };
+    let found = find_in(&mut cells, position);
+    (found, cells.reads)
+}
+
+/// What a cell holds.
+fn cell(index: &Fenwick, i: usize) -> usize
+    requires one { 1 ≤ i }
+    requires within { i ≤ length index.now.lengths }
+    ensures { result ≡ cell_of index.now.lengths i }
+{
+    index.cells().read(i)
+}
+
+/// What the first four cells hold.
+fn four(index: &Fenwick) -> [usize; 4]
+    requires { length index.now.lengths ≡ 4 }
+{
+    [
+        cell(index, 1),
+        cell(index, 2),
+        cell(index, 3),
+        cell(index, 4),
+    ]
+}
+
+#[test]
+fn cells_hold_sums(rt: HostRuntime) -> Result<(), Fail> {
+    let mut index = Fenwick::from_lengths(rt.alloc(), &[2, 2, 2, 4])?;
+    assert_eq!(rt; index.cells().count(), 4);
+    assert_eq!(rt; four(&index), [2, 4, 2, 10]);
+    index.add(1, 1);
+    assert_eq!(rt; four(&index), [2, 5, 2, 11]);
+    assert_eq!(rt; find(&index, 4).0, Some((1, 2)));
+    index.sub(3, 4);
+    assert_eq!(rt; four(&index), [2, 5, 2, 7]);
+    Ok(())
+}
+
+#[test]
+fn sums_read_a_cell_for_each_one_bit(rt: HostRuntime) -> Result<(), Fail> {
+    let index = Fenwick::from_lengths(rt.alloc(), &[2, 2, 2, 4])?;
+    assert_eq!(rt; prefix(&index, 3), (6, 2));
+    assert_eq!(rt; prefix(&index, 4), (10, 1));
+    Ok(())
+}
+
+#[test]
+fn searches_read_a_cell_for_each_digit(rt: HostRuntime) -> Result<(), Fail> {
+    let index = Fenwick::from_lengths(rt.alloc(), &[2, 2, 2, 4])?;
+    for (position, expected) in [
+        (5, Some((2, 1))),
+        (6, Some((3, 0))),
+        (9, Some((3, 3))),
+        (10, None),
+    ] {
+        let (found, reads) = find(&index, position);
+        assert_eq!(rt; found, expected);
+        assert!(rt; reads <= 3);
+    }
+    Ok(())
+}
+
+#[test]
+fn empty_nodes_hold_no_position(rt: HostRuntime) -> Result<(), Fail> {
+    let index = Fenwick::from_lengths(rt.alloc(), &[0, 3])?;
+    assert_eq!(rt; find(&index, 0).0, Some((1, 0)));
+    let index = Fenwick::from_lengths(rt.alloc(), &[0])?;
+    assert_eq!(rt; find(&index, 0).0, None);
+    Ok(())
+}
+
+#[test]
+fn an_index_grows_and_is_rebuilt(rt: HostRuntime) -> Result<(), Fail> {
+    let alloc = rt.alloc();
+    let nodes = vec![in alloc;
+        vec![in alloc; 1u8, 2]?,
+        vec![in alloc; 3]?,
+        vec![in alloc; 4, 5, 6]?,
+    ]?;
+    let mut index = Fenwick::with_capacity(alloc, 1)?;
+    index.push(9);
+    index.reserve_one()?;
+    index.push(1);
+    index.reserve_one()?;
+    index.rebuild(nodes.as_slice());
+    assert_eq!(rt; prefix(&index, 3).0, 6);
+    index.truncate(2);
+    assert_eq!(rt; (index.len(), prefix(&index, 2).0), (2, 3));
+    index.rebuild_from(2, nodes.as_slice());
+    assert_eq!(rt; find(&index, 3).0, Some((2, 0)));
+    Ok(())
+}
