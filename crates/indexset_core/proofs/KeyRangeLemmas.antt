@@ -1,17 +1,15 @@
 -- The part of a list of pairs that two bounds on keys cut out.
-use Rattle.std.proofs.Common.{◌≡◌, ℕ, ◌+◌, ◌≤◌, true, List, [], ◌∷◌, filter, Ordering, Some, None, ◌&&◌, refl, ap, sym, ◌∙◌, arith}
+use Rattle.std.proofs.Common.{◌≡◌, ℕ, ◌+◌, ◌≤◌, true, List, [], ◌∷◌, Ordering, Some, None, sym, arith}
 use Rattle.std.specs.Cmp.{IsTotalOrder, on_total}
 use Rattle.std.specs.List.{between, count_by, position}
 use Rattle.std.specs.Ordering.{is_eq, is_le}
-use Rattle.std.specs.Range.Bound.{bound_map}
 use Rattle.std.specs.declared.ops.Bound.{Bound}
-use Rattle.std.specs.declared.ops.Bound.TheVariants.{Included, Excluded, Unbounded}
 use Rattle.indexset_core.specs.declared.pair.Pair.{Pair}
-use Rattle.indexset_core.specs.Bounds.{are_ordered, in_range, is_before, is_from_start, is_up_to_end}
+use Rattle.indexset_core.specs.Bounds.{are_ordered, is_before, is_up_to_end}
 use Rattle.indexset_core.specs.Order.{IsAscending}
 use Rattle.indexset_core.specs.Pairs.{pair, by_key, key_rank, pairs_within}
 use Rattle.indexset_core.proofs.PairLemmas.{absent_gap, key_absent, key_found, key_inside, parted_by_key}
-use Rattle.indexset_core.proofs.RangeLemmas.{found_not_above, gap_not_above, range_is, range_order}
+use Rattle.indexset_core.proofs.RangeLemmas.{found_not_above, gap_not_above, keyed_range_is, keyed_range_order}
 
 module _ {K V : Type 0} (cmp : K → K → Ordering) (o : IsTotalOrder cmp) where
   pub pairs_total : IsTotalOrder (by_key {V = V} cmp)
@@ -27,47 +25,11 @@ module _ {K V : Type 0} (cmp : K → K → Ordering) (o : IsTotalOrder cmp) wher
   past_absent (p ∷ l) up k i h place =
       sym (gap_not_above (by_key cmp) (p ∷ l) (pair k p.value) i (absent_gap cmp (p ∷ l) k (key_absent cmp (p ∷ l) k h) (parted_by_key cmp o (p ∷ l) up k) i place p.value))
 
-  -- a bound on keys is one on pairs, with any value
-  module _ (w : V) where
-    before_keys : (start : Bound K) → ◌≡◌ {A = Pair K V → _} (λ p. is_before cmp start p.key) (is_before (by_key cmp) (bound_map (λ k. pair k w) start))
-    before_keys (Included a) = refl
-    before_keys (Excluded a) = refl
-    before_keys Unbounded = refl
+  module _ (l : List (Pair K V)) (up : IsAscending (by_key cmp) l) (start end : Bound K) (ordered : are_ordered cmp start end ≡ true) (i j : ℕ) (from : i ≡ count_by (λ p. is_before cmp start p.key) l) (to : j ≡ count_by (λ p. is_up_to_end cmp end p.key) l) where
+    -- the pairs between the two counts are those within the bounds
+    pub key_range_is : between i j l ≡ pairs_within cmp l start end
+    key_range_is = keyed_range_is cmp o (λ p. p.key) l (parted_by_key cmp o l up) start end ordered i j from to
 
-    from_keys : (start : Bound K) → ◌≡◌ {A = Pair K V → _} (is_from_start (by_key cmp) (bound_map (λ k. pair k w) start)) (λ p. is_from_start cmp start p.key)
-    from_keys (Included a) = refl
-    from_keys (Excluded a) = refl
-    from_keys Unbounded = refl
-
-    up_to_keys : (end : Bound K) → ◌≡◌ {A = Pair K V → _} (λ p. is_up_to_end cmp end p.key) (is_up_to_end (by_key cmp) (bound_map (λ k. pair k w) end))
-    up_to_keys (Included a) = refl
-    up_to_keys (Excluded a) = refl
-    up_to_keys Unbounded = refl
-
-    ordered_keys : (start end : Bound K) → are_ordered (by_key {V = V} cmp) (bound_map (λ k. pair k w) start) (bound_map (λ k. pair k w) end) ≡ are_ordered cmp start end
-    ordered_keys Unbounded end = refl
-    ordered_keys (Included a) Unbounded = refl
-    ordered_keys (Included a) (Included b) = refl
-    ordered_keys (Included a) (Excluded b) = refl
-    ordered_keys (Excluded a) Unbounded = refl
-    ordered_keys (Excluded a) (Included b) = refl
-    ordered_keys (Excluded a) (Excluded b) = refl
-
-    within_keys : (l : List (Pair K V)) (start end : Bound K) → in_range (by_key cmp) l (bound_map (λ k. pair k w) start) (bound_map (λ k. pair k w) end) ≡ pairs_within cmp l start end
-    within_keys l start end = λ j. filter (λ p. from_keys start j p && sym (up_to_keys end) j p) l
-
-  -- the pairs between the two counts are those within the bounds
-  pub key_range_is : (l : List (Pair K V)) → IsAscending (by_key cmp) l → (start end : Bound K) → are_ordered cmp start end ≡ true → (i j : ℕ) → i ≡ count_by (λ p. is_before cmp start p.key) l → j ≡ count_by (λ p. is_up_to_end cmp end p.key) l
-      → between i j l ≡ pairs_within cmp l start end
-  key_range_is [] up start end ordered i j from to = rw (from, to) refl
-  key_range_is (p ∷ l) up start end ordered i j from to =
-      let w = p.value in
-      let wide = range_is (by_key cmp) pairs_total (p ∷ l) up (bound_map (λ k. pair k w) start) (bound_map (λ k. pair k w) end) (ordered_keys w start end ∙ ordered) i j in
-      wide (from ∙ ap (λ f. count_by f (p ∷ l)) (before_keys w start)) (to ∙ ap (λ f. count_by f (p ∷ l)) (up_to_keys w end)) ∙ within_keys w (p ∷ l) start end
-
-  -- the start is not behind the end
-  pub key_range_order : (l : List (Pair K V)) → IsAscending (by_key cmp) l → (start end : Bound K) → are_ordered cmp start end ≡ true → (i j : ℕ) → i ≡ count_by (λ p. is_before cmp start p.key) l → j ≡ count_by (λ p. is_up_to_end cmp end p.key) l → i ≤ j
-  key_range_order [] up start end ordered i j from to = omega (arith, from, to)
-  key_range_order (p ∷ l) up start end ordered i j from to =
-      let w = p.value in
-      range_order (by_key cmp) pairs_total (p ∷ l) up (bound_map (λ k. pair k w) start) (bound_map (λ k. pair k w) end) (ordered_keys w start end ∙ ordered) i j (from ∙ ap (λ f. count_by f (p ∷ l)) (before_keys w start)) (to ∙ ap (λ f. count_by f (p ∷ l)) (up_to_keys w end))
+    -- the start is not behind the end
+    pub key_range_order : i ≤ j
+    key_range_order = keyed_range_order cmp o (λ p. p.key) l (parted_by_key cmp o l up) start end ordered i j from to

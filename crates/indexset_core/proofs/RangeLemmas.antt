@@ -8,8 +8,9 @@ use Rattle.std.specs.Ordering.{is_lt, is_le, is_gt, is_ge}
 use Rattle.std.specs.Cmp.{IsTotalOrder}
 use Rattle.std.proofs.lemmas.Cmp.{alike_right}
 use Rattle.std.proofs.lemmas.Bool.{false≢true, cases_lt}
-use Rattle.indexset_core.specs.Bounds.{is_before, is_from_start, is_up_to_end, are_ordered, in_range}
+use Rattle.indexset_core.specs.Bounds.{is_before, is_from_start, is_up_to_end, is_within, are_ordered, in_range}
 use Rattle.indexset_core.specs.Order.{IsAscending, IsFoundAt, IsGapFor}
+use Rattle.indexset_core.specs.Parted.{IsParted}
 use Rattle.indexset_core.proofs.OrderLemmas.{parted_by_item, found_after}
 use Rattle.indexset_core.proofs.PartedLemmas.{Parts, count_parts, count_parted, front-is_lt, front-is_le}
 
@@ -103,31 +104,40 @@ module _ {T : Type 0} (cmp : T → T → Ordering) (o : IsTotalOrder cmp) where
   not_before (Excluded a) x = not_le (cmp x a)
   not_before Unbounded x = refl
 
-  module _ (l : List T) (up : IsAscending cmp l) where
+  -- a list that a probe by any value finds in order: f tells what of an item is compared
+  module _ {X : Type 0} (f : X → T) (l : List X) (parted : (v : T) → IsParted (λ x. cmp (f x) v) l) where
     none_parts : Parts (λ x. false) l (count_by (λ x. false) l)
-    none_parts = rw (count_parted (λ (x : T). false) l 0 (omega arith) (λ k d low high. absurd (omega arith)) (λ k d low high. refl)) (record { inside = omega arith; before = λ k d low high. absurd (omega arith); after = λ k d low high. refl })
+    none_parts = rw (count_parted (λ (x : X). false) l 0 (omega arith) (λ k d low high. absurd (omega arith)) (λ k d low high. refl)) (record { inside = omega arith; before = λ k d low high. absurd (omega arith); after = λ k d low high. refl })
 
     all_parts : Parts (λ x. true) l (count_by (λ x. true) l)
-    all_parts = rw (count_parted (λ (x : T). true) l (length l) (omega arith) (λ k d low high. refl) (λ k d low high. absurd (omega arith))) (record { inside = omega arith; before = λ k d low high. refl; after = λ k d low high. absurd (omega arith) })
+    all_parts = rw (count_parted (λ (x : X). true) l (length l) (omega arith) (λ k d low high. refl) (λ k d low high. absurd (omega arith))) (record { inside = omega arith; before = λ k d low high. refl; after = λ k d low high. absurd (omega arith) })
 
-    before_parts : (start : Bound T) → Parts (is_before cmp start) l (count_by (is_before cmp start) l)
-    before_parts (Included a) = count_parts is_lt front-is_lt (λ x. cmp x a) l (parted_by_item cmp o l up a)
-    before_parts (Excluded a) = count_parts is_le front-is_le (λ x. cmp x a) l (parted_by_item cmp o l up a)
+    before_parts : (start : Bound T) → Parts (λ x. is_before cmp start (f x)) l (count_by (λ x. is_before cmp start (f x)) l)
+    before_parts (Included a) = count_parts is_lt front-is_lt (λ x. cmp (f x) a) l (parted a)
+    before_parts (Excluded a) = count_parts is_le front-is_le (λ x. cmp (f x) a) l (parted a)
     before_parts Unbounded = none_parts
 
-    up_to_parts : (end : Bound T) → Parts (is_up_to_end cmp end) l (count_by (is_up_to_end cmp end) l)
-    up_to_parts (Included a) = count_parts is_le front-is_le (λ x. cmp x a) l (parted_by_item cmp o l up a)
-    up_to_parts (Excluded a) = count_parts is_lt front-is_lt (λ x. cmp x a) l (parted_by_item cmp o l up a)
+    up_to_parts : (end : Bound T) → Parts (λ x. is_up_to_end cmp end (f x)) l (count_by (λ x. is_up_to_end cmp end (f x)) l)
+    up_to_parts (Included a) = count_parts is_le front-is_le (λ x. cmp (f x) a) l (parted a)
+    up_to_parts (Excluded a) = count_parts is_lt front-is_lt (λ x. cmp (f x) a) l (parted a)
     up_to_parts Unbounded = all_parts
 
-    module _ (start end : Bound T) (ordered : are_ordered cmp start end ≡ true) (i j : ℕ) (from : i ≡ count_by (is_before cmp start) l) (to : j ≡ count_by (is_up_to_end cmp end) l) where
-      pub range_order : i ≤ j
-      range_order = rw (from, to) (parts_le (is_before cmp start) (is_up_to_end cmp end) l _ _ (before_parts start) (up_to_parts end) (ordered_weaker start end ordered))
+    module _ (start end : Bound T) (ordered : are_ordered cmp start end ≡ true) (i j : ℕ) (from : i ≡ count_by (λ x. is_before cmp start (f x)) l) (to : j ≡ count_by (λ x. is_up_to_end cmp end (f x)) l) where
+      pub keyed_range_order : i ≤ j
+      keyed_range_order = rw (from, to) (parts_le (λ x. is_before cmp start (f x)) (λ x. is_up_to_end cmp end (f x)) l _ _ (before_parts start) (up_to_parts end) (λ x. ordered_weaker start end ordered (f x)))
 
-      pub range_is : between i j l ≡ in_range cmp l start end
-      range_is =
-          sym (parts_between (is_before cmp start) (is_up_to_end cmp end) l i j (rw from (before_parts start)) (rw to (up_to_parts end)) range_order)
-          ∙ ap (λ (r : T → Bool). filter r l) (λ k x. not_before start x k && is_up_to_end cmp end x)
+      pub keyed_range_is : between i j l ≡ filter (λ x. is_within cmp start end (f x)) l
+      keyed_range_is =
+          sym (parts_between (λ x. is_before cmp start (f x)) (λ x. is_up_to_end cmp end (f x)) l i j (rw from (before_parts start)) (rw to (up_to_parts end)) keyed_range_order)
+          ∙ ap (λ (r : X → Bool). filter r l) (λ k x. not_before start (f x) k && is_up_to_end cmp end (f x))
+
+  -- of an ascending list, the part that two bounds on its items cut out
+  module _ (l : List T) (up : IsAscending cmp l) (start end : Bound T) (ordered : are_ordered cmp start end ≡ true) (i j : ℕ) (from : i ≡ count_by (is_before cmp start) l) (to : j ≡ count_by (is_up_to_end cmp end) l) where
+    pub range_order : i ≤ j
+    range_order = keyed_range_order (λ x. x) l (parted_by_item cmp o l up) start end ordered i j from to
+
+    pub range_is : between i j l ≡ in_range cmp l start end
+    range_is = keyed_range_is (λ x. x) l (parted_by_item cmp o l up) start end ordered i j from to
 
 -- how many are below v or equal to it
 module _ {T : Type 0} (cmp : T → T → Ordering) (l : List T) (v : T) (i : ℕ) where

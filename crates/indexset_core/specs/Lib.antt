@@ -1,5 +1,6 @@
 pub mod Bounds
 pub mod Digits
+pub mod MultiPairs
 pub mod Nodes
 pub mod Order
 pub mod Pairs

@@ -7,6 +7,7 @@ ghost use Rattle.std.specs.Cmp.Rules.{comparing};
 ghost use Rattle.std.proofs.Common.{rules};
 
 use crate::pair::Pair;
+use crate::refusal::Refused;
 use std::cmp::Ordering;
 use std::hash::{Hash, Hasher};
 
@@ -116,5 +117,22 @@ impl<K: Hash, V> Hash for MultiPair<K, V> {
     fn hash<H: Hasher>(&self, state: &mut H) {
         self.key.hash(state);
         self.discriminator.hash(state);
+    }
+}
+
+impl<K, V> From<Refused<MultiPair<K, V>>> for Refused<(K, V)> {
+    ghost from_gives = { λ e r. (r.value ≡ (e.value.key, e.value.value)) × (r.cause ≡ e.cause) };
+
+    fn from(refused: Refused<MultiPair<K, V>>) -> Refused<(K, V)> {
+        let Refused { value, cause } = refused;
+        let MultiPair {
+            key,
+            value,
+            discriminator: _,
+        } = value;
+        Refused {
+            value: (key, value),
+            cause,
+        }
     }
 }

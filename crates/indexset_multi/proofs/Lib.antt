@@ -1,0 +1,5 @@
+pub mod Below
+pub mod Free
+pub mod Numbers
+pub mod Searches
+pub mod Takes

@@ -1,0 +1,77 @@
+-- Where a search of lawful nodes ends, as the code passes it on.
+use Rattle.std.proofs.Common.{◌≡◌, ℕ, ◌+◌, ◌-◌, ◌<◌, ◌≤◌, zero, suc, Bool, true, false, List, slice_get, [], ◌∷◌, ◌++◌, length, map, Result, Ok, Err, is_ok, is_some, Ordering, refl, ap, sym, ◌∙◌, arith, length-append}
+use Rattle.std.specs.Cmp.{IsTotalOrder}
+use Rattle.std.specs.List.{All, find, list_any}
+use Rattle.std.specs.Ordering.{is_eq}
+use Rattle.std.specs.Result.{result_ok}
+use Rattle.std.proofs.lemmas.List.{length-map}
+use Rattle.indexset_core.specs.declared.multipair.MultiPair.{MultiPair}
+use Rattle.indexset_core.specs.MultiPairs.{by_number}
+use Rattle.indexset_core.specs.Nodes.{joined, node_at, IsLawful}
+use Rattle.indexset_core.specs.Parted.{IsParted, less_count}
+use Rattle.indexset_core.proofs.CallerLemmas.{is_some-find}
+use Rattle.indexset_log.specs.Located.{located}
+use Rattle.indexset_log.specs.Places.{IsPlace, items_before}
+use Rattle.indexset_log.proofs.CallerLemmas.{IsEnd, end_at, end_found, end_node, end_offset, gap_at, gap_found, last_before, lawful_ascends, lawful_filled}
+use Rattle.indexset_multi.specs.Places.{item_at, IsItemPlace}
+use Rattle.indexset_multi.proofs.Numbers.{answer_to, parted_keys, parted_numbers}
+
+module _ {T : Type 0} (cmp : T → T → Ordering) (size : ℕ) (ns : List (List T)) (law : IsLawful cmp size ns) (answer : T → Ordering) (parted : IsParted answer (joined ns)) (r : Result (ℕ × ℕ) (ℕ × ℕ)) (e : r ≡ located answer ns) where
+  -- it stands at an item where it has found one
+  pub ok_place : IsItemPlace ns (result_ok r)
+  ok_place = elim r as (λ s. r ≡ s → IsItemPlace ns (result_ok s)) [
+    | Ok p ↦ λ is. (end_node answer ns (lawful_filled cmp size ns law) parted r e p is, end_offset answer ns (lawful_filled cmp size ns law) parted r e p is)
+    | Err p ↦ λ is. tt
+  ] refl
+
+  -- which is the first that is answered Equal
+  pub ok_item : item_at ns (result_ok r) ≡ find (λ x. is_eq (answer x)) (joined ns)
+  ok_item = elim r as (λ s. r ≡ s → item_at ns (result_ok s) ≡ find (λ x. is_eq (answer x)) (joined ns)) [
+    | Ok p ↦ λ is. sym (end_found answer ns (lawful_filled cmp size ns law) parted r e p is)
+    | Err p ↦ λ is. sym (gap_found answer ns (lawful_filled cmp size ns law) parted r e p is)
+  ] refl
+
+  pub ok_found : is_ok r ≡ list_any (λ x. is_eq (answer x)) (joined ns)
+  ok_found = told r ok_place ∙ (ap is_some ok_item ∙ is_some-find (λ x. is_eq (answer x)) (joined ns)) where
+    some_read : (l : List T) (i : ℕ) → i < length l → is_some (slice_get l i) ≡ true
+    some_read [] i lt = absurd (omega arith)
+    some_read (x ∷ xs) zero lt = refl
+    some_read (x ∷ xs) (suc i) lt = some_read xs i (omega arith)
+
+    told : (r : Result (ℕ × ℕ) (ℕ × ℕ)) → IsItemPlace ns (result_ok r) → is_ok r ≡ is_some (item_at ns (result_ok r))
+    told (Ok p) place = sym (some_read (node_at ns p.0) p.1 place.1)
+    told (Err p) place = refl
+
+  -- the first item not answered Less stands there
+  pub ok_before : (p : ℕ × ℕ) → r ≡ Ok p → items_before ns p ≡ less_count answer (joined ns)
+  ok_before p is = let end : IsEnd answer true ns p = end_at answer ns (lawful_filled cmp size ns law) parted r e p is in end.before
+
+  pub err_before : (p : ℕ × ℕ) → r ≡ Err p → items_before ns p ≡ less_count answer (joined ns)
+  err_before p is = let end : IsEnd answer false ns p = gap_at answer ns (lawful_filled cmp size ns law) parted r e p is in end.before
+
+  pub ok_place_at : (p : ℕ × ℕ) → r ≡ Ok p → IsPlace ns p
+  ok_place_at p is = let end : IsEnd answer true ns p = end_at answer ns (lawful_filled cmp size ns law) parted r e p is in end.place
+
+  pub err_place_at : (p : ℕ × ℕ) → r ≡ Err p → IsPlace ns p
+  err_place_at p is = let end : IsEnd answer false ns p = gap_at answer ns (lawful_filled cmp size ns law) parted r e p is in end.place
+
+-- probes by a key, and by a key and a number, find the pairs of lawful nodes in order
+module _ {K V : Type 0} (cmp : K → K → Ordering) (o : IsTotalOrder cmp) (size : ℕ) (ns : List (List (MultiPair K V))) (law : IsLawful (by_number cmp) size ns) (k : K) where
+  pub lawful_keys : IsParted (λ p. cmp p.key k) (joined ns)
+  lawful_keys = parted_keys cmp o (joined ns) (lawful_ascends (by_number cmp) size ns law) k
+
+  pub lawful_numbers : (n : ℕ) → IsParted (answer_to cmp k n) (joined ns)
+  lawful_numbers n = parted_numbers cmp o (joined ns) (lawful_ascends (by_number cmp) size ns law) k n
+
+-- the last of the nodes as the code holds them: f tells the list of each
+last_node : {T N : Type 0} (f : N → List T) (s : List N) (n : N) → node_at (map f (s ++ n ∷ [])) (length s) ≡ f n
+last_node f [] n = refl
+last_node f (m ∷ s) n = last_node f s n
+
+-- the place behind it
+pub last_place : {T N : Type 0} (f : N → List T) (s : List N) (n : N) (ns : List (List T)) → map f (s ++ n ∷ []) ≡ ns → (k o : ℕ) → k ≡ length ns - 1 → o ≡ length (f n) → items_before ns (k, o) ≡ length (joined ns)
+last_place f s n ns same k o last end =
+    let long : length ns ≡ length s + 1 = ap (λ l. length l) (sym same) ∙ (length-map (s ++ n ∷ []) f ∙ length-append s (n ∷ [])) in
+    let at : k ≡ length s = omega arith in
+    let node : node_at ns k ≡ f n = rw (← same, at) (last_node f s n) in
+    last_before ns k o (omega arith) last (end ∙ ap (λ l. length l) (sym node))

@@ -1,0 +1,61 @@
+-- The removal of a pair by its place, as the map's contract sees it.
+use Rattle.std.proofs.Common.{◌≡◌, ℕ, zero, suc, ◌<◌, ◌≤◌, List, [], ◌∷◌, length, Option, Some, Ordering, slice_get, refl, ap, sym, ◌∙◌, subst, arith}
+use Rattle.std.specs.Cmp.{IsTotalOrder}
+use Rattle.indexset_core.specs.declared.multipair.MultiPair.{MultiPair}
+use Rattle.indexset_core.specs.MultiPairs.{by_number}
+use Rattle.indexset_core.specs.Nodes.{joined, node_at, IsLawful}
+use Rattle.indexset_log.specs.declared.change.ChangeEventUnassigned.{ChangeEventUnassigned}
+use Rattle.indexset_log.specs.Replay.{replay, numbered_from}
+use Rattle.indexset_log.specs.Table.{taking_events}
+use Rattle.indexset_log.proofs.CallerLemmas.{place_contents, place_events, taking_one}
+use Rattle.indexset_multi.specs.Keys.{AreNumberedBelow, without_pair}
+use Rattle.indexset_multi.specs.Places.{item_at, IsItemPlace}
+use Rattle.indexset_multi.specs.Tree.{MultiTree, pair_removal_events}
+use Rattle.indexset_multi.proofs.Below.{below_without}
+use Rattle.indexset_multi.proofs.Numbers.{numbers_total}
+
+some_read : {T : Type 0} (l : List T) (i : ℕ) → i < length l → (x : T) × (slice_get l i ≡ Some x)
+some_read [] i lt = absurd (omega arith)
+some_read (x ∷ xs) zero lt = (x, refl)
+some_read (x ∷ xs) (suc i) lt = some_read xs i (omega arith)
+
+module _ {K V : Type 0} (cmp : K → K → Ordering) where
+  -- the events that the contract names for the removal of the pair at a place
+  abbrev place_removal : MultiTree K V → Option (ℕ × ℕ) → List (ChangeEventUnassigned (MultiPair K V))
+  place_removal m place = pair_removal_events cmp m.nodes (item_at m.nodes place)
+
+  -- a removal from nodes ns, whose first event has the number s, made a map m hold the nodes after
+  pub record Taken (ns : List (List (MultiPair K V))) (s : ℕ) (m : MultiTree K V) (place : Option (ℕ × ℕ)) (p : ℕ × ℕ) (x : MultiPair K V) (after : List (List (MultiPair K V))) : Type 0 where
+    pub told : numbered_from s (taking_events (node_at ns p.0) p.1 x) ≡ numbered_from m.next (place_removal m place)
+    pub replayed : replay (by_number cmp) m.nodes (numbered_from m.next (place_removal m place)) ≡ Some after
+    pub contents : joined after ≡ without_pair cmp (joined m.nodes) (item_at m.nodes place)
+    pub below : (n : ℕ) → AreNumberedBelow n (joined ns) → AreNumberedBelow n (joined after)
+
+  module _ (o : IsTotalOrder cmp) {ns : List (List (MultiPair K V))} {size next pair_next : ℕ} {m : MultiTree K V} (seen : (let t : MultiTree K V = record { nodes = ns; size = size; next = next; pair_next = pair_next } in t) ≡ m) (law : IsLawful (by_number cmp) size ns) {place : Option (ℕ × ℕ)} {p : ℕ × ℕ} (is : place ≡ Some p) (at : IsItemPlace m.nodes place) where
+    same : ns ≡ m.nodes
+    same = ap (λ (t : MultiTree K V). t.nodes) seen
+
+    inside : (p.0 < length ns) × (p.1 < length (node_at ns p.0))
+    inside = rw is at (rw (← same) at at)
+
+    module _ {x : MultiPair K V} (here : slice_get (node_at ns p.0) p.1 ≡ Some x) where
+      item : item_at ns place ≡ Some x
+      item = rw is here
+
+      events : pair_removal_events cmp ns (item_at ns place) ≡ taking_events (node_at ns p.0) p.1 x
+      events = rw item (place_events (by_number cmp) (numbers_total cmp o) size ns law p inside.0 x here)
+
+      pub taken : 2 ≤ size → {after : List (List (MultiPair K V))} → replay (by_number cmp) ns (numbered_from next (taking_events (node_at ns p.0) p.1 x)) ≡ Some after → Taken ns next m place p x after
+      taken two {after = after} h =
+          let left = place_contents (by_number cmp) (numbers_total cmp o) size ns law p inside.0 x here two next after h in
+          subst (λ (t : MultiTree K V). Taken ns next t place p x after) seen (record {
+            told = ap (numbered_from next) (sym events);
+            replayed = rw events h;
+            contents = rw item left;
+            below = λ n below. rw left (below_without (by_number cmp) n (joined ns) x below);
+          })
+
+    pub taken_one : length (place_removal m place) ≡ 1
+    taken_one =
+        let there = some_read (node_at ns p.0) p.1 inside.1 in
+        subst (λ (t : MultiTree K V). length (place_removal t place) ≡ 1) seen (ap (λ l. length l) (events there.1) ∙ taking_one (node_at ns p.0) p.1 there.0)

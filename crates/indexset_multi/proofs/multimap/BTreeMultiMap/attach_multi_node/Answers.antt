@@ -1,0 +1,31 @@
+use Rattle.std.proofs.Common.{◌≡◌, ◌≤◌, false, ap, ◌∙◌, arith}
+use Rattle.std.proofs.lemmas.Grind.{common_steps}
+use Rattle.indexset_core.specs.MultiPairs.{by_number}
+use Rattle.indexset_core.specs.Nodes.{joined}
+use Rattle.indexset_log.specs.Attach.{attach_index}
+use Rattle.indexset_multi.specs.Attach.{free_number, has_greatest}
+use Rattle.indexset_multi.proofs.Below.{below_free, below_insert, below_more}
+use Rattle.indexset_multi.proofs.multimap.BTreeMultiMap.attach_multi_node.Goals as goal
+
+pub returns-in_err-attach_node-clause-refusal : goal.returns-in_err-attach_node-clause-refusal
+returns-in_err-attach_node-clause-refusal g c =
+    let list = g.Node.NodeLike.list c.args.node in
+    let set = c.self.inside.set in
+    let m = c.args.self.now in
+    let same : set.nodes ≡ m.nodes = ap (λ t. t.nodes) c.self.view_is in
+    let size : set.size ≡ m.size = ap (λ t. t.size) c.self.view_is in
+    let whole : c.as_slice.result.now ≡ list = cc in
+    let none : has_greatest list ≡ false = rw (← whole) c.in-Some.ensures.0 in
+    let cause = rw (same, size) at c.in_err-attach_node.ensures.refusal in
+    rw (none, ← cause) (grind (arith, common_steps))
+
+pub invariant_of-self-2 : goal.invariant_of-self-2
+invariant_of-self-2 g c =
+    let list = g.Node.NodeLike.list c.args.node in
+    let nodes = c.self.inside.set.nodes in
+    let n = c.max-self-inside.result in
+    let whole : c.as_slice.result.now ≡ list = cc in
+    let free : c.in-Some.free ≡ free_number list = rw (← whole) c.in-Some.ensures.1 in
+    let old : c.self.inside.pair_next ≤ n = omega (arith, c.max-self-inside.ensures) in
+    let new : free_number list ≤ n = omega (arith, c.max-self-inside.ensures, free) in
+    rw c.in_ok-attach_node.ensures.nodes (below_insert n nodes (attach_index (by_number g.K.Ord.cmp) nodes list) list (below_more c.self.inside.pair_next n old (joined nodes) c.self.invariant) (below_more (free_number list) n new list (below_free list)))

@@ -1,0 +1,63 @@
+use Rattle.std.proofs.Common.{◌≡◌, ◌∙◌, ap, length, arith}
+use Rattle.std.proofs.lemmas.Grind.{common_steps}
+use Rattle.indexset_multi.proofs.Takes.{taken, taken_one}
+use Rattle.indexset_multi.proofs.multimap.BTreeMultiMap.take_cdc.Goals as goal
+
+pub returns-in_err-pair-in-Some-clause-few : goal.returns-in_err-pair-in-Some-clause-few
+returns-in_err-pair-in-Some-clause-few g c =
+    let one = taken_one g.K.Ord.cmp g.met.K.Ord.total c.self.view_is c.node_count-nodes.ensures.lawful c.in-Some.is c.requires.place in
+    rw one (omega arith)
+
+pub returns-in_err-pair-in-Some-clause-refusal : goal.returns-in_err-pair-in-Some-clause-refusal
+returns-in_err-pair-in-Some-clause-refusal g c =
+    let one = taken_one g.K.Ord.cmp g.met.K.Ord.total c.self.view_is c.node_count-nodes.ensures.lawful c.in-Some.is c.requires.place in
+    let next : c.self.inside.set.next ≡ c.args.self.now.next = ap (λ m. m.next) c.self.view_is in
+    rw (one, ← next) (grind (arith, common_steps))
+
+pub returns-in_err-pair-in-Some-clause-no_event : goal.returns-in_err-pair-in-Some-clause-no_event
+returns-in_err-pair-in-Some-clause-no_event g c =
+    let one = taken_one g.K.Ord.cmp g.met.K.Ord.total c.self.view_is c.node_count-nodes.ensures.lawful c.in-Some.is c.requires.place in
+    λ none. absurd (omega (arith, one, ap (λ l. length l) none))
+
+pub invariant_of-self-in-Some : goal.invariant_of-self-in-Some
+invariant_of-self-in-Some g c =
+    let done = c.in_ok-pair-in-Some.ensures in
+    let two = rw c.maximum_node_size-size.ensures.value at c.maximum_node_size-size.ensures.two in
+    let taken = taken g.K.Ord.cmp g.met.K.Ord.total c.self.view_is c.node_count-nodes.ensures.lawful c.in-Some.is c.requires.place done.item two (rw done.events at done.replay) in
+    taken.below c.self.inside.pair_next c.self.invariant
+
+pub returns-in_ok-pair-in-Some-clause-contents : goal.returns-in_ok-pair-in-Some-clause-contents
+returns-in_ok-pair-in-Some-clause-contents g c =
+    let done = c.in_ok-pair-in-Some.ensures in
+    let two = rw c.maximum_node_size-size.ensures.value at c.maximum_node_size-size.ensures.two in
+    let taken = taken g.K.Ord.cmp g.met.K.Ord.total c.self.view_is c.node_count-nodes.ensures.lawful c.in-Some.is c.requires.place done.item two (rw done.events at done.replay) in
+    taken.contents
+
+pub returns-in_ok-pair-in-Some-clause-events : goal.returns-in_ok-pair-in-Some-clause-events
+returns-in_ok-pair-in-Some-clause-events g c =
+    let done = c.in_ok-pair-in-Some.ensures in
+    let two = rw c.maximum_node_size-size.ensures.value at c.maximum_node_size-size.ensures.two in
+    let taken = taken g.K.Ord.cmp g.met.K.Ord.total c.self.view_is c.node_count-nodes.ensures.lawful c.in-Some.is c.requires.place done.item two (rw done.events at done.replay) in
+    done.events ∙ taken.told
+
+pub returns-in_ok-pair-in-Some-clause-numbered : goal.returns-in_ok-pair-in-Some-clause-numbered
+returns-in_ok-pair-in-Some-clause-numbered g c =
+    let next : c.self.inside.set.next ≡ c.args.self.now.next = ap (λ m. m.next) c.self.view_is in
+    rw (← next) c.in_ok-pair-in-Some.ensures.numbered
+
+pub returns-in_ok-pair-in-Some-clause-few : goal.returns-in_ok-pair-in-Some-clause-few
+returns-in_ok-pair-in-Some-clause-few g c =
+    let one = taken_one g.K.Ord.cmp g.met.K.Ord.total c.self.view_is c.node_count-nodes.ensures.lawful c.in-Some.is c.requires.place in
+    rw one (omega arith)
+
+pub returns-in_ok-pair-in-Some-clause-next : goal.returns-in_ok-pair-in-Some-clause-next
+returns-in_ok-pair-in-Some-clause-next g c =
+    let one = taken_one g.K.Ord.cmp g.met.K.Ord.total c.self.view_is c.node_count-nodes.ensures.lawful c.in-Some.is c.requires.place in
+    let next : c.self.inside.set.next ≡ c.args.self.now.next = ap (λ m. m.next) c.self.view_is in
+    rw (one, ← next) c.in_ok-pair-in-Some.ensures.next
+
+pub returns-in_ok-pair-in-Some-clause-fits : goal.returns-in_ok-pair-in-Some-clause-fits
+returns-in_ok-pair-in-Some-clause-fits g c =
+    let one = taken_one g.K.Ord.cmp g.met.K.Ord.total c.self.view_is c.node_count-nodes.ensures.lawful c.in-Some.is c.requires.place in
+    let next : c.self.inside.set.next ≡ c.args.self.now.next = ap (λ m. m.next) c.self.view_is in
+    rw (one, ← next) c.in_ok-pair-in-Some.ensures.fits

@@ -1,0 +1,25 @@
+-- A node of numbered pairs, given whole.
+use Rattle.std.specs.Prelude.{ℕ, ◌+◌, ◌==◌, max, Bool, List, [], ◌∷◌, if◌then◌else◌, Option, Some}
+use Rattle.std.below.core.specs.declared.int.u64.TheConstants.{MAX}
+use Rattle.std.specs.List.{list_any}
+use Rattle.std.specs.declared.cmp.Ordering.{Ordering}
+use Rattle.indexset_core.specs.declared.multipair.MultiPair.{MultiPair}
+use Rattle.indexset_core.specs.declared.refusal.Refusal.{Refusal}
+use Rattle.indexset_core.specs.declared.refusal.Refusal.TheVariants.{PairNumber}
+use Rattle.indexset_core.specs.MultiPairs.{by_number}
+use Rattle.indexset_log.specs.Attach.{attach_refusal}
+use Rattle.indexset_multi.specs.Tree.{MultiTree}
+
+module _ {K V : Type 0} where
+  -- a pair has the greatest number
+  abbrev pub has_greatest : List (MultiPair K V) → Bool
+  has_greatest n = list_any (λ p. p.discriminator == MAX) n
+
+  -- the least number above those of all pairs
+  abbrev pub free_number : List (MultiPair K V) → ℕ
+  free_number [] = 0
+  free_number (p ∷ n) = max (p.discriminator + 1) (free_number n)
+
+  -- why n is refused: the first cause that applies, where one does
+  abbrev pub pairs_refusal : (K → K → Ordering) → MultiTree K V → List (MultiPair K V) → Option Refusal
+  pairs_refusal cmp m n = if has_greatest n then Some PairNumber else attach_refusal (by_number cmp) m.size m.nodes n

@@ -1,0 +1,59 @@
+-- Lists of numbered pairs, by key.
+use Rattle.std.specs.Prelude.{ℕ, ◌<◌, Bool, List, Option, filter, find, map}
+use Rattle.std.specs.Borrow.{Bor}
+use Rattle.std.specs.List.{All, list_any}
+use Rattle.std.specs.Option.{option_map, option_map_or}
+use Rattle.std.specs.Ordering.{is_eq}
+use Rattle.std.specs.declared.cmp.Ordering.{Ordering}
+use Rattle.std.specs.declared.ops.Bound.{Bound}
+use Rattle.indexset_core.specs.declared.multipair.MultiPair.{MultiPair}
+use Rattle.indexset_core.specs.declared.pair.Pair.{Pair}
+use Rattle.indexset_core.specs.Bounds.{is_within}
+use Rattle.indexset_core.specs.MultiPairs.{by_number, numbered_pair, unnumbered}
+use Rattle.indexset_core.specs.Order.{without}
+
+module _ {K V : Type 0} where
+  -- the key and the value
+  abbrev pub entry_of : MultiPair K V → K × V
+  entry_of p = (p.key, p.value)
+
+  -- what a `(&K, &u64, &V)` points to
+  abbrev pub number_shown : Bor K × Bor ℕ × Bor V → MultiPair K V
+  number_shown p = numbered_pair p.0.now p.2.now p.1.now
+
+  -- the pairs without their numbers
+  abbrev pub entries : List (MultiPair K V) → List (Pair K V)
+  entries l = map unnumbered l
+
+  -- each number is below n
+  abbrev pub AreNumberedBelow : ℕ → List (MultiPair K V) → Type 0
+  AreNumberedBelow n l = All (λ p. p.discriminator < n) l
+
+  module _ (cmp : K → K → Ordering) where
+    -- a pair has the key
+    abbrev pub has_key : List (MultiPair K V) → K → Bool
+    has_key l k = list_any (λ p. is_eq (cmp p.key k)) l
+
+    -- the pairs of the key
+    abbrev pub pairs_of : List (MultiPair K V) → K → List (MultiPair K V)
+    pairs_of l k = filter (λ p. is_eq (cmp p.key k)) l
+
+    -- the first of them, where there is one
+    abbrev pub first_pair : List (MultiPair K V) → K → Option (MultiPair K V)
+    first_pair l k = find (λ p. is_eq (cmp p.key k)) l
+
+    -- the first of them whose value equals w, where there is one
+    abbrev pub equal_pair : (V → V → Bool) → List (MultiPair K V) → K → V → Option (MultiPair K V)
+    equal_pair eq l k w = find (λ p. eq p.value w) (pairs_of l k)
+
+    -- the number of that pair
+    abbrev pub kept_number : (V → V → Bool) → List (MultiPair K V) → K → V → Option ℕ
+    kept_number eq l k w = option_map (λ p. p.discriminator) (equal_pair eq l k w)
+
+    -- the pairs whose keys satisfy both bounds
+    abbrev pub pairs_between : List (MultiPair K V) → Bound K → Bound K → List (MultiPair K V)
+    pairs_between l start end = filter (λ p. is_within cmp start end p.key) l
+
+    -- the pairs without the one that is named, where one is
+    abbrev pub without_pair : List (MultiPair K V) → Option (MultiPair K V) → List (MultiPair K V)
+    without_pair l pair = option_map_or (λ p. without (by_number cmp) l p) pair l

@@ -1,0 +1,4 @@
+pub mod Attach
+pub mod Keys
+pub mod Places
+pub mod Tree

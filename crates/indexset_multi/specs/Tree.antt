@@ -1,0 +1,51 @@
+-- What a multimap is, and what an insertion makes of it.
+use Rattle.std.specs.Prelude.{ℕ, ◌+◌, ◌==◌, ◌&&◌, length, Bool, List, [], Option, is_none, if◌then◌else◌}
+use Rattle.std.below.core.specs.declared.int.u64.TheConstants.{MAX}
+use Rattle.std.specs.Option.{option_map_or, unwrap_or}
+use Rattle.std.specs.declared.cmp.Ordering.{Ordering}
+use Rattle.indexset_core.specs.declared.multipair.MultiPair.{MultiPair}
+use Rattle.indexset_core.specs.declared.refusal.Refusal.{Refusal}
+use Rattle.indexset_core.specs.declared.refusal.Refusal.TheVariants.{Numbers}
+use Rattle.indexset_core.specs.MultiPairs.{by_number, numbered_pair}
+use Rattle.indexset_core.specs.Nodes.{joined}
+use Rattle.indexset_log.specs.declared.change.ChangeEventUnassigned.{ChangeEventUnassigned}
+use Rattle.indexset_log.specs.Table.{put_events, removal_events}
+use Rattle.indexset_log.specs.Tree.{refusal_for}
+use Rattle.indexset_multi.specs.Keys.{kept_number}
+
+-- its nodes, their greatest size, the number of the next event, and that of the next new pair
+pub record MultiTree (K V : Type 0) : Type 0 where
+  pub nodes : List (List (MultiPair K V))
+  pub size : ℕ
+  pub next : ℕ
+  pub pair_next : ℕ
+
+-- the events of the removal of the pair that is named, where one is
+abbrev pub pair_removal_events : {K V : Type 0} → (K → K → Ordering) → List (List (MultiPair K V)) → Option (MultiPair K V) → List (ChangeEventUnassigned (MultiPair K V))
+pair_removal_events cmp ns pair = option_map_or (λ p. removal_events (by_number cmp) ns p) pair []
+
+module _ {K V : Type 0} (cmp : K → K → Ordering) (eq : V → V → Bool) where
+  module _ (m : MultiTree K V) (k : K) (w : V) where
+    -- an insertion takes a new number
+    abbrev pub takes_number : Bool
+    takes_number = is_none (kept_number cmp eq (joined m.nodes) k w)
+
+    -- the pair that it puts: it keeps the number of the pair that it replaces
+    abbrev pub inserted_pair : MultiPair K V
+    inserted_pair = numbered_pair k w (unwrap_or (kept_number cmp eq (joined m.nodes) k w) m.pair_next)
+
+    -- its events, which are those of a put
+    abbrev pub insertion_events : List (ChangeEventUnassigned (MultiPair K V))
+    insertion_events = put_events (by_number cmp) m.size m.nodes inserted_pair
+
+    -- the number of the next new pair after it
+    abbrev pub pair_next_after : ℕ
+    pair_next_after = if takes_number then m.pair_next + 1 else m.pair_next
+
+    -- a new number is needed, and none is left
+    abbrev pub lacks_number : Bool
+    lacks_number = takes_number && (m.pair_next == MAX)
+
+    -- why it is refused, if it is
+    abbrev pub insertion_refusal : Refusal
+    insertion_refusal = if lacks_number then Numbers else refusal_for m.next (length insertion_events)

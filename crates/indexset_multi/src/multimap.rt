@@ -1,0 +1,152 @@
+//! The logged map with repeated keys: a logged set of numbered pairs.
+ghost use Rattle.std.specs.Prelude.{◌≡◌, ◌≤◌, [], length, map, IfSome};
+ghost use Rattle.std.specs.Map.Iter.{ShowsInOrder, ShowsInReverse, deref};
+ghost use Rattle.indexset_core.specs.MultiPairs.{by_number};
+ghost use Rattle.indexset_core.specs.Nodes.{joined, IsLawful};
+ghost use Rattle.indexset_log.specs.Located.{located};
+ghost use Rattle.indexset_multi.specs.Keys.{has_key, AreNumberedBelow};
+
+mod attach;
+pub mod iter;
+mod put;
+pub mod range;
+mod remove;
+
+use indexset_core::constants::DEFAULT_INNER_SIZE;
+use indexset_core::multipair::MultiPair;
+use indexset_core::node::NodeLike;
+use indexset_core::probe::ByKey;
+use indexset_log::set::BTreeSet;
+use indexset_log::set::nodes::Nodes;
+use std::alloc::Global;
+use std::marker::Model;
+
+/// A list of numbered pairs, ascending by key and then by number and cut into nodes, which tells its
+/// changes.
+#[derive(Drop)]
+pub struct BTreeMultiMap<
+    K: Ord + Clone + Drop,
+    V: Eq + Clone + Drop,
+    Node: NodeLike<MultiPair<K, V>>,
+> {
+    set: BTreeSet<MultiPair<K, V>, Node>,
+    // The number of the next new pair.
+    pair_next: u64,
+}
+
+impl<K: Ord + Clone + Drop, V: Eq + Clone + Drop, Node: NodeLike<MultiPair<K, V>>> Model
+    for BTreeMultiMap<K, V, Node> {
+    ghost use Rattle.indexset_core.specs.Nodes.{joined};
+    ghost use Rattle.indexset_multi.specs.Keys.{AreNumberedBelow};
+    ghost use Rattle.indexset_multi.specs.Tree.{MultiTree};
+
+    ghost Value = { MultiTree K V };
+
+    ghost view = { λ m. record { nodes = m.set.nodes; size = m.set.size; next = m.set.next; pair_next = m.pair_next } };
+
+    ghost invariant = { λ m. AreNumberedBelow m.pair_next (joined m.set.nodes) };
+}
+
+impl<K: Ord + Clone + Drop, V: Eq + Clone + Drop, Node: NodeLike<MultiPair<K, V>>> BTreeMultiMap<
+    K,
+    V,
+    Node,
+> {
+    /// An empty map, whose nodes are to hold at most `size` pairs each, and whose first event has the
+    /// number `next`. (It is not in the Rust crate.)
+    pub fn starting_at(alloc: Global, size: usize, next: u64) -> Self
+        requires two { 2 ≤ size }
+        requires within { size ≤ Node.most }
+        ensures { result ≡ record { nodes = []; size = size; next = next; pair_next = 0 } }
+    {
+        BTreeMultiMap {
+            set: BTreeSet::starting_at(alloc, size, next),
+            pair_next: 0,
+        }
+    }
+
+    /// An empty map, whose first event has the number 0.
+    pub fn with_maximum_node_size(alloc: Global, size: usize) -> Self
+        requires two { 2 ≤ size }
+        requires within { size ≤ Node.most }
+        ensures { result ≡ record { nodes = []; size = size; next = 0; pair_next = 0 } }
+    {
+        BTreeMultiMap::starting_at(alloc, size, 0)
+    }
+
+    /// An empty map of the default node size, whose first event has the number 0.
+    pub fn new(alloc: Global) -> Self
+        requires { DEFAULT_INNER_SIZE ≤ Node.most }
+        ensures { result ≡ record { nodes = []; size = DEFAULT_INNER_SIZE; next = 0; pair_next = 0 } }
+    {
+        BTreeMultiMap::with_maximum_node_size(alloc, DEFAULT_INNER_SIZE)
+    }
+
+    /// An empty map, as `new` makes it.
+    pub fn default(alloc: Global) -> Self
+        requires { DEFAULT_INNER_SIZE ≤ Node.most }
+        ensures { result ≡ record { nodes = []; size = DEFAULT_INNER_SIZE; next = 0; pair_next = 0 } }
+    {
+        BTreeMultiMap::new(alloc)
+    }
+
+    /// How many pairs there are.
+    pub fn len(&self) -> usize
+        ensures { result ≡ length (joined self.now.nodes) }
+    {
+        self.set.len()
+    }
+
+    /// How many nodes there are: no more than pairs. None is empty or holds more than the node size,
+    /// and the pairs of all ascend by key and then by number, one node after another, with numbers
+    /// below that of the next new pair, which a caller learns here.
+    pub fn node_count(&self) -> usize
+        ensures value { result ≡ length self.now.nodes }
+        ensures few { result ≤ length (joined self.now.nodes) }
+        ensures lawful { IsLawful (by_number K.cmp) self.now.size self.now.nodes }
+        ensures numbers { AreNumberedBelow self.now.pair_next (joined self.now.nodes) }
+    {
+        self.set.node_count()
+    }
+
+    /// How many pairs there is room for: the sum of the nodes' capacities, which stops at the greatest
+    /// usize.
+    pub fn capacity(&self) -> usize
+        ensures { length (joined self.now.nodes) ≤ result }
+    {
+        self.set.capacity()
+    }
+
+    /// The number of the next event. (It is not in the Rust crate.)
+    pub fn events_issued(&self) -> u64
+        ensures { result ≡ self.now.next }
+    {
+        self.set.events_issued()
+    }
+
+    /// The nodes, in order. (The Rust crate lends them locked.)
+    pub fn iter_nodes(&self) -> Nodes<'_, Node>
+        ensures rest { map Node.list result ≡ self.now.nodes }
+        ensures runs { ShowsInOrder (deref {X = Node}) }
+        ensures runs_back { ShowsInReverse (deref {X = Node}) }
+    {
+        self.set.iter_nodes()
+    }
+
+    /// Whether a pair has the key.
+    pub fn contains_key(&self, key: &K) -> bool
+        ensures { result ≡ has_key K.cmp (joined self.now.nodes) key.now }
+    {
+        self.locate(key).is_ok()
+    }
+
+    // Where a search for a key ends.
+    fn locate(&self, key: &K) -> Result<(usize, usize), (usize, usize)>
+        ensures place { result ≡ located (λ p. K.cmp p.key key.now) self.now.nodes }
+        ensures lawful { IsLawful (by_number K.cmp) self.now.size self.now.nodes }
+    {
+        // A set says here that its pairs ascend, so a probe by key may go by them.
+        let _nodes = self.set.node_count();
+        self.set.locate_by(&mut ByKey::new(key))
+    }
+}

@@ -1,0 +1,58 @@
+//! Whole nodes taken in.
+ghost use Rattle.std.specs.Prelude.{◌≡◌, ◌+◌, max, false, true, length, None, MatchOption, IfOk, OnOk, IfErr, OnErr, IsOk};
+ghost use Rattle.std.specs.Option.{unwrap_or};
+ghost use Rattle.indexset_core.specs.MultiPairs.{by_number};
+ghost use Rattle.indexset_core.specs.Nodes.{joined};
+ghost use Rattle.indexset_core.specs.Order.{IsAscending};
+ghost use Rattle.indexset_log.specs.Attach.{attached};
+ghost use Rattle.indexset_multi.specs.Attach.{free_number, has_greatest, pairs_refusal};
+
+use super::BTreeMultiMap;
+use indexset_core::multipair::MultiPair;
+use indexset_core::node::NodeLike;
+use indexset_core::refusal::{Refusal, Refused};
+
+impl<K: Ord + Clone + Drop, V: Eq + Clone + Drop, Node: NodeLike<MultiPair<K, V>>> BTreeMultiMap<
+    K,
+    V,
+    Node,
+> {
+    /// Takes a whole node of pairs in, in its place among the others. No event is given, and no number
+    /// is used up; where the number of the next new pair is not above those of the node's pairs, it is
+    /// raised to the one after the greatest of them. A node with a pair that has the greatest number is
+    /// refused with `PairNumber`, before all that `attach_node` of the set refuses. A refused call hands
+    /// the node back and changes nothing.
+    pub fn attach_multi_node(&mut self, node: Node) -> Result<(), Refused<Node>>
+        ensures nodes { OnOk result (self.new.nodes ≡ attached (by_number K.cmp) self.old.nodes (Node.list node)) }
+        ensures ascending { OnOk result (IsAscending (by_number K.cmp) (joined self.new.nodes)) }
+        ensures count { OnOk result (length (joined self.new.nodes) ≡ length (joined self.old.nodes) + length (Node.list node)) }
+        ensures good { IsOk result → pairs_refusal K.cmp self.old (Node.list node) ≡ None }
+        ensures refusal { IfErr result (λ e. e.cause ≡ unwrap_or (pairs_refusal K.cmp self.old (Node.list node)) Refusal.Memory) }
+        ensures given_back { IfErr result (λ e. e.value ≡ node) }
+        ensures size { self.new.size ≡ self.old.size }
+        ensures next { self.new.next ≡ self.old.next }
+        ensures pair_next { OnOk result (self.new.pair_next ≡ max self.old.pair_next (free_number (Node.list node))) }
+        ensures unchanged { OnErr result (self.new ≡ self.old) }
+    {
+        let Some(free) = free_number(node.iter().as_slice()) else {
+            return Err(Refused {
+                value: node,
+                cause: Refusal::PairNumber,
+            });
+        };
+        self.set.attach_node(node)?;
+        self.pair_next = self.pair_next.max(free);
+        Ok(())
+    }
+}
+
+// The least number above those of all pairs, if there is one.
+fn free_number<K, V>(pairs: &[MultiPair<K, V>]) -> Option<u64>
+    ensures { MatchOption result (has_greatest pairs.now ≡ true) (λ free. (has_greatest pairs.now ≡ false) × (free ≡ free_number pairs.now)) }
+{
+    let mut free: u64 = 0;
+    for pair in pairs {
+        free = free.max(pair.discriminator.checked_add(1)?);
+    }
+    Some(free)
+}

@@ -1,0 +1,94 @@
+//! Walks of a multimap from both ends.
+ghost use Rattle.std.specs.Prelude.{◌≡◌, length};
+ghost use Rattle.std.specs.Iterator.{at_most};
+ghost use Rattle.std.specs.Map.Iter.{TakesFirst, TakesLast, ShowsInOrder, ShowsInReverse};
+ghost use Rattle.indexset_core.specs.Nodes.{joined};
+ghost use Rattle.indexset_core.specs.Pairs.{pair_shown};
+ghost use Rattle.indexset_multi.specs.Keys.{entries};
+
+use super::BTreeMultiMap;
+use indexset_core::multipair::MultiPair;
+use indexset_core::node::NodeLike;
+use indexset_log::set::iter;
+use std::iter::FusedIterator;
+use std::marker::Model;
+
+/// The pairs of a multimap that are left, from both ends.
+#[derive(Drop)]
+pub struct Iter<'a, K: Ord + Clone + Drop, V: Eq + Clone + Drop, Node: NodeLike<MultiPair<K, V>>> {
+    rest: iter::Iter<'a, MultiPair<K, V>, Node>,
+}
+
+impl<'a, K: Ord + Clone + Drop, V: Eq + Clone + Drop, Node: NodeLike<MultiPair<K, V>>> Model
+    for Iter<'a, K, V, Node> {
+    ghost use Rattle.std.specs.Prelude.{List};
+    ghost use Rattle.indexset_core.specs.declared.pair.Pair.{Pair};
+    ghost use Rattle.indexset_multi.specs.Keys.{entries};
+
+    ghost Value = { List (Pair K V) };
+
+    ghost view = { λ a. entries a.rest };
+}
+
+impl<'a, K: Ord + Clone + Drop, V: Eq + Clone + Drop, Node: NodeLike<MultiPair<K, V>>> Iterator
+    for Iter<'a, K, V, Node> {
+    type Item = (&'a K, &'a V);
+
+    ghost next_gives = { TakesFirst pair_shown };
+
+    ghost remaining = { λ s. at_most (length s) };
+
+    fn next(&mut self) -> Option<(&'a K, &'a V)> {
+        let pair = self.rest.next()?;
+        Some((&pair.key, &pair.value))
+    }
+
+    fn size_hint(&self) -> (usize, Option<usize>) {
+        self.rest.size_hint()
+    }
+}
+
+impl<
+    'a,
+    K: Ord + Clone + Drop,
+    V: Eq + Clone + Drop,
+    Node: NodeLike<MultiPair<K, V>>,
+> DoubleEndedIterator for Iter<'a, K, V, Node> {
+    ghost next_back_gives = { TakesLast pair_shown };
+
+    fn next_back(&mut self) -> Option<(&'a K, &'a V)> {
+        let pair = self.rest.next_back()?;
+        Some((&pair.key, &pair.value))
+    }
+}
+
+impl<
+    'a,
+    K: Ord + Clone + Drop,
+    V: Eq + Clone + Drop,
+    Node: NodeLike<MultiPair<K, V>>,
+> ExactSizeIterator for Iter<'a, K, V, Node> {
+    fn len(&self) -> usize {
+        self.rest.len()
+    }
+}
+
+impl<'a, K: Ord + Clone + Drop, V: Eq + Clone + Drop, Node: NodeLike<MultiPair<K, V>>> FusedIterator
+    for Iter<'a, K, V, Node> {}
+
+impl<K: Ord + Clone + Drop, V: Eq + Clone + Drop, Node: NodeLike<MultiPair<K, V>>> BTreeMultiMap<
+    K,
+    V,
+    Node,
+> {
+    /// The pairs, in order.
+    pub fn iter(&self) -> Iter<'_, K, V, Node>
+        ensures rest { result ≡ entries (joined self.now.nodes) }
+        ensures runs { ShowsInOrder (pair_shown {K = K} {V = V}) }
+        ensures runs_back { ShowsInReverse (pair_shown {K = K} {V = V}) }
+    {
+        Iter {
+            rest: self.set.iter(),
+        }
+    }
+}

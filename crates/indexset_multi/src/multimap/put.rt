@@ -1,0 +1,112 @@
+//! Calls that put pairs in.
+ghost use Rattle.std.specs.Prelude.{◌≡◌, ◌+◌, ◌≤◌, true, false, length, Some, IfOk, OnOk, IfErr, OnErr};
+ghost use Rattle.std.specs.Option.{option_map};
+ghost use Rattle.indexset_core.specs.MultiPairs.{by_number};
+ghost use Rattle.indexset_core.specs.Nodes.{joined};
+ghost use Rattle.indexset_core.specs.Order.{equal_element, put};
+ghost use Rattle.indexset_log.specs.Edits.{with_put};
+ghost use Rattle.indexset_log.specs.Replay.{replay, numbered_from, IsNumberedFrom};
+ghost use Rattle.indexset_multi.specs.Keys.{AreNumberedBelow, equal_pair, kept_number};
+ghost use Rattle.indexset_multi.specs.Tree.{insertion_events, insertion_refusal, inserted_pair, lacks_number, pair_next_after};
+
+use super::BTreeMultiMap;
+use indexset_core::multipair::MultiPair;
+use indexset_core::node::NodeLike;
+use indexset_core::refusal::{Refusal, Refused};
+use indexset_log::change::ChangeEvent;
+
+impl<K: Ord + Clone + Drop, V: Eq + Clone + Drop, Node: NodeLike<MultiPair<K, V>>> BTreeMultiMap<
+    K,
+    V,
+    Node,
+> {
+    /// Puts a pair in, and tells the events. Where the key has pairs of an equal value, the first of
+    /// them is replaced in its place, keeps its number, and its value is the answer; else the pair gets
+    /// the next number. A refused call hands key and value back and changes nothing: it is for want of
+    /// `Numbers` where the events do not fit, or where a new number is needed and none is left, else of
+    /// `Memory`.
+    pub fn insert_cdc(
+        &mut self,
+        key: K,
+        value: V,
+    ) -> Result<(Option<V>, Vec<ChangeEvent<MultiPair<K, V>>>), Refused<(K, V)>>
+        requires keys { (x y : K) → K.is_clone x y → y ≡ x }
+        requires values { (x y : V) → V.is_clone x y → y ≡ x }
+        ensures answer { IfOk result (λ r. r.0 ≡ option_map (λ p. p.value) (equal_pair K.cmp V.eq (joined self.old.nodes) key value)) }
+        ensures contents { OnOk result (joined self.new.nodes ≡ put (by_number K.cmp) (joined self.old.nodes) (inserted_pair K.cmp V.eq self.old key value)) }
+        ensures nodes { OnOk result (self.new.nodes ≡ with_put (by_number K.cmp) self.old.size self.old.nodes (inserted_pair K.cmp V.eq self.old key value)) }
+        ensures events { IfOk result (λ r. r.1.items ≡ numbered_from self.old.next (insertion_events K.cmp V.eq self.old key value)) }
+        ensures numbered { IfOk result (λ r. IsNumberedFrom self.old.next r.1.items) }
+        ensures replay { IfOk result (λ r. replay (by_number K.cmp) self.old.nodes r.1.items ≡ Some self.new.nodes) }
+        ensures few { length (insertion_events K.cmp V.eq self.old key value) ≤ 3 }
+        ensures size { self.new.size ≡ self.old.size }
+        ensures next { OnOk result (self.new.next ≡ self.old.next + length (insertion_events K.cmp V.eq self.old key value)) }
+        ensures pair_next { OnOk result (self.new.pair_next ≡ pair_next_after K.cmp V.eq self.old key value) }
+        ensures fits { OnOk result (self.old.next + length (insertion_events K.cmp V.eq self.old key value) ≤ u64.MAX) }
+        ensures number_left { OnOk result (lacks_number K.cmp V.eq self.old key value ≡ false) }
+        ensures refusal { IfErr result (λ e. e.cause ≡ insertion_refusal K.cmp V.eq self.old key value) }
+        ensures given_back { IfErr result (λ e. e.value ≡ (key, value)) }
+        ensures unchanged { OnErr result (self.new ≡ self.old) }
+    {
+        let (pair, pair_next) = self.pair_for(key, value)?;
+        let (old, events) = self.set.put_cdc(pair)?;
+        self.pair_next = pair_next;
+        Ok((old.map(|pair| pair.value), events))
+    }
+
+    /// Puts a pair in, as `insert_cdc` does, with as many numbers used up. A refused call hands key and
+    /// value back and changes nothing.
+    pub fn insert(&mut self, key: K, value: V) -> Result<Option<V>, Refused<(K, V)>>
+        ensures answer { IfOk result (λ old. old ≡ option_map (λ p. p.value) (equal_pair K.cmp V.eq (joined self.old.nodes) key value)) }
+        ensures contents { OnOk result (joined self.new.nodes ≡ put (by_number K.cmp) (joined self.old.nodes) (inserted_pair K.cmp V.eq self.old key value)) }
+        ensures nodes { OnOk result (self.new.nodes ≡ with_put (by_number K.cmp) self.old.size self.old.nodes (inserted_pair K.cmp V.eq self.old key value)) }
+        ensures replay { OnOk result (replay (by_number K.cmp) self.old.nodes (numbered_from self.old.next (insertion_events K.cmp V.eq self.old key value)) ≡ Some self.new.nodes) }
+        ensures size { self.new.size ≡ self.old.size }
+        ensures next { OnOk result (self.new.next ≡ self.old.next + length (insertion_events K.cmp V.eq self.old key value)) }
+        ensures pair_next { OnOk result (self.new.pair_next ≡ pair_next_after K.cmp V.eq self.old key value) }
+        ensures number_left { OnOk result (lacks_number K.cmp V.eq self.old key value ≡ false) }
+        ensures refusal { IfErr result (λ e. e.cause ≡ insertion_refusal K.cmp V.eq self.old key value) }
+        ensures given_back { IfErr result (λ e. e.value ≡ (key, value)) }
+        ensures unchanged { OnErr result (self.new ≡ self.old) }
+    {
+        let (pair, pair_next) = self.pair_for(key, value)?;
+        let old = self.set.put(pair)?;
+        self.pair_next = pair_next;
+        Ok(old.map(|pair| pair.value))
+    }
+
+    // The pair that an insertion puts, and the number of the next new pair after it.
+    fn pair_for(&self, key: K, value: V) -> Result<(MultiPair<K, V>, u64), Refused<(K, V)>>
+        ensures pair { IfOk result (λ r. r.0 ≡ inserted_pair K.cmp V.eq self.now key value) }
+        ensures pair_next { IfOk result (λ r. r.1 ≡ pair_next_after K.cmp V.eq self.now key value) }
+        ensures numbers { IfOk result (λ r. AreNumberedBelow r.1 (put (by_number K.cmp) (joined self.now.nodes) r.0)) }
+        ensures replaced { IfOk result (λ r. equal_element (by_number K.cmp) (joined self.now.nodes) r.0 ≡ equal_pair K.cmp V.eq (joined self.now.nodes) key value) }
+        ensures number_left { OnOk result (lacks_number K.cmp V.eq self.now key value ≡ false) }
+        ensures refusal { OnErr result (lacks_number K.cmp V.eq self.now key value ≡ true) }
+        ensures cause { IfErr result (λ e. e.cause ≡ Refusal.Numbers) }
+        ensures given_back { IfErr result (λ e. e.value ≡ (key, value)) }
+    {
+        // A set says here that its pairs ascend, with numbers below the next one.
+        let _nodes = self.set.node_count();
+        let number = self.pair_next;
+        if let Some(kept) = self.kept_number(&key, &value) {
+            return Ok((MultiPair::new(key, value, kept), number));
+        }
+        match number.checked_add(1) {
+            Some(pair_next) => Ok((MultiPair::new(key, value, number), pair_next)),
+            None => Err(Refused {
+                value: (key, value),
+                cause: Refusal::Numbers,
+            }),
+        }
+    }
+
+    // The number of the first pair of the key with an equal value.
+    pub(super) fn kept_number(&self, key: &K, value: &V) -> Option<u64>
+        ensures { result ≡ kept_number K.cmp V.eq (joined self.now.nodes) key.now value.now }
+    {
+        self.pairs_of(key)
+            .find(|pair| pair.value == *value)
+            .map(|pair| pair.discriminator)
+    }
+}

@@ -1,0 +1,297 @@
+//! The pairs of a key, or between two bounds on keys.
+ghost use Rattle.std.specs.Prelude.{◌≡◌, IsTrue, length};
+ghost use Rattle.std.specs.Iterator.{at_most};
+ghost use Rattle.std.specs.List.{count_by};
+ghost use Rattle.std.specs.Map.Iter.{TakesFirst, TakesLast, ShowsInOrder, ShowsInReverse, deref};
+ghost use Rattle.std.specs.Ordering.{is_le, nat_cmp, ordering_then};
+ghost use Rattle.std.specs.Range.Bound.{bound_map};
+ghost use Rattle.indexset_core.specs.Bounds.{are_ordered, is_before, is_up_to_end};
+ghost use Rattle.indexset_core.specs.MultiPairs.{by_number};
+ghost use Rattle.indexset_core.specs.Nodes.{joined, IsLawful};
+ghost use Rattle.indexset_core.specs.Pairs.{pair_shown};
+ghost use Rattle.indexset_core.specs.Parted.{less_count};
+ghost use Rattle.indexset_log.specs.Located.{located};
+ghost use Rattle.indexset_log.specs.Places.{IsPlace, items_before};
+ghost use Rattle.indexset_multi.specs.Keys.{AreNumberedBelow, entries, number_shown, pairs_between, pairs_of};
+
+use super::BTreeMultiMap;
+use crate::number::ByNumber;
+use indexset_core::multipair::MultiPair;
+use indexset_core::node::NodeLike;
+use indexset_log::set::range;
+use std::iter::FusedIterator;
+use std::marker::Model;
+use std::ops::Bound;
+
+/// The pairs of a part of a multimap that are left, from both ends.
+#[derive(Drop)]
+pub struct Range<'a, K: Ord + Clone + Drop, V: Eq + Clone + Drop, Node: NodeLike<MultiPair<K, V>>> {
+    rest: range::Range<'a, MultiPair<K, V>, Node>,
+}
+
+impl<'a, K: Ord + Clone + Drop, V: Eq + Clone + Drop, Node: NodeLike<MultiPair<K, V>>> Model
+    for Range<'a, K, V, Node> {
+    ghost use Rattle.std.specs.Prelude.{List};
+    ghost use Rattle.indexset_core.specs.declared.pair.Pair.{Pair};
+    ghost use Rattle.indexset_multi.specs.Keys.{entries};
+
+    ghost Value = { List (Pair K V) };
+
+    ghost view = { λ a. entries a.rest };
+}
+
+impl<'a, K: Ord + Clone + Drop, V: Eq + Clone + Drop, Node: NodeLike<MultiPair<K, V>>> Iterator
+    for Range<'a, K, V, Node> {
+    type Item = (&'a K, &'a V);
+
+    ghost next_gives = { TakesFirst pair_shown };
+
+    ghost remaining = { λ s. at_most (length s) };
+
+    fn next(&mut self) -> Option<(&'a K, &'a V)> {
+        let pair = self.rest.next()?;
+        Some((&pair.key, &pair.value))
+    }
+
+    fn size_hint(&self) -> (usize, Option<usize>) {
+        self.rest.size_hint()
+    }
+}
+
+impl<
+    'a,
+    K: Ord + Clone + Drop,
+    V: Eq + Clone + Drop,
+    Node: NodeLike<MultiPair<K, V>>,
+> DoubleEndedIterator for Range<'a, K, V, Node> {
+    ghost next_back_gives = { TakesLast pair_shown };
+
+    fn next_back(&mut self) -> Option<(&'a K, &'a V)> {
+        let pair = self.rest.next_back()?;
+        Some((&pair.key, &pair.value))
+    }
+}
+
+impl<
+    'a,
+    K: Ord + Clone + Drop,
+    V: Eq + Clone + Drop,
+    Node: NodeLike<MultiPair<K, V>>,
+> ExactSizeIterator for Range<'a, K, V, Node> {
+    fn len(&self) -> usize {
+        self.rest.len()
+    }
+}
+
+impl<'a, K: Ord + Clone + Drop, V: Eq + Clone + Drop, Node: NodeLike<MultiPair<K, V>>> FusedIterator
+    for Range<'a, K, V, Node> {}
+
+/// The pairs of a part of a multimap that are left, with their numbers, from both ends.
+#[derive(Drop)]
+pub struct RawRange<
+    'a,
+    K: Ord + Clone + Drop,
+    V: Eq + Clone + Drop,
+    Node: NodeLike<MultiPair<K, V>>,
+> {
+    rest: range::Range<'a, MultiPair<K, V>, Node>,
+}
+
+impl<'a, K: Ord + Clone + Drop, V: Eq + Clone + Drop, Node: NodeLike<MultiPair<K, V>>> Model
+    for RawRange<'a, K, V, Node> {
+    ghost use Rattle.std.specs.Prelude.{List};
+    ghost use Rattle.indexset_core.specs.declared.multipair.MultiPair.{MultiPair};
+
+    ghost Value = { List (MultiPair K V) };
+
+    ghost view = { λ a. a.rest };
+}
+
+impl<'a, K: Ord + Clone + Drop, V: Eq + Clone + Drop, Node: NodeLike<MultiPair<K, V>>> Iterator
+    for RawRange<'a, K, V, Node> {
+    type Item = (&'a K, &'a u64, &'a V);
+
+    ghost next_gives = { TakesFirst number_shown };
+
+    ghost remaining = { λ s. at_most (length s) };
+
+    fn next(&mut self) -> Option<(&'a K, &'a u64, &'a V)> {
+        let pair = self.rest.next()?;
+        Some((&pair.key, &pair.discriminator, &pair.value))
+    }
+
+    fn size_hint(&self) -> (usize, Option<usize>) {
+        self.rest.size_hint()
+    }
+}
+
+impl<
+    'a,
+    K: Ord + Clone + Drop,
+    V: Eq + Clone + Drop,
+    Node: NodeLike<MultiPair<K, V>>,
+> DoubleEndedIterator for RawRange<'a, K, V, Node> {
+    ghost next_back_gives = { TakesLast number_shown };
+
+    fn next_back(&mut self) -> Option<(&'a K, &'a u64, &'a V)> {
+        let pair = self.rest.next_back()?;
+        Some((&pair.key, &pair.discriminator, &pair.value))
+    }
+}
+
+impl<
+    'a,
+    K: Ord + Clone + Drop,
+    V: Eq + Clone + Drop,
+    Node: NodeLike<MultiPair<K, V>>,
+> ExactSizeIterator for RawRange<'a, K, V, Node> {
+    fn len(&self) -> usize {
+        self.rest.len()
+    }
+}
+
+impl<'a, K: Ord + Clone + Drop, V: Eq + Clone + Drop, Node: NodeLike<MultiPair<K, V>>> FusedIterator
+    for RawRange<'a, K, V, Node> {}
+
+impl<K: Ord + Clone + Drop, V: Eq + Clone + Drop, Node: NodeLike<MultiPair<K, V>>> BTreeMultiMap<
+    K,
+    V,
+    Node,
+> {
+    /// The pairs of a key, in order of their numbers.
+    pub fn get(&self, key: &K) -> Range<'_, K, V, Node>
+        ensures rest { result ≡ entries (pairs_of K.cmp (joined self.now.nodes) key.now) }
+        ensures runs { ShowsInOrder (pair_shown {K = K} {V = V}) }
+        ensures runs_back { ShowsInReverse (pair_shown {K = K} {V = V}) }
+    {
+        Range {
+            rest: self.pairs_of(key),
+        }
+    }
+
+    /// The same, with their numbers. (In the Rust crate it is private.)
+    pub fn raw_get(&self, key: &K) -> RawRange<'_, K, V, Node>
+        ensures rest { result ≡ pairs_of K.cmp (joined self.now.nodes) key.now }
+        ensures runs { ShowsInOrder (number_shown {K = K} {V = V}) }
+        ensures runs_back { ShowsInReverse (number_shown {K = K} {V = V}) }
+    {
+        RawRange {
+            rest: self.pairs_of(key),
+        }
+    }
+
+    /// The pairs whose keys satisfy both bounds, in order. The start must not be past the end, nor at
+    /// it where both are excluded, which `bounds_are_ordered` of the core tests.
+    ///
+    /// ```
+    /// // The pairs of the keys from 10 on that are below 20.
+    /// let teens = map.range((Bound::Included(&10), Bound::Excluded(&20)));
+    /// ```
+    pub fn range(&self, range: (Bound<&K>, Bound<&K>)) -> Range<'_, K, V, Node>
+        requires { IsTrue (are_ordered K.cmp (bound_map (λ k. k.now) range.0) (bound_map (λ k. k.now) range.1)) }
+        ensures rest { result ≡ entries (pairs_between K.cmp (joined self.now.nodes) (bound_map (λ k. k.now) range.entry.0) (bound_map (λ k. k.now) range.entry.1)) }
+        ensures runs { ShowsInOrder (pair_shown {K = K} {V = V}) }
+        ensures runs_back { ShowsInReverse (pair_shown {K = K} {V = V}) }
+    {
+        Range {
+            rest: self.pairs_between(range),
+        }
+    }
+
+    // The pairs of a key.
+    pub(super) fn pairs_of(&self, key: &K) -> range::Range<'_, MultiPair<K, V>, Node>
+        ensures rest { result ≡ pairs_of K.cmp (joined self.now.nodes) key.now }
+        ensures runs { ShowsInOrder (deref {X = MultiPair K V}) }
+    {
+        self.pairs_between((Bound::Included(key), Bound::Included(key)))
+    }
+
+    // The pairs whose keys satisfy both bounds.
+    fn pairs_between(
+        &self,
+        range: (Bound<&K>, Bound<&K>),
+    ) -> range::Range<'_, MultiPair<K, V>, Node>
+        requires { IsTrue (are_ordered K.cmp (bound_map (λ k. k.now) range.0) (bound_map (λ k. k.now) range.1)) }
+        ensures rest { result ≡ pairs_between K.cmp (joined self.now.nodes) (bound_map (λ k. k.now) range.entry.0) (bound_map (λ k. k.now) range.entry.1) }
+        ensures runs { ShowsInOrder (deref {X = MultiPair K V}) }
+    {
+        // A set says here that its pairs ascend, so the two places cut out the range.
+        let _nodes = self.set.node_count();
+        let from = self.place_from(range.0);
+        let to = self.place_to(range.1);
+        self.set.range_between(from, to)
+    }
+
+    // The place before the first key that does not stand before the start.
+    fn place_from(&self, start: Bound<&K>) -> (usize, usize)
+        ensures place { IsPlace self.now.nodes result }
+        ensures before { items_before self.now.nodes result ≡ count_by (λ p. is_before K.cmp (bound_map (λ k. k.now) start.entry) p.key) (joined self.now.nodes) }
+    {
+        match start {
+            Bound::Included(key) => self.place_not_below(key),
+            Bound::Excluded(key) => self.place_above(key),
+            Bound::Unbounded => (0, 0),
+        }
+    }
+
+    // The place before the first key that stands past the end.
+    fn place_to(&self, end: Bound<&K>) -> (usize, usize)
+        ensures place { IsPlace self.now.nodes result }
+        ensures before { items_before self.now.nodes result ≡ count_by (λ p. is_up_to_end K.cmp (bound_map (λ k. k.now) end.entry) p.key) (joined self.now.nodes) }
+    {
+        match end {
+            Bound::Included(key) => self.place_above(key),
+            Bound::Excluded(key) => self.place_not_below(key),
+            Bound::Unbounded => self.last_place(),
+        }
+    }
+
+    // The place before the first key that is not below the key.
+    fn place_not_below(&self, key: &K) -> (usize, usize)
+        ensures place { IsPlace self.now.nodes result }
+        ensures before { items_before self.now.nodes result ≡ less_count (λ p. K.cmp p.key key.now) (joined self.now.nodes) }
+    {
+        match self.locate(key) {
+            Ok(place) => place,
+            Err(place) => place,
+        }
+    }
+
+    // The place before the first key above the key: no pair has the number of the next new one.
+    fn place_above(&self, key: &K) -> (usize, usize)
+        ensures place { IsPlace self.now.nodes result }
+        ensures before { items_before self.now.nodes result ≡ count_by (λ p. is_le (K.cmp p.key key.now)) (joined self.now.nodes) }
+    {
+        match self.locate_number(key, self.pair_next) {
+            Ok(place) => place,
+            Err(place) => place,
+        }
+    }
+
+    // The place behind all pairs.
+    fn last_place(&self) -> (usize, usize)
+        ensures place { IsPlace self.now.nodes result }
+        ensures before { items_before self.now.nodes result ≡ length (joined self.now.nodes) }
+    {
+        match self.set.iter_nodes().next_back() {
+            Some(last) => (self.set.node_count() - 1, last.len()),
+            None => (0, 0),
+        }
+    }
+
+    // Where a search for a pair of this number ends.
+    pub(super) fn locate_number(
+        &self,
+        key: &K,
+        number: u64,
+    ) -> Result<(usize, usize), (usize, usize)>
+        ensures place { result ≡ located (λ p. ordering_then (K.cmp p.key key.now) (nat_cmp p.discriminator number)) self.now.nodes }
+        ensures lawful { IsLawful (by_number K.cmp) self.now.size self.now.nodes }
+        ensures numbers { AreNumberedBelow self.now.pair_next (joined self.now.nodes) }
+    {
+        // A set says here that its pairs ascend, so a probe by number may go by them.
+        let _nodes = self.set.node_count();
+        let _next = self.pair_next;
+        self.set.locate_by(&mut ByNumber::new(key, number))
+    }
+}

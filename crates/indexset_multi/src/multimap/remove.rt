@@ -1,0 +1,185 @@
+//! Calls that take pairs out.
+ghost use Rattle.std.specs.Prelude.{◌≡◌, ◌+◌, ◌<◌, ◌≤◌, [], length, Some, IfOk, OnOk, IfErr, OnErr, IsOk};
+ghost use Rattle.std.specs.Option.{option_map};
+ghost use Rattle.indexset_core.specs.MultiPairs.{by_number};
+ghost use Rattle.indexset_core.specs.Nodes.{joined};
+ghost use Rattle.indexset_log.specs.Replay.{replay, numbered_from, IsNumberedFrom};
+ghost use Rattle.indexset_log.specs.Tree.{refusal_for};
+ghost use Rattle.indexset_multi.specs.Keys.{entry_of, equal_pair, first_pair, without_pair};
+ghost use Rattle.indexset_multi.specs.Places.{item_at, IsItemPlace};
+ghost use Rattle.indexset_multi.specs.Tree.{pair_removal_events};
+
+use super::BTreeMultiMap;
+use indexset_core::multipair::MultiPair;
+use indexset_core::node::NodeLike;
+use indexset_core::refusal::Refusal;
+use indexset_log::change::ChangeEvent;
+
+impl<K: Ord + Clone + Drop, V: Eq + Clone + Drop, Node: NodeLike<MultiPair<K, V>>> BTreeMultiMap<
+    K,
+    V,
+    Node,
+> {
+    /// Takes out the first pair of a key, where there is one, and tells the events. A refused call
+    /// changes nothing.
+    pub fn remove_some_cdc(
+        &mut self,
+        key: &K,
+    ) -> Result<(Option<(K, V)>, Vec<ChangeEvent<MultiPair<K, V>>>), Refusal>
+        requires keys { (x y : K) → K.is_clone x y → y ≡ x }
+        requires values { (x y : V) → V.is_clone x y → y ≡ x }
+        ensures answer { IfOk result (λ r. r.0 ≡ option_map entry_of (first_pair K.cmp (joined self.old.nodes) key.now)) }
+        ensures contents { OnOk result (joined self.new.nodes ≡ without_pair K.cmp (joined self.old.nodes) (first_pair K.cmp (joined self.old.nodes) key.now)) }
+        ensures events { IfOk result (λ r. r.1.items ≡ numbered_from self.old.next (pair_removal_events K.cmp self.old.nodes (first_pair K.cmp (joined self.old.nodes) key.now))) }
+        ensures numbered { IfOk result (λ r. IsNumberedFrom self.old.next r.1.items) }
+        ensures replay { IfOk result (λ r. replay (by_number K.cmp) self.old.nodes r.1.items ≡ Some self.new.nodes) }
+        ensures few { length (pair_removal_events K.cmp self.old.nodes (first_pair K.cmp (joined self.old.nodes) key.now)) ≤ 3 }
+        ensures size { self.new.size ≡ self.old.size }
+        ensures next { OnOk result (self.new.next ≡ self.old.next + length (pair_removal_events K.cmp self.old.nodes (first_pair K.cmp (joined self.old.nodes) key.now))) }
+        ensures pair_next { self.new.pair_next ≡ self.old.pair_next }
+        ensures fits { OnOk result (self.old.next + length (pair_removal_events K.cmp self.old.nodes (first_pair K.cmp (joined self.old.nodes) key.now)) ≤ u64.MAX) }
+        ensures refusal { IfErr result (λ e. e ≡ refusal_for self.old.next (length (pair_removal_events K.cmp self.old.nodes (first_pair K.cmp (joined self.old.nodes) key.now)))) }
+        ensures no_event { pair_removal_events K.cmp self.old.nodes (first_pair K.cmp (joined self.old.nodes) key.now) ≡ [] → IsOk result }
+        ensures unchanged { OnErr result (self.new ≡ self.old) }
+    {
+        let place = self.first_place(key);
+        self.take_cdc(place)
+    }
+
+    /// Takes out the first pair of a key, where there is one. It uses up as many numbers as
+    /// `remove_some_cdc`, and is refused only where they don't fit. It takes no memory.
+    pub fn remove_some(&mut self, key: &K) -> Result<Option<(K, V)>, Refusal>
+        ensures answer { IfOk result (λ entry. entry ≡ option_map entry_of (first_pair K.cmp (joined self.old.nodes) key.now)) }
+        ensures contents { OnOk result (joined self.new.nodes ≡ without_pair K.cmp (joined self.old.nodes) (first_pair K.cmp (joined self.old.nodes) key.now)) }
+        ensures replay { OnOk result (replay (by_number K.cmp) self.old.nodes (numbered_from self.old.next (pair_removal_events K.cmp self.old.nodes (first_pair K.cmp (joined self.old.nodes) key.now))) ≡ Some self.new.nodes) }
+        ensures size { self.new.size ≡ self.old.size }
+        ensures next { OnOk result (self.new.next ≡ self.old.next + length (pair_removal_events K.cmp self.old.nodes (first_pair K.cmp (joined self.old.nodes) key.now))) }
+        ensures pair_next { self.new.pair_next ≡ self.old.pair_next }
+        ensures refusal { IfErr result (λ e. (e ≡ Refusal.Numbers) × (u64.MAX < self.old.next + length (pair_removal_events K.cmp self.old.nodes (first_pair K.cmp (joined self.old.nodes) key.now)))) }
+        ensures unchanged { OnErr result (self.new ≡ self.old) }
+    {
+        let place = self.first_place(key);
+        self.take(place)
+    }
+
+    /// Takes out the first pair of a key whose value is equal, where there is one, and tells the
+    /// events. A refused call changes nothing.
+    pub fn remove_cdc(
+        &mut self,
+        key: &K,
+        value: &V,
+    ) -> Result<(Option<(K, V)>, Vec<ChangeEvent<MultiPair<K, V>>>), Refusal>
+        requires keys { (x y : K) → K.is_clone x y → y ≡ x }
+        requires values { (x y : V) → V.is_clone x y → y ≡ x }
+        ensures answer { IfOk result (λ r. r.0 ≡ option_map entry_of (equal_pair K.cmp V.eq (joined self.old.nodes) key.now value.now)) }
+        ensures contents { OnOk result (joined self.new.nodes ≡ without_pair K.cmp (joined self.old.nodes) (equal_pair K.cmp V.eq (joined self.old.nodes) key.now value.now)) }
+        ensures events { IfOk result (λ r. r.1.items ≡ numbered_from self.old.next (pair_removal_events K.cmp self.old.nodes (equal_pair K.cmp V.eq (joined self.old.nodes) key.now value.now))) }
+        ensures numbered { IfOk result (λ r. IsNumberedFrom self.old.next r.1.items) }
+        ensures replay { IfOk result (λ r. replay (by_number K.cmp) self.old.nodes r.1.items ≡ Some self.new.nodes) }
+        ensures few { length (pair_removal_events K.cmp self.old.nodes (equal_pair K.cmp V.eq (joined self.old.nodes) key.now value.now)) ≤ 3 }
+        ensures size { self.new.size ≡ self.old.size }
+        ensures next { OnOk result (self.new.next ≡ self.old.next + length (pair_removal_events K.cmp self.old.nodes (equal_pair K.cmp V.eq (joined self.old.nodes) key.now value.now))) }
+        ensures pair_next { self.new.pair_next ≡ self.old.pair_next }
+        ensures fits { OnOk result (self.old.next + length (pair_removal_events K.cmp self.old.nodes (equal_pair K.cmp V.eq (joined self.old.nodes) key.now value.now)) ≤ u64.MAX) }
+        ensures refusal { IfErr result (λ e. e ≡ refusal_for self.old.next (length (pair_removal_events K.cmp self.old.nodes (equal_pair K.cmp V.eq (joined self.old.nodes) key.now value.now)))) }
+        ensures no_event { pair_removal_events K.cmp self.old.nodes (equal_pair K.cmp V.eq (joined self.old.nodes) key.now value.now) ≡ [] → IsOk result }
+        ensures unchanged { OnErr result (self.new ≡ self.old) }
+    {
+        let place = self.equal_place(key, value);
+        self.take_cdc(place)
+    }
+
+    /// Takes out the first pair of a key whose value is equal, where there is one. It uses up as many
+    /// numbers as `remove_cdc`, and is refused only where they don't fit. It takes no memory.
+    pub fn remove(&mut self, key: &K, value: &V) -> Result<Option<(K, V)>, Refusal>
+        ensures answer { IfOk result (λ entry. entry ≡ option_map entry_of (equal_pair K.cmp V.eq (joined self.old.nodes) key.now value.now)) }
+        ensures contents { OnOk result (joined self.new.nodes ≡ without_pair K.cmp (joined self.old.nodes) (equal_pair K.cmp V.eq (joined self.old.nodes) key.now value.now)) }
+        ensures replay { OnOk result (replay (by_number K.cmp) self.old.nodes (numbered_from self.old.next (pair_removal_events K.cmp self.old.nodes (equal_pair K.cmp V.eq (joined self.old.nodes) key.now value.now))) ≡ Some self.new.nodes) }
+        ensures size { self.new.size ≡ self.old.size }
+        ensures next { OnOk result (self.new.next ≡ self.old.next + length (pair_removal_events K.cmp self.old.nodes (equal_pair K.cmp V.eq (joined self.old.nodes) key.now value.now))) }
+        ensures pair_next { self.new.pair_next ≡ self.old.pair_next }
+        ensures refusal { IfErr result (λ e. (e ≡ Refusal.Numbers) × (u64.MAX < self.old.next + length (pair_removal_events K.cmp self.old.nodes (equal_pair K.cmp V.eq (joined self.old.nodes) key.now value.now)))) }
+        ensures unchanged { OnErr result (self.new ≡ self.old) }
+    {
+        let place = self.equal_place(key, value);
+        self.take(place)
+    }
+
+    // Where the first pair of a key stands.
+    fn first_place(&self, key: &K) -> Option<(usize, usize)>
+        ensures place { IsItemPlace self.now.nodes result }
+        ensures pair { item_at self.now.nodes result ≡ first_pair K.cmp (joined self.now.nodes) key.now }
+    {
+        self.locate(key).ok()
+    }
+
+    // Where the first pair of a key with an equal value stands.
+    fn equal_place(&self, key: &K, value: &V) -> Option<(usize, usize)>
+        ensures place { IsItemPlace self.now.nodes result }
+        ensures pair { item_at self.now.nodes result ≡ equal_pair K.cmp V.eq (joined self.now.nodes) key.now value.now }
+    {
+        match self.kept_number(key, value) {
+            Some(number) => self.locate_number(key, number).ok(),
+            None => None,
+        }
+    }
+
+    // Takes out the pair at a place, where one is given, and tells the events.
+    fn take_cdc(
+        &mut self,
+        place: Option<(usize, usize)>,
+    ) -> Result<(Option<(K, V)>, Vec<ChangeEvent<MultiPair<K, V>>>), Refusal>
+        requires keys { (x y : K) → K.is_clone x y → y ≡ x }
+        requires values { (x y : V) → V.is_clone x y → y ≡ x }
+        requires place { IsItemPlace self.old.nodes place }
+        ensures answer { IfOk result (λ r. r.0 ≡ option_map entry_of (item_at self.old.nodes place)) }
+        ensures contents { OnOk result (joined self.new.nodes ≡ without_pair K.cmp (joined self.old.nodes) (item_at self.old.nodes place)) }
+        ensures events { IfOk result (λ r. r.1.items ≡ numbered_from self.old.next (pair_removal_events K.cmp self.old.nodes (item_at self.old.nodes place))) }
+        ensures numbered { IfOk result (λ r. IsNumberedFrom self.old.next r.1.items) }
+        ensures replay { IfOk result (λ r. replay (by_number K.cmp) self.old.nodes r.1.items ≡ Some self.new.nodes) }
+        ensures few { length (pair_removal_events K.cmp self.old.nodes (item_at self.old.nodes place)) ≤ 3 }
+        ensures size { self.new.size ≡ self.old.size }
+        ensures next { OnOk result (self.new.next ≡ self.old.next + length (pair_removal_events K.cmp self.old.nodes (item_at self.old.nodes place))) }
+        ensures pair_next { self.new.pair_next ≡ self.old.pair_next }
+        ensures fits { OnOk result (self.old.next + length (pair_removal_events K.cmp self.old.nodes (item_at self.old.nodes place)) ≤ u64.MAX) }
+        ensures refusal { IfErr result (λ e. e ≡ refusal_for self.old.next (length (pair_removal_events K.cmp self.old.nodes (item_at self.old.nodes place)))) }
+        ensures no_event { pair_removal_events K.cmp self.old.nodes (item_at self.old.nodes place) ≡ [] → IsOk result }
+        ensures unchanged { OnErr result (self.new ≡ self.old) }
+    {
+        // A set says here what it is.
+        let _nodes = self.set.node_count();
+        let _size = self.set.maximum_node_size();
+        let _next = self.set.events_issued();
+        match place {
+            Some((node, offset)) => {
+                let (pair, events) = self.set.remove_at_cdc(node, offset)?;
+                Ok((Some((pair.key, pair.value)), events))
+            }
+            None => Ok((None, Vec::new(*self.set.allocator()))),
+        }
+    }
+
+    // Takes out the pair at a place, where one is given.
+    fn take(&mut self, place: Option<(usize, usize)>) -> Result<Option<(K, V)>, Refusal>
+        requires { IsItemPlace self.old.nodes place }
+        ensures answer { IfOk result (λ entry. entry ≡ option_map entry_of (item_at self.old.nodes place)) }
+        ensures contents { OnOk result (joined self.new.nodes ≡ without_pair K.cmp (joined self.old.nodes) (item_at self.old.nodes place)) }
+        ensures replay { OnOk result (replay (by_number K.cmp) self.old.nodes (numbered_from self.old.next (pair_removal_events K.cmp self.old.nodes (item_at self.old.nodes place))) ≡ Some self.new.nodes) }
+        ensures size { self.new.size ≡ self.old.size }
+        ensures next { OnOk result (self.new.next ≡ self.old.next + length (pair_removal_events K.cmp self.old.nodes (item_at self.old.nodes place))) }
+        ensures pair_next { self.new.pair_next ≡ self.old.pair_next }
+        ensures refusal { IfErr result (λ e. (e ≡ Refusal.Numbers) × (u64.MAX < self.old.next + length (pair_removal_events K.cmp self.old.nodes (item_at self.old.nodes place)))) }
+        ensures unchanged { OnErr result (self.new ≡ self.old) }
+    {
+        // A set says here what it is.
+        let _nodes = self.set.node_count();
+        let _size = self.set.maximum_node_size();
+        match place {
+            Some((node, offset)) => {
+                let pair = self.set.remove_at(node, offset)?;
+                Ok(Some((pair.key, pair.value)))
+            }
+            None => Ok(None),
+        }
+    }
+}
