@@ -1,7 +1,7 @@
 -- What crates above this one may cite of its proofs.
 pub use Rattle.indexset_log.proofs.Attaches.{Attaches, ascending_answer, attaches_node, filled_first, map_insert, not_refused, refused_empty, refused_overlap, refused_unsorted}
 pub use Rattle.indexset_log.proofs.Places.{IsEnd, ends_equal, ends_gap, located_end, place_le}
-pub use Rattle.indexset_log.proofs.Puts.{checked_there, halved_view}
+pub use Rattle.indexset_log.proofs.Puts.{halved_view}
 pub use Rattle.indexset_log.proofs.Replays.{not_reaching, over_rest, reaching}
 pub use Rattle.indexset_log.proofs.Steps.{At, at_ruled, create_step, edit_step, insert_at, place_at, place_none, position_at, reached, remove_at, remove_node_step, remove_step, ruled_at, splice_at, split_step, unnamed}
 pub use Rattle.indexset_log.proofs.Takes.{at_place, map_remove}

@@ -117,14 +117,6 @@ pub filled-append : {T : Type 0} (xs : List T) (y : T) (ys : List T) → is_fill
 filled-append [] y ys = refl
 filled-append (x ∷ xs) y ys = refl
 
-pub filled-right : {T : Type 0} (xs ys : List T) → is_filled ys ≡ true → is_filled (xs ++ ys) ≡ true
-filled-right [] ys full = full
-filled-right (x ∷ xs) ys full = refl
-
-pub filled-left : {T : Type 0} (xs ys : List T) → is_filled xs ≡ true → is_filled (xs ++ ys) ≡ true
-filled-left [] ys full = absurd (false≢true full)
-filled-left (x ∷ xs) ys full = refl
-
 last_get : {T : Type 0} (x : T) (xs : List T) (d : T) → last_of xs x ≡ get_or (x ∷ xs) (length xs) d
 last_get x [] d = refl
 last_get x (y ∷ ys) d = last_get y ys d
@@ -297,10 +289,6 @@ module _ {T : Type 0} (cmp : T → T → Ordering) where
           let front : below cmp (p ++ (n ++ q)) v ≡ p ++ below cmp n v = within-filter (λ x. is_lt (cmp x v)) ∙ rw (filter_every (λ x. is_lt (cmp x v)) p (each-map _ _ (λ x e. ap is_lt e) p low), filter_no (λ x. is_lt (cmp x v)) q (each-map _ _ (λ x e. ap is_lt (greater x v e)) q high), append-nil (below cmp n v)) refl in
           let back : above cmp (p ++ (n ++ q)) v ≡ above cmp n v ++ q = within-filter (λ x. is_gt (cmp x v)) ∙ rw (filter_no (λ x. is_gt (cmp x v)) p (each-map _ _ (λ x e. ap is_gt e) p low), filter_every (λ x. is_gt (cmp x v)) q (each-map _ _ (λ x e. ap is_gt (greater x v e)) q high)) refl in
           rw (front, back) (simp append_assoc)
-
-      pub without-within : without cmp (p ++ (n ++ q)) v ≡ p ++ (without cmp n v ++ q)
-      unfolding without
-      without-within = within-filter (λ x. not (is_eq (cmp x v))) ∙ rw (filter_every (λ x. not (is_eq (cmp x v))) p (each-map _ _ (λ x e. ap (λ a. not (is_eq a)) e) p low), filter_every (λ x. not (is_eq (cmp x v))) q (each-map _ _ (λ x e. ap (λ a. not (is_eq a)) (greater x v e)) q high)) refl
 
     -- where v stands in an ascending list
     pub around : (v : T) (P : List T → Type 0)

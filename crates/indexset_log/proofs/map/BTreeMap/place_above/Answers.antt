@@ -6,17 +6,17 @@ use Rattle.indexset_log.proofs.map.BTreeMap.place_above.Goals as goal
 
 pub overflow_add-result : goal.overflow_add-result
 overflow_add-result g c =
-    let after = key_after g.K.Ord.cmp g.met.K.Ord.total c.args.self.now.size c.args.self.now.nodes c.locate.ensures.lawful c.args.key.now c.locate.result c.locate.ensures.place (c.in-Ok.node, c.in-Ok.offset) c.in-Ok.is in
+    let after = key_after g.met.K.Ord.total c.locate.ensures.lawful c.args.key.now c.locate.ensures.place c.in-Ok.is in
     record { fits = omega (arith, c.locate.ensures.within, place_small (by_key g.K.Ord.cmp) c.args.self.now.size c.args.self.now.nodes c.locate.ensures.lawful (c.in-Ok.node, c.in-Ok.offset + 1) after) }
 
 pub returns-in-Ok : goal.returns-in-Ok
 returns-in-Ok g c = record {
-  place = key_after g.K.Ord.cmp g.met.K.Ord.total c.args.self.now.size c.args.self.now.nodes c.locate.ensures.lawful c.args.key.now c.locate.result c.locate.ensures.place (c.in-Ok.node, c.in-Ok.offset) c.in-Ok.is;
-  before = key_through g.K.Ord.cmp g.met.K.Ord.total c.args.self.now.size c.args.self.now.nodes c.locate.ensures.lawful c.args.key.now c.locate.result c.locate.ensures.place (c.in-Ok.node, c.in-Ok.offset) c.in-Ok.is;
+  place = key_after g.met.K.Ord.total c.locate.ensures.lawful c.args.key.now c.locate.ensures.place c.in-Ok.is;
+  before = key_through g.met.K.Ord.total c.locate.ensures.lawful c.args.key.now c.locate.ensures.place c.in-Ok.is;
 }
 
 pub returns-in-Err : goal.returns-in-Err
 returns-in-Err g c = record {
-  place = gap_place g.K.Ord.cmp g.met.K.Ord.total c.args.self.now.size c.args.self.now.nodes c.locate.ensures.lawful c.args.key.now c.locate.result c.locate.ensures.place c.in-Err.place c.in-Err.is;
-  before = gap_through g.K.Ord.cmp g.met.K.Ord.total c.args.self.now.size c.args.self.now.nodes c.locate.ensures.lawful c.args.key.now c.locate.result c.locate.ensures.place c.in-Err.place c.in-Err.is;
+  place = gap_place g.met.K.Ord.total c.locate.ensures.lawful c.args.key.now c.locate.ensures.place c.in-Err.is;
+  before = gap_through g.met.K.Ord.total c.locate.ensures.lawful c.args.key.now c.locate.ensures.place c.in-Err.is;
 }
