@@ -42,6 +42,10 @@ position_le q (x ∷ xs) = elim (q x) as (λ b. q x ≡ b → position_or_len q 
   | false ↦ λ e. rw e (omega (arith, position_le q xs))
 ] refl
 
+false_unless : (b : Bool) → (b ≡ true → ⊥) → b ≡ false
+false_unless true h = absurd (h refl)
+false_unless false h = refl
+
 node_past : {X : Type 0} (b a : List (List X)) → node_at (b ++ a) (length b) ≡ node_at a 0
 node_past [] a = refl
 node_past (m ∷ b) a = node_past b a
@@ -109,10 +113,7 @@ module _ {T : Type 0} (cmp : T → T → Ordering) where
       before_it m full rise h = each_below m (f ∷ t) (each-map _ _ over_first m (upto_last cmp o m f f rise (not_reaching cmp o f m full h)))
 
       not_before : (m : List T) → is_filled m ≡ true → reaches cmp f m ≡ true → lies_below cmp m (f ∷ t) ≡ false
-      not_before m full h = elim (lies_below cmp m (f ∷ t)) as (λ b. lies_below cmp m (f ∷ t) ≡ b → b ≡ false) [
-        | true ↦ λ e. absurd (false≢true (sym (reaching cmp o f m full h) ∙ ap is_lt (each_last (λ x. cmp x f ≡ Less) m f full (each-map _ _ (λ x (k : Each (λ y. cmp x y ≡ Less) (f ∷ t)). k.0) m (below_each m (f ∷ t) e)))))
-        | false ↦ λ e. refl
-      ] refl
+      not_before m full h = false_unless _ (λ e. false≢true (sym (reaching cmp o f m full h) ∙ ap is_lt (each_last (λ x. cmp x f ≡ Less) m f full (each-map _ _ (λ x (k : Each (λ y. cmp x y ≡ Less) (f ∷ t)). k.0) m (below_each m (f ∷ t) e)))))
 
       all_not_before : (a : List (List T)) → Each (λ m. is_filled m ≡ true) a → Each (λ m. reaches cmp f m ≡ true) a → Each (λ m. lies_below cmp m (f ∷ t) ≡ false) a
       all_not_before [] full h = tt
@@ -250,14 +251,6 @@ module _ {T : Type 0} (cmp : T → T → Ordering) (size : ℕ) (ns : List (List
       unfolding attach_refusal
       not_refused up h = rw (full, small, up, h) refl
 
-if_none : {X : Type 0} (b : Bool) (x : X) (r : Option X) → (if b then Some x else r) ≡ None → (b ≡ false) × (r ≡ None)
-if_none true x r h = let some : Some x ≡ None = h in cc
-if_none false x r h = (refl, h)
-
-not_false : (b : Bool) → not b ≡ false → b ≡ true
-not_false true h = refl
-not_false false h = absurd (false≢true (sym h))
-
 -- what a node makes of lawful nodes that is not refused
 module _ {T : Type 0} (cmp : T → T → Ordering) (o : IsTotalOrder cmp) (size : ℕ) (ns : List (List T)) where
   record Good (n : List T) : Type 0 where
@@ -268,12 +261,7 @@ module _ {T : Type 0} (cmp : T → T → Ordering) (o : IsTotalOrder cmp) (size 
 
   good : (n : List T) → attach_refusal cmp size ns n ≡ None → Good n
   unfolding attach_refusal
-  good n h =
-      let empty = if_none (not (is_filled n)) Empty _ h in
-      let large = if_none (nat_lt size (length n)) TooLarge _ empty.1 in
-      let unsorted = if_none (not (is_ascending cmp n)) Unsorted _ large.1 in
-      let overlap = if_none (not (lies_apart cmp ns n)) Overlaps _ unsorted.1 in
-      record { full = not_false _ empty.0; fits = large.0; up = not_false _ unsorted.0; apart = not_false _ overlap.0 }
+  good n h = record { full = grind arith; fits = grind arith; up = grind arith; apart = grind arith }
 
   pub attached_tree : {most len : ℕ} (n : List T) → IsTree cmp most ns size len → attach_refusal cmp size ns n ≡ None → IsTree cmp most (attached cmp ns n) size (len + length n)
   attached_tree [] t h = let k = good [] h in absurd (false≢true k.full)
@@ -298,10 +286,7 @@ module _ {T : Type 0} (cmp : T → T → Ordering) (o : IsTotalOrder cmp) where
           ((step, each-map _ _ (λ z e. o.trans x y z step e) ys rest.0), rest)
 
   pub falls_at : (xs : List T) (k : ℕ) (d : T) → suc k < length xs → is_lt (cmp (get_or xs k d) (get_or xs (suc k) d)) ≡ false → is_ascending cmp xs ≡ false
-  falls_at xs k d lt h = elim (is_ascending cmp xs) as (λ b. is_ascending cmp xs ≡ b → b ≡ false) [
-    | true ↦ λ e. absurd (false≢true (sym h ∙ ap is_lt (ascends cmp xs (true_up cmp xs e) k (suc k) d (omega arith) lt)))
-    | false ↦ λ e. refl
-  ] refl
+  falls_at xs k d lt h = false_unless _ (λ e. false≢true (sym h ∙ ap is_lt (ascends cmp xs (true_up cmp xs e) k (suc k) d (omega arith) lt)))
 
   -- what a test of all neighbours tells
   pub ascending_answer : (xs : List T) (r : Bool) → IsAllAdjacentAnswer (λ x y b. b ≡ is_lt (cmp x y)) xs r → r ≡ is_ascending cmp xs

@@ -17,9 +17,9 @@ use Rattle.indexset_log.specs.Located.{located, IsFoundIn}
 use Rattle.indexset_log.specs.Places.{IsPlace, items_before}
 use Rattle.indexset_log.specs.Edits.{with_taken}
 use Rattle.indexset_log.specs.Table.{taking_events}
-use Rattle.indexset_log.proofs.Places.{IsEnd, end_at, end_found, end_position, gap_at, end_offset, end_read, gap_found, gap_position}
+use Rattle.indexset_log.proofs.Places.{IsEnd, found_at, end_at, end_found, end_position, gap_at, end_offset, end_read, gap_found, gap_position}
 use Rattle.indexset_log.proofs.Takes.{found_events, taken_contents, taking_one}
-use Rattle.indexset_log.proofs.Views.{lawful_ascends, lawful_filled, located_told}
+use Rattle.indexset_log.proofs.Views.{lawful_ascends, lawful_filled}
 
 module _ {K V : Type 0} {cmp : K → K → Ordering} {size : ℕ} {ns : List (List (Pair K V))} (o : IsTotalOrder cmp) (law : IsLawful (by_key cmp) size ns) (k : K) where
   abbrev answer : Pair K V → Ordering
@@ -46,8 +46,8 @@ module _ {K V : Type 0} {cmp : K → K → Ordering} {size : ℕ} {ns : List (Li
 
   module _ {r : Result (ℕ × ℕ) (ℕ × ℕ)} (e : r ≡ located answer ns) {p : ℕ × ℕ} where
     module _ (is : r ≡ Ok p) where
-      end : IsEnd answer true ns p
-      end = end_at answer ns filled parted_keys r e p is
+      pub key_end : IsEnd answer true ns p
+      key_end = end_at answer ns filled parted_keys r e p is
 
       pub key_offset : p.1 < length (node_at ns p.0)
       key_offset = end_offset answer ns filled parted_keys r e p is
@@ -55,11 +55,11 @@ module _ {K V : Type 0} {cmp : K → K → Ordering} {size : ℕ} {ns : List (Li
       pub key_taken : {x : Pair K V} → slice_get (node_at ns p.0) p.1 ≡ Some x → KeyTaken p x
       unfolding key_removal_events without_key
       key_taken {x} here =
-          let d = end in
+          let d = key_end in
           let read = end_read answer ns filled parted_keys r e p is ∙ here in
           let equal : cmp x.key k ≡ Equal = equal_from (cmp x.key k) (subst (λ q. option_map_or (λ y. is_eq (answer y)) q false ≡ true) read d.equal) in
           let same : (λ (q : Pair K V). cmp q.key x.key) ≡ answer = λ i q. alike_right o x.key k q.key equal i in
-          let found : IsFoundIn (by_key cmp) ns x p.0 p.1 = subst (λ q. IfOk q (λ p. IsFoundIn (by_key cmp) ns x p.0 p.1)) (ap (λ a. located a ns) same ∙ (sym e ∙ is)) (located_told (by_key cmp) (pairs_total cmp o) x size ns law).0 in
+          let found : IsFoundIn (by_key cmp) ns x p.0 p.1 = found_at (by_key cmp) (pairs_total cmp o) x size ns law r (e ∙ ap (λ a. located a ns) (sym same)) p is in
           let pair_is = end_found answer ns filled parted_keys r e p is ∙ here in
           record {
             pair_is = pair_is;
@@ -80,19 +80,10 @@ module _ {K V : Type 0} {cmp : K → K → Ordering} {size : ℕ} {ns : List (Li
           first_of [] some = absurd (omega arith)
           first_of (x ∷ l) some = x
 
-      pub key_place : IsPlace ns p
-      key_place = let d = end in d.place
-
-      pub key_after : IsPlace ns (p.0, p.1 + 1)
-      key_after = let d = end in d.after refl
-
-      pub key_before : items_before ns p ≡ key_rank cmp (joined ns) k
-      key_before = let d = end in d.before
-
       pub key_through : items_before ns (p.0, p.1 + 1) ≡ count_by (λ q. is_le (cmp q.key k)) (joined ns)
       key_through =
-          let i = key_rank cmp (joined ns) k in
-          omega (arith, key_before, past_found cmp o (joined ns) (lawful_ascends (by_key cmp) size ns law) k i (end_position answer ns filled parted_keys r e p is))
+          let d = key_end in
+          omega (arith, d.before, past_found cmp o (joined ns) (lawful_ascends (by_key cmp) size ns law) k (key_rank cmp (joined ns) k) (end_position answer ns filled parted_keys r e p is))
 
     module _ (is : r ≡ Err p) where
       none_at : position (λ q. is_eq (answer q)) (joined ns) ≡ None
@@ -104,11 +95,8 @@ module _ {K V : Type 0} {cmp : K → K → Ordering} {size : ℕ} {ns : List (Li
           let none = gap_found answer ns filled parted_keys r e p is in
           record { pair_is = none; events = rw none refl; contents = sym (absent_without cmp (joined ns) k (key_absent cmp (joined ns) k none_at)) }
 
-      pub gap_place : IsPlace ns p
-      gap_place = let d = gap_at answer ns filled parted_keys r e p is in d.place
-
-      pub gap_before : items_before ns p ≡ key_rank cmp (joined ns) k
-      gap_before = let d = gap_at answer ns filled parted_keys r e p is in d.before
+      pub key_gap : IsEnd answer false ns p
+      key_gap = gap_at answer ns filled parted_keys r e p is
 
       pub gap_through : items_before ns p ≡ count_by (λ q. is_le (cmp q.key k)) (joined ns)
-      gap_through = past_absent cmp o (joined ns) (lawful_ascends (by_key cmp) size ns law) k (items_before ns p) none_at gap_before
+      gap_through = past_absent cmp o (joined ns) (lawful_ascends (by_key cmp) size ns law) k (items_before ns p) none_at (let d = key_gap in d.before)

@@ -8,7 +8,7 @@ use Rattle.std.proofs.lemmas.Bool.{false≢true, eq-eqb, ne_eqb, eqb-true, eqb-f
 use Rattle.std.proofs.lemmas.List.{length-map, map-append, take-append-drop}
 use Rattle.std.proofs.lemmas.List.Folds.{find-append}
 use Rattle.std.proofs.lemmas.Option.{get_or_from_slice_get}
-use Rattle.std.proofs.Math.Seq.{get_or-append_seam}
+use Rattle.std.proofs.Math.Seq.{get_or-append_seam, set-append_seam}
 use Rattle.indexset_core.specs.Nodes.{joined, node_at, IsLawful}
 use Rattle.indexset_core.specs.Order.{IsAscending, put, keep, has_equal, equal_element, rank, IsFoundAt, IsGapFor}
 use Rattle.indexset_core.proofs.CallerLemmas.{is_some-find, joined-append, found_has_equal, gap_has_equal, found_rank, gap_rank, has_equal_found, parted_by_item}
@@ -24,7 +24,7 @@ use Rattle.indexset_log.specs.Replay.{replay, numbered_from, assigned}
 use Rattle.indexset_log.specs.Table.{target, half_of, part_for, is_past, halving_events, node_events, replace_events, target_events, put_events, checked_put_events}
 use Rattle.indexset_log.proofs.Ups.{Each, each-map, Up, up-left, up-right, Ruled, greater, around, parts-put, parts-has_equal, each_all, filled_length, length_filled, ascends, lawful_from, lawful_ruled, lawful_bounded}
 use Rattle.indexset_log.proofs.Steps.{ruled_at, insert_at, splice_at}
-use Rattle.indexset_log.proofs.Replays.{set_seam, ne_from, aim, target_at}
+use Rattle.indexset_log.proofs.Replays.{ne_from, aim, target_at}
 use Rattle.indexset_log.proofs.Theorem.{numbered_replay, up_node, put_events_none, set_view}
 use Rattle.indexset_log.proofs.Rooms.{Roomy, roomy, Makes, target_makes, put_makes}
 use Rattle.indexset_log.proofs.Takes.{at_place}
@@ -35,7 +35,7 @@ halved_seam : {X : Type 0} (b : List X) (n : X) (a : List X) (l r : X) → inser
 halved_seam b n a l r =
     let made : insert ((b ++ l ∷ []) ++ a) (length (b ++ l ∷ [])) r ≡ (b ++ l ∷ []) ++ r ∷ a = insert_at (b ++ l ∷ []) a r in
     let long : length (b ++ l ∷ []) ≡ length b + 1 = length-append b (l ∷ []) in
-    rw (set_seam b n a l) (subst (λ k. insert (b ++ l ∷ a) k r ≡ b ++ l ∷ r ∷ a) long (subst (λ q. insert q (length (b ++ l ∷ [])) r ≡ b ++ l ∷ r ∷ a) (append_assoc b (l ∷ []) a) (made ∙ append_assoc b (l ∷ []) (r ∷ a))))
+    rw (set-append_seam b n a l) (subst (λ k. insert (b ++ l ∷ a) k r ≡ b ++ l ∷ r ∷ a) long (subst (λ q. insert q (length (b ++ l ∷ [])) r ≡ b ++ l ∷ r ∷ a) (append_assoc b (l ∷ []) a) (made ∙ append_assoc b (l ∷ []) (r ∷ a))))
 
 pub halved_view : {X Y : Type 0} (f : X → Y) (xs : List X) (k : ℕ) (n l r : X) → slice_get xs k ≡ Some n → map f (insert (set xs k l) (k + 1) r) ≡ splice (map f xs) k (k + 1) (f l ∷ f r ∷ [])
 halved_view f xs k n l r at = at_place (λ q j n. map f (insert (set q j l) (j + 1) r) ≡ splice (map f q) j (j + 1) (f l ∷ f r ∷ []))

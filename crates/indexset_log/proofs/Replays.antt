@@ -5,21 +5,17 @@ use Rattle.std.specs.List.{position_or_len}
 use Rattle.std.specs.Ordering.{ordering_reverse, is_lt, is_gt}
 use Rattle.std.specs.Cmp.{IsTotalOrder}
 use Rattle.std.proofs.lemmas.Bool.{false≢true}
-use Rattle.std.proofs.Math.Seq.{get_or-append_seam}
+use Rattle.std.proofs.Math.Seq.{get_or-append_seam, set-append_seam}
 use Rattle.indexset_core.specs.Order.{put}
 use Rattle.indexset_log.specs.declared.change.ChangeEventUnassigned.{ChangeEventUnassigned}
 use Rattle.indexset_core.specs.Nodes.{joined}
-use Rattle.indexset_core.proofs.CallerLemmas.{joined-append}
+use Rattle.indexset_core.proofs.CallerLemmas.{joined-append, less_from}
 use Rattle.indexset_log.specs.Nodes.{last_of, is_filled}
 use Rattle.indexset_log.specs.Replay.{reaches, replay_plain}
 use Rattle.indexset_log.specs.Table.{target, node_events, is_past}
 use Rattle.indexset_log.proofs.Ups.{Each, each-append, each-left, each-right, each-map, each_last, ends_by, Up, up-left, up-right, up-between, Ruled, lesser, equal_below, upto_last, around, parts-put, put-within}
 use Rattle.indexset_log.proofs.Steps.{At, at_ruled, ruled_at, place_at, unreached}
 use Rattle.indexset_log.proofs.Nodewise.{puts}
-
-pub set_seam : {X : Type 0} (b : List X) (n : X) (a : List X) (x : X) → set (b ++ n ∷ a) (length b) x ≡ b ++ x ∷ a
-set_seam [] n a x = refl
-set_seam (y ∷ b) n a x = ap (λ q. y ∷ q) (set_seam b n a x)
 
 pub ne_from : (a b : ℕ) → (a ≡ b → ⊥) → a ≤ b → a < b
 ne_from a b h le = grind arith
@@ -43,19 +39,13 @@ module _ {T : Type 0} (cmp : T → T → Ordering) (o : IsTotalOrder cmp) (v : T
 
   pub not_reaching : (n : List T) → is_filled n ≡ true → reaches cmp v n ≡ false → cmp (last_of n v) v ≡ Less
   not_reaching n full h =
-      elim (cmp (last_of n v) v) as (λ a. not (is_lt a) ≡ false → a ≡ Less) [
-        | Less ↦ λ g. refl
-        | Equal ↦ λ g. absurd (false≢true (sym g))
-        | Greater ↦ λ g. absurd (false≢true (sym g))
-      ] (ap not (sym (ends_by (λ x. cmp x v) n v full)) ∙ h)
+      let ends = sym (ends_by (λ x. cmp x v) n v full) in
+      less_from (cmp (last_of n v) v) (grind arith)
 
   pub reaching : (n : List T) → is_filled n ≡ true → reaches cmp v n ≡ true → is_lt (cmp (last_of n v) v) ≡ false
   reaching n full h =
-      elim (cmp (last_of n v) v) as (λ a. not (is_lt a) ≡ true → is_lt a ≡ false) [
-        | Less ↦ λ g. absurd (false≢true g)
-        | Equal ↦ λ g. refl
-        | Greater ↦ λ g. refl
-      ] (ap not (sym (ends_by (λ x. cmp x v) n v full)) ∙ h)
+      let ends = sym (ends_by (λ x. cmp x v) n v full) in
+      grind arith
 
   pub past_last : (n : List T) → is_past cmp n v ≡ true → cmp (last_of n v) v ≡ Less
   past_last n h =
@@ -128,7 +118,7 @@ module _ {T : Type 0} (cmp : T → T → Ordering) (o : IsTotalOrder cmp) (v : T
         let room2 : length n < size = subst (λ k. length k < size) node room in
         let did = puts cmp o v b a low high n at in
         let here : length (put cmp n v) ≤ size = omega (arith, put_length n (up-left cmp n (joined a) (up-right cmp (joined b) (n ++ joined a) at.up))) in
-        let made : set (b ++ n ∷ a) (length b) (put cmp n v) ≡ b ++ put cmp n v ∷ a = set_seam b n a (put cmp n v) in
+        let made : set (b ++ n ∷ a) (length b) (put cmp n v) ≡ b ++ put cmp n v ∷ a = set-append_seam b n a (put cmp n v) in
         subst (λ k. Placed (b ++ n ∷ a) k (get_or (b ++ n ∷ a) k [])) (sym is)
         (subst (λ k. Placed (b ++ n ∷ a) (length b) k) (sym (get_or-append_seam b n a [])) (record {
           replayed = did.1 ∙ ap Some (sym made);

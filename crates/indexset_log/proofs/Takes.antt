@@ -7,6 +7,8 @@ use Rattle.std.proofs.lemmas.Bool.{false≢true, eq-eqb, ne_eqb, eqb-true, eqb-f
 use Rattle.std.specs.declared.cmp.Ordering.TheVariants.{Less, Equal}
 use Rattle.std.proofs.lemmas.Cmp.{alike_right, tied_itself}
 use Rattle.std.proofs.lemmas.List.{append-nil, nil_from_length}
+use Rattle.std.proofs.lemmas.List.Folds.{list_any-append}
+use Rattle.std.proofs.Math.Seq.{set-append_seam}
 use Rattle.std.proofs.lemmas.Option.{get_or_from_slice_get, slice_get-get_or}
 use Rattle.indexset_core.specs.Nodes.{joined, node_at, IsLawful}
 use Rattle.indexset_core.specs.Order.{without, equal_element}
@@ -21,7 +23,6 @@ use Rattle.indexset_log.specs.Replay.{replay, replay_plain, numbered_from, assig
 use Rattle.indexset_log.specs.Table.{target, taking_events, removal_events, removing_events}
 use Rattle.indexset_log.proofs.Ups.{Each, each-append, each-left, each-right, each-map, Up, up-right, up-between, Ruled, parts-without, length_filled, ascends, lawful_from, lawful_ruled, lawful_bounded}
 use Rattle.indexset_log.proofs.Steps.{At, at_ruled, ruled_at, remove_step, remove_node_step, remove_at}
-use Rattle.indexset_log.proofs.Replays.{set_seam}
 use Rattle.indexset_log.proofs.Theorem.{numbered_replay, up_node}
 
 -- a list seen around the item at a place
@@ -75,7 +76,7 @@ module _ {T : Type 0} (cmp : T → T → Ordering) (o : IsTotalOrder cmp) (size 
             let more = eqb-false _ _ e in
             let full : is_filled (l ++ r) ≡ true = length_filled (l ++ r) (rw (length-append l r) (some_left (length l + length r) (λ z. more (omega (arith, long))))) in
             let did = remove_step cmp o b a l x r x at full in
-            let made : set (b ++ (l ++ x ∷ r) ∷ a) (length b) (remove (l ++ x ∷ r) (length l)) ≡ b ++ (l ++ r) ∷ a = rw (remove_at l x r) (set_seam b (l ++ x ∷ r) a (l ++ r)) in
+            let made : set (b ++ (l ++ x ∷ r) ∷ a) (length b) (remove (l ++ x ∷ r) (length l)) ≡ b ++ (l ++ r) ∷ a = rw (remove_at l x r) (set-append_seam b (l ++ x ∷ r) a (l ++ r)) in
             record {
               replayed = rw (e, made, did.1) refl;
               ruled = rw (e, made) (at_ruled cmp o b (l ++ r) a did.0);
@@ -146,18 +147,14 @@ module _ {T : Type 0} (cmp : T → T → Ordering) (ns : List (List T)) (v : T) 
   unfolding removal_events removing_events
   absent_events = rw (any_in (λ x. is_eq (cmp x v)) ns (target cmp ns v) (sym (is_some-find (λ x. is_eq (cmp x v)) (joined ns)) ∙ ap is_some none)) refl
     where
-      any_left : (p : T → Bool) (xs ys : List T) → list_any p (xs ++ ys) ≡ false → (list_any p xs ≡ false) × (list_any p ys ≡ false)
-      any_left p [] ys h = (refl, h)
-      any_left p (x ∷ xs) ys h =
-          elim (p x) as (λ b. (b || list_any p (xs ++ ys)) ≡ false → ((b || list_any p xs) ≡ false) × (list_any p ys ≡ false)) [
-            | true ↦ λ g. absurd (false≢true (sym g))
-            | false ↦ λ g. any_left p xs ys g
-          ] h
+      neither : (a b : Bool) → (a || b) ≡ false → (a ≡ false) × (b ≡ false)
+      neither true b h = absurd (false≢true (sym h))
+      neither false b h = (refl, h)
 
       any_in : (p : T → Bool) (ns : List (List T)) (k : ℕ) → list_any p (joined ns) ≡ false → list_any p (node_at ns k) ≡ false
       any_in p [] k h = refl
-      any_in p (n ∷ ns) zero h = (any_left p n (joined ns) h).0
-      any_in p (n ∷ ns) (suc k) h = any_in p ns k (any_left p n (joined ns) h).1
+      any_in p (n ∷ ns) zero h = (neither _ _ (sym (list_any-append p n (joined ns)) ∙ h)).0
+      any_in p (n ∷ ns) (suc k) h = any_in p ns k (neither _ _ (sym (list_any-append p n (joined ns)) ∙ h)).1
 
   pub absent_contents : joined ns ≡ without cmp (joined ns) v
   unfolding without

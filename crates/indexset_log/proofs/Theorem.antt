@@ -81,9 +81,6 @@ up_node cmp (n ∷ ns) (suc k) ruled = let filled = ruled.filled in up_node cmp 
 pub set_view : {T N : Type 0} (f : N → List T) (items : List N) (nodes : List (List T)) (k : ℕ) (x : N) (y : List T) → map f items ≡ nodes → f x ≡ y → map f (set items k x) ≡ set nodes k y
 set_view f items nodes k x y same e = map-set f items k x ∙ rw (same, e) refl
 
-pub filled_node : {T : Type 0} (cmp : T → T → Ordering) (ns : List (List T)) (k : ℕ) → Ruled cmp ns → k < length ns → is_filled (get_or ns k []) ≡ true
-filled_node cmp ns k ruled lt = each_all (λ n. is_filled n ≡ true) ns ruled.filled k [] lt
-
 pub no_last : {T : Type 0} (n : List T) → is_filled n ≡ true → slice_get n (length n - 1) ≡ None → ⊥
 no_last [] full h = false≢true full
 no_last (x ∷ xs) full h = let some = slice_get-get_or (x ∷ xs) (length (x ∷ xs) - 1) x (omega arith) in cc

@@ -21,7 +21,7 @@ use std::ops::Bound;
 /// The items of a part of a set that are left, from both ends.
 #[derive(Drop)]
 pub struct Range<'a, T: Ord + Clone + Drop, Node: NodeLike<T>> {
-    rest: Iter<'a, T, Node>,
+    pub(crate) rest: Iter<'a, T, Node>,
 }
 
 impl<'a, T: Ord + Clone + Drop, Node: NodeLike<T>> Model for Range<'a, T, Node> {

@@ -19,23 +19,17 @@ index_mut-requires g c =
     let s = spot g.met.T.Ord.total t.rule c.requires.aim g.Node.NodeLike.list c.make_room.new.nodes.items c.in-Ok.place t.same c.in-Ok.ensures.nodes c.in-Ok.ensures.place in
     omega (arith, c.make_room.new.nodes.ok, s.inside)
 
-pub put_in-requires-clause-ascending : goal.put_in-requires-clause-ascending
-put_in-requires-clause-ascending g c =
+pub put_in-requires : goal.put_in-requires
+put_in-requires g c =
     let t = held g.Node.NodeLike.list c.self.inside.nodes.items c.self.view_is c.self.invariant in
     let s = spot g.met.T.Ord.total t.rule c.requires.aim g.Node.NodeLike.list c.make_room.new.nodes.items c.in-Ok.place t.same c.in-Ok.ensures.nodes c.in-Ok.ensures.place in
-    rw (s.part _ c.index_mut.ensures.value) (part_up g.met.T.Ord.total t.rule c.requires.aim)
-
-pub put_in-requires-clause-found : goal.put_in-requires-clause-found
-put_in-requires-clause-found g c =
-    let t = held g.Node.NodeLike.list c.self.inside.nodes.items c.self.view_is c.self.invariant in
-    let s = spot g.met.T.Ord.total t.rule c.requires.aim g.Node.NodeLike.list c.make_room.new.nodes.items c.in-Ok.place t.same c.in-Ok.ensures.nodes c.in-Ok.ensures.place in
-    rw (s.part _ c.index_mut.ensures.value) (c.requires.aim.found)
-
-pub put_in-requires-clause-gap : goal.put_in-requires-clause-gap
-put_in-requires-clause-gap g c =
-    let t = held g.Node.NodeLike.list c.self.inside.nodes.items c.self.view_is c.self.invariant in
-    let s = spot g.met.T.Ord.total t.rule c.requires.aim g.Node.NodeLike.list c.make_room.new.nodes.items c.in-Ok.place t.same c.in-Ok.ensures.nodes c.in-Ok.ensures.place in
-    rw (s.part _ c.index_mut.ensures.value) (c.requires.aim.gap)
+    let part = s.part _ c.index_mut.ensures.value in
+    record {
+      ascending = rw part (part_up g.met.T.Ord.total t.rule c.requires.aim);
+      found = rw part c.requires.aim.found;
+      gap = rw part c.requires.aim.gap;
+      room = λ e. rw c.index_mut.ensures.value (c.in-Ok.ensures.room e _);
+    }
 
 pub returns-in-Ok-clause-nodes : goal.returns-in-Ok-clause-nodes
 returns-in-Ok-clause-nodes g c =

@@ -30,27 +30,19 @@ add_halving-requires-clause-fits g c =
     let t = held g.Node.NodeLike.list c.self.inside.nodes.items c.self.view_is c.self.invariant in
     rw (t.sized, read g (goal.at.add_halving-requires-clause-fits g c).After-as_slice-items) (omega (arith, c.requires.fits, parts_length g.met.T.Ord.total t.rule c.requires.aim, c.new-log.ensures.next, t.numbered))
 
-pub add_put-requires-clause-some : goal.add_put-requires-clause-some
-add_put-requires-clause-some g c =
+pub add_put-requires : goal.add_put-requires
+add_put-requires g c =
     let t = held g.Node.NodeLike.list c.self.inside.nodes.items c.self.view_is c.self.invariant in
-    rw (half g (goal.at.add_put-requires-clause-some g c).After-part_of) (part_some g.met.T.Ord.total t.rule c.requires.aim)
-
-pub add_put-requires-clause-ascending : goal.add_put-requires-clause-ascending
-add_put-requires-clause-ascending g c =
-    let t = held g.Node.NodeLike.list c.self.inside.nodes.items c.self.view_is c.self.invariant in
-    rw (half g (goal.at.add_put-requires-clause-ascending g c).After-part_of) (part_up g.met.T.Ord.total t.rule c.requires.aim)
-
-pub add_put-requires-clause-found : goal.add_put-requires-clause-found
-add_put-requires-clause-found g c = rw (half g (goal.at.add_put-requires-clause-found g c).After-part_of) c.requires.aim.found
-
-pub add_put-requires-clause-gap : goal.add_put-requires-clause-gap
-add_put-requires-clause-gap g c = rw (half g (goal.at.add_put-requires-clause-gap g c).After-part_of) c.requires.aim.gap
-
-pub add_put-requires-clause-fits : goal.add_put-requires-clause-fits
-add_put-requires-clause-fits g c =
-    let t = held g.Node.NodeLike.list c.self.inside.nodes.items c.self.view_is c.self.invariant in
-    let next = rw (c.new-log.ensures.next, t.numbered, t.sized, read g (goal.at.add_put-requires-clause-fits g c).After-as_slice-items) at c.in_ok-add_halving.ensures.next in
-    rw (half g (goal.at.add_put-requires-clause-fits g c).After-part_of) (omega (arith, c.requires.fits, parts_length g.met.T.Ord.total t.rule c.requires.aim, next))
+    let part = half g (goal.at.add_put-requires g c).After-part_of in
+    let next = rw (c.new-log.ensures.next, t.numbered, t.sized, read g (goal.at.add_put-requires g c).After-as_slice-items) at c.in_ok-add_halving.ensures.next in
+    record {
+      clones = c.requires.clones;
+      some = rw part (part_some g.met.T.Ord.total t.rule c.requires.aim);
+      ascending = rw part (part_up g.met.T.Ord.total t.rule c.requires.aim);
+      found = rw part c.requires.aim.found;
+      gap = rw part c.requires.aim.gap;
+      fits = rw part (omega (arith, c.requires.fits, parts_length g.met.T.Ord.total t.rule c.requires.aim, next));
+    }
 
 pub returns-clause-events : goal.returns-clause-events
 returns-clause-events g c =
