@@ -10,7 +10,7 @@ use Rattle.std.proofs.lemmas.Bool.Decides.{nat_tests}
 use Rattle.std.proofs.lemmas.List.Sums.{count_by-le-length, fails_before_first, passes_at_first}
 use Rattle.indexset_core.specs.declared.refusal.Refusal.TheVariants.{Empty, TooLarge, Unsorted, Overlaps}
 use Rattle.std.proofs.lemmas.List.{map-append, take-map, drop-map}
-use Rattle.indexset_core.specs.Nodes.{joined, node_at, IsLawful}
+use Rattle.indexset_core.specs.Nodes.{joined, node_at}
 use Rattle.indexset_core.proofs.CallerLemmas.{joined-append, less_from}
 use Rattle.indexset_log.specs.Attach.{lies_below, lies_apart, attach_index, attached, attach_refusal}
 use Rattle.indexset_log.specs.Nodes.{last_of, is_filled, is_ascending}

@@ -1,5 +1,5 @@
 -- What a search for a key tells of lawful nodes of pairs.
-use Rattle.std.proofs.Common.{◌≡◌, ℕ, zero, suc, ◌+◌, ◌<◌, ◌≤◌, Bool, true, false, not, List, [], ◌∷◌, length, get_or, Option, Some, None, Result, Ok, Err, IfOk, Ordering, slice_get, refl, ap, sym, ◌∙◌, subst, arith}
+use Rattle.std.proofs.Common.{◌≡◌, ℕ, ◌+◌, ◌<◌, ◌≤◌, true, false, List, [], ◌∷◌, length, get_or, Some, None, Result, Ok, Err, Ordering, slice_get, refl, ap, sym, ◌∙◌, subst, arith}
 use Rattle.std.specs.Cmp.{IsTotalOrder}
 use Rattle.std.specs.List.{All, count_by, position}
 use Rattle.std.specs.Option.{option_map_or}
@@ -14,7 +14,7 @@ use Rattle.indexset_core.specs.Pairs.{by_key, key_rank, pair_of, without_key}
 use Rattle.indexset_core.proofs.CallerLemmas.{absent_without, equal_from, key_absent, pairs_total, parted_by_key, past_absent, past_found}
 use Rattle.indexset_log.specs.Keys.{key_removal_events}
 use Rattle.indexset_log.specs.Located.{located, IsFoundIn}
-use Rattle.indexset_log.specs.Places.{IsPlace, items_before}
+use Rattle.indexset_log.specs.Places.{items_before}
 use Rattle.indexset_log.specs.Edits.{with_taken}
 use Rattle.indexset_log.specs.Table.{taking_events}
 use Rattle.indexset_log.proofs.Places.{IsEnd, found_at, end_at, end_found, end_position, gap_at, end_offset, end_read, gap_found, gap_position}

@@ -2,18 +2,17 @@
 use Rattle.std.proofs.Common.{◌≡◌, suc, ◌+◌, ◌-◌, ◌≤◌, true, false, List, [], ◌∷◌, ◌++◌, length, get_or, eqb, Some, Ordering, refl, ap, sym, ◌∙◌, subst, arith, length-append}
 use Rattle.std.specs.declared.cmp.Ordering.TheVariants.{Less, Equal}
 use Rattle.std.specs.Cmp.{IsTotalOrder}
-use Rattle.std.proofs.lemmas.Bool.{false≢true, eq-eqb, ne_eqb}
+use Rattle.std.proofs.lemmas.Bool.{eq-eqb, ne_eqb}
 use Rattle.std.proofs.lemmas.List.{append-nil}
 use Rattle.std.proofs.Math.Seq.{get_or-append_seam}
-use Rattle.indexset_core.specs.Order.{rank, has_equal, put, without}
-use Rattle.indexset_log.specs.declared.change.ChangeEventUnassigned.{ChangeEventUnassigned}
+use Rattle.indexset_core.specs.Order.{rank, has_equal, put}
 use Rattle.indexset_log.specs.declared.change.ChangeEventUnassigned.TheVariants.{InsertAt, RemoveAt, CreateNode, RemoveNode}
 use Rattle.indexset_core.specs.Nodes.{joined}
 use Rattle.indexset_log.specs.Nodes.{last_of, is_filled}
-use Rattle.indexset_log.specs.Replay.{step_plain, replay_plain}
-use Rattle.indexset_log.specs.Table.{node_events, replace_events, removing_events}
-use Rattle.indexset_log.proofs.Ups.{Each, each-append, last-append, filled-append, up-left, up-right, Ruled, around, parts-put, parts-without, parts-rank, parts-has_equal}
-use Rattle.indexset_log.proofs.Steps.{At, at_ruled, insert_step, remove_step, remove_node_step, create_step}
+use Rattle.indexset_log.specs.Replay.{replay_plain}
+use Rattle.indexset_log.specs.Table.{node_events, replace_events}
+use Rattle.indexset_log.proofs.Ups.{Each, each-append, last-append, filled-append, up-left, up-right, around, parts-put, parts-rank, parts-has_equal}
+use Rattle.indexset_log.proofs.Steps.{At, insert_step, remove_step, remove_node_step, create_step}
 
 before_last : {T : Type 0} (y : T) (l t : List T) (d : T) → get_or ((y ∷ l) ++ t) (length l) d ≡ last_of l y
 before_last y [] t d = refl

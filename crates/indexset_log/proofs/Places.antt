@@ -3,7 +3,7 @@ use Rattle.std.proofs.Common.{◌≡◌, ℕ, zero, suc, ◌+◌, ◌-◌, ◌<�
 use Rattle.std.specs.Cmp.{IsTotalOrder}
 use Rattle.std.specs.List.{All, between, count_by, find, position}
 use Rattle.std.specs.Ordering.{is_lt, is_le, is_eq}
-use Rattle.std.proofs.lemmas.List.{append-nil, length-map, take-map, drop-map, take_all, take_rest, get_or-map}
+use Rattle.std.proofs.lemmas.List.{append-nil, length-map, take-map, drop-map, take_all, take_rest}
 use Rattle.std.specs.Result.{result_ok}
 use Rattle.std.specs.Prelude.{MatchOption}
 use Rattle.std.proofs.lemmas.Bool.{false≢true}

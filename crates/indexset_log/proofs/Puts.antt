@@ -1,32 +1,31 @@
 -- What a put makes of lawful nodes, as the code meets it.
-use Rattle.std.proofs.Common.{◌≡◌, ◌≢◌, ℕ, zero, suc, ◌+◌, ◌-◌, ◌/◌, ◌<◌, ◌≤◌, Bool, true, false, cond, if◌then◌else◌, ◌&&◌, List, [], ◌∷◌, ◌++◌, length, map, get_or, set, insert, take, drop, slice_get, eqb, Option, Some, None, is_some, is_ok, Ordering, refl, ap, sym, ◌∙◌, subst, arith, append_assoc, length-append}
+use Rattle.std.proofs.Common.{◌≡◌, ℕ, zero, suc, ◌+◌, ◌-◌, ◌/◌, ◌<◌, ◌≤◌, Bool, true, false, cond, if◌then◌else◌, ◌&&◌, List, [], ◌∷◌, ◌++◌, length, map, get_or, set, insert, take, drop, slice_get, eqb, Option, Some, None, is_some, is_ok, Ordering, refl, ap, sym, ◌∙◌, subst, arith, append_assoc, length-append}
 use Rattle.std.specs.Cmp.{IsTotalOrder}
 use Rattle.std.specs.List.{find, splice}
 use Rattle.std.specs.Option.{option_or}
 use Rattle.std.specs.Ordering.{is_eq}
-use Rattle.std.proofs.lemmas.Bool.{false≢true, eq-eqb, ne_eqb, eqb-true, eqb-false}
+use Rattle.std.proofs.lemmas.Bool.{false≢true, eq-eqb, ne_eqb, eqb-false}
 use Rattle.std.proofs.lemmas.List.{length-map, map-append, take-append-drop}
 use Rattle.std.proofs.lemmas.List.Folds.{find-append}
 use Rattle.std.proofs.lemmas.Option.{get_or_from_slice_get}
 use Rattle.std.proofs.Math.Seq.{get_or-append_seam, set-append_seam}
-use Rattle.indexset_core.specs.Nodes.{joined, node_at, IsLawful}
-use Rattle.indexset_core.specs.Order.{IsAscending, put, keep, has_equal, equal_element, rank, IsFoundAt, IsGapFor}
+use Rattle.indexset_core.specs.Nodes.{joined, node_at}
+use Rattle.indexset_core.specs.Order.{IsAscending, put, has_equal, equal_element, rank, IsFoundAt, IsGapFor}
 use Rattle.indexset_core.proofs.CallerLemmas.{is_some-find, joined-append, found_has_equal, gap_has_equal, found_rank, gap_rank, has_equal_found, parted_by_item}
 use Rattle.indexset_log.specs.declared.aim.Aim.{Aim}
-use Rattle.indexset_log.specs.declared.change.ChangeEvent.{ChangeEvent}
 use Rattle.indexset_log.specs.declared.change.ChangeEventUnassigned.{ChangeEventUnassigned}
 use Rattle.indexset_log.specs.declared.change.ChangeEventUnassigned.TheVariants.{InsertAt, RemoveAt, CreateNode, RemoveNode, SplitNode}
-use Rattle.indexset_log.specs.Aim.{IsAim, IsAimed, count_for, is_present}
-use Rattle.indexset_log.specs.Edits.{with_halved, with_room, put_into_target, with_put, with_checked_put}
+use Rattle.indexset_log.specs.Aim.{IsAim, IsAimed, count_for}
+use Rattle.indexset_log.specs.Edits.{with_halved, with_room, with_put}
 use Rattle.indexset_log.specs.Nodes.{is_filled, last_of}
 use Rattle.indexset_log.specs.Tree.{IsTree}
 use Rattle.indexset_log.specs.Replay.{replay, numbered_from, assigned}
-use Rattle.indexset_log.specs.Table.{target, half_of, part_for, is_past, halving_events, node_events, replace_events, target_events, put_events, checked_put_events}
+use Rattle.indexset_log.specs.Table.{target, half_of, part_for, is_past, halving_events, node_events, replace_events, target_events, put_events}
 use Rattle.indexset_log.proofs.Ups.{Each, each-map, Up, up-left, up-right, Ruled, greater, around, parts-put, parts-has_equal, each_all, filled_length, length_filled, ascends, lawful_from, lawful_ruled, lawful_bounded}
 use Rattle.indexset_log.proofs.Steps.{ruled_at, insert_at, splice_at}
 use Rattle.indexset_log.proofs.Replays.{ne_from, aim, target_at}
 use Rattle.indexset_log.proofs.Theorem.{numbered_replay, up_node, put_events_none, set_view}
-use Rattle.indexset_log.proofs.Rooms.{Roomy, roomy, Makes, target_makes, put_makes}
+use Rattle.indexset_log.proofs.Rooms.{Roomy, roomy, Makes, put_makes}
 use Rattle.indexset_log.proofs.Takes.{at_place}
 use Rattle.indexset_log.proofs.Views.{node_is, length_view, lawful_small}
 

@@ -57,8 +57,7 @@ module _ {T : Type 0} (cmp : T → T → Ordering) (o : IsTotalOrder cmp) (v : T
           | true ↦ λ e.
               let low2 : Each (λ x. cmp x v ≡ Less) (joined (b ++ l ∷ [])) = rw (joined-append b (l ∷ []), append-nil l) (each-append _ (joined b) l low (upto_last cmp o l v v (up-left cmp l (r ++ joined a) inner) (past_last cmp o v l e))) in
               let regrouped : (b ++ l ∷ []) ++ r ∷ a ≡ b ++ l ∷ r ∷ a = append_assoc b (l ∷ []) (r ∷ a) in
-              let at2 = ruled_at cmp o (b ++ l ∷ []) r a (subst (Ruled cmp) (sym regrouped) did.0) in
-              (
+              let at2 = ruled_at cmp o (b ++ l ∷ []) r a (subst (Ruled cmp) (sym regrouped) did.0) in (
                 subst (λ q. target cmp q v ≡ length b + 1) regrouped (target_at cmp o v (b ++ l ∷ []) r a at2 low2 (reach_right l r a right stop) ∙ length-append b (l ∷ [])),
                 subst (λ q. node_at q (length b + 1) ≡ r) regrouped (rw (← length-append b (l ∷ [])) (get_or-append_seam (b ++ l ∷ []) r a [])),
                 less,

@@ -1,12 +1,10 @@
 -- Replay of the numbered events of the table, from any lawful nodes.
-use Rattle.std.proofs.Common.{◌≡◌, ℕ, zero, suc, ◌+◌, ◌<◌, ◌≤◌, true, false, if◌then◌else◌, List, [], ◌∷◌, ◌++◌, length, get_or, Option, Some, None, Ordering, option_and_then, refl, ap, sym, ◌∙◌, subst, arith, ◌≢◌, ◌-◌, set, map, Result, Ok, Err, IfOk, IfErr, OnOk}
-use Rattle.std.specs.Cmp.{IsTotalOrder}
+use Rattle.std.proofs.Common.{◌≡◌, ℕ, zero, suc, ◌+◌, ◌≤◌, true, false, if◌then◌else◌, List, [], ◌∷◌, ◌++◌, length, get_or, Option, Some, None, Ordering, option_and_then, refl, ap, ◌∙◌, subst, arith, ◌-◌, set, map, Result, Ok, Err, OnOk}
 use Rattle.std.proofs.lemmas.List.{map-set}
 use Rattle.std.proofs.lemmas.Bool.{false≢true}
 use Rattle.std.specs.List.{slice_get}
 use Rattle.std.proofs.lemmas.Option.{get_or_from_slice_get, slice_get-get_or}
-use Rattle.indexset_log.specs.Table.{target, put_events, checked_put_events, removal_events, target_events, node_events, replace_events}
-use Rattle.indexset_core.specs.Order.{has_equal, put, keep, without}
+use Rattle.indexset_log.specs.Table.{put_events, target_events, node_events, replace_events}
 use Rattle.indexset_log.specs.declared.change.ChangeEvent.{ChangeEvent}
 use Rattle.indexset_log.specs.declared.change.ChangeEventUnassigned.{ChangeEventUnassigned}
 use Rattle.indexset_log.specs.declared.change.ChangeEventUnassigned.TheVariants.{InsertAt, RemoveAt, CreateNode, RemoveNode, SplitNode}
@@ -14,8 +12,7 @@ use Rattle.indexset_core.specs.Nodes.{joined, IsLawful}
 use Rattle.indexset_log.specs.Nodes.{are_nodes, last_of, is_filled}
 use Rattle.indexset_core.specs.Nodes.{IsNodeList}
 use Rattle.indexset_log.specs.Replay.{edit, step, step_plain, replay_plain, replay, numbered_from, assigned, unassigned, event_number, IsNumberedFrom}
-use Rattle.indexset_log.proofs.Steps.{create_step}
-use Rattle.indexset_log.proofs.Ups.{tested_nodes, last_answer, parts-put, Up, up-left, up-right, Ruled, each_all, lawful_from, lawful_ruled, lawful_bounded}
+use Rattle.indexset_log.proofs.Ups.{tested_nodes, last_answer, Up, up-left, up-right, Ruled, lawful_from}
 
 number_off : {T : Type 0} (s : ℕ) (e : ChangeEventUnassigned T) → unassigned (assigned s e) ≡ e
 number_off s (InsertAt m v i) = refl

@@ -1,5 +1,5 @@
 -- A tree as its contract sees it, and as the code holds it.
-use Rattle.std.proofs.Common.{◌≡◌, ℕ, ◌<◌, List, map, length, get_or, Ordering, ap, sym, subst, arith}
+use Rattle.std.proofs.Common.{◌≡◌, ℕ, ◌<◌, List, map, length, get_or, Ordering, ap, subst, arith}
 use Rattle.indexset_core.specs.Nodes.{node_at}
 use Rattle.indexset_log.specs.Tree.{Tree, IsTree}
 use Rattle.indexset_log.proofs.Views.{node_is, length_view}

@@ -1,18 +1,15 @@
 -- What a search finds in lawful nodes, and the nodes as the code holds them.
-use Rattle.std.proofs.Common.{◌≡◌, ℕ, zero, suc, ◌-◌, ◌<◌, ◌≤◌, Bool, true, false, if◌then◌else◌, List, [], ◌∷◌, length, map, get_or, slice_get, Option, Some, None, is_some, Result, Ok, Err, IfOk, IfErr, Ordering, refl, ap, sym, ◌∙◌, subst, arith, inl, inr}
+use Rattle.std.proofs.Common.{◌≡◌, ℕ, ◌-◌, ◌<◌, ◌≤◌, true, List, [], length, map, get_or, slice_get, Some, None, Ordering, refl, ap, sym, ◌∙◌, arith, inl, inr}
 use Rattle.std.specs.Cmp.{IsTotalOrder}
 use Rattle.std.specs.List.{All}
-use Rattle.std.specs.Result.{result_ok}
-use Rattle.std.specs.Prelude.{MatchOption}
-use Rattle.std.specs.Ordering.{is_lt, is_eq}
+use Rattle.std.specs.Ordering.{is_lt}
 use Rattle.std.proofs.lemmas.Bool.{cases_lt}
 use Rattle.std.proofs.lemmas.List.{get_or-map, length-map}
 use Rattle.std.proofs.lemmas.Option.{slice_get_past}
 use Rattle.indexset_core.specs.Nodes.{joined, node_lengths, node_at, node_for, ends_less, equal_at, IsLawful, IsNodeList}
-use Rattle.indexset_core.specs.Order.{IsAscending, has_equal, equal_element, rank}
+use Rattle.indexset_core.specs.Order.{IsAscending}
 use Rattle.indexset_core.specs.Parted.{IsParted, less_count}
-use Rattle.indexset_core.proofs.CallerLemmas.{located_found, located_gap, found_equal, gap_equal, is_some-find, get_in_node, place_for, ends_for, parted_node, parted_by_item, gap_has_equal}
-use Rattle.indexset_log.specs.Located.{located, IsFoundIn}
+use Rattle.indexset_core.proofs.CallerLemmas.{get_in_node, place_for, ends_for, parted_by_item}
 use Rattle.indexset_log.specs.Nodes.{is_filled}
 use Rattle.indexset_log.proofs.Ups.{each_all, lawful_ruled, filled_length, length_filled, lawful_bounded}
 use Rattle.indexset_log.proofs.Theorem.{no_last}

@@ -54,6 +54,7 @@ impl<K: Ord + Clone + Drop, V: Clone + Drop, Node: NodeLike<Pair<K, V>>> BTreeMa
     }
 
     // The place before the first key that stands past the end.
+    #[tactic(auto, using(indexset_core::proofs::CallerLemmas::count_each))]
     fn place_to(&self, end: Bound<&K>) -> (usize, usize)
         ensures place { IsPlace self.now.nodes result }
         ensures before { items_before self.now.nodes result ≡ count_by (λ p. is_up_to_end K.cmp (bound_map (λ k. k.now) end.entry) p.key) (joined self.now.nodes) }

@@ -22,6 +22,7 @@ use indexset_core::search;
 impl<T: Ord + Clone + Drop, Node: NodeLike<T>> BTreeSet<T, Node> {
     /// Puts an item in, for any equal one, and tells the events. A refused call hands the item back
     /// and changes nothing.
+    #[tactic(auto, using(crate::proofs::Theorem::three_at_most))]
     pub fn put_cdc(&mut self, value: T) -> Result<(Option<T>, Vec<ChangeEvent<T>>), Refused<T>>
         requires clones { (x y : T) → T.is_clone x y → y ≡ x }
         ensures answer { IfOk result (λ r. r.0 ≡ equal_element T.cmp (joined self.old.nodes) value) }
@@ -209,7 +210,7 @@ impl<T: Ord + Clone + Drop, Node: NodeLike<T>> BTreeSet<T, Node> {
     // Puts an item where it goes. A refused call hands it back and changes nothing.
     fn carry_out(&mut self, aim: Option<Aim>, value: T) -> Result<Option<T>, Refused<T>>
         requires aim { IsAimed T.cmp self.old.size self.old.nodes value aim }
-        requires fits { self.old.next + length (put_events T.cmp self.old.size self.old.nodes value) ≤ u64.MAX }
+        requires fits { self.old.next + count_for aim ≤ u64.MAX }
         ensures answer { IfOk result (λ old. old ≡ equal_element T.cmp (joined self.old.nodes) value) }
         ensures nodes { OnOk result (self.new.nodes ≡ with_put T.cmp self.old.size self.old.nodes value) }
         ensures size { self.new.size ≡ self.old.size }
@@ -245,7 +246,7 @@ impl<T: Ord + Clone + Drop, Node: NodeLike<T>> BTreeSet<T, Node> {
     fn target_log(&self, aim: &Aim, value: &T) -> Result<Vec<ChangeEvent<T>>, Refusal>
         requires clones { (x y : T) → T.is_clone x y → y ≡ x }
         requires aim { IsAim T.cmp self.now.size self.now.nodes value.now aim.now }
-        requires fits { self.now.next + length (put_events T.cmp self.now.size self.now.nodes value.now) ≤ u64.MAX }
+        requires fits { self.now.next + count_for (Some aim.now) ≤ u64.MAX }
         ensures events { IfOk result (λ events. events.items ≡ numbered_from self.now.next (put_events T.cmp self.now.size self.now.nodes value.now)) }
         ensures refusal { IfErr result (λ e. e ≡ Refusal.Memory) }
     {
@@ -264,7 +265,7 @@ impl<T: Ord + Clone + Drop, Node: NodeLike<T>> BTreeSet<T, Node> {
     // Puts an item where it goes. A refused call hands it back and changes nothing.
     fn put_in_target(&mut self, aim: Aim, value: T) -> Result<Option<T>, Refused<T>>
         requires aim { IsAim T.cmp self.old.size self.old.nodes value aim }
-        requires fits { self.old.next + length (put_events T.cmp self.old.size self.old.nodes value) ≤ u64.MAX }
+        requires fits { self.old.next + count_for (Some aim) ≤ u64.MAX }
         ensures answer { IfOk result (λ old. old ≡ equal_element T.cmp (joined self.old.nodes) value) }
         ensures nodes { OnOk result (self.new.nodes ≡ with_put T.cmp self.old.size self.old.nodes value) }
         ensures size { self.new.size ≡ self.old.size }
@@ -293,7 +294,7 @@ impl<T: Ord + Clone + Drop, Node: NodeLike<T>> BTreeSet<T, Node> {
     #[tactic(auto, unfolding(crate::specs::Edits::with_put, crate::specs::Table::put_events))]
     fn put_first(&mut self, value: T) -> Result<Option<T>, Refused<T>>
         requires none { self.old.nodes ≡ [] }
-        requires fits { self.old.next + length (put_events T.cmp self.old.size self.old.nodes value) ≤ u64.MAX }
+        requires fits { self.old.next + 1 ≤ u64.MAX }
         ensures answer { IfOk result (λ old. old ≡ equal_element T.cmp (joined self.old.nodes) value) }
         ensures nodes { OnOk result (self.new.nodes ≡ with_put T.cmp self.old.size self.old.nodes value) }
         ensures size { self.new.size ≡ self.old.size }
@@ -319,7 +320,7 @@ impl<T: Ord + Clone + Drop, Node: NodeLike<T>> BTreeSet<T, Node> {
     fn first_log(&self, value: &T) -> Result<Vec<ChangeEvent<T>>, Refusal>
         requires clones { (x y : T) → T.is_clone x y → y ≡ x }
         requires none { self.now.nodes ≡ [] }
-        requires fits { self.now.next + length (put_events T.cmp self.now.size self.now.nodes value.now) ≤ u64.MAX }
+        requires fits { self.now.next + 1 ≤ u64.MAX }
         ensures events { IfOk result (λ events. events.items ≡ numbered_from self.now.next (put_events T.cmp self.now.size self.now.nodes value.now)) }
         ensures refusal { IfErr result (λ e. e ≡ Refusal.Memory) }
     {
@@ -332,11 +333,7 @@ impl<T: Ord + Clone + Drop, Node: NodeLike<T>> BTreeSet<T, Node> {
 }
 
 // The event of a halving, where a node is full: whatever v, the node has a last item.
-fn add_halving<T: Clone + Drop>(
-    log: &mut Log<T>,
-    items: &[T],
-    size: usize,
-) -> Result<(), Refusal>
+fn add_halving<T: Clone + Drop>(log: &mut Log<T>, items: &[T], size: usize) -> Result<(), Refusal>
     requires clones { (x y : T) → T.is_clone x y → y ≡ x }
     requires some { 1 ≤ length items.now }
     requires fits { log.old.next + cond (length items.now == size) 1 0 ≤ u64.MAX }

@@ -1,4 +1,4 @@
-use Rattle.std.proofs.Common.{◌≡◌, ◌≤◌, ◌<◌, ◌-◌, ◌/◌, ◌&&◌, suc, true, false, Bool, length, map, take, eqb, nat_eq, get_or, arith, ap, subst, refl, ◌∙◌, IfOk, IfErr}
+use Rattle.std.proofs.Common.{◌≡◌, ◌≤◌, ◌<◌, ◌-◌, ◌/◌, ◌&&◌, suc, true, false, Bool, length, take, eqb, nat_eq, get_or, arith, ap, subst, refl, ◌∙◌, IfOk, IfErr}
 use Rattle.std.proofs.lemmas.Bool.{eq-eqb, ne_eqb}
 use Rattle.std.specs.Ordering.{is_gt}
 use Rattle.indexset_core.specs.Nodes.{node_at, node_for}
@@ -8,7 +8,7 @@ use Rattle.indexset_log.specs.Table.{part_for, is_past}
 use Rattle.indexset_log.proofs.Puts.{half_up, half_and, last_of_take}
 use Rattle.indexset_log.proofs.Theorem.{up_node}
 use Rattle.indexset_log.proofs.Ups.{ascends, lawful_ruled}
-use Rattle.indexset_log.proofs.Views.{lawful_filled, lawful_parted, node_is, length_view}
+use Rattle.indexset_log.proofs.Views.{lawful_filled, lawful_parted}
 use Rattle.indexset_log.proofs.set.BTreeSet.aim_in_target.Goals as goal
 use Rattle.indexset_log.proofs.Trees.{held, node_held}
 use Rattle.indexset_log.proofs.set.BTreeSet.aim_in_target.Given.{Over}

@@ -1,4 +1,4 @@
-use Rattle.std.proofs.Common.{◌≡◌, map, arith, ap, refl, ◌∙◌}
+use Rattle.std.proofs.Common.{map, arith, ap, refl, ◌∙◌}
 use Rattle.indexset_log.proofs.Attaches.{attached_tree, attach_index_le, map_insert}
 use Rattle.indexset_log.proofs.Trees.{held}
 use Rattle.indexset_log.proofs.Views.{lawful_ascends}

@@ -1,6 +1,5 @@
 use Rattle.std.proofs.Common.{◌≡◌, ◌≤◌, ◌∙◌, true, false, not, if◌then◌else◌, length, slice_get, Some, None, arith, ap, sym, refl}
-use Rattle.std.specs.Option.{unwrap_or}
-use Rattle.indexset_core.specs.declared.refusal.Refusal.TheVariants.{Memory, Overlaps}
+use Rattle.indexset_core.specs.declared.refusal.Refusal.TheVariants.{Overlaps}
 use Rattle.indexset_log.specs.Attach.{attach_index, attach_refusal}
 use Rattle.indexset_log.specs.Nodes.{is_ascending, is_filled}
 use Rattle.indexset_log.proofs.Attaches.{attach_told, refused_empty, refused_large, refused_unsorted, filled_first}

@@ -1,4 +1,4 @@
-use Rattle.std.proofs.Common.{◌≡◌, length, map, ap, arith}
+use Rattle.std.proofs.Common.{arith}
 use Rattle.indexset_log.proofs.Trees.{held}
 use Rattle.indexset_log.proofs.Places.{few_nodes}
 use Rattle.indexset_log.proofs.Views.{lawful_filled}

@@ -1,4 +1,4 @@
-use Rattle.std.proofs.Common.{◌≡◌, ◌+◌, map, ap, refl, arith}
+use Rattle.std.proofs.Common.{◌+◌, refl, arith}
 use Rattle.indexset_log.proofs.Places.{end_through, ends_equal, ends_gap, gap_through, place_small}
 use Rattle.indexset_log.proofs.Trees.{held}
 use Rattle.indexset_log.proofs.Views.{lawful_parted}

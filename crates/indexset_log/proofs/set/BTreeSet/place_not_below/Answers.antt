@@ -1,4 +1,3 @@
-use Rattle.std.proofs.Common.{◌≡◌, map, ap}
 use Rattle.indexset_log.proofs.Places.{ends_equal, ends_gap}
 use Rattle.indexset_log.proofs.Trees.{held}
 use Rattle.indexset_log.proofs.Views.{lawful_parted}

@@ -1,14 +1,9 @@
-use Rattle.std.proofs.Common.{Some, arith, ap, sym, ◌∙◌}
+use Rattle.std.proofs.Common.{Some, ap, sym, ◌∙◌}
 use Rattle.indexset_core.specs.Nodes.{joined}
 use Rattle.indexset_log.proofs.Puts.{count_aimed, put_contents, put_replayed}
 use Rattle.indexset_log.proofs.Theorem.{on_ok_map}
 use Rattle.indexset_log.proofs.Trees.{held}
 use Rattle.indexset_log.proofs.set.BTreeSet.put_at.Goals as goal
-
-pub carry_out-requires-clause-fits : goal.carry_out-requires-clause-fits
-carry_out-requires-clause-fits g c =
-    let t = held g.Node.NodeLike.list c.self.inside.nodes.items c.self.view_is c.self.invariant in
-    omega (arith, c.in-Ok.ensures.fits, count_aimed g.met.T.Ord.total t.rule c.args.value c.args.aim c.requires)
 
 pub returns-in-Ok-clause-contents : goal.returns-in-Ok-clause-contents
 returns-in-Ok-clause-contents g c =

@@ -1,12 +1,7 @@
-use Rattle.std.proofs.Common.{arith, ap, refl, sym, ◌∙◌}
+use Rattle.std.proofs.Common.{arith, refl, ◌∙◌}
 use Rattle.indexset_log.proofs.Puts.{element_is, equal_is, events_count, part_up, put_tree, spot, whole_room}
 use Rattle.indexset_log.proofs.Trees.{held}
 use Rattle.indexset_log.proofs.set.BTreeSet.put_in_target.Goals as goal
-
-pub overflow_add-self : goal.overflow_add-self
-overflow_add-self g c =
-    let t = held g.Node.NodeLike.list c.self.inside.nodes.items c.self.view_is c.self.invariant in
-    record { fits = omega (arith, c.requires.fits, events_count g.met.T.Ord.total t.rule c.requires.aim, c.count.ensures) }
 
 pub make_room-requires-clause-most : goal.make_room-requires-clause-most
 make_room-requires-clause-most g c =

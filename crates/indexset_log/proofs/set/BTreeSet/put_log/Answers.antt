@@ -4,16 +4,6 @@ use Rattle.indexset_log.proofs.Puts.{count_aimed}
 use Rattle.indexset_log.proofs.Trees.{held}
 use Rattle.indexset_log.proofs.set.BTreeSet.put_log.Goals as goal
 
-pub target_log-requires-clause-fits : goal.target_log-requires-clause-fits
-target_log-requires-clause-fits g c =
-    let t = held g.Node.NodeLike.list c.self.inside.nodes.items c.self.view_is c.self.invariant in
-    omega (arith, c.in_ok-check_numbers.ensures.fits, count_aimed g.met.T.Ord.total t.rule c.args.value.now c.args.aim.now c.requires.aim)
-
-pub first_log-requires-clause-fits : goal.first_log-requires-clause-fits
-first_log-requires-clause-fits g c =
-    let t = held g.Node.NodeLike.list c.self.inside.nodes.items c.self.view_is c.self.invariant in
-    omega (arith, c.in_ok-check_numbers.ensures.fits, count_aimed g.met.T.Ord.total t.rule c.args.value.now c.args.aim.now c.requires.aim)
-
 pub returns-in_err-check_numbers-clause-refusal : goal.returns-in_err-check_numbers-clause-refusal
 returns-in_err-check_numbers-clause-refusal g c =
     let t = held g.Node.NodeLike.list c.self.inside.nodes.items c.self.view_is c.self.invariant in

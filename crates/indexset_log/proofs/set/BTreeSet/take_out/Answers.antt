@@ -1,4 +1,4 @@
-use Rattle.std.proofs.Common.{◌≡◌, ◌<◌, length, map, remove, arith, ap, sym, ◌∙◌}
+use Rattle.std.proofs.Common.{length, remove, arith, ap, ◌∙◌}
 use Rattle.std.proofs.lemmas.Bool.{eq-eqb, ne_eqb}
 use Rattle.indexset_core.specs.Nodes.{node_at}
 use Rattle.indexset_log.proofs.Takes.{taken_tree, map_remove, some_joined}

@@ -1,7 +1,7 @@
-use Rattle.std.proofs.Common.{◌≡◌, ◌+◌, length, arith, ap, ◌∙◌}
+use Rattle.std.proofs.Common.{◌≡◌, arith, ◌∙◌}
 use Rattle.indexset_core.specs.Nodes.{node_at}
 use Rattle.indexset_log.specs.Table.{part_for}
-use Rattle.indexset_log.proofs.Puts.{events_numbered, half_is, part_some, part_up, parts_length}
+use Rattle.indexset_log.proofs.Puts.{events_count, events_numbered, half_is, part_some, part_up, parts_length}
 use Rattle.indexset_log.proofs.Trees.{held, node_held}
 use Rattle.indexset_log.proofs.Views.{node_some}
 use Rattle.indexset_log.proofs.set.BTreeSet.target_log.Given.{Over}
@@ -28,7 +28,7 @@ add_halving-requires-clause-some g c =
 pub add_halving-requires-clause-fits : goal.add_halving-requires-clause-fits
 add_halving-requires-clause-fits g c =
     let t = held g.Node.NodeLike.list c.self.inside.nodes.items c.self.view_is c.self.invariant in
-    rw (t.sized, read g (goal.at.add_halving-requires-clause-fits g c).After-as_slice-items) (omega (arith, c.requires.fits, parts_length g.met.T.Ord.total t.rule c.requires.aim, c.new-log.ensures.next, t.numbered))
+    rw (t.sized, read g (goal.at.add_halving-requires-clause-fits g c).After-as_slice-items) (omega (arith, c.requires.fits, events_count g.met.T.Ord.total t.rule c.requires.aim, parts_length g.met.T.Ord.total t.rule c.requires.aim, c.new-log.ensures.next, t.numbered))
 
 pub add_put-requires : goal.add_put-requires
 add_put-requires g c =
@@ -41,7 +41,7 @@ add_put-requires g c =
       ascending = rw part (part_up g.met.T.Ord.total t.rule c.requires.aim);
       found = rw part c.requires.aim.found;
       gap = rw part c.requires.aim.gap;
-      fits = rw part (omega (arith, c.requires.fits, parts_length g.met.T.Ord.total t.rule c.requires.aim, next));
+      fits = rw part (omega (arith, c.requires.fits, events_count g.met.T.Ord.total t.rule c.requires.aim, parts_length g.met.T.Ord.total t.rule c.requires.aim, next));
     }
 
 pub returns-clause-events : goal.returns-clause-events

@@ -1,4 +1,4 @@
-use Rattle.std.proofs.Common.{◌≡◌, Vec, Global, Bool, not, length, filter, get_or, ◌<◌, Bor, rules, arith, ap, ◌∙◌}
+use Rattle.std.proofs.Common.{◌≡◌, Vec, Global, Bool, not, length, filter, get_or, Bor, rules, arith, ap, ◌∙◌}
 use Rattle.std.proofs.lemmas.Fn.{filter_same}
 use Rattle.std.proofs.lemmas.List.{get_or_default}
 use Rattle.std.specs.Range.Bound.{bound_map}
