@@ -2,6 +2,7 @@
 use Rattle.std.proofs.Common.{◌≡◌, ℕ, ◌-◌, ◌≤◌, Bool, true, false, List, length, get_or, insert, drop, slice_get, Option, Some, None, Ordering, refl, ap, sym, ◌∙◌, subst, arith}
 use Rattle.std.specs.Cmp.{IsTotalOrder}
 use Rattle.std.specs.List.{position_or_len}
+use Rattle.std.specs.Option.{option_map_or}
 use Rattle.std.specs.Ordering.{is_lt}
 use Rattle.indexset_core.specs.Nodes.{joined, node_at, IsNodeList}
 use Rattle.indexset_core.specs.declared.refusal.Refusal.TheVariants.{Empty, Unsorted, Overlaps}
@@ -10,7 +11,7 @@ use Rattle.indexset_log.specs.Nodes.{is_ascending, is_filled, last_of}
 use Rattle.indexset_log.specs.Replay.{reaches}
 use Rattle.indexset_log.proofs.CallerLemmas.{Attaches, Ruled, attaches_node, filled_first, last_answer, last_any, not_refused, refused_overlap, ruled_nodes}
 use Rattle.indexset_bench.specs.Replica.{first_item}
-use Rattle.indexset_bench.proofs.ReplicaNodes.{next_is, none_next}
+use Rattle.indexset_bench.proofs.ReplicaNodes.{next_is}
 
 -- the node goes to that place, and the nodes with it are nodes
 pub record GoesTo {T : Type 0} (cmp : T → T → Ordering) (ns : List (List T)) (n : List T) (k : ℕ) : Type 0 where
@@ -26,24 +27,24 @@ module _ {T : Type 0} (cmp : T → T → Ordering) (o : IsTotalOrder cmp) (ns : 
     good = not_refused cmp (length n) ns n (filled_first n first head) (omega arith) up apart;
   }
 
-  -- no node follows
-  pub goes_last : k ≤ length ns → first_item (joined (drop k ns)) ≡ None → GoesTo cmp ns n k
-  goes_last within none =
-      let last = last_of n first in
-      let own = last_any n first last (filled_first n first head) ∙ last_answer n last in
-      let d = attaches_node cmp o ns rule n first last head own up in
-      let past = none_next ns rule.filled k within (sym (next_is ns rule.filled k) ∙ none) in
-      goes_to last d (d.past (sym is ∙ past))
+  -- whether the node goes there, by the item that follows, if one does
+  module _ (last : T) (own : last ≡ get_or n (length n - 1) last) (s : Option T) (follows : first_item (joined (drop k ns)) ≡ s) where
+    attaches : Attaches cmp ns n first last
+    attaches = attaches_node cmp o ns rule n first last head own up
 
-  -- the item x follows
-  module _ (last x : T) (own : last ≡ get_or n (length n - 1) last) (follows : first_item (joined (drop k ns)) ≡ Some x) where
-    apart_is : lies_apart cmp ns n ≡ is_lt (cmp last x)
+    apart_is : lies_apart cmp ns n ≡ option_map_or (λ x. is_lt (cmp last x)) s true
     apart_is =
-        let d = attaches_node cmp o ns rule n first last head own up in
-        d.next x (ap (λ j. first_item (node_at ns j)) (sym is) ∙ (sym (next_is ns rule.filled k) ∙ follows))
+        let d = attaches in
+        d.apart ∙ ap (λ q. option_map_or (λ x. is_lt (cmp last x)) q true) (ap (λ j. first_item (node_at ns j)) (sym is) ∙ (sym (next_is ns rule.filled k) ∙ follows))
 
-    pub goes_between : is_lt (cmp last x) ≡ true → GoesTo cmp ns n k
-    goes_between below = goes_to last (attaches_node cmp o ns rule n first last head own up) (apart_is ∙ below)
+    pub goes : option_map_or (λ x. is_lt (cmp last x)) s true ≡ true → GoesTo cmp ns n k
+    goes below = goes_to last attaches (apart_is ∙ below)
 
-    pub overlaps : is_lt (cmp last x) ≡ false → attach_refusal cmp (length n) ns n ≡ Some Overlaps
+    pub overlaps : option_map_or (λ x. is_lt (cmp last x)) s true ≡ false → attach_refusal cmp (length n) ns n ≡ Some Overlaps
     overlaps other = refused_overlap cmp (length n) ns n (filled_first n first head) (omega arith) up (apart_is ∙ other)
+
+  -- no node follows
+  pub goes_last : first_item (joined (drop k ns)) ≡ None → GoesTo cmp ns n k
+  goes_last none =
+      let last = last_of n first in
+      goes last (last_any n first last (filled_first n first head) ∙ last_answer n last) None none refl

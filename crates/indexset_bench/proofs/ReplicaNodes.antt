@@ -32,15 +32,6 @@ next_is ([] ∷ ns) full zero = absurd (false≢true full.0)
 next_is ((x ∷ n) ∷ ns) full zero = refl
 next_is (n ∷ ns) full (suc k) = next_is ns full.1 k
 
-pub none_next : {T : Type 0} (ns : List (List T)) → Each (λ n. is_filled n ≡ true) ns → (k : ℕ) → k ≤ length ns → first_item (node_at ns k) ≡ None → k ≡ length ns
-none_next [] full k within none = omega arith
-none_next ([] ∷ ns) full zero within none = absurd (false≢true full.0)
-none_next ((x ∷ n) ∷ ns) full zero within none = absurd (some_none none)
-  where
-    some_none : {X : Type 0} {x : X} → Some x ≡ None → ⊥
-    some_none e = cc
-none_next (n ∷ ns) full (suc k) within none = omega (arith, none_next ns full.1 k (omega arith) none)
-
 bool_same : (a b : Bool) → (a ≡ true → b ≡ true) → (b ≡ true → a ≡ true) → a ≡ b
 bool_same true b f g = sym (f refl)
 bool_same false true f g = g refl

@@ -2,6 +2,7 @@
 use Rattle.std.proofs.Common.{◌≡◌, ℕ, suc, min, ◌<◌, get_or, nat_lt, map, take, drop, not, if◌then◌else◌, inl, inr, ◌+◌, ◌-◌, ◌≤◌, Bool, true, false, ◌||◌, ◌&&◌, List, [], ◌∷◌, ◌++◌, length, insert, slice_get, Some, None, Option, Ordering, refl, ap, sym, ◌∙◌, subst, arith, append_assoc, length-append}
 use Rattle.std.specs.declared.cmp.Ordering.TheVariants.{Less, Equal, Greater}
 use Rattle.std.specs.List.{list_all, position_or_len, IsAllAdjacentAnswer}
+use Rattle.std.specs.Option.{option_map_or}
 use Rattle.std.specs.Ordering.{is_lt}
 use Rattle.std.specs.Cmp.{IsTotalOrder}
 use Rattle.std.proofs.lemmas.Bool.{false≢true, cases_lt, lt-ltb}
@@ -9,11 +10,12 @@ use Rattle.std.proofs.lemmas.Bool.Decides.{nat_tests}
 use Rattle.std.proofs.lemmas.List.Sums.{count_by-le-length, fails_before_first, passes_at_first}
 use Rattle.indexset_core.specs.declared.refusal.Refusal.TheVariants.{Empty, TooLarge, Unsorted, Overlaps}
 use Rattle.std.proofs.lemmas.List.{map-append, take-map, drop-map}
-use Rattle.indexset_core.specs.Nodes.{joined, node_at, IsLawful}
+use Rattle.indexset_core.specs.Nodes.{joined, node_at}
 use Rattle.indexset_core.proofs.CallerLemmas.{joined-append, less_from}
 use Rattle.indexset_log.specs.Attach.{lies_below, lies_apart, attach_index, attached, attach_refusal}
 use Rattle.indexset_log.specs.Nodes.{last_of, is_filled, is_ascending}
 use Rattle.indexset_log.specs.Replay.{reaches}
+use Rattle.indexset_log.specs.Tree.{IsTree}
 use Rattle.indexset_log.proofs.Ups.{Each, each-append, each-left, each-right, each-map, each_last, each_from_all, all_from_each, count_front, last_answer, true_up, up_true, ascends, Up, up-left, up-right, up-between, Ruled, upto_last, lawful_from, lawful_ruled, lawful_bounded}
 use Rattle.indexset_log.proofs.Steps.{place_seam, insert_at, reached}
 use Rattle.indexset_log.proofs.Replays.{over_rest, reaching, not_reaching}
@@ -39,6 +41,10 @@ position_le q (x ∷ xs) = elim (q x) as (λ b. q x ≡ b → position_or_len q 
   | true ↦ λ e. rw e (omega arith)
   | false ↦ λ e. rw e (omega (arith, position_le q xs))
 ] refl
+
+false_unless : (b : Bool) → (b ≡ true → ⊥) → b ≡ false
+false_unless true h = absurd (h refl)
+false_unless false h = refl
 
 node_past : {X : Type 0} (b a : List (List X)) → node_at (b ++ a) (length b) ≡ node_at a 0
 node_past [] a = refl
@@ -85,8 +91,7 @@ module _ {T : Type 0} (cmp : T → T → Ordering) where
   -- all that a call asks which attaches the node n, from its first item to its last
   pub record Attaches (ns : List (List T)) (n : List T) (first last : T) : Type 0 where
     pub index : attach_index cmp ns n ≡ position_or_len (reaches cmp first) ns
-    pub past : position_or_len (reaches cmp first) ns ≡ length ns → lies_apart cmp ns n ≡ true
-    pub next : (x : T) → slice_get (node_at ns (position_or_len (reaches cmp first) ns)) 0 ≡ Some x → lies_apart cmp ns n ≡ is_lt (cmp last x)
+    pub apart : lies_apart cmp ns n ≡ option_map_or (λ x. is_lt (cmp last x)) (slice_get (node_at ns (position_or_len (reaches cmp first) ns)) 0) true
     pub rule : lies_apart cmp ns n ≡ true → Ruled cmp (attached cmp ns n)
     pub small : (size : ℕ) → length n ≤ size → Each (λ m. length m ≤ size) ns → Each (λ m. length m ≤ size) (attached cmp ns n)
     pub count : length (joined (attached cmp ns n)) ≡ length (joined ns) + length n
@@ -108,10 +113,7 @@ module _ {T : Type 0} (cmp : T → T → Ordering) where
       before_it m full rise h = each_below m (f ∷ t) (each-map _ _ over_first m (upto_last cmp o m f f rise (not_reaching cmp o f m full h)))
 
       not_before : (m : List T) → is_filled m ≡ true → reaches cmp f m ≡ true → lies_below cmp m (f ∷ t) ≡ false
-      not_before m full h = elim (lies_below cmp m (f ∷ t)) as (λ b. lies_below cmp m (f ∷ t) ≡ b → b ≡ false) [
-        | true ↦ λ e. absurd (false≢true (sym (reaching cmp o f m full h) ∙ ap is_lt (each_last (λ x. cmp x f ≡ Less) m f full (each-map _ _ (λ x (k : Each (λ y. cmp x y ≡ Less) (f ∷ t)). k.0) m (below_each m (f ∷ t) e)))))
-        | false ↦ λ e. refl
-      ] refl
+      not_before m full h = false_unless _ (λ e. false≢true (sym (reaching cmp o f m full h) ∙ ap is_lt (each_last (λ x. cmp x f ≡ Less) m f full (each-map _ _ (λ x (k : Each (λ y. cmp x y ≡ Less) (f ∷ t)). k.0) m (below_each m (f ∷ t) e)))))
 
       all_not_before : (a : List (List T)) → Each (λ m. is_filled m ≡ true) a → Each (λ m. reaches cmp f m ≡ true) a → Each (λ m. lies_below cmp m (f ∷ t) ≡ false) a
       all_not_before [] full h = tt
@@ -166,20 +168,10 @@ module _ {T : Type 0} (cmp : T → T → Ordering) where
                 | false ↦ λ k. refl
               ] refl
 
-      none_after : (a : List (List T)) → length a ≡ 0 → list_all (λ m. lies_below cmp (f ∷ t) m) a ≡ true
-      none_after [] h = refl
-      none_after (m ∷ a) h = absurd (omega arith)
-
-      after : (a : List (List T)) (x : T) → slice_get (node_at a 0) 0 ≡ Some x → Each (λ m. is_filled m ≡ true) a → Up cmp (joined a) → list_all (λ m. lies_below cmp (f ∷ t) m) a ≡ is_lt (cmp (last_of t f) x)
-      after [] x h full rise = absurd (none_some h)
-        where
-          none_some : {x : T} → (let n : Option T = None in n) ≡ Some x → ⊥
-          none_some e = cc
-      after ([] ∷ a) x h full rise = absurd (false≢true full.0)
-      after ((y ∷ m) ∷ a) x h full rise = subst (λ z. list_all (λ m. lies_below cmp (f ∷ t) m) ((y ∷ m) ∷ a) ≡ is_lt (cmp (last_of t f) z)) (some_is h) (first_clear y m a rise)
-        where
-          some_is : {x y : T} → Some x ≡ Some y → x ≡ y
-          some_is e = cc
+      after : (a : List (List T)) → Each (λ m. is_filled m ≡ true) a → Up cmp (joined a) → list_all (λ m. lies_below cmp (f ∷ t) m) a ≡ option_map_or (λ x. is_lt (cmp (last_of t f) x)) (slice_get (node_at a 0) 0) true
+      after [] full rise = refl
+      after ([] ∷ a) full rise = absurd (false≢true full.0)
+      after ((x ∷ m) ∷ a) full rise = first_clear x m a rise
 
       attaches : (ns : List (List T)) → Ruled cmp ns → Attaches ns (f ∷ t) f (last_of t f)
       unfolding attach_index
@@ -194,8 +186,7 @@ module _ {T : Type 0} (cmp : T → T → Ordering) where
           let rise : Up cmp (joined b ++ joined a) = subst (Up cmp) (joined-append b a) rule.up in
           record {
             index = index ∙ sym at;
-            past = λ e. apart ∙ none_after a (omega (arith, at, e, long));
-            next = λ x e. apart ∙ after a x (subst (λ m. slice_get m 0 ≡ Some x) (ap (λ k. node_at (b ++ a) k) at ∙ node_past b a) e) second (up-right cmp (joined b) (joined a) rise);
+            apart = rw (at, node_past b a) (apart ∙ after a second (up-right cmp (joined b) (joined a) rise));
             rule = λ e.
                 let over : Each (λ m. lies_below cmp (f ∷ t) m ≡ true) a = each_from_all _ a (sym apart ∙ e) in
                 rw (index, made) (record {
@@ -211,23 +202,14 @@ module _ {T : Type 0} (cmp : T → T → Ordering) where
 
     -- the same of a node as the code reads it
     pub attaches_node : (ns : List (List T)) → Ruled cmp ns → (n : List T) (first last : T) → slice_get n 0 ≡ Some first → last ≡ get_or n (length n - 1) last → is_ascending cmp n ≡ true → Attaches ns n first last
-    attaches_node ns rule [] first last e l up = absurd (none_some e)
-      where
-        none_some : {x : T} → (let n : Option T = None in n) ≡ Some x → ⊥
-        none_some e = cc
+    attaches_node ns rule [] first last e l up = let none : (let n : Option T = None in n) ≡ Some first = e in cc
     attaches_node ns rule (f ∷ t) first last e l up =
-        let same : f ≡ first = some_is e in
+        let same : f ≡ first = cc in
         let end : last_of t f ≡ last = last_answer (f ∷ t) last ∙ sym l in
         subst (λ z. Attaches ns (f ∷ t) z last) same (subst (λ z. Attaches ns (f ∷ t) f z) end (attaches f t (true_up cmp (f ∷ t) up) ns rule))
-      where
-        some_is : {x y : T} → Some x ≡ Some y → x ≡ y
-        some_is e = cc
 
 pub filled_first : {X : Type 0} (n : List X) (x : X) → slice_get n 0 ≡ Some x → is_filled n ≡ true
-filled_first [] x h = absurd (none_some h)
-  where
-    none_some : {X : Type 0} {x : X} → (let n : Option X = None in n) ≡ Some x → ⊥
-    none_some e = cc
+filled_first {X} [] x h = let none : (let n : Option X = None in n) ≡ Some x = h in cc
 filled_first (y ∷ n) x h = refl
 
 -- why a node is refused, test by test
@@ -238,10 +220,7 @@ module _ {T : Type 0} (cmp : T → T → Ordering) (size : ℕ) (ns : List (List
     where
       not_filled : (n : List T) → slice_get n 0 ≡ None → is_filled n ≡ false
       not_filled [] h = refl
-      not_filled (x ∷ n) h = absurd (some_none h)
-        where
-          some_none : {x : T} → Some x ≡ None → ⊥
-          some_none e = cc
+      not_filled (x ∷ n) h = let some : Some x ≡ None = h in cc
 
   module _ (full : is_filled n ≡ true) where
     pub refused_large : size < length n → attach_refusal cmp size ns n ≡ Some TooLarge
@@ -260,20 +239,17 @@ module _ {T : Type 0} (cmp : T → T → Ordering) (size : ℕ) (ns : List (List
       unfolding attach_refusal
       refused_overlap up h = rw (full, small, up, h) refl
 
+      -- by where the node goes and whether the next one, if there is one, starts above it
+      pub attach_told : (o : IsTotalOrder cmp) → Ruled cmp ns → is_ascending cmp n ≡ true → (p : ℕ) (f l : T) (b : Bool) → slice_get n 0 ≡ Some f → l ≡ get_or n (length n - 1) l → p ≡ position_or_len (reaches cmp f) ns → b ≡ option_map_or (λ x. is_lt (cmp l x)) (slice_get (node_at ns p) 0) true → (p ≡ attach_index cmp ns n) × (attach_refusal cmp size ns n ≡ (if not b then Some Overlaps else None))
+      unfolding attach_refusal
+      attach_told o rule up p f l b first last place above =
+          let d = attaches_node cmp o ns rule n f l first last up in
+          let apart : lies_apart cmp ns n ≡ b = d.apart ∙ sym (rw place at above) in
+          (place ∙ sym d.index, rw (full, small, up, apart) refl)
+
       pub not_refused : is_ascending cmp n ≡ true → lies_apart cmp ns n ≡ true → attach_refusal cmp size ns n ≡ None
       unfolding attach_refusal
       not_refused up h = rw (full, small, up, h) refl
-
-if_none : {X : Type 0} (b : Bool) (x : X) (r : Option X) → (if b then Some x else r) ≡ None → (b ≡ false) × (r ≡ None)
-if_none true x r h = absurd (some_none h)
-  where
-    some_none : {X : Type 0} {x : X} → Some x ≡ None → ⊥
-    some_none e = cc
-if_none false x r h = (refl, h)
-
-not_false : (b : Bool) → not b ≡ false → b ≡ true
-not_false true h = refl
-not_false false h = absurd (false≢true (sym h))
 
 -- what a node makes of lawful nodes that is not refused
 module _ {T : Type 0} (cmp : T → T → Ordering) (o : IsTotalOrder cmp) (size : ℕ) (ns : List (List T)) where
@@ -285,28 +261,16 @@ module _ {T : Type 0} (cmp : T → T → Ordering) (o : IsTotalOrder cmp) (size 
 
   good : (n : List T) → attach_refusal cmp size ns n ≡ None → Good n
   unfolding attach_refusal
-  good n h =
-      let empty = if_none (not (is_filled n)) Empty _ h in
-      let large = if_none (nat_lt size (length n)) TooLarge _ empty.1 in
-      let unsorted = if_none (not (is_ascending cmp n)) Unsorted _ large.1 in
-      let overlap = if_none (not (lies_apart cmp ns n)) Overlaps _ unsorted.1 in
-      record { full = not_false _ empty.0; fits = large.0; up = not_false _ unsorted.0; apart = not_false _ overlap.0 }
+  good n h = record { full = grind arith; fits = grind arith; up = grind arith; apart = grind arith }
 
-  pub attached_lawful : (n : List T) → IsLawful cmp size ns → attach_refusal cmp size ns n ≡ None → IsLawful cmp size (attached cmp ns n)
-  attached_lawful [] law h = let k = good [] h in absurd (false≢true k.full)
-  attached_lawful (f ∷ t) law h =
+  pub attached_tree : {most len : ℕ} (n : List T) → IsTree cmp most ns size len → attach_refusal cmp size ns n ≡ None → IsTree cmp most (attached cmp ns n) size (len + length n)
+  attached_tree [] t h = let k = good [] h in absurd (false≢true k.full)
+  attached_tree (f ∷ t) tree h =
       let k = good (f ∷ t) h in
       let fits = k.fits in
-      let d = attaches cmp o f t (true_up cmp (f ∷ t) k.up) ns (lawful_ruled cmp size ns law) in
+      let d = attaches cmp o f t (true_up cmp (f ∷ t) k.up) ns (lawful_ruled cmp size ns tree.lawful) in
       let within : length (f ∷ t) ≤ size = grind (arith, nat_tests) in
-      lawful_from cmp size _ (d.rule k.apart) (d.small size within (lawful_bounded cmp size ns law))
-
-  pub attached_count : (n : List T) → IsLawful cmp size ns → attach_refusal cmp size ns n ≡ None → length (joined (attached cmp ns n)) ≡ length (joined ns) + length n
-  attached_count [] law h = let k = good [] h in absurd (false≢true k.full)
-  attached_count (f ∷ t) law h =
-      let k = good (f ∷ t) h in
-      let d = attaches cmp o f t (true_up cmp (f ∷ t) k.up) ns (lawful_ruled cmp size ns law) in
-      d.count
+      record { lawful = lawful_from cmp size _ (d.rule k.apart) (d.small size within (lawful_bounded cmp size ns tree.lawful)); two = tree.two; within = tree.within; counted = omega (arith, tree.counted, d.count) }
 
 -- the test of an ascending list by neighbours
 module _ {T : Type 0} (cmp : T → T → Ordering) (o : IsTotalOrder cmp) where
@@ -322,10 +286,7 @@ module _ {T : Type 0} (cmp : T → T → Ordering) (o : IsTotalOrder cmp) where
           ((step, each-map _ _ (λ z e. o.trans x y z step e) ys rest.0), rest)
 
   pub falls_at : (xs : List T) (k : ℕ) (d : T) → suc k < length xs → is_lt (cmp (get_or xs k d) (get_or xs (suc k) d)) ≡ false → is_ascending cmp xs ≡ false
-  falls_at xs k d lt h = elim (is_ascending cmp xs) as (λ b. is_ascending cmp xs ≡ b → b ≡ false) [
-    | true ↦ λ e. absurd (false≢true (sym h ∙ ap is_lt (ascends cmp xs (true_up cmp xs e) k (suc k) d (omega arith) lt)))
-    | false ↦ λ e. refl
-  ] refl
+  falls_at xs k d lt h = false_unless _ (λ e. false≢true (sym h ∙ ap is_lt (ascends cmp xs (true_up cmp xs e) k (suc k) d (omega arith) lt)))
 
   -- what a test of all neighbours tells
   pub ascending_answer : (xs : List T) (r : Bool) → IsAllAdjacentAnswer (λ x y b. b ≡ is_lt (cmp x y)) xs r → r ≡ is_ascending cmp xs

@@ -2,30 +2,21 @@
 use Rattle.std.proofs.Common.{◌≡◌, suc, ◌+◌, ◌-◌, ◌≤◌, true, false, List, [], ◌∷◌, ◌++◌, length, get_or, eqb, Some, Ordering, refl, ap, sym, ◌∙◌, subst, arith, length-append}
 use Rattle.std.specs.declared.cmp.Ordering.TheVariants.{Less, Equal}
 use Rattle.std.specs.Cmp.{IsTotalOrder}
-use Rattle.std.proofs.lemmas.Bool.{false≢true, eq-eqb, ne_eqb}
+use Rattle.std.proofs.lemmas.Bool.{eq-eqb, ne_eqb}
 use Rattle.std.proofs.lemmas.List.{append-nil}
 use Rattle.std.proofs.Math.Seq.{get_or-append_seam}
-use Rattle.indexset_core.specs.Order.{rank, has_equal, put, without}
-use Rattle.indexset_log.specs.declared.change.ChangeEventUnassigned.{ChangeEventUnassigned}
+use Rattle.indexset_core.specs.Order.{rank, has_equal, put}
 use Rattle.indexset_log.specs.declared.change.ChangeEventUnassigned.TheVariants.{InsertAt, RemoveAt, CreateNode, RemoveNode}
 use Rattle.indexset_core.specs.Nodes.{joined}
 use Rattle.indexset_log.specs.Nodes.{last_of, is_filled}
-use Rattle.indexset_log.specs.Replay.{step_plain, replay_plain}
-use Rattle.indexset_log.specs.Table.{node_events, replace_events, removing_events}
-use Rattle.indexset_log.proofs.Ups.{Each, each-append, last-append, filled-append, up-left, up-right, Ruled, around, parts-put, parts-without, parts-rank, parts-has_equal}
-use Rattle.indexset_log.proofs.Steps.{At, at_ruled, insert_step, remove_step, remove_node_step, create_step}
-
-pub replay_more : {T : Type 0} (cmp : T → T → Ordering) (ns : List (List T)) (e : ChangeEventUnassigned T) (es : List (ChangeEventUnassigned T)) (r : List (List T)) → step_plain cmp ns e ≡ Some r → replay_plain cmp ns (e ∷ es) ≡ replay_plain cmp r es
-replay_more cmp ns e es r h = rw h refl
+use Rattle.indexset_log.specs.Replay.{replay_plain}
+use Rattle.indexset_log.specs.Table.{node_events, replace_events}
+use Rattle.indexset_log.proofs.Ups.{Each, each-append, last-append, filled-append, up-left, up-right, around, parts-put, parts-rank, parts-has_equal}
+use Rattle.indexset_log.proofs.Steps.{At, insert_step, remove_step, remove_node_step, create_step}
 
 before_last : {T : Type 0} (y : T) (l t : List T) (d : T) → get_or ((y ∷ l) ++ t) (length l) d ≡ last_of l y
 before_last y [] t d = refl
 before_last y (z ∷ l) t d = before_last z l t d
-
--- a node with items stays, and an empty one does not
-abbrev pub kept : {T : Type 0} → List T → List (List T)
-kept [] = []
-kept (x ∷ xs) = (x ∷ xs) ∷ []
 
 module _ {T : Type 0} (cmp : T → T → Ordering) (o : IsTotalOrder cmp) (v : T) where
   replace_as : (l : List T) (x : T) (r : List T) → rank cmp (l ++ x ∷ r) v ≡ length l → 1 ≤ length l + length r → replace_events cmp (l ++ x ∷ r) v ≡ RemoveAt (last_of (l ++ x ∷ r) v) x (length l) ∷ InsertAt (last_of (l ++ r) v) v (length l) ∷ []
@@ -49,10 +40,6 @@ module _ {T : Type 0} (cmp : T → T → Ordering) (o : IsTotalOrder cmp) (v : T
     unfolding node_events
     absent_events = rw (parts-has_equal cmp o l [] r v low tt high, parts-rank cmp o l [] r v low tt high) refl
 
-    pub absent_removing : removing_events cmp (l ++ r) v ≡ []
-    unfolding removing_events
-    absent_removing = rw (parts-has_equal cmp o l [] r v low tt high) refl
-
     module _ (x : T) (same : cmp x v ≡ Equal) where
       long : length (l ++ x ∷ r) ≡ suc (length l + length r)
       long = rw (length-append l (x ∷ r)) (omega arith)
@@ -74,20 +61,6 @@ module _ {T : Type 0} (cmp : T → T → Ordering) (o : IsTotalOrder cmp) (v : T
       only_events none past =
           let only : eqb (length (l ++ x ∷ r)) 1 ≡ true = eq-eqb _ _ (long ∙ rw (none, past) refl) in
           rw (present_is, place_is, get_or-append_seam l x r v, only) refl
-
-      -- removal of an only item
-      pub only_removing : (l ≡ []) → (r ≡ []) → removing_events cmp (l ++ x ∷ r) v ≡ RemoveNode x ∷ []
-      unfolding removing_events
-      only_removing none past =
-          let only : eqb (length (l ++ x ∷ r)) 1 ≡ true = eq-eqb _ _ (long ∙ rw (none, past) refl) in
-          rw (present_is, place_is, get_or-append_seam l x r v, only) refl
-
-      -- removal from several
-      pub one_removing : 1 ≤ length l + length r → removing_events cmp (l ++ x ∷ r) v ≡ RemoveAt (last_of (l ++ x ∷ r) x) x (length l) ∷ []
-      unfolding removing_events
-      one_removing some =
-          let more : eqb (length (l ++ x ∷ r)) 1 ≡ false = ne_eqb _ _ (λ e. omega (arith, long)) in
-          rw (present_is, place_is, get_or-append_seam l x r v, more) refl
 
   module _ (b a : List (List T)) (below : Each (λ x. cmp x v ≡ Less) (joined b)) (above : Each (λ x. cmp v x ≡ Less) (joined a)) where
     -- the events of a put, at the node alone
@@ -115,29 +88,3 @@ module _ {T : Type 0} (cmp : T → T → Ordering) (o : IsTotalOrder cmp) (v : T
 
     pub puts : (n : List T) → Puts n
     puts n at = around cmp o v Puts puts_absent puts_present n (up-left cmp n (joined a) (up-right cmp (joined b) (n ++ joined a) at.up)) at
-
-    -- the event of a removal
-    abbrev pub Removes : List T → Type 0
-    Removes n = At cmp o b n a → Ruled cmp (b ++ (kept (without cmp n v) ++ a)) × (replay_plain cmp (b ++ n ∷ a) (removing_events cmp n v) ≡ Some (b ++ (kept (without cmp n v) ++ a)))
-
-    kept_is : (n : List T) → is_filled n ≡ true → kept n ≡ n ∷ []
-    kept_is [] full = absurd (false≢true full)
-    kept_is (x ∷ n) full = refl
-
-    removes_absent : (l r : List T) → Each (λ x. cmp x v ≡ Less) l → Each (λ x. cmp v x ≡ Less) r → Removes (l ++ r)
-    removes_absent l r low high at = rw (parts-without cmp o l [] r v low tt high, absent_removing l r low high, kept_is (l ++ r) at.here) (at_ruled cmp o b (l ++ r) a at, refl)
-
-    removes_one : (l : List T) (x : T) (r : List T) → Each (λ x. cmp x v ≡ Less) l → cmp x v ≡ Equal → Each (λ x. cmp v x ≡ Less) r → 1 ≤ length l + length r → is_filled (l ++ r) ≡ true → Removes (l ++ x ∷ r)
-    removes_one l x r low same high some full at =
-        let gone = remove_step cmp o b a l x r x at full in
-        rw (parts-without cmp o l (x ∷ []) r v low (same, tt) high, one_removing l r low high x same some, kept_is (l ++ r) full) (at_ruled cmp o b (l ++ r) a gone.0, rw gone.1 refl)
-
-    removes_present : (l : List T) (x : T) (r : List T) → Each (λ x. cmp x v ≡ Less) l → cmp x v ≡ Equal → Each (λ x. cmp v x ≡ Less) r → Removes (l ++ x ∷ r)
-    removes_present l x (z ∷ r) low same high at = removes_one l x (z ∷ r) low same high (omega arith) (filled-append l z r) at
-    removes_present (y ∷ l) x [] low same high at = removes_one (y ∷ l) x [] low same high (omega arith) refl at
-    removes_present [] x [] low same high at =
-        let gone = remove_node_step cmp o b a (x ∷ []) x at in
-        rw (parts-without cmp o [] (x ∷ []) [] v tt (same, tt) tt, only_removing [] [] tt tt x same refl refl) (gone.0, rw gone.1 refl)
-
-    pub removes : (n : List T) → Removes n
-    removes n at = around cmp o v Removes removes_absent removes_present n (up-left cmp n (joined a) (up-right cmp (joined b) (n ++ joined a) at.up)) at

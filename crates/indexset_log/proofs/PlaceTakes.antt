@@ -9,14 +9,14 @@ use Rattle.indexset_core.specs.Nodes.{joined, node_at, node_lengths, IsLawful}
 use Rattle.indexset_core.specs.Order.{without}
 use Rattle.indexset_core.specs.Parted.{IsParted, less_count}
 use Rattle.indexset_core.proofs.CallerLemmas.{equal_read, get_in_node, places_order, rank-slice_get}
+use Rattle.indexset_log.specs.Edits.{with_taken}
 use Rattle.indexset_log.specs.Located.{located, IsFoundIn}
 use Rattle.indexset_log.specs.Places.{items_before}
 use Rattle.indexset_log.specs.Replay.{replay, numbered_from}
 use Rattle.indexset_log.specs.Table.{taking_events, removal_events}
-use Rattle.indexset_log.proofs.Places.{IsEnd, located_end, place_inside}
-use Rattle.indexset_log.proofs.Takes.{found_events}
-use Rattle.indexset_log.proofs.Theorem.{removal_to}
-use Rattle.indexset_log.proofs.Views.{lawful_ascends, lawful_filled, lawful_parted, located_told}
+use Rattle.indexset_log.proofs.Places.{end_at, end_node, end_offset, found_at, gap_at}
+use Rattle.indexset_log.proofs.Takes.{found_contents, found_events, taken_replay}
+use Rattle.indexset_log.proofs.Views.{lawful_ascends, lawful_filled, lawful_parted}
 
 -- two items before which as many stand are one
 module _ {T : Type 0} (ns : List (List T)) (p q : ℕ × ℕ) (p_node : p.0 < length ns) (p_in : p.1 < length (node_at ns p.0)) (q_node : q.0 < length ns) (q_in : q.1 < length (node_at ns q.0)) (same : items_before ns p ≡ items_before ns q) where
@@ -42,23 +42,26 @@ module _ {T : Type 0} (cmp : T → T → Ordering) (o : IsTotalOrder cmp) (size 
   -- a search for the item ends at its place
   found_there : IsFoundIn cmp ns x p.0 p.1
   found_there =
-      let told = located_told cmp o x size ns law in
-      let ends = located_end answer ns (lawful_filled cmp size ns law) (lawful_parted cmp size ns law o x) in
-      elim (located answer ns) as (λ r. IfOk r (λ q. IsFoundIn cmp ns x q.0 q.1) → IfOk r (IsEnd answer true ns) × IfErr r (IsEnd answer false ns) → IsFoundIn cmp ns x p.0 p.1) [
-        | Ok q ↦ λ found end.
-            let at : IsEnd answer true ns q = end.0 in
-            let after = at.after refl in
-            let q_node = place_inside ns q after in
-            let q_in : q.1 < length (node_at ns q.0) = omega (arith, after.offset_in) in
+      let filled = lawful_filled cmp size ns law in
+      let parted = lawful_parted cmp size ns law o x in
+      elim (located answer ns) as (λ r. r ≡ located answer ns → IsFoundIn cmp ns x p.0 p.1) [
+        | Ok q ↦ λ e.
+            let found = found_at cmp o x size ns law (Ok q) e q refl in
+            let at = end_at answer ns filled parted (Ok q) e q refl in
+            let q_node = end_node answer ns filled parted (Ok q) e q refl in
+            let q_in = end_offset answer ns filled parted (Ok q) e q refl in
             let same : items_before ns p ≡ items_before ns q = sym before_it ∙ sym at.before in
             subst (λ i. IsFoundIn cmp ns x p.0 i) (same_offset ns p q node_in offset_in q_node q_in same) (subst (λ k. IsFoundIn cmp ns x k q.1) (same_node ns p q node_in offset_in q_node q_in same) found)
-        | Err q ↦ λ found end.
-            let at : IsEnd answer false ns q = end.1 in
+        | Err q ↦ λ e.
+            let at = gap_at answer ns filled parted (Err q) e q refl in
             absurd (false≢true (sym at.equal ∙ (equal_read answer (joined ns) _ x (rw before_it in_all) ∙ rw (tied_itself o x) refl)))
-      ] told.0 ends
+      ] refl
 
   pub place_events : removal_events cmp ns x ≡ taking_events (node_at ns p.0) p.1 x
-  place_events = found_events cmp o x size ns law p.0 p.1 x found_there here
+  place_events = found_events o law found_there here
 
-  pub place_contents : 2 ≤ size → (s : ℕ) (after : List (List T)) → replay cmp ns (numbered_from s (taking_events (node_at ns p.0) p.1 x)) ≡ Some after → joined after ≡ without cmp (joined ns) x
-  place_contents two s after h = (removal_to cmp o size two ns law x s after (rw place_events h)).1
+  pub place_contents : (s : ℕ) (after : List (List T)) → replay cmp ns (numbered_from s (taking_events (node_at ns p.0) p.1 x)) ≡ Some after → joined after ≡ without cmp (joined ns) x
+  place_contents s after h =
+      let replayed = taken_replay o law p.0 p.1 node_in here s in
+      let same : with_taken ns p.0 p.1 ≡ after = cc in
+      ap joined (sym same) ∙ found_contents o law found_there here

@@ -1,23 +1,28 @@
 -- Where the places of a search stand, and what a walk between two places has left.
-use Rattle.std.proofs.Common.{◌≡◌, ℕ, zero, suc, ◌+◌, ◌-◌, ◌<◌, ◌≤◌, Bool, true, false, if◌then◌else◌, List, [], ◌∷◌, ◌++◌, length, map, take, drop, get_or, Result, Ok, Err, IfOk, IfErr, Ordering, Option, Some, None, slice_get, refl, ap, sym, ◌∙◌, max, subst, arith, append_assoc, length-append}
+use Rattle.std.proofs.Common.{◌≡◌, ℕ, zero, suc, ◌+◌, ◌-◌, ◌<◌, ◌≤◌, Bool, true, false, if◌then◌else◌, List, [], ◌∷◌, ◌++◌, length, map, take, drop, get_or, Result, Ok, Err, IfOk, IfErr, Ordering, Option, Some, None, is_some, slice_get, refl, ap, sym, ◌∙◌, max, subst, arith, append_assoc, length-append}
 use Rattle.std.specs.Cmp.{IsTotalOrder}
 use Rattle.std.specs.List.{All, between, count_by, find, position}
 use Rattle.std.specs.Ordering.{is_lt, is_le, is_eq}
-use Rattle.std.proofs.lemmas.List.{append-nil, length-map, take-map, drop-map, take_all, take_rest, get_or-map}
+use Rattle.std.proofs.lemmas.List.{append-nil, length-map, take-map, drop-map, take_all, take_rest}
+use Rattle.std.specs.Result.{result_ok}
+use Rattle.std.specs.Prelude.{MatchOption}
 use Rattle.std.proofs.lemmas.Bool.{false≢true}
+use Rattle.std.proofs.lemmas.Option.{slice_get-get_or}
 use Rattle.std.proofs.lemmas.List.Sums.{count_by-le-length}
 use Rattle.std.proofs.lemmas.List.Edits.{length-between}
 use Rattle.indexset_core.specs.Nodes.{joined, node_lengths, node_at, node_for, equal_at, IsLawful}
-use Rattle.indexset_core.specs.Order.{rank}
+use Rattle.indexset_core.specs.Order.{rank, has_equal, equal_element}
 use Rattle.indexset_core.specs.Parted.{IsParted, less_count}
-use Rattle.indexset_core.proofs.CallerLemmas.{between_in, between_across, equal_inside, find_absent, find_position, found_not_above, gap_not_above, get_in_node, position_absent, position_found, located_found, located_gap, node_read, offset-le, length-joined-mono, length-joined-more, parted_node, place_for}
-use Rattle.indexset_log.specs.Located.{located}
+use Rattle.indexset_core.proofs.CallerLemmas.{between_in, between_across, equal_inside, find_absent, find_position, found_not_above, gap_not_above, get_in_node, is_some-find, position_absent, position_found, located_found, located_gap, node_read, offset-le, length-joined-mono, length-joined-more, parted_node, place_for}
+use Rattle.indexset_log.specs.Located.{located, IsFoundIn}
 use Rattle.indexset_log.specs.Places.{IsPlace, items_before}
 use Rattle.indexset_log.proofs.Views.{lawful_filled, lawful_small, lawful_ascends, lawful_parted, equal_joined, node_inside}
 
 -- where a search ends: the place before the first item not answered Less, which the next one follows where it is answered Equal
 module _ {T : Type 0} (answer : T → Ordering) where
   pub record IsEnd (found : Bool) (ns : List (List T)) (p : ℕ × ℕ) : Type 0 where
+    pub node_is : p.0 ≡ node_for answer ns
+    pub offset_is : p.1 ≡ less_count answer (node_at ns p.0)
     pub place : IsPlace ns p
     pub after : found ≡ true → IsPlace ns (p.0, p.1 + 1)
     pub before : items_before ns p ≡ less_count answer (joined ns)
@@ -37,6 +42,8 @@ module _ {T : Type 0} (answer : T → Ordering) where
       let told : Bool → Result (ℕ × ℕ) (ℕ × ℕ) = λ b. if b then Ok (k, i) else Err (k, i) in
       let end : (b : Bool) → equal_at answer (node_at ns k) i ≡ b → IsEnd b ns (k, i) = λ b e.
       record {
+        node_is = refl;
+        offset_is = refl;
         place = record { node_in = omega (arith, inside); offset_in = fits };
         after = λ yes. record { node_in = omega (arith, inside); offset_in = omega (arith, equal_inside answer (node_at ns k) i (e ∙ yes)) };
         before = at;
@@ -48,7 +55,7 @@ module _ {T : Type 0} (answer : T → Ordering) where
       ] refl
 
   pub located_end : (ns : List (List T)) → All (λ n. 1 ≤ n) (node_lengths ns) → IsParted answer (joined ns) → Ends ns (located answer ns)
-  located_end [] filled parted = (tt, record { place = record { node_in = omega arith; offset_in = omega arith }; after = λ yes. absurd (false≢true yes); before = refl; equal = refl })
+  located_end [] filled parted = (tt, record { node_is = refl; offset_is = refl; place = record { node_in = omega arith; offset_in = omega arith }; after = λ yes. absurd (false≢true yes); before = refl; equal = refl })
   located_end (n ∷ ns) filled parted = some_end (n ∷ ns) filled parted (omega arith)
 
 -- a place that another follows in its node stands in a node that is there
@@ -102,6 +109,24 @@ module _ {T : Type 0} (cmp : T → T → Ordering) (o : IsTotalOrder cmp) (v : T
     pub ends_gap : r ≡ Err p → IsEnd answer false ns p
     ends_gap = gap_at answer ns (lawful_filled cmp size ns law) (lawful_parted cmp size ns law o v) r e p
 
+  -- the answer of a search as the code passes it on
+  pub found_at : (r : Result (ℕ × ℕ) (ℕ × ℕ)) → r ≡ located answer ns → (p : ℕ × ℕ) → r ≡ Ok p → IsFoundIn cmp ns v p.0 p.1
+  found_at r e p is =
+      let filled = lawful_filled cmp size ns law in
+      let parted = lawful_parted cmp size ns law o v in
+      let end = ends_equal r e p is in
+      let inside = end_node answer ns filled parted r e p is in
+      record {
+        node_in = inside;
+        node_is = end.node_is;
+        here = located_found cmp (node_at ns p.0) v p.1 (parted_node answer ns p.0 inside parted) end.offset_is (rw (end_read answer ns filled parted r e p is) at end.equal);
+        item = sym (end_found answer ns filled parted r e p is);
+      }
+
+  pub found_told : (r : Result (ℕ × ℕ) (ℕ × ℕ)) → r ≡ located answer ns → MatchOption (result_ok r) (equal_element cmp (joined ns) v ≡ None) (λ p. IsFoundIn cmp ns v p.0 p.1)
+  found_told (Ok p) e = found_at (Ok p) e p refl
+  found_told (Err p) e = gap_found answer ns (lawful_filled cmp size ns law) (lawful_parted cmp size ns law o v) (Err p) e p refl
+
   -- the items up to an equal one, and those before a gap
   pub end_through : (p : ℕ × ℕ) → IsEnd answer true ns p → items_before ns (p.0, p.1 + 1) ≡ not_above
   end_through p end =
@@ -114,6 +139,10 @@ module _ {T : Type 0} (cmp : T → T → Ordering) (o : IsTotalOrder cmp) (v : T
       let parted = lawful_parted cmp size ns law o v in
       let gap = located_gap cmp (joined ns) v (rank cmp (joined ns) v) parted refl end.equal in
       end.before ∙ sym (gap_not_above cmp (joined ns) v (rank cmp (joined ns) v) gap)
+
+pub found_is : {T : Type 0} (cmp : T → T → Ordering) (v : T) (ns : List (List T)) (s : Option (ℕ × ℕ)) → MatchOption s (equal_element cmp (joined ns) v ≡ None) (λ p. IsFoundIn cmp ns v p.0 p.1) → is_some s ≡ has_equal cmp (joined ns) v
+found_is cmp v ns None h = ap is_some (sym h) ∙ is_some-find (λ x. is_eq (cmp x v)) (joined ns)
+found_is cmp v ns (Some p) h = ap is_some (sym (slice_get-get_or (node_at ns p.0) p.1 v h.here.inside) ∙ h.item) ∙ is_some-find (λ x. is_eq (cmp x v)) (joined ns)
 
 -- the nodes as the code holds them: f tells the list of each
 module _ {T N : Type 0} (f : N → List T) where

@@ -1,31 +1,31 @@
 -- What a put makes of lawful nodes, as the code meets it.
-use Rattle.std.proofs.Common.{◌≡◌, ◌≢◌, ℕ, zero, suc, ◌+◌, ◌-◌, ◌/◌, ◌<◌, ◌≤◌, Bool, true, false, cond, if◌then◌else◌, ◌&&◌, List, [], ◌∷◌, ◌++◌, length, map, get_or, set, insert, take, drop, slice_get, eqb, Option, Some, None, is_some, is_ok, Ordering, refl, ap, sym, ◌∙◌, subst, arith, append_assoc, length-append}
+use Rattle.std.proofs.Common.{◌≡◌, ℕ, zero, suc, ◌+◌, ◌-◌, ◌/◌, ◌<◌, ◌≤◌, Bool, true, false, cond, if◌then◌else◌, ◌&&◌, List, [], ◌∷◌, ◌++◌, length, map, get_or, set, insert, take, drop, slice_get, eqb, Option, Some, None, is_some, is_ok, Ordering, refl, ap, sym, ◌∙◌, subst, arith, append_assoc, length-append}
 use Rattle.std.specs.Cmp.{IsTotalOrder}
 use Rattle.std.specs.List.{find, splice}
 use Rattle.std.specs.Option.{option_or}
 use Rattle.std.specs.Ordering.{is_eq}
-use Rattle.std.proofs.lemmas.Bool.{false≢true, eq-eqb, ne_eqb, eqb-true, eqb-false}
+use Rattle.std.proofs.lemmas.Bool.{false≢true, eq-eqb, ne_eqb, eqb-false}
 use Rattle.std.proofs.lemmas.List.{length-map, map-append, take-append-drop}
 use Rattle.std.proofs.lemmas.List.Folds.{find-append}
 use Rattle.std.proofs.lemmas.Option.{get_or_from_slice_get}
-use Rattle.std.proofs.Math.Seq.{get_or-append_seam}
-use Rattle.indexset_core.specs.Nodes.{joined, node_at, IsLawful}
-use Rattle.indexset_core.specs.Order.{IsAscending, put, keep, has_equal, equal_element, rank, IsFoundAt, IsGapFor}
+use Rattle.std.proofs.Math.Seq.{get_or-append_seam, set-append_seam}
+use Rattle.indexset_core.specs.Nodes.{joined, node_at}
+use Rattle.indexset_core.specs.Order.{IsAscending, put, has_equal, equal_element, rank, IsFoundAt, IsGapFor}
 use Rattle.indexset_core.proofs.CallerLemmas.{is_some-find, joined-append, found_has_equal, gap_has_equal, found_rank, gap_rank, has_equal_found, parted_by_item}
 use Rattle.indexset_log.specs.declared.aim.Aim.{Aim}
-use Rattle.indexset_log.specs.declared.change.ChangeEvent.{ChangeEvent}
 use Rattle.indexset_log.specs.declared.change.ChangeEventUnassigned.{ChangeEventUnassigned}
 use Rattle.indexset_log.specs.declared.change.ChangeEventUnassigned.TheVariants.{InsertAt, RemoveAt, CreateNode, RemoveNode, SplitNode}
-use Rattle.indexset_log.specs.Aim.{IsAim, IsAimed, count_for, is_present}
-use Rattle.indexset_log.specs.Edits.{with_halved, with_room, put_into_target, with_put, with_checked_put}
+use Rattle.indexset_log.specs.Aim.{IsAim, IsAimed, count_for}
+use Rattle.indexset_log.specs.Edits.{with_halved, with_room, with_put}
 use Rattle.indexset_log.specs.Nodes.{is_filled, last_of}
+use Rattle.indexset_log.specs.Tree.{IsTree}
 use Rattle.indexset_log.specs.Replay.{replay, numbered_from, assigned}
-use Rattle.indexset_log.specs.Table.{target, half_of, part_for, is_past, halving_events, node_events, replace_events, target_events, put_events, checked_put_events}
+use Rattle.indexset_log.specs.Table.{target, half_of, part_for, is_past, halving_events, node_events, replace_events, target_events, put_events}
 use Rattle.indexset_log.proofs.Ups.{Each, each-map, Up, up-left, up-right, Ruled, greater, around, parts-put, parts-has_equal, each_all, filled_length, length_filled, ascends, lawful_from, lawful_ruled, lawful_bounded}
 use Rattle.indexset_log.proofs.Steps.{ruled_at, insert_at, splice_at}
-use Rattle.indexset_log.proofs.Replays.{set_seam, ne_from, aim, target_at}
-use Rattle.indexset_log.proofs.Theorem.{numbered_replay, up_node, put_events_some, put_events_none, set_view}
-use Rattle.indexset_log.proofs.Rooms.{Roomy, roomy, Makes, target_makes, put_makes}
+use Rattle.indexset_log.proofs.Replays.{ne_from, aim, target_at}
+use Rattle.indexset_log.proofs.Theorem.{numbered_replay, up_node, put_events_none, set_view}
+use Rattle.indexset_log.proofs.Rooms.{Roomy, roomy, Makes, put_makes}
 use Rattle.indexset_log.proofs.Takes.{at_place}
 use Rattle.indexset_log.proofs.Views.{node_is, length_view, lawful_small}
 
@@ -34,7 +34,7 @@ halved_seam : {X : Type 0} (b : List X) (n : X) (a : List X) (l r : X) → inser
 halved_seam b n a l r =
     let made : insert ((b ++ l ∷ []) ++ a) (length (b ++ l ∷ [])) r ≡ (b ++ l ∷ []) ++ r ∷ a = insert_at (b ++ l ∷ []) a r in
     let long : length (b ++ l ∷ []) ≡ length b + 1 = length-append b (l ∷ []) in
-    rw (set_seam b n a l) (subst (λ k. insert (b ++ l ∷ a) k r ≡ b ++ l ∷ r ∷ a) long (subst (λ q. insert q (length (b ++ l ∷ [])) r ≡ b ++ l ∷ r ∷ a) (append_assoc b (l ∷ []) a) (made ∙ append_assoc b (l ∷ []) (r ∷ a))))
+    rw (set-append_seam b n a l) (subst (λ k. insert (b ++ l ∷ a) k r ≡ b ++ l ∷ r ∷ a) long (subst (λ q. insert q (length (b ++ l ∷ [])) r ≡ b ++ l ∷ r ∷ a) (append_assoc b (l ∷ []) a) (made ∙ append_assoc b (l ∷ []) (r ∷ a))))
 
 pub halved_view : {X Y : Type 0} (f : X → Y) (xs : List X) (k : ℕ) (n l r : X) → slice_get xs k ≡ Some n → map f (insert (set xs k l) (k + 1) r) ≡ splice (map f xs) k (k + 1) (f l ∷ f r ∷ [])
 halved_view f xs k n l r at = at_place (λ q j n. map f (insert (set q j l) (j + 1) r) ≡ splice (map f q) j (j + 1) (f l ∷ f r ∷ []))
@@ -48,21 +48,6 @@ numbered-append s [] ys = ap (λ k. numbered_from k ys) (omega arith)
 numbered-append s (x ∷ xs) ys =
     let next : s + 1 + length xs ≡ s + suc (length xs) = omega arith in
     ap (λ q. assigned s x ∷ q) (numbered-append (s + 1) xs ys ∙ ap (λ k. numbered_from (s + 1) xs ++ numbered_from k ys) next)
-
--- two events as the code writes them
-pub two_written : {T : Type 0} (s : ℕ) (old mid new : List (ChangeEvent T)) (k : ℕ) (e f : ChangeEventUnassigned T) → mid ≡ old ++ assigned s e ∷ [] → k ≡ s + 1 → new ≡ mid ++ assigned k f ∷ [] → new ≡ old ++ numbered_from s (e ∷ f ∷ [])
-two_written s old mid new k e f first next second = second ∙ rw (first, next) (append_assoc old (assigned s e ∷ []) (assigned (s + 1) f ∷ []))
-
--- the event of a halving, and none
-module _ {T : Type 0} (size s : ℕ) (n : List T) (v : T) where
-  pub halving_written : (name : T) (items : List (ChangeEvent T)) → eqb (length n) size ≡ true → name ≡ last_of n v → items ≡ assigned s (SplitNode name (length n / 2)) ∷ [] → items ≡ numbered_from s (halving_events size n v)
-  halving_written name items full same made = made ∙ rw (full, same) refl
-
-  pub halving_one : eqb (length n) size ≡ true → length (halving_events size n v) ≡ 1
-  halving_one full = rw full refl
-
-  pub whole_none : eqb (length n) size ≡ false → halving_events size n v ≡ []
-  whole_none part = rw part refl
 
 pub half_and : {T : Type 0} (full past : Bool) (n : List T) → half_of full (full && past) n ≡ half_of full past n
 half_and true past n = refl
@@ -133,27 +118,39 @@ module _ {T : Type 0} (cmp : T → T → Ordering) (o : IsTotalOrder cmp) (v : T
       (find-append p (joined b) (n ++ joined a) ∙ rw before (find-append p n (joined a) ∙ rw after (or_none (find p n)))))
       n ns ruled ruled
 
-  -- all of a put, for the code
-  module _ (size : ℕ) (two : 2 ≤ size) (ns : List (List T)) (law : IsLawful cmp size ns) (a : Aim) (h : IsAim cmp size ns v a) where
+-- a put into a tree, as the code meets it
+module _ {T : Type 0} {cmp : T → T → Ordering} {most size len : ℕ} {ns : List (List T)} (o : IsTotalOrder cmp) (t : IsTree cmp most ns size len) where
+  ruled : Ruled cmp ns
+  ruled = lawful_ruled cmp size ns t.lawful
+
+  module _ (v : T) where
+    after : Makes cmp o v size ns (put_events cmp size ns v) (with_put cmp size ns v) (put cmp (joined ns) v)
+    after = put_makes cmp o v size t.two ns ruled (lawful_bounded cmp size ns t.lawful)
+
+    pub put_contents : joined (with_put cmp size ns v) ≡ put cmp (joined ns) v
+    put_contents = let d = after in d.holds
+
+    pub put_replayed : (s : ℕ) → replay cmp ns (numbered_from s (put_events cmp size ns v)) ≡ Some (with_put cmp size ns v)
+    put_replayed s = let d = after in numbered_replay cmp ns s (put_events cmp size ns v) ∙ d.replayed
+
+    pub put_tree : IsTree cmp most (with_put cmp size ns v) size (len + cond (has_equal cmp (joined ns) v) 0 1)
+    put_tree =
+        let d = after in
+        let r = ruled in
+        let count = ap (λ q. length q) put_contents ∙ put_length_is cmp o v (joined ns) r.up in
+        record { lawful = lawful_from cmp size _ d.ruled d.small; two = t.two; within = t.within; counted = omega (arith, t.counted, count) }
+
+  module _ {v : T} {a : Aim} (h : IsAim cmp size ns v a) where
     some : is_filled ns ≡ true
     some = length_filled ns (omega (arith, h.node_in))
 
     r : Roomy cmp o v size ns (node_at ns (target cmp ns v)) (target cmp ns v) (with_room cmp size ns v)
-    r = roomy cmp o v size two ns (lawful_ruled cmp size ns law) (lawful_bounded cmp size ns law) some
+    r = roomy cmp o v size t.two ns ruled (lawful_bounded cmp size ns t.lawful) some
 
-    made : Makes cmp o v size ns (target_events cmp size (node_at ns (target cmp ns v)) v) (put_into_target cmp (with_room cmp size ns v) v) (put cmp (joined ns) v)
-    made = target_makes cmp o v size two ns (lawful_ruled cmp size ns law) (lawful_bounded cmp size ns law) some
-
-    pub room_is : (if a.full then with_halved ns a.node else ns) ≡ with_room cmp size ns v
-    room_is = rw (h.full_is, h.node_is) refl
-
-    pub place_is : a.node + cond a.right 1 0 ≡ target cmp (with_room cmp size ns v) v
-    place_is = let d = r in rw (h.right_is, h.node_is) (sym d.place)
-
-    pub place_in : target cmp (with_room cmp size ns v) v < length (with_room cmp size ns v)
+    place_in : target cmp (with_room cmp size ns v) v < length (with_room cmp size ns v)
     place_in = let d = r in omega (arith, filled_length (with_room cmp size ns v) d.some)
 
-    pub part_is : node_at (with_room cmp size ns v) (target cmp (with_room cmp size ns v) v) ≡ part_for cmp size (node_at ns a.node) v
+    part_is : node_at (with_room cmp size ns v) (target cmp (with_room cmp size ns v) v) ≡ part_for cmp size (node_at ns a.node) v
     part_is = let d = r in rw h.node_is d.part
 
     pub half_is : half_of a.full a.right (node_at ns a.node) ≡ part_for cmp size (node_at ns a.node) v
@@ -165,46 +162,31 @@ module _ {T : Type 0} (cmp : T → T → Ordering) (o : IsTotalOrder cmp) (v : T
     pub part_some : 1 ≤ length (part_for cmp size (node_at ns a.node) v)
     part_some = let d = r in let ruled : Ruled cmp (with_room cmp size ns v) = d.ruled in subst (λ q. 1 ≤ length q) part_is (filled_length _ (each_all _ (with_room cmp size ns v) ruled.filled (target cmp (with_room cmp size ns v) v) [] place_in))
 
-    pub events_count : length (target_events cmp size (node_at ns a.node) v) ≡ cond a.full 1 0 + cond (is_ok a.at) 2 1
-    unfolding target_events
+    -- the events of the put, in two parts
+    pub events_parts : put_events cmp size ns v ≡ halving_events size (node_at ns a.node) v ++ node_events cmp (part_for cmp size (node_at ns a.node) v) v
+    unfolding put_events target_events
+    events_parts = rw (some, h.node_is) refl
+
+    halving_count : (n : List T) → length (halving_events size n v) ≡ cond (eqb (length n) size) 1 0
+    halving_count n = elim (eqb (length n) size) as (λ t. length (if t then SplitNode (last_of n v) (length n / 2) ∷ [] else []) ≡ cond t 1 0) [
+      | true ↦ refl
+      | false ↦ refl
+    ]
+
+    pub events_numbered : (s : ℕ) → numbered_from s (put_events cmp size ns v) ≡ numbered_from s (halving_events size (node_at ns a.node) v) ++ numbered_from (s + cond (eqb (length (node_at ns a.node)) size) 1 0) (node_events cmp (part_for cmp size (node_at ns a.node) v) v)
+    events_numbered s = ap (numbered_from s) events_parts ∙ (numbered-append s (halving_events size (node_at ns a.node) v) (node_events cmp (part_for cmp size (node_at ns a.node) v) v) ∙ rw (halving_count (node_at ns a.node)) refl)
+
+    pub parts_length : length (put_events cmp size ns v) ≡ cond (eqb (length (node_at ns a.node)) size) 1 0 + length (node_events cmp (part_for cmp size (node_at ns a.node) v) v)
+    parts_length = ap (λ q. length q) events_parts ∙ (length-append (halving_events size (node_at ns a.node) v) (node_events cmp (part_for cmp size (node_at ns a.node) v) v) ∙ rw (halving_count (node_at ns a.node)) refl)
+
+    pub events_count : length (put_events cmp size ns v) ≡ cond a.full 1 0 + cond (is_ok a.at) 2 1
     events_count =
-        let n = node_at ns a.node in
-        let part = part_for cmp size n v in
-        let halvings : length (halving_events size n v) ≡ cond a.full 1 0 = rw h.full_is (halving_count n) in
-        let puts : length (node_events cmp part v) ≡ cond (is_ok a.at) 2 1 = node_count part ∙ ap (λ b. cond b 2 1) (sym (has_equal_found cmp part v a.at h.found h.gap)) in
-        length-append (halving_events size n v) (node_events cmp part v) ∙ rw (halvings, puts) refl
-      where
-        halving_count : (n : List T) → length (halving_events size n v) ≡ cond (eqb (length n) size) 1 0
-        halving_count n = elim (eqb (length n) size) as (λ t. length (if t then SplitNode (last_of n v) (length n / 2) ∷ [] else []) ≡ cond t 1 0) [
-          | true ↦ refl
-          | false ↦ refl
-        ]
-
-    pub target_length : length (target_events cmp size (node_at ns a.node) v) ≡ length (halving_events size (node_at ns a.node) v) + length (node_events cmp (part_for cmp size (node_at ns a.node) v) v)
-    unfolding target_events
-    target_length = length-append (halving_events size (node_at ns a.node) v) (node_events cmp (part_for cmp size (node_at ns a.node) v) v)
-
-    pub target_numbered : (s : ℕ) → numbered_from s (target_events cmp size (node_at ns a.node) v) ≡ numbered_from s (halving_events size (node_at ns a.node) v) ++ numbered_from (s + length (halving_events size (node_at ns a.node) v)) (node_events cmp (part_for cmp size (node_at ns a.node) v) v)
-    unfolding target_events
-    target_numbered s = numbered-append s (halving_events size (node_at ns a.node) v) (node_events cmp (part_for cmp size (node_at ns a.node) v) v)
-
-    pub put_lawful : IsLawful cmp size (put_into_target cmp (with_room cmp size ns v) v)
-    put_lawful = let d = made in lawful_from cmp size _ d.ruled d.small
-
-    pub put_replay : (s : ℕ) → replay cmp ns (numbered_from s (target_events cmp size (node_at ns a.node) v)) ≡ Some (put_into_target cmp (with_room cmp size ns v) v)
-    put_replay s = let d = made in rw h.node_is (numbered_replay cmp ns s (target_events cmp size (node_at ns (target cmp ns v)) v) ∙ d.replayed)
-
-    pub events_are : put_events cmp size ns v ≡ target_events cmp size (node_at ns a.node) v
-    events_are = put_events_some cmp size v ns a.node (some_not some) h.node_is
-      where
-        some_not : {X : Type 0} {xs : List X} → is_filled xs ≡ true → xs ≢ []
-        some_not full none = false≢true (sym (ap is_filled none) ∙ full)
-
-    pub put_joined : joined (put_into_target cmp (with_room cmp size ns v) v) ≡ put cmp (joined ns) v
-    put_joined = let d = made in d.holds
+        let part = part_for cmp size (node_at ns a.node) v in
+        let puts : length (node_events cmp part v) ≡ cond (is_ok a.at) 2 1 = node_count cmp o v part ∙ ap (λ b. cond b 2 1) (sym (has_equal_found cmp part v a.at h.found h.gap)) in
+        parts_length ∙ rw (puts, ← h.full_is) refl
 
     pub element_is : equal_element cmp (part_for cmp size (node_at ns a.node) v) v ≡ equal_element cmp (joined ns) v
-    element_is = let d = r in ap (λ q. equal_element cmp q v) (sym part_is) ∙ (sym (equal_in_target (with_room cmp size ns v) d.ruled d.some) ∙ ap (λ q. equal_element cmp q v) d.same)
+    element_is = let d = r in ap (λ q. equal_element cmp q v) (sym part_is) ∙ (sym (equal_in_target cmp o v (with_room cmp size ns v) d.ruled d.some) ∙ ap (λ q. equal_element cmp q v) d.same)
 
     pub equal_is : has_equal cmp (joined ns) v ≡ is_ok a.at
     equal_is =
@@ -212,38 +194,34 @@ module _ {T : Type 0} (cmp : T → T → Ordering) (o : IsTotalOrder cmp) (v : T
         let test : T → Bool = λ x. is_eq (cmp x v) in
         sym (is_some-find test (joined ns)) ∙ (ap is_some (sym element_is) ∙ (is_some-find test part ∙ sym (has_equal_found cmp part v a.at h.found h.gap)))
 
-    pub put_count : length (joined (put_into_target cmp (with_room cmp size ns v) v)) ≡ length (joined ns) + cond (is_ok a.at) 0 1
-    put_count =
-        let ruled = lawful_ruled cmp size ns law in
-        rw put_joined (put_length_is (joined ns) ruled.up ∙ rw equal_is refl)
-
-    pub full_two : a.full ≡ true → 2 ≤ length (node_at ns a.node)
-    full_two e = omega (arith, eqb-true (length (node_at ns a.node)) size (sym h.full_is ∙ e))
-
     pub whole_room : a.full ≡ false → length (node_at ns a.node) < size
-    whole_room e = omega (arith, ne_from (length (node_at ns a.node)) size (eqb-false (length (node_at ns a.node)) size (sym h.full_is ∙ e)) (lawful_small cmp size ns law a.node h.node_in))
+    whole_room e = omega (arith, ne_from (length (node_at ns a.node)) size (eqb-false (length (node_at ns a.node)) size (sym h.full_is ∙ e)) (lawful_small cmp size ns t.lawful a.node h.node_in))
 
-    pub whole_left : a.full ≡ false → a.right ≡ false
-    whole_left e = h.right_is ∙ ap (λ b. b && is_past cmp (take (length (node_at ns a.node) / 2) (node_at ns a.node)) v) (sym h.full_is ∙ e)
+    -- the nodes as the code holds them after it made room, and the place of the one that the item goes into
+    module _ {N : Type 0} (f : N → List T) (items : List N) (p : ℕ) where
+      pub record Spot : Type 0 where
+        pub inside : p < length items
+        pub part : (n : N) → n ≡ get_or items p n → f n ≡ part_for cmp size (node_at ns a.node) v
+        pub made : (n m : N) → n ≡ get_or items p n → f m ≡ put cmp (f n) v → map f (set items p m) ≡ with_put cmp size ns v
 
-    -- the nodes as the code holds them after it made room
-    module _ {N : Type 0} (f : N → List T) (items : List N) (held : map f items ≡ (if a.full then with_halved ns a.node else ns)) (p : ℕ) (place : p ≡ a.node + cond a.right 1 0) where
-      sees : map f items ≡ with_room cmp size ns v
-      sees = held ∙ room_is
-
-      aims : p ≡ target cmp (with_room cmp size ns v) v
-      aims = place ∙ place_is
-
-      pub spot_in : p < length items
-      spot_in = omega (arith, aims, place_in, length_view f items (with_room cmp size ns v) sees)
-
-      pub spot_part : (n : N) → n ≡ get_or items p n → f n ≡ part_for cmp size (node_at ns a.node) v
-      spot_part n is = node_is f items (with_room cmp size ns v) p n sees spot_in is ∙ (ap (node_at (with_room cmp size ns v)) aims ∙ part_is)
-
-      pub spot_after : (n m : N) → n ≡ get_or items p n → f m ≡ put cmp (f n) v → map f (set items p m) ≡ put_into_target cmp (with_room cmp size ns v) v
-      spot_after n m is e =
+      pub spot : {olds : List (List T)} → olds ≡ ns → map f items ≡ (if a.full then with_halved olds a.node else olds) → p ≡ a.node + cond a.right 1 0 → Spot
+      unfolding with_put
+      spot same held place =
+          let d = r in
           let ms = with_room cmp size ns v in
-          set_view f items ms p m (put cmp (node_at ms p) v) sees (e ∙ ap (λ q. put cmp q v) (node_is f items ms p n sees spot_in is)) ∙ ap (λ k. set ms k (put cmp (node_at ms k) v)) aims
+          let sees : map f items ≡ ms = held ∙ rw (same, h.full_is, h.node_is) refl in
+          let aims : p ≡ target cmp ms v = place ∙ rw (h.right_is, h.node_is) (sym d.place) in
+          let inside : p < length items = omega (arith, aims, place_in, length_view f items ms sees) in
+          record {
+            inside = inside;
+            part = λ n is. node_is f items ms p n sees inside is ∙ (ap (node_at ms) aims ∙ part_is);
+            made = λ n m is e. rw some (set_view f items ms p m (put cmp (node_at ms p) v) sees (e ∙ ap (λ q. put cmp q v) (node_is f items ms p n sees inside is)) ∙ ap (λ k. set ms k (put cmp (node_at ms k) v)) aims);
+          }
+
+  -- by what its call aims at
+  pub count_aimed : (v : T) (aim : Option Aim) → IsAimed cmp size ns v aim → length (put_events cmp size ns v) ≡ count_for aim
+  count_aimed v None none = ap (λ q. length q) (put_events_none cmp size v ns none)
+  count_aimed v (Some a) h = events_count h
 
 -- the half of an ascending node is ascending
 pub half_up : {T : Type 0} (cmp : T → T → Ordering) (full right : Bool) (n : List T) → Up cmp n → Up cmp (half_of full right n)
@@ -257,60 +235,3 @@ last_of_take [] i x v lt e = absurd (omega arith)
 last_of_take (y ∷ []) zero x v lt e = sym e
 last_of_take (y ∷ z ∷ n) zero x v lt e = sym e
 last_of_take (y ∷ n) (suc i) x v lt e = last_of_take n i x y (omega arith) e
-
-module _ {T : Type 0} (cmp : T → T → Ordering) (size : ℕ) (ns : List (List T)) (v : T) where
-  pub aimed_events : (a : Aim) → IsAim cmp size ns v a → put_events cmp size ns v ≡ target_events cmp size (node_at ns a.node) v
-  aimed_events a h = put_events_some cmp size v ns a.node (λ none. absurd (omega (arith, h.node_in, ap (λ q. length q) none))) h.node_is
-
-  -- a checked put, where an equal item is there and where not
-  pub keep_there : has_equal cmp (joined ns) v ≡ true → keep cmp (joined ns) v ≡ joined ns
-  unfolding keep
-  keep_there h = rw h refl
-
-  pub keep_absent : has_equal cmp (joined ns) v ≡ false → keep cmp (joined ns) v ≡ put cmp (joined ns) v
-  unfolding keep
-  keep_absent h = rw h refl
-
-  pub checked_there : has_equal cmp (joined ns) v ≡ true → checked_put_events cmp size ns v ≡ []
-  unfolding checked_put_events
-  checked_there h = rw h refl
-
-  pub checked_absent : has_equal cmp (joined ns) v ≡ false → checked_put_events cmp size ns v ≡ put_events cmp size ns v
-  unfolding checked_put_events
-  checked_absent h = rw h refl
-
-  pub checked_with_there : has_equal cmp (joined ns) v ≡ true → with_checked_put cmp size ns v ≡ ns
-  unfolding with_checked_put
-  checked_with_there h = rw h refl
-
-  pub checked_with_absent : has_equal cmp (joined ns) v ≡ false → with_checked_put cmp size ns v ≡ with_put cmp size ns v
-  unfolding with_checked_put
-  checked_with_absent h = rw h refl
-
-  -- the nodes after a put, by the aim
-  pub first_with_put : ns ≡ [] → with_put cmp size ns v ≡ (v ∷ []) ∷ []
-  unfolding with_put
-  first_with_put none = rw none refl
-
-  pub aimed_with_put : (a : Aim) → IsAim cmp size ns v a → with_put cmp size ns v ≡ put_into_target cmp (with_room cmp size ns v) v
-  unfolding with_put
-  aimed_with_put a h = let some : is_filled ns ≡ true = length_filled ns (omega (arith, h.node_in)) in rw some refl
-
--- a put, by what its call aims at
-module _ {T : Type 0} (cmp : T → T → Ordering) (o : IsTotalOrder cmp) (v : T) (size : ℕ) (two : 2 ≤ size) (ns : List (List T)) (law : IsLawful cmp size ns) where
-  pub count_aimed : (aim : Option Aim) → IsAimed cmp size ns v aim → length (put_events cmp size ns v) ≡ count_for aim
-  count_aimed None none = ap (λ q. length q) (put_events_none cmp size v ns none)
-  count_aimed (Some a) h = ap (λ q. length q) (aimed_events cmp size ns v a h) ∙ events_count cmp o v size two ns law a h
-
-  pub present_aimed : (aim : Option Aim) → IsAimed cmp size ns v aim → has_equal cmp (joined ns) v ≡ is_present aim
-  present_aimed None none = rw none refl
-  present_aimed (Some a) h = equal_is cmp o v size two ns law a h
-
-  after : Makes cmp o v size ns (put_events cmp size ns v) (with_put cmp size ns v) (put cmp (joined ns) v)
-  after = put_makes cmp o v size two ns (lawful_ruled cmp size ns law) (lawful_bounded cmp size ns law)
-
-  pub put_contents : joined (with_put cmp size ns v) ≡ put cmp (joined ns) v
-  put_contents = let d = after in d.holds
-
-  pub put_replayed : (s : ℕ) → replay cmp ns (numbered_from s (put_events cmp size ns v)) ≡ Some (with_put cmp size ns v)
-  put_replayed s = let d = after in numbered_replay cmp ns s (put_events cmp size ns v) ∙ d.replayed

@@ -1,29 +1,22 @@
 -- Nodes without the items of a range.
 use Rattle.std.proofs.Common.{◌≡◌, ℕ, zero, suc, ◌+◌, ◌<◌, ◌≤◌, Bool, true, false, not, ◌==◌, List, [], ◌∷◌, ◌++◌, length, take, drop, get_or, set, map, filter, Ordering, refl, ap, sym, ◌∙◌, subst, arith, length-append}
 use Rattle.std.specs.declared.cmp.Ordering.TheVariants.{Less}
-use Rattle.std.proofs.lemmas.List.Elements.{filter-append}
+use Rattle.std.proofs.lemmas.List.Elements.{All-filter, filter-append}
+use Rattle.std.proofs.lemmas.List.Sums.{count_by-le-length, length-filter}
 use Rattle.indexset_core.specs.Nodes.{joined, IsLawful}
 use Rattle.std.proofs.lemmas.Bool.{ne_eqb}
 use Rattle.std.proofs.lemmas.List.{length-map, map-set, take_all, drop_all, append-nil}
 use Rattle.indexset_core.proofs.CallerLemmas.{length-joined-take}
 use Rattle.indexset_log.specs.Nodes.{is_filled}
 use Rattle.indexset_log.proofs.Views.{node_is}
-use Rattle.indexset_log.proofs.Ups.{Each, Up, lawful_from, lawful_ruled, lawful_bounded}
+use Rattle.indexset_log.proofs.Ups.{Each, all_each, each_all, Up, lawful_from, lawful_ruled, lawful_bounded}
 
 module _ {T : Type 0} (p : T → Bool) where
   filter_le : (l : List T) → length (filter p l) ≤ length l
-  filter_le [] = omega arith
-  filter_le (x ∷ l) = elim (p x) as (λ b. p x ≡ b → length (filter p (x ∷ l)) ≤ length (x ∷ l)) [
-    | true ↦ λ e. rw e (omega (arith, filter_le l))
-    | false ↦ λ e. rw e (omega (arith, filter_le l))
-  ] refl
+  filter_le l = rw (length-filter p l) (count_by-le-length p l)
 
   each_filter : (P : T → Type 0) (l : List T) → Each P l → Each P (filter p l)
-  each_filter P [] h = tt
-  each_filter P (x ∷ l) h = elim (p x) as (λ b. p x ≡ b → Each P (filter p (x ∷ l))) [
-    | true ↦ λ e. rw e (h.0, each_filter P l h.1)
-    | false ↦ λ e. rw e (each_filter P l h.1)
-  ] refl
+  each_filter P l h = all_each P (filter p l) (All-filter p P l (each_all P l h))
 
   up_filter : (cmp : T → T → Ordering) (l : List T) → Up cmp l → Up cmp (filter p l)
   up_filter cmp [] h = tt
@@ -57,9 +50,6 @@ joined_filled [] = refl
 joined_filled ([] ∷ ns) = joined_filled ns
 joined_filled ((x ∷ n) ∷ ns) = ap (λ q. (x ∷ n) ++ q) (joined_filled ns)
 
-each_kept : {X : Type 0} (P : X → Type 0) (q : X → Bool) (l : List X) → Each P l → Each P (filter q l)
-each_kept P q l h = each_filter q P l h
-
 all_filled : {T : Type 0} (ns : List (List T)) → Each (λ n. is_filled n ≡ true) (filter is_filled ns)
 all_filled [] = tt
 all_filled ([] ∷ ns) = all_filled ns
@@ -72,7 +62,7 @@ each_fewer p size (n ∷ ns) h = (omega (arith, filter_le p n, h.0), each_fewer 
 pub ranged_lawful : {T : Type 0} (cmp : T → T → Ordering) (p : T → Bool) (size : ℕ) (ns : List (List T)) → IsLawful cmp size ns → IsLawful cmp size (filter is_filled (map (filter p) ns))
 ranged_lawful cmp p size ns law =
     let rule = lawful_ruled cmp size ns law in
-    lawful_from cmp size _ (record { filled = all_filled (map (filter p) ns); up = rw (joined_filled (map (filter p) ns), joined-filter p ns) (up_filter p cmp (joined ns) rule.up) }) (each_kept (λ n. length n ≤ size) is_filled (map (filter p) ns) (each_fewer p size ns (lawful_bounded cmp size ns law)))
+    lawful_from cmp size _ (record { filled = all_filled (map (filter p) ns); up = rw (joined_filled (map (filter p) ns), joined-filter p ns) (up_filter p cmp (joined ns) rule.up) }) (each_filter is_filled (λ n. length n ≤ size) (map (filter p) ns) (each_fewer p size ns (lawful_bounded cmp size ns law)))
 
 -- the nodes as the code holds them, when the empty ones go
 pub filled-map : {T N : Type 0} (f : N → List T) (q : N → Bool) → ((v : N) → q v ≡ is_filled (f v)) → (vs : List N) → map f (filter q vs) ≡ filter is_filled (map f vs)
@@ -83,26 +73,23 @@ filled-map f q same (v ∷ vs) =
       | false ↦ λ e. rw (same v ∙ e, e) (filled-map f q same vs)
     ] refl
 
--- a turn of the loop that filters one node after another, the nodes as the code holds them
-module _ {T N : Type 0} (f : N → List T) (p : T → Bool) (old nodes : List N) (i : ℕ) (v w : N) (inside : i < length old) (long : length nodes ≡ length old) (so_far : map f nodes ≡ take i (map (filter p) (map f old)) ++ drop i (map f old)) (read : v ≡ get_or nodes i v) (made : f w ≡ filter p (f v)) where
-  node_was : f v ≡ get_or (take i (map (filter p) (map f old)) ++ drop i (map f old)) i []
-  node_was = node_is f nodes (take i (map (filter p) (map f old)) ++ drop i (map f old)) i v so_far (omega arith) read
+-- a turn of the loop that filters one node after another, the nodes as the code holds them: it leaves w in the place
+pub record Turned {T N : Type 0} (f : N → List T) (p : T → Bool) (old nodes : List N) (i : ℕ) (w : N) : Type 0 where
+  pub nodes_are : map f (set nodes i w) ≡ take (i + 1) (map (filter p) (map f old)) ++ drop (i + 1) (map f old)
+  pub count : length (joined (take i (map (filter p) (map f old)))) + length (f w) ≡ length (joined (take (i + 1) (map (filter p) (map f old))))
+  pub fits : length (joined (take i (map (filter p) (map f old)))) + length (f w) ≤ length (joined (map f old))
 
-  within : i < length (map f old)
-  within = omega (arith, length-map old f)
-
-  pub turn_nodes : map f (set nodes i w) ≡ take (i + 1) (map (filter p) (map f old)) ++ drop (i + 1) (map f old)
-  turn_nodes =
-      subst (λ j. map f (set nodes i w) ≡ take j (map (filter p) (map f old)) ++ drop j (map f old)) {x = suc i} {y = i + 1} (omega arith)
-      (map-set f nodes i w ∙ (rw (so_far, made, node_was) (filtered_so_far p (map f old) i [] within)))
-
-  pub turn_count : length (joined (take i (map (filter p) (map f old)))) + length (f w) ≡ length (joined (take (i + 1) (map (filter p) (map f old))))
-  turn_count =
-      subst (λ j. length (joined (take i (map (filter p) (map f old)))) + length (f w) ≡ length (joined (take j (map (filter p) (map f old))))) {x = suc i} {y = i + 1} (omega arith)
-      (rw (made, node_was) (sym (filtered_length p (map f old) i [] within)))
-
-  pub turn_fits : length (joined (take i (map (filter p) (map f old)))) + length (f w) ≤ length (joined (map f old))
-  turn_fits = omega (arith, turn_count, length-joined-take (map (filter p) (map f old)) (i + 1), joined_fewer p (map f old))
+pub turned : {T N : Type 0} (f : N → List T) (p : T → Bool) (old nodes : List N) (i : ℕ) (v w : N) → i < length old → length nodes ≡ length old → map f nodes ≡ take i (map (filter p) (map f old)) ++ drop i (map f old) → v ≡ get_or nodes i v → f w ≡ filter p (f v) → Turned f p old nodes i w
+turned f p old nodes i v w inside long so_far read made =
+    let was = node_is f nodes (take i (map (filter p) (map f old)) ++ drop i (map f old)) i v so_far (omega arith) read in
+    let within : i < length (map f old) = omega (arith, length-map old f) in
+    let next : suc i ≡ i + 1 = omega arith in
+    let count = subst (λ j. length (joined (take i (map (filter p) (map f old)))) + length (f w) ≡ length (joined (take j (map (filter p) (map f old))))) next (rw (made, was) (sym (filtered_length p (map f old) i [] within))) in
+    record {
+      nodes_are = subst (λ j. map f (set nodes i w) ≡ take j (map (filter p) (map f old)) ++ drop j (map f old)) next (map-set f nodes i w ∙ rw (so_far, made, was) (filtered_so_far p (map f old) i [] within));
+      count = count;
+      fits = omega (arith, count, length-joined-take (map (filter p) (map f old)) (i + 1), joined_fewer p (map f old));
+    }
 
 -- all turns done
 module _ {T N : Type 0} (f : N → List T) (h : List T → List T) (old : List N) (i : ℕ) (past : length old ≤ i) where

@@ -1,25 +1,20 @@
 -- The table's events, replayed, make the change.
-use Rattle.std.proofs.Common.{◌≡◌, ℕ, ◌+◌, ◌<◌, ◌≤◌, ◌⊎◌, Bool, true, false, not, List, [], ◌∷◌, ◌++◌, length, get_or, set, Some, Ordering, refl, ap, sym, inl, inr, ◌∙◌, subst, arith, length-append}
+use Rattle.std.proofs.Common.{◌≡◌, ℕ, ◌+◌, ◌<◌, ◌≤◌, ◌⊎◌, Bool, true, false, List, [], ◌∷◌, ◌++◌, length, get_or, set, Some, Ordering, refl, ap, sym, inl, inr, ◌∙◌, subst, arith, length-append}
 use Rattle.std.specs.declared.cmp.Ordering.TheVariants.{Less, Equal, Greater}
 use Rattle.std.specs.List.{position_or_len}
 use Rattle.std.specs.Ordering.{ordering_reverse, is_lt, is_gt}
 use Rattle.std.specs.Cmp.{IsTotalOrder}
 use Rattle.std.proofs.lemmas.Bool.{false≢true}
-use Rattle.std.proofs.Math.Seq.{get_or-append_seam}
-use Rattle.indexset_core.specs.Order.{put, without}
-use Rattle.indexset_log.specs.declared.change.ChangeEventUnassigned.{ChangeEventUnassigned}
+use Rattle.std.proofs.Math.Seq.{get_or-append_seam, set-append_seam}
+use Rattle.indexset_core.specs.Order.{put}
 use Rattle.indexset_core.specs.Nodes.{joined}
-use Rattle.indexset_core.proofs.CallerLemmas.{joined-append}
+use Rattle.indexset_core.proofs.CallerLemmas.{joined-append, less_from}
 use Rattle.indexset_log.specs.Nodes.{last_of, is_filled}
 use Rattle.indexset_log.specs.Replay.{reaches, replay_plain}
-use Rattle.indexset_log.specs.Table.{target, node_events, removing_events, removal_events, is_past}
-use Rattle.indexset_log.proofs.Ups.{Each, each-append, each-left, each-right, each-map, each_last, ends_by, Up, up-left, up-right, up-between, Ruled, lesser, equal_below, upto_last, around, parts-put, parts-without, put-within, without-within}
+use Rattle.indexset_log.specs.Table.{target, node_events, is_past}
+use Rattle.indexset_log.proofs.Ups.{Each, each-append, each-left, each-right, each-map, each_last, ends_by, Up, up-left, up-right, up-between, Ruled, lesser, equal_below, upto_last, around, parts-put, put-within}
 use Rattle.indexset_log.proofs.Steps.{At, at_ruled, ruled_at, place_at, unreached}
-use Rattle.indexset_log.proofs.Nodewise.{kept, puts, removes}
-
-pub set_seam : {X : Type 0} (b : List X) (n : X) (a : List X) (x : X) → set (b ++ n ∷ a) (length b) x ≡ b ++ x ∷ a
-set_seam [] n a x = refl
-set_seam (y ∷ b) n a x = ap (λ q. y ∷ q) (set_seam b n a x)
+use Rattle.indexset_log.proofs.Nodewise.{puts}
 
 pub ne_from : (a b : ℕ) → (a ≡ b → ⊥) → a ≤ b → a < b
 ne_from a b h le = grind arith
@@ -43,19 +38,13 @@ module _ {T : Type 0} (cmp : T → T → Ordering) (o : IsTotalOrder cmp) (v : T
 
   pub not_reaching : (n : List T) → is_filled n ≡ true → reaches cmp v n ≡ false → cmp (last_of n v) v ≡ Less
   not_reaching n full h =
-      elim (cmp (last_of n v) v) as (λ a. not (is_lt a) ≡ false → a ≡ Less) [
-        | Less ↦ λ g. refl
-        | Equal ↦ λ g. absurd (false≢true (sym g))
-        | Greater ↦ λ g. absurd (false≢true (sym g))
-      ] (ap not (sym (ends_by (λ x. cmp x v) n v full)) ∙ h)
+      let ends = sym (ends_by (λ x. cmp x v) n v full) in
+      less_from (cmp (last_of n v) v) (grind arith)
 
   pub reaching : (n : List T) → is_filled n ≡ true → reaches cmp v n ≡ true → is_lt (cmp (last_of n v) v) ≡ false
   reaching n full h =
-      elim (cmp (last_of n v) v) as (λ a. not (is_lt a) ≡ true → is_lt a ≡ false) [
-        | Less ↦ λ g. absurd (false≢true g)
-        | Equal ↦ λ g. refl
-        | Greater ↦ λ g. refl
-      ] (ap not (sym (ends_by (λ x. cmp x v) n v full)) ∙ h)
+      let ends = sym (ends_by (λ x. cmp x v) n v full) in
+      grind arith
 
   pub past_last : (n : List T) → is_past cmp n v ≡ true → cmp (last_of n v) v ≡ Less
   past_last n h =
@@ -99,65 +88,15 @@ module _ {T : Type 0} (cmp : T → T → Ordering) (o : IsTotalOrder cmp) (v : T
             omega (arith, size, least, none)
       ]
 
-  nothing_removing : removing_events cmp [] v ≡ []
-  unfolding removing_events
-  nothing_removing = refl
-
   -- how long a node gets
   put_length : (n : List T) → Up cmp n → length (put cmp n v) ≤ length n + 1
   put_length = around cmp o v (λ n. length (put cmp n v) ≤ length n + 1)
       (λ l r low high. rw (parts-put cmp o l [] r v low tt high) (omega (arith, length-append l (v ∷ r), length-append l r)))
       (λ l x r low same high. rw (parts-put cmp o l (x ∷ []) r v low (same, tt) high) (omega (arith, length-append l (v ∷ r), length-append l (x ∷ r))))
 
-  without_length : (n : List T) → Up cmp n → length (without cmp n v) ≤ length n
-  without_length = around cmp o v (λ n. length (without cmp n v) ≤ length n)
-      (λ l r low high. rw (parts-without cmp o l [] r v low tt high) (omega arith))
-      (λ l x r low same high. rw (parts-without cmp o l (x ∷ []) r v low (same, tt) high) (omega (arith, length-append l r, length-append l (x ∷ r))))
-
   module _ (size : ℕ) where
     abbrev pub Small : List (List T) → Type 0
     Small ns = Each (λ n. length n ≤ size) ns
-
-    -- the events turn the nodes into lawful ones that hold the list
-    pub record Done (ns : List (List T)) (es : List (ChangeEventUnassigned T)) (list : List T) : Type 0 where
-      pub after : List (List T)
-      pub replayed : replay_plain cmp ns es ≡ Some after
-      pub ruled : Ruled cmp after
-      pub small : Small after
-      pub holds : joined after ≡ list
-
-    kept_joined : (n : List T) (a : List (List T)) → joined (kept n ++ a) ≡ n ++ joined a
-    kept_joined [] a = refl
-    kept_joined (x ∷ n) a = refl
-
-    kept_small : (n : List T) → length n ≤ size → Small (kept n)
-    kept_small [] h = tt
-    kept_small (x ∷ n) h = (h, tt)
-
-    -- a removal
-    pub removal_done : (ns : List (List T)) → Ruled cmp ns → Small ns → Done ns (removal_events cmp ns v) (without cmp (joined ns) v)
-    unfolding removal_events
-    removal_done [] ruled small = record {
-      after = [];
-      replayed = rw (nothing_removing) refl;
-      ruled = ruled;
-      small = tt;
-      holds = sym (parts-without cmp o [] [] [] v tt tt tt);
-    }
-    removal_done (n ∷ ns) ruled small =
-        aim (λ q. Ruled cmp q → Small q → Done q (removal_events cmp q v) (without cmp (joined q) v))
-        (λ b n a low high stop ruled small.
-        let at = ruled_at cmp o b n a ruled in
-        let rest : Small (n ∷ a) = each-right _ b (n ∷ a) small in
-        let did = removes cmp o v b a low high n at in
-        rw (target_at b n a at low stop, get_or-append_seam b n a []) (record {
-          after = b ++ (kept (without cmp n v) ++ a);
-          replayed = did.1;
-          ruled = did.0;
-          small = each-append _ b (kept (without cmp n v) ++ a) (each-left _ b (n ∷ a) small) (each-append _ (kept (without cmp n v)) a (kept_small (without cmp n v) (omega (arith, without_length n (up-left cmp n (joined a) (up-right cmp (joined b) (n ++ joined a) at.up)), rest.0))) rest.1);
-          holds = rw (joined-append b (kept (without cmp n v) ++ a), kept_joined (without cmp n v) a, joined-append b (n ∷ a), without-within cmp o (joined b) n (joined a) v low high) refl;
-        }))
-        n ns ruled ruled small
 
     -- a put that halves nothing, at a place of the list
     pub record Placed (ns : List (List T)) (p : ℕ) (n : List T) : Type 0 where
@@ -178,7 +117,7 @@ module _ {T : Type 0} (cmp : T → T → Ordering) (o : IsTotalOrder cmp) (v : T
         let room2 : length n < size = subst (λ k. length k < size) node room in
         let did = puts cmp o v b a low high n at in
         let here : length (put cmp n v) ≤ size = omega (arith, put_length n (up-left cmp n (joined a) (up-right cmp (joined b) (n ++ joined a) at.up))) in
-        let made : set (b ++ n ∷ a) (length b) (put cmp n v) ≡ b ++ put cmp n v ∷ a = set_seam b n a (put cmp n v) in
+        let made : set (b ++ n ∷ a) (length b) (put cmp n v) ≡ b ++ put cmp n v ∷ a = set-append_seam b n a (put cmp n v) in
         subst (λ k. Placed (b ++ n ∷ a) k (get_or (b ++ n ∷ a) k [])) (sym is)
         (subst (λ k. Placed (b ++ n ∷ a) (length b) k) (sym (get_or-append_seam b n a [])) (record {
           replayed = did.1 ∙ ap Some (sym made);

@@ -52,39 +52,31 @@ module _ {T : Type 0} (cmp : T → T → Ordering) (o : IsTotalOrder cmp) (v : T
         let inner : Up cmp (l ++ (r ++ joined a)) = up-right cmp (joined b) (l ++ (r ++ joined a)) mid.up in
         let same : joined (b ++ l ∷ r ∷ a) ≡ joined (b ++ (l ++ r) ∷ a) = rw (joined-append b (l ∷ r ∷ a), joined-append b ((l ++ r) ∷ a)) (simp append_assoc) in
         let first : (es : List (ChangeEventUnassigned T)) → replay_plain cmp (b ++ (l ++ r) ∷ a) (halving_events size (l ++ r) v ++ es) ≡ replay_plain cmp (b ++ l ∷ r ∷ a) es = λ es. rw (eq-eqb (length (l ++ r)) size full, half, did.1) refl in
-        elim (is_past cmp l v) as (λ t. is_past cmp l v ≡ t → Roomy (b ++ (l ++ r) ∷ a) (l ++ r) (length b) (b ++ l ∷ r ∷ a)) [
+        let spot : (target cmp (b ++ l ∷ r ∷ a) v ≡ length b + cond (is_past cmp l v) 1 0) × (node_at (b ++ l ∷ r ∷ a) (length b + cond (is_past cmp l v) 1 0) ≡ (if is_past cmp l v then r else l)) × (length (if is_past cmp l v then r else l) < size) =
+        elim (is_past cmp l v) as (λ t. is_past cmp l v ≡ t → (target cmp (b ++ l ∷ r ∷ a) v ≡ length b + cond t 1 0) × (node_at (b ++ l ∷ r ∷ a) (length b + cond t 1 0) ≡ (if t then r else l)) × (length (if t then r else l) < size)) [
           | true ↦ λ e.
               let low2 : Each (λ x. cmp x v ≡ Less) (joined (b ++ l ∷ [])) = rw (joined-append b (l ∷ []), append-nil l) (each-append _ (joined b) l low (upto_last cmp o l v v (up-left cmp l (r ++ joined a) inner) (past_last cmp o v l e))) in
               let regrouped : (b ++ l ∷ []) ++ r ∷ a ≡ b ++ l ∷ r ∷ a = append_assoc b (l ∷ []) (r ∷ a) in
-              let at2 = ruled_at cmp o (b ++ l ∷ []) r a (subst (Ruled cmp) (sym regrouped) did.0) in
-              let aimed : target cmp (b ++ l ∷ r ∷ a) v ≡ length b + 1 = subst (λ q. target cmp q v ≡ length b + 1) regrouped (target_at cmp o v (b ++ l ∷ []) r a at2 low2 (reach_right l r a right stop) ∙ length-append b (l ∷ [])) in
-              let read : node_at (b ++ l ∷ r ∷ a) (length b + 1) ≡ r = subst (λ q. node_at q (length b + 1) ≡ r) regrouped (rw (← length-append b (l ∷ [])) (get_or-append_seam (b ++ l ∷ []) r a [])) in
-              record {
-                ruled = did.0;
-                small = each-append _ b (l ∷ r ∷ a) sb (omega arith, (omega arith, sa));
-                some = filled-append b l (r ∷ a);
-                place = rw (aimed, eq-eqb (length (l ++ r)) size full, half, take-append_seam l r, e) refl;
-                part = rw (aimed, read, eq-eqb (length (l ++ r)) size full, half, take-append_seam l r, drop-append_seam l r, e) refl;
-                room = rw (eq-eqb (length (l ++ r)) size full, half, take-append_seam l r, drop-append_seam l r, e) less;
-                first = first;
-                same = same;
-              }
+              let at2 = ruled_at cmp o (b ++ l ∷ []) r a (subst (Ruled cmp) (sym regrouped) did.0) in (
+                subst (λ q. target cmp q v ≡ length b + 1) regrouped (target_at cmp o v (b ++ l ∷ []) r a at2 low2 (reach_right l r a right stop) ∙ length-append b (l ∷ [])),
+                subst (λ q. node_at q (length b + 1) ≡ r) regrouped (rw (← length-append b (l ∷ [])) (get_or-append_seam (b ++ l ∷ []) r a [])),
+                less,
+              )
           | false ↦ λ e.
-              let answer : T → Ordering = λ x. cmp x v in
-              let reach : reaches cmp v l ≡ true = ap not (ends_by answer l v left ∙ past_not cmp o v l e) in
-              let aimed : target cmp (b ++ l ∷ r ∷ a) v ≡ length b = target_at cmp o v b l (r ∷ a) mid low (inl reach) in
-              let read : node_at (b ++ l ∷ r ∷ a) (length b) ≡ l = get_or-append_seam b l (r ∷ a) [] in
-              record {
-                ruled = did.0;
-                small = each-append _ b (l ∷ r ∷ a) sb (omega arith, (omega arith, sa));
-                some = filled-append b l (r ∷ a);
-                place = rw (aimed, eq-eqb (length (l ++ r)) size full, half, take-append_seam l r, e) (omega arith);
-                part = rw (aimed, read, eq-eqb (length (l ++ r)) size full, half, take-append_seam l r, drop-append_seam l r, e) refl;
-                room = rw (eq-eqb (length (l ++ r)) size full, half, take-append_seam l r, drop-append_seam l r, e) fewer;
-                first = first;
-                same = same;
-              }
-        ] refl
+              let reach : reaches cmp v l ≡ true = ap not (ends_by (λ x. cmp x v) l v left ∙ past_not cmp o v l e) in
+              let here : length b + 0 ≡ length b = omega arith in
+              (target_at cmp o v b l (r ∷ a) mid low (inl reach) ∙ sym here, rw here (get_or-append_seam b l (r ∷ a) []), fewer)
+        ] refl in
+        record {
+          ruled = did.0;
+          small = each-append _ b (l ∷ r ∷ a) sb (omega arith, (omega arith, sa));
+          some = filled-append b l (r ∷ a);
+          place = rw (spot.0, eq-eqb (length (l ++ r)) size full, half, take-append_seam l r) refl;
+          part = rw (spot.0, spot.1, eq-eqb (length (l ++ r)) size full, half, take-append_seam l r, drop-append_seam l r) refl;
+          room = rw (eq-eqb (length (l ++ r)) size full, half, take-append_seam l r, drop-append_seam l r) spot.2;
+          first = first;
+          same = same;
+        }
 
     roomy_at : (n : List T) → 2 ≤ size → At cmp o b n a → (reaches cmp v n ≡ true) ⊎ (a ≡ []) → length n ≤ size → Roomy (b ++ n ∷ a) n (length b) (if eqb (length n) size then splice (b ++ n ∷ a) (length b) (length b + 1) (take (length n / 2) n ∷ drop (length n / 2) n ∷ []) else (b ++ n ∷ a))
     roomy_at n two at stop fits =

@@ -117,14 +117,6 @@ pub filled-append : {T : Type 0} (xs : List T) (y : T) (ys : List T) → is_fill
 filled-append [] y ys = refl
 filled-append (x ∷ xs) y ys = refl
 
-pub filled-right : {T : Type 0} (xs ys : List T) → is_filled ys ≡ true → is_filled (xs ++ ys) ≡ true
-filled-right [] ys full = full
-filled-right (x ∷ xs) ys full = refl
-
-pub filled-left : {T : Type 0} (xs ys : List T) → is_filled xs ≡ true → is_filled (xs ++ ys) ≡ true
-filled-left [] ys full = absurd (false≢true full)
-filled-left (x ∷ xs) ys full = refl
-
 last_get : {T : Type 0} (x : T) (xs : List T) (d : T) → last_of xs x ≡ get_or (x ∷ xs) (length xs) d
 last_get x [] d = refl
 last_get x (y ∷ ys) d = last_get y ys d
@@ -255,6 +247,18 @@ module _ {T : Type 0} (cmp : T → T → Ordering) where
     upto_last (x ∷ []) d v up h = (h, tt)
     upto_last (x ∷ y ∷ ys) d v up h = (o.trans x _ v (each_last (λ z. cmp x z ≡ Less) (y ∷ ys) x refl up.0) h, upto_last (y ∷ ys) x v up.1 h)
 
+    module _ (p n q : List T) (v : T) (low : Each (λ x. cmp x v ≡ Less) p) (high : Each (λ x. cmp v x ≡ Less) q) where
+      within-filter : (t : T → Bool) → filter t (p ++ (n ++ q)) ≡ filter t p ++ (filter t n ++ filter t q)
+      within-filter t = filter-append t p (n ++ q) ∙ ap (λ z. filter t p ++ z) (filter-append t n q)
+
+      -- a change between what is below v and what is above
+      pub put-within : put cmp (p ++ (n ++ q)) v ≡ p ++ (put cmp n v ++ q)
+      unfolding put
+      put-within =
+          let front : below cmp (p ++ (n ++ q)) v ≡ p ++ below cmp n v = within-filter (λ x. is_lt (cmp x v)) ∙ rw (filter_every (λ x. is_lt (cmp x v)) p (each-map _ _ (λ x e. ap is_lt e) p low), filter_no (λ x. is_lt (cmp x v)) q (each-map _ _ (λ x e. ap is_lt (greater x v e)) q high), append-nil (below cmp n v)) refl in
+          let back : above cmp (p ++ (n ++ q)) v ≡ above cmp n v ++ q = within-filter (λ x. is_gt (cmp x v)) ∙ rw (filter_no (λ x. is_gt (cmp x v)) p (each-map _ _ (λ x e. ap is_gt e) p low), filter_every (λ x. is_gt (cmp x v)) q (each-map _ _ (λ x e. ap is_gt (greater x v e)) q high)) refl in
+          rw (front, back) (simp append_assoc)
+
     module _ (l m r : List T) (v : T) (low : Each (λ x. cmp x v ≡ Less) l) (same : Each (λ x. cmp x v ≡ Equal) m) (high : Each (λ x. cmp v x ≡ Less) r) where
       -- a test of the three parts
       test-low : (t : Ordering → Bool) (b : Bool) → t Less ≡ b → Each (λ x. t (cmp x v) ≡ b) l
@@ -269,12 +273,12 @@ module _ {T : Type 0} (cmp : T → T → Ordering) where
       parts-filter : (p : T → Bool) → filter p (l ++ (m ++ r)) ≡ filter p l ++ (filter p m ++ filter p r)
       parts-filter p = filter-append p l (m ++ r) ∙ ap (λ q. filter p l ++ q) (filter-append p m r)
 
-      pub parts-put : put cmp (l ++ (m ++ r)) v ≡ l ++ v ∷ r
+      put-same : put cmp m v ≡ v ∷ []
       unfolding put
-      parts-put =
-          let front : below cmp (l ++ (m ++ r)) v ≡ l = parts-filter (λ x. is_lt (cmp x v)) ∙ rw (filter_every (λ x. is_lt (cmp x v)) l (test-low is_lt true refl), filter_no (λ x. is_lt (cmp x v)) m (test-same is_lt false refl), filter_no (λ x. is_lt (cmp x v)) r (test-high is_lt false refl)) (append-nil l) in
-          let back : above cmp (l ++ (m ++ r)) v ≡ r = parts-filter (λ x. is_gt (cmp x v)) ∙ rw (filter_no (λ x. is_gt (cmp x v)) l (test-low is_gt false refl), filter_no (λ x. is_gt (cmp x v)) m (test-same is_gt false refl), filter_every (λ x. is_gt (cmp x v)) r (test-high is_gt true refl)) refl in
-          rw (front, back) refl
+      put-same = rw (filter_no (λ x. is_lt (cmp x v)) m (test-same is_lt false refl), filter_no (λ x. is_gt (cmp x v)) m (test-same is_gt false refl)) refl
+
+      pub parts-put : put cmp (l ++ (m ++ r)) v ≡ l ++ v ∷ r
+      parts-put = put-within l m r v low high ∙ ap (λ q. l ++ (q ++ r)) put-same
 
       pub parts-without : without cmp (l ++ (m ++ r)) v ≡ l ++ r
       unfolding without
@@ -285,22 +289,6 @@ module _ {T : Type 0} (cmp : T → T → Ordering) where
 
       pub parts-has_equal : has_equal cmp (l ++ (m ++ r)) v ≡ is_filled m
       parts-has_equal = any_parts (λ x. is_eq (cmp x v)) l m r (test-low is_eq false refl) (test-same is_eq true refl) (test-high is_eq false refl)
-
-    module _ (p n q : List T) (v : T) (low : Each (λ x. cmp x v ≡ Less) p) (high : Each (λ x. cmp v x ≡ Less) q) where
-      within-filter : (t : T → Bool) → filter t (p ++ (n ++ q)) ≡ filter t p ++ (filter t n ++ filter t q)
-      within-filter t = filter-append t p (n ++ q) ∙ ap (λ z. filter t p ++ z) (filter-append t n q)
-
-      -- a change between what is below v and what is above
-      pub put-within : put cmp (p ++ (n ++ q)) v ≡ p ++ (put cmp n v ++ q)
-      unfolding put
-      put-within =
-          let front : below cmp (p ++ (n ++ q)) v ≡ p ++ below cmp n v = within-filter (λ x. is_lt (cmp x v)) ∙ rw (filter_every (λ x. is_lt (cmp x v)) p (each-map _ _ (λ x e. ap is_lt e) p low), filter_no (λ x. is_lt (cmp x v)) q (each-map _ _ (λ x e. ap is_lt (greater x v e)) q high), append-nil (below cmp n v)) refl in
-          let back : above cmp (p ++ (n ++ q)) v ≡ above cmp n v ++ q = within-filter (λ x. is_gt (cmp x v)) ∙ rw (filter_no (λ x. is_gt (cmp x v)) p (each-map _ _ (λ x e. ap is_gt e) p low), filter_every (λ x. is_gt (cmp x v)) q (each-map _ _ (λ x e. ap is_gt (greater x v e)) q high)) refl in
-          rw (front, back) (simp append_assoc)
-
-      pub without-within : without cmp (p ++ (n ++ q)) v ≡ p ++ (without cmp n v ++ q)
-      unfolding without
-      without-within = within-filter (λ x. not (is_eq (cmp x v))) ∙ rw (filter_every (λ x. not (is_eq (cmp x v))) p (each-map _ _ (λ x e. ap (λ a. not (is_eq a)) e) p low), filter_every (λ x. not (is_eq (cmp x v))) q (each-map _ _ (λ x e. ap (λ a. not (is_eq a)) (greater x v e)) q high)) refl
 
     -- where v stands in an ascending list
     pub around : (v : T) (P : List T → Type 0)

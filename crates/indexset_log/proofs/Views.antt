@@ -1,18 +1,15 @@
 -- What a search finds in lawful nodes, and the nodes as the code holds them.
-use Rattle.std.proofs.Common.{◌≡◌, ℕ, zero, suc, ◌-◌, ◌<◌, ◌≤◌, Bool, true, false, if◌then◌else◌, List, [], ◌∷◌, length, map, get_or, slice_get, Option, Some, None, is_some, Result, Ok, Err, IfOk, IfErr, Ordering, refl, ap, sym, ◌∙◌, subst, arith, inl, inr}
+use Rattle.std.proofs.Common.{◌≡◌, ℕ, ◌-◌, ◌<◌, ◌≤◌, true, List, [], length, map, get_or, slice_get, Some, None, Ordering, refl, ap, sym, ◌∙◌, arith, inl, inr}
 use Rattle.std.specs.Cmp.{IsTotalOrder}
 use Rattle.std.specs.List.{All}
-use Rattle.std.specs.Result.{result_ok}
-use Rattle.std.specs.Prelude.{MatchOption}
-use Rattle.std.specs.Ordering.{is_lt, is_eq}
+use Rattle.std.specs.Ordering.{is_lt}
 use Rattle.std.proofs.lemmas.Bool.{cases_lt}
 use Rattle.std.proofs.lemmas.List.{get_or-map, length-map}
 use Rattle.std.proofs.lemmas.Option.{slice_get_past}
 use Rattle.indexset_core.specs.Nodes.{joined, node_lengths, node_at, node_for, ends_less, equal_at, IsLawful, IsNodeList}
-use Rattle.indexset_core.specs.Order.{IsAscending, has_equal, equal_element, rank}
+use Rattle.indexset_core.specs.Order.{IsAscending}
 use Rattle.indexset_core.specs.Parted.{IsParted, less_count}
-use Rattle.indexset_core.proofs.CallerLemmas.{located_found, located_gap, found_equal, gap_equal, is_some-find, get_in_node, place_for, ends_for, parted_node, parted_by_item, gap_has_equal}
-use Rattle.indexset_log.specs.Located.{located, IsFoundIn}
+use Rattle.indexset_core.proofs.CallerLemmas.{get_in_node, place_for, ends_for, parted_by_item}
 use Rattle.indexset_log.specs.Nodes.{is_filled}
 use Rattle.indexset_log.proofs.Ups.{each_all, lawful_ruled, filled_length, length_filled, lawful_bounded}
 use Rattle.indexset_log.proofs.Theorem.{no_last}
@@ -79,59 +76,3 @@ module _ {T : Type 0} (answer : T → Ordering) (ns : List (List T)) (some : 1 �
 
   pub equal_joined : equal_at answer (joined ns) (less_count answer (joined ns)) ≡ equal_at answer (node_at ns (node_for answer ns)) (less_count answer (node_at ns (node_for answer ns)))
   equal_joined = rw read_joined refl
-
-module _ {T : Type 0} (cmp : T → T → Ordering) (o : IsTotalOrder cmp) (v : T) where
-  abbrev answer : T → Ordering
-  answer x = cmp x v
-
-  abbrev Absent : List (List T) → Type 0
-  Absent ns = (has_equal cmp (joined ns) v ≡ false) × (equal_element cmp (joined ns) v ≡ None)
-
-  module _ (size : ℕ) where
-    located_some : (ns : List (List T)) → IsLawful cmp size ns → 1 ≤ length ns → IfOk (located answer ns) (λ p. IsFoundIn cmp ns v p.0 p.1) × IfErr (located answer ns) (λ p. Absent ns)
-    located_some ns law some =
-        let k = node_for answer ns in
-        let n = node_at ns k in
-        let i = less_count answer n in
-        let filled = lawful_filled cmp size ns law in
-        let parted = lawful_parted cmp size ns law o v in
-        let inside : k < length ns = node_inside answer ns some filled parted in
-        let whole = equal_joined answer ns some filled parted in
-        let told : Bool → Result (ℕ × ℕ) (ℕ × ℕ) = λ b. if b then Ok (k, i) else Err (k, i) in
-        elim (equal_at answer n i) as (λ b. equal_at answer n i ≡ b → IfOk (told b) (λ p. IsFoundIn cmp ns v p.0 p.1) × IfErr (told b) (λ p. Absent ns)) [
-          | true ↦ λ e. (
-            record {
-              node_in = inside;
-              node_is = refl;
-              here = located_found cmp n v i (parted_node answer ns k inside parted) refl e;
-              item = sym (read_joined answer ns some filled parted) ∙ sym (found_equal cmp (joined ns) v (rank cmp (joined ns) v) (located_found cmp (joined ns) v (rank cmp (joined ns) v) parted refl (whole ∙ e)));
-            },
-            tt,
-          )
-          | false ↦ λ e.
-              let gap = located_gap cmp (joined ns) v (rank cmp (joined ns) v) parted refl (whole ∙ e) in
-              (tt, (gap_has_equal cmp (joined ns) v (rank cmp (joined ns) v) gap, gap_equal cmp (joined ns) v (rank cmp (joined ns) v) gap))
-        ] refl
-
-    pub located_told : (ns : List (List T)) → IsLawful cmp size ns → IfOk (located answer ns) (λ p. IsFoundIn cmp ns v p.0 p.1) × IfErr (located answer ns) (λ p. Absent ns)
-    located_told [] law = (tt, (refl, refl))
-    located_told (n ∷ ns) law = located_some (n ∷ ns) law (omega arith)
-
-    -- the answer of a search as the code passes it on
-    pub found_told : (ns : List (List T)) → IsLawful cmp size ns → (r : Result (ℕ × ℕ) (ℕ × ℕ)) → r ≡ located answer ns → (s : Option (ℕ × ℕ)) → s ≡ result_ok r → MatchOption s (equal_element cmp (joined ns) v ≡ None) (λ p. IsFoundIn cmp ns v p.0 p.1)
-    found_told ns law r e s is =
-        let told = located_told ns law in
-        subst (λ t. MatchOption t (equal_element cmp (joined ns) v ≡ None) (λ p. IsFoundIn cmp ns v p.0 p.1)) (sym is) (passed r (subst (λ q. IfOk q (λ p. IsFoundIn cmp ns v p.0 p.1)) (sym e) told.0) (subst (λ q. IfErr q (λ p. Absent ns)) (sym e) told.1))
-      where
-        passed : (r : Result (ℕ × ℕ) (ℕ × ℕ)) → IfOk r (λ p. IsFoundIn cmp ns v p.0 p.1) → IfErr r (λ p. Absent ns) → MatchOption (result_ok r) (equal_element cmp (joined ns) v ≡ None) (λ p. IsFoundIn cmp ns v p.0 p.1)
-        passed (Ok p) ok err = ok
-        passed (Err p) ok err = err.1
-
-    is_some-read : {X : Type 0} (l : List X) (i : ℕ) → i < length l → is_some (slice_get l i) ≡ true
-    is_some-read [] i lt = absurd (omega arith)
-    is_some-read (x ∷ xs) zero lt = refl
-    is_some-read (x ∷ xs) (suc i) lt = is_some-read xs i (omega arith)
-
-    pub found_is : (ns : List (List T)) → (s : Option (ℕ × ℕ)) → MatchOption s (equal_element cmp (joined ns) v ≡ None) (λ p. IsFoundIn cmp ns v p.0 p.1) → is_some s ≡ has_equal cmp (joined ns) v
-    found_is ns None h = ap is_some (sym h) ∙ is_some-find (λ x. is_eq (cmp x v)) (joined ns)
-    found_is ns (Some p) h = sym (is_some-read (node_at ns p.0) p.1 h.here.inside) ∙ (ap is_some h.item ∙ is_some-find (λ x. is_eq (cmp x v)) (joined ns))

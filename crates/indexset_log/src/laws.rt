@@ -31,6 +31,7 @@ pub fn steps_lead_to_nodes<T: Ord>()
 {}
 
 /// The table of events, at numbers.
+#[tactic(auto, unfolding(crate::specs::Nodes::are_nodes, crate::specs::Replay::step_plain, crate::specs::Table::put_events, crate::specs::Table::target_events, crate::specs::Table::node_events, crate::specs::Table::replace_events, crate::specs::Table::removal_events, crate::specs::Table::removing_events))]
 pub fn events_at_numbers()
     ensures first { put_events nat_cmp 4 [] 7 ≡ CreateNode 7 ∷ [] }
     ensures halved_then_inserted { put_events nat_cmp 2 ((5 ∷ 6 ∷ []) ∷ []) 7 ≡ SplitNode 6 1 ∷ InsertAt 6 7 1 ∷ [] }

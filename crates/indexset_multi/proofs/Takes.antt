@@ -45,9 +45,9 @@ module _ {K V : Type 0} (cmp : K → K → Ordering) where
       events : pair_removal_events cmp ns (item_at ns place) ≡ taking_events (node_at ns p.0) p.1 x
       events = rw item (place_events (by_number cmp) (numbers_total cmp o) size ns law p inside.0 x here)
 
-      pub taken : 2 ≤ size → {after : List (List (MultiPair K V))} → replay (by_number cmp) ns (numbered_from next (taking_events (node_at ns p.0) p.1 x)) ≡ Some after → Taken ns next m place p x after
-      taken two {after = after} h =
-          let left = place_contents (by_number cmp) (numbers_total cmp o) size ns law p inside.0 x here two next after h in
+      pub taken : {after : List (List (MultiPair K V))} → replay (by_number cmp) ns (numbered_from next (taking_events (node_at ns p.0) p.1 x)) ≡ Some after → Taken ns next m place p x after
+      taken {after = after} h =
+          let left = place_contents (by_number cmp) (numbers_total cmp o) size ns law p inside.0 x here next after h in
           subst (λ (t : MultiTree K V). Taken ns next t place p x after) seen (record {
             told = ap (numbered_from next) (sym events);
             replayed = rw events h;

@@ -15,7 +15,7 @@ use std::marker::Model;
 /// The pairs of a map that are left, from both ends.
 #[derive(Drop)]
 pub struct Iter<'a, K: Ord + Clone + Drop, V: Clone + Drop, Node: NodeLike<Pair<K, V>>> {
-    rest: iter::Iter<'a, Pair<K, V>, Node>,
+    pub(super) rest: iter::Iter<'a, Pair<K, V>, Node>,
 }
 
 impl<'a, K: Ord + Clone + Drop, V: Clone + Drop, Node: NodeLike<Pair<K, V>>> Model

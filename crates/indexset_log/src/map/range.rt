@@ -1,8 +1,7 @@
 //! The pairs between two bounds on keys.
-ghost use Rattle.std.specs.Prelude.{◌≡◌, IsTrue, length};
-ghost use Rattle.std.specs.Iterator.{at_most};
+ghost use Rattle.std.specs.Prelude.{◌≡◌, IsTrue};
 ghost use Rattle.std.specs.List.{count_by};
-ghost use Rattle.std.specs.Map.Iter.{TakesFirst, TakesLast, ShowsInOrder, ShowsInReverse};
+ghost use Rattle.std.specs.Map.Iter.{ShowsInOrder, ShowsInReverse};
 ghost use Rattle.std.specs.Ordering.{is_le};
 ghost use Rattle.std.specs.Range.Bound.{bound_map};
 ghost use Rattle.indexset_core.specs.Bounds.{are_ordered, is_before, is_up_to_end};
@@ -11,66 +10,14 @@ ghost use Rattle.indexset_core.specs.Pairs.{key_rank, pair_shown, pairs_within};
 ghost use Rattle.indexset_log.specs.Places.{IsPlace, items_before};
 
 use super::BTreeMap;
+use super::iter::Iter;
 use crate::set::range;
 use indexset_core::node::NodeLike;
 use indexset_core::pair::Pair;
-use std::iter::FusedIterator;
-use std::marker::Model;
 use std::ops::Bound;
 
 /// The pairs of a part of a map that are left, from both ends.
-#[derive(Drop)]
-pub struct Range<'a, K: Ord + Clone + Drop, V: Clone + Drop, Node: NodeLike<Pair<K, V>>> {
-    rest: range::Range<'a, Pair<K, V>, Node>,
-}
-
-impl<'a, K: Ord + Clone + Drop, V: Clone + Drop, Node: NodeLike<Pair<K, V>>> Model
-    for Range<'a, K, V, Node> {
-    ghost use Rattle.std.specs.Prelude.{List};
-    ghost use Rattle.indexset_core.specs.declared.pair.Pair.{Pair};
-
-    ghost Value = { List (Pair K V) };
-
-    ghost view = { λ a. a.rest };
-}
-
-impl<'a, K: Ord + Clone + Drop, V: Clone + Drop, Node: NodeLike<Pair<K, V>>> Iterator
-    for Range<'a, K, V, Node> {
-    type Item = (&'a K, &'a V);
-
-    ghost next_gives = { TakesFirst pair_shown };
-
-    ghost remaining = { λ s. at_most (length s) };
-
-    fn next(&mut self) -> Option<(&'a K, &'a V)> {
-        let pair = self.rest.next()?;
-        Some((&pair.key, &pair.value))
-    }
-
-    fn size_hint(&self) -> (usize, Option<usize>) {
-        self.rest.size_hint()
-    }
-}
-
-impl<'a, K: Ord + Clone + Drop, V: Clone + Drop, Node: NodeLike<Pair<K, V>>> DoubleEndedIterator
-    for Range<'a, K, V, Node> {
-    ghost next_back_gives = { TakesLast pair_shown };
-
-    fn next_back(&mut self) -> Option<(&'a K, &'a V)> {
-        let pair = self.rest.next_back()?;
-        Some((&pair.key, &pair.value))
-    }
-}
-
-impl<'a, K: Ord + Clone + Drop, V: Clone + Drop, Node: NodeLike<Pair<K, V>>> ExactSizeIterator
-    for Range<'a, K, V, Node> {
-    fn len(&self) -> usize {
-        self.rest.len()
-    }
-}
-
-impl<'a, K: Ord + Clone + Drop, V: Clone + Drop, Node: NodeLike<Pair<K, V>>> FusedIterator
-    for Range<'a, K, V, Node> {}
+pub type Range<'a, K, V, Node> = Iter<'a, K, V, Node>;
 
 impl<K: Ord + Clone + Drop, V: Clone + Drop, Node: NodeLike<Pair<K, V>>> BTreeMap<K, V, Node> {
     /// The pairs whose keys satisfy both bounds, in order. The start must not be past the end, nor at
@@ -90,9 +37,8 @@ impl<K: Ord + Clone + Drop, V: Clone + Drop, Node: NodeLike<Pair<K, V>>> BTreeMa
         let _nodes = self.set.node_count();
         let from = self.place_from(range.0);
         let to = self.place_to(range.1);
-        Range {
-            rest: self.set.range_between(from, to),
-        }
+        let range::Range { rest } = self.set.range_between(from, to);
+        Iter { rest }
     }
 
     // The place before the first key that does not stand before the start.
@@ -108,6 +54,7 @@ impl<K: Ord + Clone + Drop, V: Clone + Drop, Node: NodeLike<Pair<K, V>>> BTreeMa
     }
 
     // The place before the first key that stands past the end.
+    #[tactic(auto, using(indexset_core::proofs::CallerLemmas::count_each))]
     fn place_to(&self, end: Bound<&K>) -> (usize, usize)
         ensures place { IsPlace self.now.nodes result }
         ensures before { items_before self.now.nodes result ≡ count_by (λ p. is_up_to_end K.cmp (bound_map (λ k. k.now) end.entry) p.key) (joined self.now.nodes) }

@@ -1,8 +1,9 @@
 //! Whole nodes taken in.
-ghost use Rattle.std.specs.Prelude.{◌≡◌, ◌+◌, ◌≤◌, length, None, IfOk, OnOk, IfErr, OnErr, IsOk};
+ghost use Rattle.std.specs.Prelude.{◌≡◌, ◌+◌, ◌≤◌, true, length, slice_get, None, IfOk, OnOk, IfErr, OnErr, IsOk};
 ghost use Rattle.std.specs.List.{position_or_len};
-ghost use Rattle.std.specs.Option.{unwrap_or};
-ghost use Rattle.indexset_core.specs.Nodes.{joined};
+ghost use Rattle.std.specs.Option.{option_map_or, unwrap_or};
+ghost use Rattle.std.specs.Ordering.{is_lt};
+ghost use Rattle.indexset_core.specs.Nodes.{joined, node_at};
 ghost use Rattle.indexset_core.specs.Order.{IsAscending};
 ghost use Rattle.indexset_log.specs.Attach.{attach_index, attached, attach_refusal};
 ghost use Rattle.indexset_log.specs.Nodes.{is_ascending};
@@ -66,16 +67,24 @@ impl<T: Ord + Clone + Drop, Node: NodeLike<T>> BTreeSet<T, Node> {
             return Err(Refusal::Unsorted);
         }
         let place = self.nodes_below(first);
-        if place < self.nodes.len() {
-            let next = self.nodes[place].iter().as_slice();
-            if !items[items.len() - 1].cmp(&next[0]).is_lt() {
-                return Err(Refusal::Overlaps);
-            }
+        if !self.starts_above(place, &items[items.len() - 1]) {
+            return Err(Refusal::Overlaps);
         }
         if items.len() > usize::MAX - self.len {
             return Err(Refusal::Memory);
         }
         Ok(place)
+    }
+
+    // Whether the node at a place, if there is one, starts above an item.
+    fn starts_above(&self, place: usize, value: &T) -> bool
+        ensures { result ≡ option_map_or (λ x. is_lt (T.cmp value.now x)) (slice_get (node_at self.now.nodes place) 0) true }
+    {
+        if place >= self.nodes.len() {
+            return true;
+        }
+        let items = self.nodes[place].iter().as_slice();
+        value.cmp(&items[0]).is_lt()
     }
 
     // How many nodes end below an item.

@@ -1,13 +1,12 @@
 //! Calls that put items in.
-ghost use Rattle.std.specs.Prelude.{◌≡◌, ◌+◌, ◌<◌, ◌≤◌, [], ◌∷◌, ◌++◌, length, Some, None, IfOk, OnOk, IfErr, OnErr, IsOk, IfSome, is_none, not, true};
-ghost use Rattle.indexset_core.specs.Nodes.{joined, node_at};
+ghost use Rattle.std.specs.Prelude.{◌≡◌, ◌==◌, ◌+◌, ◌≤◌, [], ◌++◌, cond, length, Some, None, IfOk, OnOk, IfErr, OnErr, IsOk, IfSome, is_none, not, true};
+ghost use Rattle.indexset_core.specs.Nodes.{joined};
 ghost use Rattle.indexset_core.specs.Order.{IsAscending, IsFoundAt, IsGapFor, put, keep, has_equal, equal_element};
-ghost use Rattle.indexset_log.specs.Aim.{IsAim, IsAimed, is_present};
-ghost use Rattle.indexset_log.specs.Edits.{with_room, put_into_target, with_put, with_checked_put};
+ghost use Rattle.indexset_log.specs.Aim.{IsAim, IsAimed, count_for, is_present};
+ghost use Rattle.indexset_log.specs.Edits.{with_put, with_checked_put};
 ghost use Rattle.indexset_log.specs.Replay.{replay, numbered_from, IsNumberedFrom};
-ghost use Rattle.indexset_log.specs.Table.{put_events, checked_put_events, target_events, node_events};
+ghost use Rattle.indexset_log.specs.Table.{put_events, checked_put_events, halving_events, node_events};
 ghost use Rattle.indexset_log.specs.Tree.{refusal_for};
-ghost use Rattle.indexset_log.specs.declared.change.ChangeEventUnassigned.TheVariants.{CreateNode};
 
 use super::BTreeSet;
 use crate::aim::{Aim, event_count, finds_equal};
@@ -23,6 +22,7 @@ use indexset_core::search;
 impl<T: Ord + Clone + Drop, Node: NodeLike<T>> BTreeSet<T, Node> {
     /// Puts an item in, for any equal one, and tells the events. A refused call hands the item back
     /// and changes nothing.
+    #[tactic(auto, using(crate::proofs::Theorem::three_at_most))]
     pub fn put_cdc(&mut self, value: T) -> Result<(Option<T>, Vec<ChangeEvent<T>>), Refused<T>>
         requires clones { (x y : T) → T.is_clone x y → y ≡ x }
         ensures answer { IfOk result (λ r. r.0 ≡ equal_element T.cmp (joined self.old.nodes) value) }
@@ -45,6 +45,7 @@ impl<T: Ord + Clone + Drop, Node: NodeLike<T>> BTreeSet<T, Node> {
 
     /// The same, where no equal item is there. Else `None`: nothing changes, no number and no memory
     /// is taken, and the item is dropped.
+    #[tactic(auto, unfolding(indexset_core::specs::Order::keep, crate::specs::Edits::with_checked_put, crate::specs::Table::checked_put_events))]
     pub fn put_cdc_checked(&mut self, value: T) -> Result<Option<Vec<ChangeEvent<T>>>, Refused<T>>
         requires clones { (x y : T) → T.is_clone x y → y ≡ x }
         ensures answer { IfOk result (λ r. is_none r ≡ has_equal T.cmp (joined self.old.nodes) value) }
@@ -92,6 +93,7 @@ impl<T: Ord + Clone + Drop, Node: NodeLike<T>> BTreeSet<T, Node> {
 
     /// Puts an item in, where no equal one is there: true. Else false: nothing changes, no number and
     /// no memory is taken, and the item is dropped.
+    #[tactic(auto, unfolding(indexset_core::specs::Order::keep, crate::specs::Edits::with_checked_put, crate::specs::Table::checked_put_events))]
     pub fn insert(&mut self, value: T) -> Result<bool, Refused<T>>
         ensures answer { IfOk result (λ r. r ≡ not (has_equal T.cmp (joined self.old.nodes) value)) }
         ensures contents { OnOk result (joined self.new.nodes ≡ keep T.cmp (joined self.old.nodes) value) }
@@ -146,14 +148,8 @@ impl<T: Ord + Clone + Drop, Node: NodeLike<T>> BTreeSet<T, Node> {
         ensures given_back { IfErr result (λ e. e.value ≡ value) }
         ensures unchanged { OnErr result (self.new ≡ self.old) }
     {
-        if event_count(&aim) > u64::MAX - self.next {
-            return Err(Refused {
-                value,
-                cause: Refusal::Numbers,
-            });
-        }
         match self.put_log(&aim, &value) {
-            Ok(events) => match self.carry_out(aim, value) {
+            Ok(events) => match self.put_at(aim, value) {
                 Ok(old) => Ok((old, events)),
                 Err(refused) => Err(refused),
             },
@@ -175,23 +171,36 @@ impl<T: Ord + Clone + Drop, Node: NodeLike<T>> BTreeSet<T, Node> {
         ensures given_back { IfErr result (λ e. e.value ≡ value) }
         ensures unchanged { OnErr result (self.new ≡ self.old) }
     {
-        if event_count(&aim) > u64::MAX - self.next {
-            return Err(Refused {
-                value,
-                cause: Refusal::Numbers,
-            });
+        // The nodes are lawful.
+        let _nodes = &self.nodes;
+        match self.check_numbers(&aim) {
+            Ok(()) => self.carry_out(aim, value),
+            Err(cause) => Err(Refused { value, cause }),
         }
-        self.carry_out(aim, value)
+    }
+
+    // Whether there are numbers for the events of a put.
+    fn check_numbers(&self, aim: &Option<Aim>) -> Result<(), Refusal>
+        ensures fits { OnOk result (self.now.next + count_for aim.now ≤ u64.MAX) }
+        ensures memory { OnOk result (refusal_for self.now.next (count_for aim.now) ≡ Refusal.Memory) }
+        ensures refusal { IfErr result (λ e. e ≡ refusal_for self.now.next (count_for aim.now)) }
+    {
+        if event_count(aim) > u64::MAX - self.next {
+            return Err(Refusal::Numbers);
+        }
+        Ok(())
     }
 
     // The events of a put.
     fn put_log(&self, aim: &Option<Aim>, value: &T) -> Result<Vec<ChangeEvent<T>>, Refusal>
         requires clones { (x y : T) → T.is_clone x y → y ≡ x }
         requires aim { IsAimed T.cmp self.now.size self.now.nodes value.now aim.now }
-        requires fits { self.now.next + length (put_events T.cmp self.now.size self.now.nodes value.now) ≤ u64.MAX }
         ensures events { IfOk result (λ events. events.items ≡ numbered_from self.now.next (put_events T.cmp self.now.size self.now.nodes value.now)) }
-        ensures refusal { IfErr result (λ e. e ≡ Refusal.Memory) }
+        ensures refusal { IfErr result (λ e. e ≡ refusal_for self.now.next (length (put_events T.cmp self.now.size self.now.nodes value.now))) }
     {
+        // The nodes are lawful.
+        let _nodes = &self.nodes;
+        self.check_numbers(aim)?;
         match aim {
             Some(aim) => self.target_log(aim, value),
             None => self.first_log(value),
@@ -201,12 +210,13 @@ impl<T: Ord + Clone + Drop, Node: NodeLike<T>> BTreeSet<T, Node> {
     // Puts an item where it goes. A refused call hands it back and changes nothing.
     fn carry_out(&mut self, aim: Option<Aim>, value: T) -> Result<Option<T>, Refused<T>>
         requires aim { IsAimed T.cmp self.old.size self.old.nodes value aim }
-        requires fits { self.old.next + length (put_events T.cmp self.old.size self.old.nodes value) ≤ u64.MAX }
+        requires fits { self.old.next + count_for aim ≤ u64.MAX }
         ensures answer { IfOk result (λ old. old ≡ equal_element T.cmp (joined self.old.nodes) value) }
         ensures nodes { OnOk result (self.new.nodes ≡ with_put T.cmp self.old.size self.old.nodes value) }
         ensures size { self.new.size ≡ self.old.size }
         ensures next { OnOk result (self.new.next ≡ self.old.next + length (put_events T.cmp self.old.size self.old.nodes value)) }
-        ensures given_back { IfErr result (λ e. (e.value ≡ value) × (e.cause ≡ Refusal.Memory)) }
+        ensures refusal { IfErr result (λ e. e.cause ≡ Refusal.Memory) }
+        ensures given_back { IfErr result (λ e. e.value ≡ value) }
         ensures unchanged { OnErr result (self.new ≡ self.old) }
     {
         match aim {
@@ -236,18 +246,13 @@ impl<T: Ord + Clone + Drop, Node: NodeLike<T>> BTreeSet<T, Node> {
     fn target_log(&self, aim: &Aim, value: &T) -> Result<Vec<ChangeEvent<T>>, Refusal>
         requires clones { (x y : T) → T.is_clone x y → y ≡ x }
         requires aim { IsAim T.cmp self.now.size self.now.nodes value.now aim.now }
-        requires fits { self.now.next + length (target_events T.cmp self.now.size (node_at self.now.nodes aim.now.node) value.now) ≤ u64.MAX }
-        ensures events { IfOk result (λ events. events.items ≡ numbered_from self.now.next (target_events T.cmp self.now.size (node_at self.now.nodes aim.now.node) value.now)) }
+        requires fits { self.now.next + count_for (Some aim.now) ≤ u64.MAX }
+        ensures events { IfOk result (λ events. events.items ≡ numbered_from self.now.next (put_events T.cmp self.now.size self.now.nodes value.now)) }
         ensures refusal { IfErr result (λ e. e ≡ Refusal.Memory) }
     {
         let mut log = Log::new(*self.nodes.allocator(), self.next);
         let items = self.nodes[aim.node].iter().as_slice();
-        if aim.full {
-            log.add(ChangeEventUnassigned::SplitNode {
-                max_value: items[items.len() - 1].clone()?,
-                split_index: items.len() / 2,
-            })?;
-        }
+        add_halving(&mut log, items, self.size)?;
         add_put(
             &mut log,
             part_of(items, aim.full, aim.right),
@@ -260,12 +265,13 @@ impl<T: Ord + Clone + Drop, Node: NodeLike<T>> BTreeSet<T, Node> {
     // Puts an item where it goes. A refused call hands it back and changes nothing.
     fn put_in_target(&mut self, aim: Aim, value: T) -> Result<Option<T>, Refused<T>>
         requires aim { IsAim T.cmp self.old.size self.old.nodes value aim }
-        requires fits { self.old.next + length (target_events T.cmp self.old.size (node_at self.old.nodes aim.node) value) ≤ u64.MAX }
+        requires fits { self.old.next + count_for (Some aim) ≤ u64.MAX }
         ensures answer { IfOk result (λ old. old ≡ equal_element T.cmp (joined self.old.nodes) value) }
-        ensures nodes { OnOk result (self.new.nodes ≡ put_into_target T.cmp (with_room T.cmp self.old.size self.old.nodes value) value) }
+        ensures nodes { OnOk result (self.new.nodes ≡ with_put T.cmp self.old.size self.old.nodes value) }
         ensures size { self.new.size ≡ self.old.size }
-        ensures next { OnOk result (self.new.next ≡ self.old.next + length (target_events T.cmp self.old.size (node_at self.old.nodes aim.node) value)) }
-        ensures given_back { IfErr result (λ e. (e.value ≡ value) × (e.cause ≡ Refusal.Memory)) }
+        ensures next { OnOk result (self.new.next ≡ self.old.next + length (put_events T.cmp self.old.size self.old.nodes value)) }
+        ensures refusal { IfErr result (λ e. e.cause ≡ Refusal.Memory) }
+        ensures given_back { IfErr result (λ e. e.value ≡ value) }
         ensures unchanged { OnErr result (self.new ≡ self.old) }
     {
         if aim.growth() > usize::MAX - self.len {
@@ -285,14 +291,16 @@ impl<T: Ord + Clone + Drop, Node: NodeLike<T>> BTreeSet<T, Node> {
     }
 
     // Puts the first item in. A refused call hands it back and changes nothing.
+    #[tactic(auto, unfolding(crate::specs::Edits::with_put, crate::specs::Table::put_events))]
     fn put_first(&mut self, value: T) -> Result<Option<T>, Refused<T>>
         requires none { self.old.nodes ≡ [] }
         requires fits { self.old.next + 1 ≤ u64.MAX }
-        ensures answer { IfOk result (λ old. old ≡ None) }
-        ensures nodes { OnOk result (self.new.nodes ≡ (value ∷ []) ∷ []) }
+        ensures answer { IfOk result (λ old. old ≡ equal_element T.cmp (joined self.old.nodes) value) }
+        ensures nodes { OnOk result (self.new.nodes ≡ with_put T.cmp self.old.size self.old.nodes value) }
         ensures size { self.new.size ≡ self.old.size }
-        ensures next { OnOk result (self.new.next ≡ self.old.next + 1) }
-        ensures given_back { IfErr result (λ e. (e.value ≡ value) × (e.cause ≡ Refusal.Memory)) }
+        ensures next { OnOk result (self.new.next ≡ self.old.next + length (put_events T.cmp self.old.size self.old.nodes value)) }
+        ensures refusal { IfErr result (λ e. e.cause ≡ Refusal.Memory) }
+        ensures given_back { IfErr result (λ e. e.value ≡ value) }
         ensures unchanged { OnErr result (self.new ≡ self.old) }
     {
         match first_node(&mut self.nodes) {
@@ -308,10 +316,12 @@ impl<T: Ord + Clone + Drop, Node: NodeLike<T>> BTreeSet<T, Node> {
     }
 
     // The event of the first item.
+    #[tactic(auto, unfolding(crate::specs::Table::put_events))]
     fn first_log(&self, value: &T) -> Result<Vec<ChangeEvent<T>>, Refusal>
         requires clones { (x y : T) → T.is_clone x y → y ≡ x }
+        requires none { self.now.nodes ≡ [] }
         requires fits { self.now.next + 1 ≤ u64.MAX }
-        ensures events { IfOk result (λ events. events.items ≡ numbered_from self.now.next (CreateNode value.now ∷ [])) }
+        ensures events { IfOk result (λ events. events.items ≡ numbered_from self.now.next (put_events T.cmp self.now.size self.now.nodes value.now)) }
         ensures refusal { IfErr result (λ e. e ≡ Refusal.Memory) }
     {
         let mut log = Log::new(*self.nodes.allocator(), self.next);
@@ -320,6 +330,24 @@ impl<T: Ord + Clone + Drop, Node: NodeLike<T>> BTreeSet<T, Node> {
         })?;
         Ok(log.events)
     }
+}
+
+// The event of a halving, where a node is full: whatever v, the node has a last item.
+fn add_halving<T: Clone + Drop>(log: &mut Log<T>, items: &[T], size: usize) -> Result<(), Refusal>
+    requires clones { (x y : T) → T.is_clone x y → y ≡ x }
+    requires some { 1 ≤ length items.now }
+    requires fits { log.old.next + cond (length items.now == size) 1 0 ≤ u64.MAX }
+    ensures events { (v : T) → OnOk result (log.new.events.items ≡ log.old.events.items ++ numbered_from log.old.next (halving_events size items.now v)) }
+    ensures next { OnOk result (log.new.next ≡ log.old.next + cond (length items.now == size) 1 0) }
+    ensures refusal { IfErr result (λ e. e ≡ Refusal.Memory) }
+{
+    if items.len() == size {
+        log.add(ChangeEventUnassigned::SplitNode {
+            max_value: items[items.len() - 1].clone()?,
+            split_index: items.len() / 2,
+        })?;
+    }
+    Ok(())
 }
 
 // The events of a put into a node, or into the half of one.
@@ -347,23 +375,25 @@ fn add_put<T: Ord + Clone + Drop>(
             value: copy,
             index,
         }),
-        Ok(_) if last == 0 => {
-            log.add(ChangeEventUnassigned::RemoveNode { max_value })?;
-            log.add(ChangeEventUnassigned::CreateNode { max_value: copy })
-        }
+        Ok(_) if last == 0 => log.add_both(
+            ChangeEventUnassigned::RemoveNode { max_value },
+            ChangeEventUnassigned::CreateNode { max_value: copy },
+        ),
         Ok(index) => {
             let old = part[index].clone()?;
             let name = part[if index == last { index - 1 } else { last }].clone()?;
-            log.add(ChangeEventUnassigned::RemoveAt {
-                max_value,
-                value: old,
-                index,
-            })?;
-            log.add(ChangeEventUnassigned::InsertAt {
-                max_value: name,
-                value: copy,
-                index,
-            })
+            log.add_both(
+                ChangeEventUnassigned::RemoveAt {
+                    max_value,
+                    value: old,
+                    index,
+                },
+                ChangeEventUnassigned::InsertAt {
+                    max_value: name,
+                    value: copy,
+                    index,
+                },
+            )
         }
     }
 }

@@ -21,7 +21,7 @@ use std::ops::Bound;
 /// The items of a part of a set that are left, from both ends.
 #[derive(Drop)]
 pub struct Range<'a, T: Ord + Clone + Drop, Node: NodeLike<T>> {
-    rest: Iter<'a, T, Node>,
+    pub(crate) rest: Iter<'a, T, Node>,
 }
 
 impl<'a, T: Ord + Clone + Drop, Node: NodeLike<T>> Model for Range<'a, T, Node> {
@@ -129,6 +129,7 @@ impl<T: Ord + Clone + Drop, Node: NodeLike<T>> BTreeSet<T, Node> {
     }
 
     // The place before the first item that stands past the end.
+    #[tactic(auto, using(indexset_core::proofs::CallerLemmas::count_each))]
     fn place_to(&self, end: Bound<&T>) -> (usize, usize)
         ensures place { IsPlace self.now.nodes result }
         ensures before { items_before self.now.nodes result ≡ count_by (is_up_to_end T.cmp (bound_map (λ v. v.now) end.entry)) (joined self.now.nodes) }

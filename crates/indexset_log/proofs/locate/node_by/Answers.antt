@@ -1,9 +1,16 @@
-use Rattle.std.proofs.Common.{◌≡◌, ◌+◌, ◌-◌, ◌/◌, length, map, [], true, false, arith, sym, ◌∙◌}
+use Rattle.std.proofs.Common.{◌≡◌, ◌+◌, ◌-◌, ◌/◌, List, length, get_or, map, [], true, false, arith, sym, ◌∙◌}
 use Rattle.std.specs.Ordering.{is_lt}
 use Rattle.std.proofs.lemmas.List.{length-map}
+use Rattle.indexset_core.specs.Nodes.{ends_less}
 use Rattle.indexset_core.proofs.CallerLemmas.{digits-half, digits-above, digits-mono, node_found, ends_until}
 use Rattle.indexset_log.proofs.Views.{ends_at, never_none}
+use Rattle.indexset_log.proofs.locate.node_by.Given.{Over}
+use Rattle.indexset_log.proofs.locate.node_by.Goals.{In-Some}
 use Rattle.indexset_log.proofs.locate.node_by.Goals as goal
+
+-- how the middle node ends
+ends : (g : Over) (c : In-Some g) (d : List g.row.T.Denot) → ends_less (g.P.Probe.answer c.args.probe.now) (get_or (map g.Node.NodeLike.list c.args.nodes.now) (c.loop-low.low + (c.loop-low.high - c.loop-low.low) / 2) d) ≡ is_lt (g.P.Probe.answer c.args.probe.now c.in-Some.last.now)
+ends g c d = ends_at g.Node.NodeLike.list c.args.nodes.now _ c.index-nodes-middle.result (omega arith) c.index-nodes-middle.is (g.P.Probe.answer c.args.probe.now) c.in-Some.last.now (sym (rw c.in-Some.is at c.max.ensures)) d
 
 pub unreachable-requires : goal.unreachable-requires
 unreachable-requires g c =
@@ -11,17 +18,14 @@ unreachable-requires g c =
 
 pub loop-low-preserved-then-is_lt : goal.loop-low-preserved-then-is_lt
 loop-low-preserved-then-is_lt g c =
-    let answer = g.P.Probe.answer c.args.probe.now in
-    let list = g.Node.NodeLike.list in
-    let nodes = c.args.nodes.now in
     let span = c.loop-low.high - c.loop-low.low in
     let m = c.loop-low.low + span / 2 in
-    let here : is_lt (answer c.in-Some.last.now) ≡ true = cc in
-    let ends = ends_at list nodes m c.index-nodes-middle.result (omega arith) c.index-nodes-middle.is answer c.in-Some.last.now (sym (rw c.in-Some.is at c.max.ensures)) in
+    let here : is_lt (g.P.Probe.answer c.args.probe.now c.in-Some.last.now) ≡ true = cc in
+    let end = ends g (goal.at.loop-low-preserved-then-is_lt g c).In-Some in
     record {
       order = omega arith;
       within = omega arith;
-      less = ends_until answer (map list nodes) c.requires.filled c.requires.parted m (omega (arith, length-map nodes list)) (ends [] ∙ here);
+      less = ends_until (g.P.Probe.answer c.args.probe.now) (map g.Node.NodeLike.list c.args.nodes.now) c.requires.filled c.requires.parted m (omega (arith, length-map c.args.nodes.now g.Node.NodeLike.list)) (end [] ∙ here);
       not_less = c.loop-low.invariant.not_less;
       fixed = cc;
       few =
@@ -32,18 +36,15 @@ loop-low-preserved-then-is_lt g c =
 
 pub loop-low-preserved : goal.loop-low-preserved
 loop-low-preserved g c =
-    let answer = g.P.Probe.answer c.args.probe.now in
-    let list = g.Node.NodeLike.list in
-    let nodes = c.args.nodes.now in
     let span = c.loop-low.high - c.loop-low.low in
     let m = c.loop-low.low + span / 2 in
-    let here : is_lt (answer c.in-Some.last.now) ≡ false = cc in
-    let ends = ends_at list nodes m c.index-nodes-middle.result (omega arith) c.index-nodes-middle.is answer c.in-Some.last.now (sym (rw c.in-Some.is at c.max.ensures)) in
+    let here : is_lt (g.P.Probe.answer c.args.probe.now c.in-Some.last.now) ≡ false = cc in
+    let end = ends g (goal.at.loop-low-preserved g c).In-Some in
     record {
       order = omega arith;
       within = omega arith;
       less = c.loop-low.invariant.less;
-      not_less = λ _ d. ends d ∙ here;
+      not_less = λ _ d. end d ∙ here;
       fixed = cc;
       few =
           let half = digits-half span (omega arith) in

@@ -1,4 +1,4 @@
-use Rattle.std.proofs.Common.{◌+◌, length, map, ap, sym, arith}
+use Rattle.std.proofs.Common.{ap, sym, arith}
 use Rattle.std.proofs.lemmas.List.Sums.{sum_by_more}
 use Rattle.indexset_core.proofs.CallerLemmas.{more_read}
 use Rattle.indexset_log.proofs.nodes.capacity_of.Goals as goal

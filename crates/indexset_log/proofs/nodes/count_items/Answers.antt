@@ -1,5 +1,4 @@
-use Rattle.std.proofs.Common.{◌+◌, length, map, arith}
-use Rattle.std.proofs.lemmas.List.{length-map}
+use Rattle.std.proofs.Common.{◌+◌, map, arith}
 use Rattle.indexset_core.proofs.CallerLemmas.{length-joined-take, more_read}
 use Rattle.indexset_log.proofs.nodes.count_items.Goals as goal
 

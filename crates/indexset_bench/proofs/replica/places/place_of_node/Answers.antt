@@ -1,9 +1,8 @@
-use Rattle.std.proofs.Common.{refl, ap, sym, arith, rules, ◌∙◌}
+use Rattle.std.proofs.Common.{Some, refl, ap, sym, arith, rules, ◌∙◌}
 use Rattle.std.specs.Ordering.{is_lt}
-use Rattle.std.proofs.lemmas.List.{length-map}
 use Rattle.std.proofs.lemmas.List.Sorted.{answers_always}
 use Rattle.indexset_log.proofs.CallerLemmas.{ascending_answer, filled_first, nodes_ruled, refused_empty, refused_unsorted}
-use Rattle.indexset_bench.proofs.ReplicaAttach.{goes_between, goes_last, overlaps}
+use Rattle.indexset_bench.proofs.ReplicaAttach.{goes, goes_last, overlaps}
 use Rattle.indexset_bench.proofs.replica.places.place_of_node.Goals as goal
 
 pub returns-in_default-clause-refusal : goal.returns-in_default-clause-refusal
@@ -29,7 +28,7 @@ returns-then-not-is_lt-clause-refusal g c =
     let up = sym sorted ∙ c.if-not-is_sorted_by.false in
     let follows = sym c.item_from.ensures ∙ rw c.in-Some-item_from.is refl in
     let below = sym (c.is_lt.ensures ∙ ap is_lt c.cmp.ensures) ∙ c.if-not-is_lt.true in
-    overlaps cmp g.met.T.Ord.total _ rule n c.in-Some.first.now head up _ c.first_reaching-place.ensures.place c.index-node-node.result c.in-Some-item_from.next.now c.index-node-node.is follows below
+    overlaps cmp g.met.T.Ord.total _ rule n c.in-Some.first.now head up _ c.first_reaching-place.ensures.place c.index-node-node.result c.index-node-node.is (Some c.in-Some-item_from.next.now) follows below
 
 pub returns-else-not-is_lt : goal.returns-else-not-is_lt
 returns-else-not-is_lt g c =
@@ -41,7 +40,7 @@ returns-else-not-is_lt g c =
     let up = sym sorted ∙ c.if-not-is_sorted_by.false in
     let follows = sym c.item_from.ensures ∙ rw c.in-Some-item_from.is refl in
     let below = sym (c.is_lt.ensures ∙ ap is_lt c.cmp.ensures) ∙ c.if-not-is_lt.false in
-    let there = goes_between cmp g.met.T.Ord.total _ rule n c.in-Some.first.now head up _ c.first_reaching-place.ensures.place c.index-node-node.result c.in-Some-item_from.next.now c.index-node-node.is follows below in
+    let there = goes cmp g.met.T.Ord.total _ rule n c.in-Some.first.now head up _ c.first_reaching-place.ensures.place c.index-node-node.result c.index-node-node.is (Some c.in-Some-item_from.next.now) follows below in
     record { place = there.place; within = c.first_reaching-place.ensures.within; nodes = there.nodes; good = there.good; refusal = tt }
 
 pub returns-in_default-item_from : goal.returns-in_default-item_from
@@ -53,5 +52,5 @@ returns-in_default-item_from g c =
     let rule = nodes_ruled cmp _ c.requires in
     let up = sym sorted ∙ c.if-not-is_sorted_by.false in
     let none = sym c.item_from.ensures ∙ rw c.in_default-item_from.is refl in
-    let there = goes_last cmp g.met.T.Ord.total _ rule n c.in-Some.first.now head up _ c.first_reaching-place.ensures.place (omega (arith, length-map c.args.nodes.now (λ v. v.items), c.first_reaching-place.ensures.within)) none in
+    let there = goes_last cmp g.met.T.Ord.total _ rule n c.in-Some.first.now head up _ c.first_reaching-place.ensures.place none in
     record { place = there.place; within = c.first_reaching-place.ensures.within; nodes = there.nodes; good = there.good; refusal = tt }

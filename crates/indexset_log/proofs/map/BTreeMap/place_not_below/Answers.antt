@@ -1,14 +1,8 @@
-use Rattle.indexset_log.proofs.Keys.{gap_before, gap_place, key_before, key_place}
+use Rattle.indexset_log.proofs.Keys.{key_end, key_gap}
 use Rattle.indexset_log.proofs.map.BTreeMap.place_not_below.Goals as goal
 
 pub returns-in-Ok : goal.returns-in-Ok
-returns-in-Ok g c = record {
-  place = key_place g.K.Ord.cmp g.met.K.Ord.total c.args.self.now.size c.args.self.now.nodes c.locate.ensures.lawful c.args.key.now c.locate.result c.locate.ensures.place c.in-Ok.place c.in-Ok.is;
-  before = key_before g.K.Ord.cmp g.met.K.Ord.total c.args.self.now.size c.args.self.now.nodes c.locate.ensures.lawful c.args.key.now c.locate.result c.locate.ensures.place c.in-Ok.place c.in-Ok.is;
-}
+returns-in-Ok g c = let at = key_end g.met.K.Ord.total c.locate.ensures.lawful c.args.key.now c.locate.ensures.place c.in-Ok.is in record { place = at.place; before = at.before }
 
 pub returns-in-Err : goal.returns-in-Err
-returns-in-Err g c = record {
-  place = gap_place g.K.Ord.cmp g.met.K.Ord.total c.args.self.now.size c.args.self.now.nodes c.locate.ensures.lawful c.args.key.now c.locate.result c.locate.ensures.place c.in-Err.place c.in-Err.is;
-  before = gap_before g.K.Ord.cmp g.met.K.Ord.total c.args.self.now.size c.args.self.now.nodes c.locate.ensures.lawful c.args.key.now c.locate.result c.locate.ensures.place c.in-Err.place c.in-Err.is;
-}
+returns-in-Err g c = let at = key_gap g.met.K.Ord.total c.locate.ensures.lawful c.args.key.now c.locate.ensures.place c.in-Err.is in record { place = at.place; before = at.before }

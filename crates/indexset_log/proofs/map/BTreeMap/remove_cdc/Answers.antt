@@ -1,74 +1,47 @@
-use Rattle.std.proofs.Common.{length, ap, refl, arith}
+use Rattle.std.proofs.Common.{length, refl, arith, ap, ◌∙◌}
 use Rattle.std.proofs.lemmas.Grind.{common_steps}
+use Rattle.indexset_core.specs.Nodes.{joined}
 use Rattle.indexset_log.proofs.Keys.{key_one, key_taken, no_key}
 use Rattle.indexset_log.proofs.map.BTreeMap.remove_cdc.Goals as goal
 
 pub returns-in_err-pair-in-Ok-clause-refusal : goal.returns-in_err-pair-in-Ok-clause-refusal
 returns-in_err-pair-in-Ok-clause-refusal g c =
-    let one = key_one g.K.Ord.cmp g.met.K.Ord.total c.args.self.now.size c.args.self.now.nodes c.locate.ensures.lawful c.args.key.now c.locate.result c.locate.ensures.place (c.in-Ok.node, c.in-Ok.offset) c.in-Ok.is c.locate.ensures.two in
-    rw one (grind (arith, common_steps))
+    rw (key_one g.met.K.Ord.total c.locate.ensures.lawful c.args.key.now c.locate.ensures.place c.in-Ok.is) (grind (arith, common_steps))
 
 pub returns-in_err-pair-in-Ok-clause-no_event : goal.returns-in_err-pair-in-Ok-clause-no_event
 returns-in_err-pair-in-Ok-clause-no_event g c =
-    let one = key_one g.K.Ord.cmp g.met.K.Ord.total c.args.self.now.size c.args.self.now.nodes c.locate.ensures.lawful c.args.key.now c.locate.result c.locate.ensures.place (c.in-Ok.node, c.in-Ok.offset) c.in-Ok.is c.locate.ensures.two in
-    λ none. absurd (omega (arith, one, ap (λ l. length l) none))
+    λ none. absurd (omega (arith, key_one g.met.K.Ord.total c.locate.ensures.lawful c.args.key.now c.locate.ensures.place c.in-Ok.is, ap (λ l. length l) none))
 
-pub returns-in_ok-pair-in-Ok-clause-answer : goal.returns-in_ok-pair-in-Ok-clause-answer
-returns-in_ok-pair-in-Ok-clause-answer g c =
+pub returns-in_ok-pair-in-Ok : goal.returns-in_ok-pair-in-Ok
+returns-in_ok-pair-in-Ok g c =
     let done = rw c.self.view_is at c.in_ok-pair-in-Ok.ensures in
-    let taken = key_taken g.K.Ord.cmp g.met.K.Ord.total c.args.self.now.size c.args.self.now.nodes c.locate.ensures.lawful c.args.key.now c.locate.result c.locate.ensures.place (c.in-Ok.node, c.in-Ok.offset) c.in-Ok.is c.in_ok-pair-in-Ok.pair done.item c.locate.ensures.two in
-    rw taken.pair_is refl
-
-pub returns-in_ok-pair-in-Ok-clause-contents : goal.returns-in_ok-pair-in-Ok-clause-contents
-returns-in_ok-pair-in-Ok-clause-contents g c =
-    let done = rw c.self.view_is at c.in_ok-pair-in-Ok.ensures in
-    let taken = key_taken g.K.Ord.cmp g.met.K.Ord.total c.args.self.now.size c.args.self.now.nodes c.locate.ensures.lawful c.args.key.now c.locate.result c.locate.ensures.place (c.in-Ok.node, c.in-Ok.offset) c.in-Ok.is c.in_ok-pair-in-Ok.pair done.item c.locate.ensures.two in
-    taken.contents c.args.self.now.next c.remove_at_cdc.new.self.nodes (rw done.events at done.replay)
-
-pub returns-in_ok-pair-in-Ok-clause-events : goal.returns-in_ok-pair-in-Ok-clause-events
-returns-in_ok-pair-in-Ok-clause-events g c =
-    let done = rw c.self.view_is at c.in_ok-pair-in-Ok.ensures in
-    let taken = key_taken g.K.Ord.cmp g.met.K.Ord.total c.args.self.now.size c.args.self.now.nodes c.locate.ensures.lawful c.args.key.now c.locate.result c.locate.ensures.place (c.in-Ok.node, c.in-Ok.offset) c.in-Ok.is c.in_ok-pair-in-Ok.pair done.item c.locate.ensures.two in
-    rw taken.events done.events
-
-pub returns-in_ok-pair-in-Ok-clause-numbered : goal.returns-in_ok-pair-in-Ok-clause-numbered
-returns-in_ok-pair-in-Ok-clause-numbered g c =
-    let done = rw c.self.view_is at c.in_ok-pair-in-Ok.ensures in
-    done.numbered
-
-pub returns-in_ok-pair-in-Ok-clause-next : goal.returns-in_ok-pair-in-Ok-clause-next
-returns-in_ok-pair-in-Ok-clause-next g c =
-    let done = rw c.self.view_is at c.in_ok-pair-in-Ok.ensures in
-    let one = key_one g.K.Ord.cmp g.met.K.Ord.total c.args.self.now.size c.args.self.now.nodes c.locate.ensures.lawful c.args.key.now c.locate.result c.locate.ensures.place (c.in-Ok.node, c.in-Ok.offset) c.in-Ok.is c.locate.ensures.two in
-    rw one done.next
-
-pub returns-in_ok-pair-in-Ok-clause-fits : goal.returns-in_ok-pair-in-Ok-clause-fits
-returns-in_ok-pair-in-Ok-clause-fits g c =
-    let done = rw c.self.view_is at c.in_ok-pair-in-Ok.ensures in
-    let one = key_one g.K.Ord.cmp g.met.K.Ord.total c.args.self.now.size c.args.self.now.nodes c.locate.ensures.lawful c.args.key.now c.locate.result c.locate.ensures.place (c.in-Ok.node, c.in-Ok.offset) c.in-Ok.is c.locate.ensures.two in
-    rw one done.fits
+    let taken = key_taken g.met.K.Ord.total c.locate.ensures.lawful c.args.key.now c.locate.ensures.place c.in-Ok.is done.item in
+    let one = key_one g.met.K.Ord.total c.locate.ensures.lawful c.args.key.now c.locate.ensures.place c.in-Ok.is in
+    record {
+      answer = rw taken.pair_is refl;
+      contents = ap joined done.nodes ∙ taken.contents;
+      events = rw taken.events done.events;
+      numbered = done.numbered;
+      replay = done.replay;
+      size = done.size;
+      next = rw one done.next;
+      fits = rw one done.fits;
+      refusal = tt;
+      no_event = λ _. refl;
+      unchanged = tt;
+    }
 
 pub returns-in-Err-clause-answer : goal.returns-in-Err-clause-answer
-returns-in-Err-clause-answer g c =
-    let none = no_key g.K.Ord.cmp g.met.K.Ord.total c.args.self.now.size c.args.self.now.nodes c.locate.ensures.lawful c.args.key.now c.locate.result c.locate.ensures.place c.in-Err.field-0 c.in-Err.is in
-    rw none.pair_is refl
+returns-in-Err-clause-answer g c = let none = no_key g.met.K.Ord.total c.locate.ensures.lawful c.args.key.now c.locate.ensures.place c.in-Err.is in rw none.pair_is refl
 
 pub returns-in-Err-clause-contents : goal.returns-in-Err-clause-contents
-returns-in-Err-clause-contents g c =
-    let none = no_key g.K.Ord.cmp g.met.K.Ord.total c.args.self.now.size c.args.self.now.nodes c.locate.ensures.lawful c.args.key.now c.locate.result c.locate.ensures.place c.in-Err.field-0 c.in-Err.is in
-    none.contents
+returns-in-Err-clause-contents g c = let none = no_key g.met.K.Ord.total c.locate.ensures.lawful c.args.key.now c.locate.ensures.place c.in-Err.is in none.contents
 
 pub returns-in-Err-clause-events : goal.returns-in-Err-clause-events
-returns-in-Err-clause-events g c =
-    let none = no_key g.K.Ord.cmp g.met.K.Ord.total c.args.self.now.size c.args.self.now.nodes c.locate.ensures.lawful c.args.key.now c.locate.result c.locate.ensures.place c.in-Err.field-0 c.in-Err.is in
-    rw none.events (grind (arith, common_steps))
+returns-in-Err-clause-events g c = let none = no_key g.met.K.Ord.total c.locate.ensures.lawful c.args.key.now c.locate.ensures.place c.in-Err.is in rw none.events (grind (arith, common_steps))
 
 pub returns-in-Err-clause-next : goal.returns-in-Err-clause-next
-returns-in-Err-clause-next g c =
-    let none = no_key g.K.Ord.cmp g.met.K.Ord.total c.args.self.now.size c.args.self.now.nodes c.locate.ensures.lawful c.args.key.now c.locate.result c.locate.ensures.place c.in-Err.field-0 c.in-Err.is in
-    rw none.events (omega arith)
+returns-in-Err-clause-next g c = let none = no_key g.met.K.Ord.total c.locate.ensures.lawful c.args.key.now c.locate.ensures.place c.in-Err.is in rw none.events (omega arith)
 
 pub returns-in-Err-clause-fits : goal.returns-in-Err-clause-fits
-returns-in-Err-clause-fits g c =
-    let none = no_key g.K.Ord.cmp g.met.K.Ord.total c.args.self.now.size c.args.self.now.nodes c.locate.ensures.lawful c.args.key.now c.locate.result c.locate.ensures.place c.in-Err.field-0 c.in-Err.is in
-    rw none.events (omega (arith, c.locate.ensures.number))
+returns-in-Err-clause-fits g c = let none = no_key g.met.K.Ord.total c.locate.ensures.lawful c.args.key.now c.locate.ensures.place c.in-Err.is in rw none.events (omega (arith, c.locate.ensures.number))

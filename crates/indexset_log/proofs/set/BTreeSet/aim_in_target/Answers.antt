@@ -1,4 +1,4 @@
-use Rattle.std.proofs.Common.{◌≡◌, ◌≤◌, ◌<◌, ◌-◌, ◌/◌, ◌&&◌, suc, true, false, Bool, length, map, take, eqb, nat_eq, get_or, arith, ap, subst, refl, ◌∙◌, IfOk, IfErr}
+use Rattle.std.proofs.Common.{◌≡◌, ◌≤◌, ◌<◌, ◌-◌, ◌/◌, ◌&&◌, suc, true, false, Bool, length, take, eqb, nat_eq, get_or, arith, ap, subst, refl, ◌∙◌, IfOk, IfErr}
 use Rattle.std.proofs.lemmas.Bool.{eq-eqb, ne_eqb}
 use Rattle.std.specs.Ordering.{is_gt}
 use Rattle.indexset_core.specs.Nodes.{node_at, node_for}
@@ -8,9 +8,11 @@ use Rattle.indexset_log.specs.Table.{part_for, is_past}
 use Rattle.indexset_log.proofs.Puts.{half_up, half_and, last_of_take}
 use Rattle.indexset_log.proofs.Theorem.{up_node}
 use Rattle.indexset_log.proofs.Ups.{ascends, lawful_ruled}
-use Rattle.indexset_log.proofs.Views.{lawful_filled, lawful_parted, node_is, length_view}
+use Rattle.indexset_log.proofs.Views.{lawful_filled, lawful_parted}
 use Rattle.indexset_log.proofs.set.BTreeSet.aim_in_target.Goals as goal
-use Rattle.indexset_log.proofs.set.BTreeSet.aim_in_target.Goals.{then-full, else-full}
+use Rattle.indexset_log.proofs.Trees.{held, node_held}
+use Rattle.indexset_log.proofs.set.BTreeSet.aim_in_target.Given.{Over}
+use Rattle.indexset_log.proofs.set.BTreeSet.aim_in_target.Goals.{After-as_slice-items, then-full, else-full}
 
 pub node_by-node-requires-clause-filled : goal.node_by-node-requires-clause-filled
 node_by-node-requires-clause-filled g c = rw c.as_slice.ensures.value (lawful_filled g.T.Ord.cmp c.self.inside.size _ c.self.invariant.lawful)
@@ -18,38 +20,30 @@ node_by-node-requires-clause-filled g c = rw c.as_slice.ensures.value (lawful_fi
 pub node_by-node-requires-clause-parted : goal.node_by-node-requires-clause-parted
 node_by-node-requires-clause-parted g c = rw (c.new.ensures, c.as_slice.ensures.value) (lawful_parted g.T.Ord.cmp c.self.inside.size _ c.self.invariant.lawful g.met.T.Ord.total c.args.value.now)
 
+-- the target, as the code reads it
+read : (g : Over) (c : After-as_slice-items g) → (c.node_by-node.result ≡ node_for (λ x. g.T.Ord.cmp x c.args.value.now) c.args.self.now.nodes) × (c.node_by-node.result < length c.args.self.now.nodes) × (c.as_slice-items.result.now ≡ node_at c.args.self.now.nodes c.node_by-node.result)
+read g c =
+    let t = held g.Node.NodeLike.list c.self.inside.nodes.items c.self.view_is c.self.invariant in
+    let at : c.node_by-node.result ≡ node_for (λ x. g.T.Ord.cmp x c.args.value.now) c.args.self.now.nodes = rw (c.new.ensures, c.as_slice.ensures.value, t.same) at c.node_by-node.ensures.node in
+    let inside : c.node_by-node.result < length c.args.self.now.nodes = omega (arith, at, c.requires) in
+    (at, inside, c.as_slice-items.ensures.value ∙ (c.iter.ensures ∙ node_held t c.node_by-node.result inside c.index.ensures))
+
 pub find-requires : goal.find-requires
 find-requires g c =
+    let t = held g.Node.NodeLike.list c.self.inside.nodes.items c.self.view_is c.self.invariant in
     let cmp = g.T.Ord.cmp in
-    let list = g.Node.NodeLike.list in
-    let items = c.self.inside.nodes.items in
-    let nodes = c.args.self.now.nodes in
-    let same : map list items ≡ nodes = ap (λ t. t.nodes) c.self.view_is in
-    let long = length_view list items nodes same in
-    let k = c.node_by-node.result in
-    let at : k ≡ node_for (λ x. cmp x c.args.value.now) nodes = rw (c.new.ensures, c.as_slice.ensures.value, same) at c.node_by-node.ensures.node in
-    let inside : k < length items = omega (arith, at, c.requires, long) in
-    let node : list c.index.result.now ≡ node_at nodes k = node_is list items nodes k c.index.result.now same inside c.index.ensures in
-    let held : c.as_slice-items.result.now ≡ node_at nodes k = c.as_slice-items.ensures.value ∙ (c.iter.ensures ∙ node) in
-    let law = rw same at c.self.invariant.lawful in
-    rw (c.part_of.ensures, held) (ascends cmp _ (half_up cmp _ c.if-full.right (node_at nodes k) (up_node cmp nodes k (lawful_ruled cmp _ nodes law))))
+    let r = read g (goal.at.find-requires g c).After-as_slice-items in
+    rw (c.part_of.ensures, r.2) (ascends cmp _ (half_up cmp _ c.if-full.right _ (up_node cmp c.args.self.now.nodes c.node_by-node.result (lawful_ruled cmp _ c.args.self.now.nodes t.rule.lawful))))
 
 pub returns : goal.returns
 returns g c =
     let cmp = g.T.Ord.cmp in
-    let list = g.Node.NodeLike.list in
-    let items = c.self.inside.nodes.items in
-    let nodes = c.args.self.now.nodes in
+    let t = held g.Node.NodeLike.list c.self.inside.nodes.items c.self.view_is c.self.invariant in
     let v = c.args.value.now in
-    let same : map list items ≡ nodes = ap (λ t. t.nodes) c.self.view_is in
-    let size : c.self.inside.size ≡ c.args.self.now.size = ap (λ t. t.size) c.self.view_is in
-    let long = length_view list items nodes same in
-    let k = c.node_by-node.result in
-    let at : k ≡ node_for (λ x. cmp x v) nodes = rw (c.new.ensures, c.as_slice.ensures.value, same) at c.node_by-node.ensures.node in
-    let inside : k < length items = omega (arith, at, c.requires, long) in
-    let n = node_at nodes k in
-    let node : list c.index.result.now ≡ n = node_is list items nodes k c.index.result.now same inside c.index.ensures in
-    let held : c.as_slice-items.result.now ≡ n = c.as_slice-items.ensures.value ∙ (c.iter.ensures ∙ node) in
+    let size = t.sized in
+    let r = read g (goal.at.returns g c).After-as_slice-items in
+    let n = node_at c.args.self.now.nodes c.node_by-node.result in
+    let held = r.2 in
     let past : Bool = is_past cmp (take (length n / 2) n) v in
     let full : nat_eq (length c.as_slice-items.result.now) c.self.inside.size ≡ eqb (length n) c.args.self.now.size = rw (held, size) refl in
     let right : c.if-full.right ≡ (eqb (length n) c.args.self.now.size && past) =
@@ -68,8 +62,8 @@ returns g c =
     ] in
     let half : c.part_of.result.now ≡ part_for cmp c.args.self.now.size n v = c.part_of.ensures ∙ rw (held, size, right) (half_and (eqb (length n) c.args.self.now.size) past n) in
     record {
-      node_in = omega (arith, inside, long);
-      node_is = at;
+      node_in = r.1;
+      node_is = r.0;
       full_is = full;
       right_is = right;
       found = subst (λ q. IfOk c.find.result (IsFoundAt cmp q v)) half c.find.ensures.found;

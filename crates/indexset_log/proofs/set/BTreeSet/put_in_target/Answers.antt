@@ -1,179 +1,49 @@
-use Rattle.std.proofs.Common.{◌≡◌, ◌+◌, cond, if◌then◌else◌, map, set, arith, ap, refl, ◌∙◌}
-use Rattle.indexset_core.specs.Nodes.{node_at}
-use Rattle.indexset_log.specs.Edits.{with_halved, with_room, put_into_target}
-use Rattle.indexset_log.specs.Table.{part_for}
-use Rattle.indexset_log.proofs.Puts.{events_count, spot_in, spot_part, spot_after, part_up, put_lawful, put_count, element_is, whole_room}
-use Rattle.indexset_log.proofs.Trees.{tree_is}
+use Rattle.std.proofs.Common.{arith, refl, ◌∙◌}
+use Rattle.indexset_log.proofs.Puts.{element_is, equal_is, events_count, part_up, put_tree, spot, whole_room}
+use Rattle.indexset_log.proofs.Trees.{held}
 use Rattle.indexset_log.proofs.set.BTreeSet.put_in_target.Goals as goal
-
-pub overflow_add-self : goal.overflow_add-self
-overflow_add-self g c =
-    let cmp = g.T.Ord.cmp in
-    let o = g.met.T.Ord.total in
-    let nodes = c.args.self.now.nodes in
-    let size = c.args.self.now.size in
-    let v = c.args.value in
-    let a = c.args.aim in
-    let h = c.requires.aim in
-    let t = tree_is g.Node.NodeLike.list c.self.inside.nodes.items c.self.view_is c.self.invariant in
-    let next : c.self.inside.next ≡ c.args.self.now.next = ap (λ t. t.next) c.self.view_is in
-    let count = events_count cmp o v size t.two nodes t.lawful a h in
-    record { fits = omega (arith, c.requires.fits, count, c.count.ensures, next) }
 
 pub make_room-requires-clause-most : goal.make_room-requires-clause-most
 make_room-requires-clause-most g c =
-    let cmp = g.T.Ord.cmp in
-    let o = g.met.T.Ord.total in
-    let nodes = c.args.self.now.nodes in
-    let size = c.args.self.now.size in
-    let v = c.args.value in
-    let a = c.args.aim in
-    let h = c.requires.aim in
-    let t = tree_is g.Node.NodeLike.list c.self.inside.nodes.items c.self.view_is c.self.invariant in
-    let same : map g.Node.NodeLike.list c.self.inside.nodes.items ≡ nodes = ap (λ t. t.nodes) c.self.view_is in
-    λ e. rw same (omega (arith, whole_room cmp o v size t.two nodes t.lawful a h e, t.within))
+    let t = held g.Node.NodeLike.list c.self.inside.nodes.items c.self.view_is c.self.invariant in
+    λ e. rw t.same (omega (arith, whole_room g.met.T.Ord.total t.rule c.requires.aim e, t.rule.within))
 
 pub index_mut-requires : goal.index_mut-requires
 index_mut-requires g c =
-    let cmp = g.T.Ord.cmp in
-    let o = g.met.T.Ord.total in
-    let nodes = c.args.self.now.nodes in
-    let size = c.args.self.now.size in
-    let v = c.args.value in
-    let a = c.args.aim in
-    let h = c.requires.aim in
-    let t = tree_is g.Node.NodeLike.list c.self.inside.nodes.items c.self.view_is c.self.invariant in
-    let list = g.Node.NodeLike.list in
-    let same : map list c.self.inside.nodes.items ≡ nodes = ap (λ t. t.nodes) c.self.view_is in
-    let items = c.make_room.new.nodes.items in
-    let held : map list items ≡ (if a.full then with_halved nodes a.node else nodes) = rw same at c.in-Ok.ensures.nodes in
-    let place : c.in-Ok.place ≡ a.node + cond a.right 1 0 = c.in-Ok.ensures.place in
-    omega (arith, c.make_room.new.nodes.ok, spot_in cmp o v size t.two nodes t.lawful a h list items held c.in-Ok.place place)
+    let t = held g.Node.NodeLike.list c.self.inside.nodes.items c.self.view_is c.self.invariant in
+    let s = spot g.met.T.Ord.total t.rule c.requires.aim g.Node.NodeLike.list c.make_room.new.nodes.items c.in-Ok.place t.same c.in-Ok.ensures.nodes c.in-Ok.ensures.place in
+    omega (arith, c.make_room.new.nodes.ok, s.inside)
 
-pub put_in-requires-clause-ascending : goal.put_in-requires-clause-ascending
-put_in-requires-clause-ascending g c =
-    let cmp = g.T.Ord.cmp in
-    let o = g.met.T.Ord.total in
-    let nodes = c.args.self.now.nodes in
-    let size = c.args.self.now.size in
-    let v = c.args.value in
-    let a = c.args.aim in
-    let h = c.requires.aim in
-    let t = tree_is g.Node.NodeLike.list c.self.inside.nodes.items c.self.view_is c.self.invariant in
-    let list = g.Node.NodeLike.list in
-    let same : map list c.self.inside.nodes.items ≡ nodes = ap (λ t. t.nodes) c.self.view_is in
-    let items = c.make_room.new.nodes.items in
-    let held : map list items ≡ (if a.full then with_halved nodes a.node else nodes) = rw same at c.in-Ok.ensures.nodes in
-    let place : c.in-Ok.place ≡ a.node + cond a.right 1 0 = c.in-Ok.ensures.place in
-    let node : list c.index_mut.result.now ≡ part_for cmp size (node_at nodes a.node) v = spot_part cmp o v size t.two nodes t.lawful a h list items held c.in-Ok.place place c.index_mut.result.now c.index_mut.ensures.value in
-    rw node (part_up cmp o v size t.two nodes t.lawful a h)
-
-pub put_in-requires-clause-found : goal.put_in-requires-clause-found
-put_in-requires-clause-found g c =
-    let cmp = g.T.Ord.cmp in
-    let o = g.met.T.Ord.total in
-    let nodes = c.args.self.now.nodes in
-    let size = c.args.self.now.size in
-    let v = c.args.value in
-    let a = c.args.aim in
-    let h = c.requires.aim in
-    let t = tree_is g.Node.NodeLike.list c.self.inside.nodes.items c.self.view_is c.self.invariant in
-    let list = g.Node.NodeLike.list in
-    let same : map list c.self.inside.nodes.items ≡ nodes = ap (λ t. t.nodes) c.self.view_is in
-    let items = c.make_room.new.nodes.items in
-    let held : map list items ≡ (if a.full then with_halved nodes a.node else nodes) = rw same at c.in-Ok.ensures.nodes in
-    let place : c.in-Ok.place ≡ a.node + cond a.right 1 0 = c.in-Ok.ensures.place in
-    let node : list c.index_mut.result.now ≡ part_for cmp size (node_at nodes a.node) v = spot_part cmp o v size t.two nodes t.lawful a h list items held c.in-Ok.place place c.index_mut.result.now c.index_mut.ensures.value in
-    rw node h.found
-
-pub put_in-requires-clause-gap : goal.put_in-requires-clause-gap
-put_in-requires-clause-gap g c =
-    let cmp = g.T.Ord.cmp in
-    let o = g.met.T.Ord.total in
-    let nodes = c.args.self.now.nodes in
-    let size = c.args.self.now.size in
-    let v = c.args.value in
-    let a = c.args.aim in
-    let h = c.requires.aim in
-    let t = tree_is g.Node.NodeLike.list c.self.inside.nodes.items c.self.view_is c.self.invariant in
-    let list = g.Node.NodeLike.list in
-    let same : map list c.self.inside.nodes.items ≡ nodes = ap (λ t. t.nodes) c.self.view_is in
-    let items = c.make_room.new.nodes.items in
-    let held : map list items ≡ (if a.full then with_halved nodes a.node else nodes) = rw same at c.in-Ok.ensures.nodes in
-    let place : c.in-Ok.place ≡ a.node + cond a.right 1 0 = c.in-Ok.ensures.place in
-    let node : list c.index_mut.result.now ≡ part_for cmp size (node_at nodes a.node) v = spot_part cmp o v size t.two nodes t.lawful a h list items held c.in-Ok.place place c.index_mut.result.now c.index_mut.ensures.value in
-    rw node h.gap
-
-pub invariant_of-self : goal.invariant_of-self
-invariant_of-self g c =
-    let cmp = g.T.Ord.cmp in
-    let o = g.met.T.Ord.total in
-    let nodes = c.args.self.now.nodes in
-    let size = c.args.self.now.size in
-    let v = c.args.value in
-    let a = c.args.aim in
-    let h = c.requires.aim in
-    let t = tree_is g.Node.NodeLike.list c.self.inside.nodes.items c.self.view_is c.self.invariant in
-    let list = g.Node.NodeLike.list in
-    let same : map list c.self.inside.nodes.items ≡ nodes = ap (λ t. t.nodes) c.self.view_is in
-    let items = c.make_room.new.nodes.items in
-    let held : map list items ≡ (if a.full then with_halved nodes a.node else nodes) = rw same at c.in-Ok.ensures.nodes in
-    let place : c.in-Ok.place ≡ a.node + cond a.right 1 0 = c.in-Ok.ensures.place in
-    let made : map list (set items c.in-Ok.place c.put_in.new.node) ≡ put_into_target cmp (with_room cmp size nodes v) v = spot_after cmp o v size t.two nodes t.lawful a h list items held c.in-Ok.place place c.index_mut.result.now c.put_in.new.node c.index_mut.ensures.value c.put_in.ensures.list in
-    let sized : c.self.inside.size ≡ size = ap (λ t. t.size) c.self.view_is in
-    rw (made, sized) (record {
-      lawful = put_lawful cmp o v size t.two nodes t.lawful a h;
-      two = t.two;
-      within = t.within;
-      counted = omega (arith, t.counted, c.growth.ensures, put_count cmp o v size t.two nodes t.lawful a h);
-    })
-
-pub returns-in-Ok-clause-answer : goal.returns-in-Ok-clause-answer
-returns-in-Ok-clause-answer g c =
-    let cmp = g.T.Ord.cmp in
-    let o = g.met.T.Ord.total in
-    let nodes = c.args.self.now.nodes in
-    let size = c.args.self.now.size in
-    let v = c.args.value in
-    let a = c.args.aim in
-    let h = c.requires.aim in
-    let t = tree_is g.Node.NodeLike.list c.self.inside.nodes.items c.self.view_is c.self.invariant in
-    let list = g.Node.NodeLike.list in
-    let same : map list c.self.inside.nodes.items ≡ nodes = ap (λ t. t.nodes) c.self.view_is in
-    let items = c.make_room.new.nodes.items in
-    let held : map list items ≡ (if a.full then with_halved nodes a.node else nodes) = rw same at c.in-Ok.ensures.nodes in
-    let place : c.in-Ok.place ≡ a.node + cond a.right 1 0 = c.in-Ok.ensures.place in
-    let node : list c.index_mut.result.now ≡ part_for cmp size (node_at nodes a.node) v = spot_part cmp o v size t.two nodes t.lawful a h list items held c.in-Ok.place place c.index_mut.result.now c.index_mut.ensures.value in
-    c.put_in.ensures.answer ∙ (rw node refl ∙ element_is cmp o v size t.two nodes t.lawful a h)
+pub put_in-requires : goal.put_in-requires
+put_in-requires g c =
+    let t = held g.Node.NodeLike.list c.self.inside.nodes.items c.self.view_is c.self.invariant in
+    let s = spot g.met.T.Ord.total t.rule c.requires.aim g.Node.NodeLike.list c.make_room.new.nodes.items c.in-Ok.place t.same c.in-Ok.ensures.nodes c.in-Ok.ensures.place in
+    let part = s.part _ c.index_mut.ensures.value in
+    record {
+      ascending = rw part (part_up g.met.T.Ord.total t.rule c.requires.aim);
+      found = rw part c.requires.aim.found;
+      gap = rw part c.requires.aim.gap;
+      room = λ e. rw c.index_mut.ensures.value (c.in-Ok.ensures.room e _);
+    }
 
 pub returns-in-Ok-clause-nodes : goal.returns-in-Ok-clause-nodes
 returns-in-Ok-clause-nodes g c =
-    let cmp = g.T.Ord.cmp in
-    let o = g.met.T.Ord.total in
-    let nodes = c.args.self.now.nodes in
-    let size = c.args.self.now.size in
-    let v = c.args.value in
-    let a = c.args.aim in
-    let h = c.requires.aim in
-    let t = tree_is g.Node.NodeLike.list c.self.inside.nodes.items c.self.view_is c.self.invariant in
-    let list = g.Node.NodeLike.list in
-    let same : map list c.self.inside.nodes.items ≡ nodes = ap (λ t. t.nodes) c.self.view_is in
-    let items = c.make_room.new.nodes.items in
-    let held : map list items ≡ (if a.full then with_halved nodes a.node else nodes) = rw same at c.in-Ok.ensures.nodes in
-    let place : c.in-Ok.place ≡ a.node + cond a.right 1 0 = c.in-Ok.ensures.place in
-    let made : map list (set items c.in-Ok.place c.put_in.new.node) ≡ put_into_target cmp (with_room cmp size nodes v) v = spot_after cmp o v size t.two nodes t.lawful a h list items held c.in-Ok.place place c.index_mut.result.now c.put_in.new.node c.index_mut.ensures.value c.put_in.ensures.list in
-    made
+    let t = held g.Node.NodeLike.list c.self.inside.nodes.items c.self.view_is c.self.invariant in
+    let s = spot g.met.T.Ord.total t.rule c.requires.aim g.Node.NodeLike.list c.make_room.new.nodes.items c.in-Ok.place t.same c.in-Ok.ensures.nodes c.in-Ok.ensures.place in
+    s.made _ _ c.index_mut.ensures.value c.put_in.ensures.list
+
+pub invariant_of-self : goal.invariant_of-self
+invariant_of-self g c =
+    let t = held g.Node.NodeLike.list c.self.inside.nodes.items c.self.view_is c.self.invariant in
+    rw (returns-in-Ok-clause-nodes g c, t.sized, c.growth-in-Ok.ensures, ← equal_is g.met.T.Ord.total t.rule c.requires.aim) (put_tree g.met.T.Ord.total t.rule c.args.value)
+
+pub returns-in-Ok-clause-answer : goal.returns-in-Ok-clause-answer
+returns-in-Ok-clause-answer g c =
+    let t = held g.Node.NodeLike.list c.self.inside.nodes.items c.self.view_is c.self.invariant in
+    let s = spot g.met.T.Ord.total t.rule c.requires.aim g.Node.NodeLike.list c.make_room.new.nodes.items c.in-Ok.place t.same c.in-Ok.ensures.nodes c.in-Ok.ensures.place in
+    c.put_in.ensures.answer ∙ (rw (s.part _ c.index_mut.ensures.value) refl ∙ element_is g.met.T.Ord.total t.rule c.requires.aim)
 
 pub returns-in-Ok-clause-next : goal.returns-in-Ok-clause-next
 returns-in-Ok-clause-next g c =
-    let cmp = g.T.Ord.cmp in
-    let o = g.met.T.Ord.total in
-    let nodes = c.args.self.now.nodes in
-    let size = c.args.self.now.size in
-    let v = c.args.value in
-    let a = c.args.aim in
-    let h = c.requires.aim in
-    let t = tree_is g.Node.NodeLike.list c.self.inside.nodes.items c.self.view_is c.self.invariant in
-    let next : c.self.inside.next ≡ c.args.self.now.next = ap (λ t. t.next) c.self.view_is in
-    let count = events_count cmp o v size t.two nodes t.lawful a h in
-    omega (arith, count, c.count.ensures, next)
+    let t = held g.Node.NodeLike.list c.self.inside.nodes.items c.self.view_is c.self.invariant in
+    omega (arith, events_count g.met.T.Ord.total t.rule c.requires.aim, c.count.ensures)

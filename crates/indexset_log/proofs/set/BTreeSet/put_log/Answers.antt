@@ -1,43 +1,21 @@
-use Rattle.std.proofs.Common.{◌≡◌, [], length, arith, ap}
-use Rattle.indexset_log.specs.Table.{put_events}
-use Rattle.indexset_log.proofs.Puts.{aimed_events}
-use Rattle.indexset_log.proofs.Theorem.{put_events_none}
+use Rattle.std.proofs.Common.{arith}
+use Rattle.std.proofs.lemmas.Grind.{common_steps}
+use Rattle.indexset_log.proofs.Puts.{count_aimed}
+use Rattle.indexset_log.proofs.Trees.{held}
 use Rattle.indexset_log.proofs.set.BTreeSet.put_log.Goals as goal
 
-pub target_log-requires-clause-fits : goal.target_log-requires-clause-fits
-target_log-requires-clause-fits g c =
-    let cmp = g.T.Ord.cmp in
-    let nodes = c.args.self.now.nodes in
-    let size = c.args.self.now.size in
-    let v = c.args.value.now in
-    let h = rw c.in-Some.is at c.requires.aim in
-    let fits = rw (aimed_events cmp size nodes v c.in-Some.aim h) at c.requires.fits in
-    fits
+pub returns-in_err-check_numbers-clause-refusal : goal.returns-in_err-check_numbers-clause-refusal
+returns-in_err-check_numbers-clause-refusal g c =
+    let t = held g.Node.NodeLike.list c.self.inside.nodes.items c.self.view_is c.self.invariant in
+    let refused = rw (← count_aimed g.met.T.Ord.total t.rule c.args.value.now c.args.aim.now c.requires.aim) at c.in_err-check_numbers.ensures.refusal in
+    grind (arith, common_steps)
 
-pub first_log-requires-clause-fits : goal.first_log-requires-clause-fits
-first_log-requires-clause-fits g c =
-    let cmp = g.T.Ord.cmp in
-    let nodes = c.args.self.now.nodes in
-    let size = c.args.self.now.size in
-    let v = c.args.value.now in
-    let none : nodes ≡ [] = rw c.in-None.is at c.requires.aim in
-    let one : length (put_events cmp size nodes v) ≡ 1 = ap (λ q. length q) (put_events_none cmp size v nodes none) in
-    omega (arith, c.requires.fits, one)
+pub returns-in-Some-clause-refusal : goal.returns-in-Some-clause-refusal
+returns-in-Some-clause-refusal g c =
+    let t = held g.Node.NodeLike.list c.self.inside.nodes.items c.self.view_is c.self.invariant in
+    rw (count_aimed g.met.T.Ord.total t.rule c.args.value.now c.args.aim.now c.requires.aim, c.in_ok-check_numbers.ensures.memory) c.target_log.ensures.refusal
 
-pub returns-in-Some-clause-events : goal.returns-in-Some-clause-events
-returns-in-Some-clause-events g c =
-    let cmp = g.T.Ord.cmp in
-    let nodes = c.args.self.now.nodes in
-    let size = c.args.self.now.size in
-    let v = c.args.value.now in
-    let h = rw c.in-Some.is at c.requires.aim in
-    rw (aimed_events cmp size nodes v c.in-Some.aim h) c.target_log.ensures.events
-
-pub returns-in-None-clause-events : goal.returns-in-None-clause-events
-returns-in-None-clause-events g c =
-    let cmp = g.T.Ord.cmp in
-    let nodes = c.args.self.now.nodes in
-    let size = c.args.self.now.size in
-    let v = c.args.value.now in
-    let none : nodes ≡ [] = rw c.in-None.is at c.requires.aim in
-    rw (put_events_none cmp size v nodes none) c.first_log.ensures.events
+pub returns-in-None-clause-refusal : goal.returns-in-None-clause-refusal
+returns-in-None-clause-refusal g c =
+    let t = held g.Node.NodeLike.list c.self.inside.nodes.items c.self.view_is c.self.invariant in
+    rw (count_aimed g.met.T.Ord.total t.rule c.args.value.now c.args.aim.now c.requires.aim, c.in_ok-check_numbers.ensures.memory) c.first_log.ensures.refusal

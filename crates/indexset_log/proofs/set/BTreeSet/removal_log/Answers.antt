@@ -1,25 +1,19 @@
-use Rattle.std.proofs.Common.{◌≡◌, ◌-◌, length, map, arith, ap, sym, ◌∙◌, slice_get, Some}
+use Rattle.std.proofs.Common.{◌≡◌, ◌-◌, length, arith, sym, ◌∙◌, slice_get, Some}
 use Rattle.indexset_core.specs.Nodes.{node_at}
 use Rattle.indexset_core.proofs.CallerLemmas.{read_item}
 use Rattle.indexset_log.proofs.Takes.{only_written, one_written}
 use Rattle.indexset_log.proofs.Theorem.{last_some}
-use Rattle.indexset_log.proofs.Views.{node_is, length_view}
+use Rattle.indexset_log.proofs.Trees.{held, node_held}
 use Rattle.indexset_log.proofs.set.BTreeSet.removal_log.Goals as goal
 use Rattle.indexset_log.proofs.set.BTreeSet.removal_log.Goals.{then-items-eq1+in_ok-add, else-items-eq1+in_ok-clone+in_ok-add-2}
 
 pub returns-clause-events : goal.returns-clause-events
 returns-clause-events g c =
-    let list = g.Node.NodeLike.list in
-    let items = c.self.inside.nodes.items in
-    let nodes = c.args.self.now.nodes in
-    let k = c.args.node in
+    let t = held g.Node.NodeLike.list c.self.inside.nodes.items c.self.view_is c.self.invariant in
     let i = c.args.offset in
-    let n = node_at nodes k in
-    let same : map list items ≡ nodes = ap (λ t. t.nodes) c.self.view_is in
-    let next : c.self.inside.next ≡ c.args.self.now.next = ap (λ t. t.next) c.self.view_is in
-    let long = length_view list items nodes same in
-    let node : list c.index.result.now ≡ n = node_is list items nodes k c.index.result.now same (omega (arith, long, c.requires.node)) c.index.ensures in
-    let held : c.as_slice-items.result.now ≡ n = c.as_slice-items.ensures.value ∙ (c.iter.ensures ∙ node) in
+    let n = node_at c.args.self.now.nodes c.args.node in
+    let next = t.numbered in
+    let held = c.as_slice-items.ensures.value ∙ (c.iter.ensures ∙ node_held t c.args.node c.requires.node c.index.ensures) in
     let x = c.index-items-offset.result in
     let read : slice_get n i ≡ Some x = read_item n i x c.requires.offset (rw held at c.index-items-offset.is) in
     let value : c.in_ok-value.value ≡ x = c.requires.clones _ _ c.in_ok-value.ensures.cases in

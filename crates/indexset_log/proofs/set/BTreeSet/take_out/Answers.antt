@@ -1,78 +1,35 @@
-use Rattle.std.proofs.Common.{◌≡◌, ◌<◌, length, map, remove, arith, ap, sym, ◌∙◌, slice_get, Some}
+use Rattle.std.proofs.Common.{length, remove, arith, ap, ◌∙◌}
 use Rattle.std.proofs.lemmas.Bool.{eq-eqb, ne_eqb}
 use Rattle.indexset_core.specs.Nodes.{node_at}
-use Rattle.indexset_log.proofs.Takes.{taken_lawful, taken_count, map_remove, some_joined}
+use Rattle.indexset_log.proofs.Takes.{taken_tree, map_remove, some_joined}
 use Rattle.indexset_log.proofs.Theorem.{set_view}
-use Rattle.indexset_log.proofs.Views.{node_is, length_view}
+use Rattle.indexset_log.proofs.Trees.{held, node_held}
 use Rattle.indexset_log.proofs.set.BTreeSet.take_out.Goals as goal
 
 pub overflow_sub-self : goal.overflow_sub-self
 overflow_sub-self g c =
-    let same : map g.Node.NodeLike.list c.self.inside.nodes.items ≡ c.args.self.now.nodes = ap (λ t. t.nodes) c.self.view_is in
-    let counted = rw same at c.self.invariant.counted in
-    omega (arith, counted, some_joined c.args.self.now.nodes c.args.node c.args.offset c.requires.node c.requires.offset)
+    let t = held g.Node.NodeLike.list c.self.inside.nodes.items c.self.view_is c.self.invariant in
+    omega (arith, t.rule.counted, some_joined c.args.self.now.nodes c.args.node c.args.offset c.requires.node c.requires.offset)
 
 pub returns-then-len-eq1-clause-nodes : goal.returns-then-len-eq1-clause-nodes
 returns-then-len-eq1-clause-nodes g c =
-    let list = g.Node.NodeLike.list in
-    let items = c.self.inside.nodes.items in
-    let nodes = c.args.self.now.nodes in
-    let k = c.args.node in
-    let same : map list items ≡ nodes = ap (λ t. t.nodes) c.self.view_is in
-    let lt : k < length items = omega (arith, length_view list items nodes same, c.requires.node) in
-    let node : list c.index.result.now ≡ node_at nodes k = node_is list items nodes k c.index.result.now same lt c.index.ensures in
-    let one : length (node_at nodes k) ≡ 1 = ap (λ q. length q) (sym node) ∙ (sym c.len.ensures.value ∙ c.if-len-eq1.true) in
-    rw (c.remove-emptied.ensures.items, eq-eqb (length (node_at nodes k)) 1 one) (map_remove list items k ∙ ap (λ q. remove q k) same)
+    let t = held g.Node.NodeLike.list c.self.inside.nodes.items c.self.view_is c.self.invariant in
+    let node = node_held t c.args.node c.requires.node c.index.ensures in
+    rw (c.remove-emptied.ensures.items, eq-eqb (length (node_at c.args.self.now.nodes c.args.node)) 1 (rw (c.len.ensures.value, node) at c.if-len-eq1.true)) (map_remove g.Node.NodeLike.list c.self.inside.nodes.items c.args.node ∙ ap (λ q. remove q c.args.node) t.same)
 
 pub invariant_of-self : goal.invariant_of-self
 invariant_of-self g c =
-    let list = g.Node.NodeLike.list in
-    let items = c.self.inside.nodes.items in
-    let nodes = c.args.self.now.nodes in
-    let k = c.args.node in
-    let same : map list items ≡ nodes = ap (λ t. t.nodes) c.self.view_is in
-    let lt : k < length items = omega (arith, length_view list items nodes same, c.requires.node) in
-    let node : list c.remove-emptied.result ≡ node_at nodes k = node_is list items nodes k c.remove-emptied.result same lt c.remove-emptied.ensures.value in
-    let here : slice_get (node_at nodes k) c.args.offset ≡ Some c.remove_at.result = rw node at c.remove_at.ensures.value in
-    let law = rw same at c.self.invariant.lawful in
-    let counted = rw same at c.self.invariant.counted in
-    let count = taken_count g.T.Ord.cmp g.met.T.Ord.total c.remove_at.result c.self.inside.size nodes law k c.args.offset c.remove_at.result c.requires.node here in
-    rw (returns-then-len-eq1-clause-nodes g c) (record {
-      lawful = taken_lawful g.T.Ord.cmp g.met.T.Ord.total c.remove_at.result c.self.inside.size nodes law k c.args.offset c.remove_at.result c.requires.node here;
-      two = c.self.invariant.two;
-      within = c.self.invariant.within;
-      counted = omega (arith, count, counted);
-    })
+    let t = held g.Node.NodeLike.list c.self.inside.nodes.items c.self.view_is c.self.invariant in
+    rw (returns-then-len-eq1-clause-nodes g c, t.sized) (taken_tree g.met.T.Ord.total t.rule.lawful c.args.node c.args.offset c.requires.node (rw (node_held t c.args.node c.requires.node c.remove-emptied.ensures.value) at c.remove_at.ensures.value) t.rule)
 
 pub returns-clause-nodes : goal.returns-clause-nodes
 returns-clause-nodes g c =
-    let list = g.Node.NodeLike.list in
-    let items = c.self.inside.nodes.items in
-    let nodes = c.args.self.now.nodes in
-    let k = c.args.node in
-    let same : map list items ≡ nodes = ap (λ t. t.nodes) c.self.view_is in
-    let lt : k < length items = omega (arith, length_view list items nodes same, c.requires.node) in
-    let node : list c.index.result.now ≡ node_at nodes k = node_is list items nodes k c.index.result.now same lt c.index.ensures in
-    let held : list c.index_mut.result.now ≡ node_at nodes k = node_is list items nodes k c.index_mut.result.now same lt c.index_mut.ensures.value in
-    let more : length (node_at nodes k) ≡ 1 → ⊥ = λ one. c.if-len-eq1.false (c.len.ensures.value ∙ (ap (λ q. length q) node ∙ one)) in
-    rw (ne_eqb (length (node_at nodes k)) 1 more) (set_view list items nodes k c.remove_at-2.new.self (remove (node_at nodes k) c.args.offset) same (c.remove_at-2.ensures.list ∙ ap (λ q. remove q c.args.offset) held))
+    let t = held g.Node.NodeLike.list c.self.inside.nodes.items c.self.view_is c.self.invariant in
+    let node = node_held t c.args.node c.requires.node c.index.ensures in
+    let held = node_held t c.args.node c.requires.node c.index_mut.ensures.value in
+    rw (ne_eqb (length (node_at c.args.self.now.nodes c.args.node)) 1 (rw (c.len.ensures.value, node) at c.if-len-eq1.false)) (set_view g.Node.NodeLike.list c.self.inside.nodes.items c.args.self.now.nodes c.args.node c.remove_at-2.new.self _ t.same (c.remove_at-2.ensures.list ∙ ap (λ q. remove q c.args.offset) held))
 
 pub invariant_of-self-2 : goal.invariant_of-self-2
 invariant_of-self-2 g c =
-    let list = g.Node.NodeLike.list in
-    let items = c.self.inside.nodes.items in
-    let nodes = c.args.self.now.nodes in
-    let k = c.args.node in
-    let same : map list items ≡ nodes = ap (λ t. t.nodes) c.self.view_is in
-    let lt : k < length items = omega (arith, length_view list items nodes same, c.requires.node) in
-    let held : list c.index_mut.result.now ≡ node_at nodes k = node_is list items nodes k c.index_mut.result.now same lt c.index_mut.ensures.value in
-    let here : slice_get (node_at nodes k) c.args.offset ≡ Some c.remove_at-2.result = rw held at c.remove_at-2.ensures.value in
-    let law = rw same at c.self.invariant.lawful in
-    let counted = rw same at c.self.invariant.counted in
-    let count = taken_count g.T.Ord.cmp g.met.T.Ord.total c.remove_at-2.result c.self.inside.size nodes law k c.args.offset c.remove_at-2.result c.requires.node here in
-    rw (returns-clause-nodes g c) (record {
-      lawful = taken_lawful g.T.Ord.cmp g.met.T.Ord.total c.remove_at-2.result c.self.inside.size nodes law k c.args.offset c.remove_at-2.result c.requires.node here;
-      two = c.self.invariant.two;
-      within = c.self.invariant.within;
-      counted = omega (arith, count, counted);
-    })
+    let t = held g.Node.NodeLike.list c.self.inside.nodes.items c.self.view_is c.self.invariant in
+    rw (returns-clause-nodes g c, t.sized) (taken_tree g.met.T.Ord.total t.rule.lawful c.args.node c.args.offset c.requires.node (rw (node_held t c.args.node c.requires.node c.index_mut.ensures.value) at c.remove_at-2.ensures.value) t.rule)

@@ -4,8 +4,8 @@ use Rattle.indexset_core.proofs.CallerLemmas.{read_item, found_has_equal}
 use Rattle.indexset_log.specs.declared.change.ChangeEventUnassigned.TheVariants.{InsertAt, RemoveAt, CreateNode, RemoveNode}
 use Rattle.indexset_log.specs.Nodes.{last_of}
 use Rattle.indexset_log.specs.Table.{node_events}
-use Rattle.indexset_log.proofs.Puts.{gap_written, only_replaced, last_replaced, inner_replaced, node_count, two_written}
-use Rattle.indexset_log.proofs.Theorem.{last_some, on_ok_map}
+use Rattle.indexset_log.proofs.Puts.{gap_written, only_replaced, last_replaced, inner_replaced, node_count}
+use Rattle.indexset_log.proofs.Theorem.{last_some}
 use Rattle.indexset_log.proofs.set.put.add_put.Goals as goal
 use Rattle.indexset_log.proofs.set.put.add_put.Goals.{then-index-last, else-index-last}
 
@@ -15,41 +15,15 @@ add-requires g c =
     let fits = rw (gap_written g.T.Ord.cmp g.met.T.Ord.total c.args.value.now c.args.part.now c.in-Err.index gap) at c.requires.fits in
     omega (arith, fits)
 
-pub add-requires-in-Ok : goal.add-requires-in-Ok
-add-requires-in-Ok g c =
-    let cmp = g.T.Ord.cmp in
-    let n = c.args.part.now in
-    let v = c.args.value.now in
-    let f = rw c.in-Ok.is at c.requires.found in
-    let two : length (node_events cmp n v) ≡ 2 = node_count cmp g.met.T.Ord.total v n ∙ ap (λ b. cond b 2 1) (found_has_equal cmp n v c.in-Ok.field-0 f) in
-    omega (arith, c.requires.fits, two)
+pub add_both-requires : goal.add_both-requires
+add_both-requires g c =
+    let found = found_has_equal g.T.Ord.cmp c.args.part.now c.args.value.now c.in-Ok.field-0 (rw c.in-Ok.is at c.requires.found) in
+    omega (arith, c.requires.fits, node_count g.T.Ord.cmp g.met.T.Ord.total c.args.value.now c.args.part.now ∙ ap (λ b. cond b 2 1) found)
 
-pub add-requires-in-Ok-2 : goal.add-requires-in-Ok-2
-add-requires-in-Ok-2 g c =
-    let cmp = g.T.Ord.cmp in
-    let n = c.args.part.now in
-    let v = c.args.value.now in
-    let f = rw c.in-Ok.is at c.requires.found in
-    let two : length (node_events cmp n v) ≡ 2 = node_count cmp g.met.T.Ord.total v n ∙ ap (λ b. cond b 2 1) (found_has_equal cmp n v c.in-Ok.field-0 f) in
-    omega (arith, c.requires.fits, two, c.in_ok-add-in-Ok.ensures.next)
-
-pub add-requires-in-Ok-2-2 : goal.add-requires-in-Ok-2-2
-add-requires-in-Ok-2-2 g c =
-    let cmp = g.T.Ord.cmp in
-    let n = c.args.part.now in
-    let v = c.args.value.now in
-    let f = rw c.in-Ok-2.is at c.requires.found in
-    let two : length (node_events cmp n v) ≡ 2 = node_count cmp g.met.T.Ord.total v n ∙ ap (λ b. cond b 2 1) (found_has_equal cmp n v c.in-Ok-2.index f) in
-    omega (arith, c.requires.fits, two)
-
-pub add-requires-in-Ok-2-3 : goal.add-requires-in-Ok-2-3
-add-requires-in-Ok-2-3 g c =
-    let cmp = g.T.Ord.cmp in
-    let n = c.args.part.now in
-    let v = c.args.value.now in
-    let f = rw c.in-Ok-2.is at c.requires.found in
-    let two : length (node_events cmp n v) ≡ 2 = node_count cmp g.met.T.Ord.total v n ∙ ap (λ b. cond b 2 1) (found_has_equal cmp n v c.in-Ok-2.index f) in
-    omega (arith, c.requires.fits, two, c.in_ok-add-in-Ok-2.ensures.next)
+pub add_both-requires-in-Ok-2 : goal.add_both-requires-in-Ok-2
+add_both-requires-in-Ok-2 g c =
+    let found = found_has_equal g.T.Ord.cmp c.args.part.now c.args.value.now c.in-Ok-2.index (rw c.in-Ok-2.is at c.requires.found) in
+    omega (arith, c.requires.fits, node_count g.T.Ord.cmp g.met.T.Ord.total c.args.value.now c.args.part.now ∙ ap (λ b. cond b 2 1) found)
 
 pub returns-in-Err-clause-events : goal.returns-in-Err-clause-events
 returns-in-Err-clause-events g c =
@@ -65,8 +39,8 @@ returns-in-Err-clause-events g c =
     let events : node_events cmp n v ≡ InsertAt c.in_ok-max_value.max_value c.in_ok-copy.copy i ∷ [] = gap_written cmp g.met.T.Ord.total v n i gap ∙ rw (name, copy) refl in
     rw events c.add.ensures.events
 
-pub returns-in_ok-add-in-Ok-clause-events : goal.returns-in_ok-add-in-Ok-clause-events
-returns-in_ok-add-in-Ok-clause-events g c =
+pub returns-in-Ok-clause-events : goal.returns-in-Ok-clause-events
+returns-in-Ok-clause-events g c =
     let cmp = g.T.Ord.cmp in
     let n = c.args.part.now in
     let v = c.args.value.now in
@@ -79,10 +53,10 @@ returns-in_ok-add-in-Ok-clause-events g c =
     let name : c.in_ok-max_value.max_value ≡ y = c.requires.clones _ _ c.in_ok-max_value.ensures.cases in
     let copy : c.in_ok-copy.copy ≡ v = c.requires.clones _ _ c.in_ok-copy.ensures.cases in
     let events : node_events cmp n v ≡ RemoveNode c.in_ok-max_value.max_value ∷ CreateNode c.in_ok-copy.copy ∷ [] = only_replaced cmp g.met.T.Ord.total v n i y c.requires.ascending f here one ∙ rw (name, copy) refl in
-    on_ok_map c.add-in-Ok-2.result c.add-in-Ok-2.ensures.events (λ second. rw events (two_written c.args.log.now.next c.args.log.now.events.items c.add-in-Ok.new.self.events.items c.add-in-Ok-2.new.self.events.items c.add-in-Ok.new.self.next (RemoveNode c.in_ok-max_value.max_value) (CreateNode c.in_ok-copy.copy) c.in_ok-add-in-Ok.ensures.events c.in_ok-add-in-Ok.ensures.next second))
+    rw events c.add_both.ensures.events
 
-pub returns-in_ok-add-in-Ok-2-clause-events : goal.returns-in_ok-add-in-Ok-2-clause-events
-returns-in_ok-add-in-Ok-2-clause-events g c =
+pub returns-in_ok-name-in-Ok-2-clause-events : goal.returns-in_ok-name-in-Ok-2-clause-events
+returns-in_ok-name-in-Ok-2-clause-events g c =
     let cmp = g.T.Ord.cmp in
     let o = g.met.T.Ord.total in
     let n = c.args.part.now in
@@ -111,4 +85,4 @@ returns-in_ok-add-in-Ok-2-clause-events g c =
           let same : z ≡ last_of n v = sym (last_some n v z end) in
           inner_replaced cmp o v n i x c.requires.ascending f here more (λ e. w.if-index-last.false (omega (arith, e))) ∙ rw (max, old, name, same, copy) refl
     ] in
-    on_ok_map c.add-in-Ok-2-3.result c.add-in-Ok-2-3.ensures.events (λ second. rw events (two_written c.args.log.now.next c.args.log.now.events.items c.add-in-Ok-2-2.new.self.events.items c.add-in-Ok-2-3.new.self.events.items c.add-in-Ok-2-2.new.self.next (RemoveAt c.in_ok-max_value.max_value c.in_ok-old-in-Ok-2.old i) (InsertAt c.in_ok-name-in-Ok-2.name c.in_ok-copy.copy i) c.in_ok-add-in-Ok-2.ensures.events c.in_ok-add-in-Ok-2.ensures.next second))
+    rw events c.add_both-in-Ok-2.ensures.events

@@ -1,40 +1,34 @@
-use Rattle.std.proofs.Common.{◌≡◌, Bool, not, length, filter, get_or, ◌<◌, Bor, rules, arith, ap, ◌∙◌}
+use Rattle.std.proofs.Common.{◌≡◌, Vec, Global, Bool, not, length, filter, get_or, Bor, rules, arith, ap, ◌∙◌}
 use Rattle.std.proofs.lemmas.Fn.{filter_same}
 use Rattle.std.proofs.lemmas.List.{get_or_default}
 use Rattle.std.specs.Range.Bound.{bound_map}
 use Rattle.indexset_core.specs.Bounds.{is_within}
 use Rattle.indexset_core.specs.Nodes.{joined}
 use Rattle.indexset_log.specs.Made.{outside}
-use Rattle.indexset_log.proofs.Ranges.{turn_nodes, turn_count, turn_fits, all_turned, turned_take}
+use Rattle.indexset_log.proofs.Ranges.{Turned, turned, all_turned, turned_take}
+use Rattle.indexset_log.proofs.set.remove_range.remove_within.Given.{Over}
+use Rattle.indexset_log.proofs.set.remove_range.remove_within.Goals.{After-retain}
 use Rattle.indexset_log.proofs.set.remove_range.remove_within.Goals as goal
+
+-- a turn of the loop
+turn : (g : Over) (c : After-retain g) → Turned (λ (v : Vec g.row.T.Denot Global). v.items) (λ x. not (is_within g.T.Ord.cmp (bound_map (λ (v : Bor g.row.T.Denot). v.now) c.args.range.0) (bound_map (λ (v : Bor g.row.T.Denot). v.now) c.args.range.1) x)) c.args.nodes.now c.loop-node.nodes c.loop-node.node-index c.retain.new.self
+turn g c =
+    let at = c.loop-node in
+    let keep : g.row.T.Denot → Bool = λ x. not (is_within g.T.Ord.cmp (bound_map (λ (v : Bor g.row.T.Denot). v.now) c.args.range.0) (bound_map (λ (v : Bor g.row.T.Denot). v.now) c.args.range.1) x) in
+    let was = get_or at.nodes at.node-index c.node-item.result in
+    let read : was ≡ get_or at.nodes at.node-index was = get_or_default at.nodes at.node-index c.node-item.result was (omega arith) in
+    let made : c.retain.new.self.items ≡ filter keep was.items = filter_same _ keep _ (λ x b f2 k. search rules) _ _ c.retain.ensures.filtered in
+    turned (λ v. v.items) keep c.args.nodes.now at.nodes at.node-index was c.retain.new.self c.loop-node-test.true at.auto.nodes at.invariant.nodes read made
 
 pub overflow_add-left : goal.overflow_add-left
 overflow_add-left g c =
-    let at = c.loop-node in
-    let start = bound_map (λ (v : Bor g.row.T.Denot). v.now) c.args.range.0 in
-    let end = bound_map (λ (v : Bor g.row.T.Denot). v.now) c.args.range.1 in
-    let keep : g.row.T.Denot → Bool = λ x. not (is_within g.T.Ord.cmp start end x) in
-    let was = get_or at.nodes at.node-index c.node-item.result in
-    let within : at.node-index < length at.nodes = omega arith in
-    let read : was ≡ get_or at.nodes at.node-index was = get_or_default at.nodes at.node-index c.node-item.result was within in
-    let made : c.retain.new.self.items ≡ filter keep was.items = filter_same _ keep _ (λ x b f2 k. search rules) _ _ c.retain.ensures.filtered in
-    let fits = turn_fits (λ v. v.items) keep c.args.nodes.now at.nodes at.node-index was c.retain.new.self c.loop-node-test.true at.auto.nodes at.invariant.nodes read made in
-    record { fits = omega (arith, fits, at.invariant.count, c.len-left.ensures, c.retain.new.self.ok, c.requires) }
+    let t = turn g (goal.at.overflow_add-left g c).After-retain in
+    record { fits = omega (arith, t.fits, c.loop-node.invariant.count, c.len-left.ensures, c.retain.new.self.ok, c.requires) }
 
 pub loop-node-preserved : goal.loop-node-preserved
 loop-node-preserved g c =
-    let at = c.loop-node in
-    let start = bound_map (λ (v : Bor g.row.T.Denot). v.now) c.args.range.0 in
-    let end = bound_map (λ (v : Bor g.row.T.Denot). v.now) c.args.range.1 in
-    let keep : g.row.T.Denot → Bool = λ x. not (is_within g.T.Ord.cmp start end x) in
-    let was = get_or at.nodes at.node-index c.node-item.result in
-    let within : at.node-index < length at.nodes = omega arith in
-    let read : was ≡ get_or at.nodes at.node-index was = get_or_default at.nodes at.node-index c.node-item.result was within in
-    let made : c.retain.new.self.items ≡ filter keep was.items = filter_same _ keep _ (λ x b f2 k. search rules) _ _ c.retain.ensures.filtered in
-    record {
-      nodes = turn_nodes (λ v. v.items) keep c.args.nodes.now at.nodes at.node-index was c.retain.new.self c.loop-node-test.true at.auto.nodes at.invariant.nodes read made;
-      count = omega (arith, turn_count (λ v. v.items) keep c.args.nodes.now at.nodes at.node-index was c.retain.new.self c.loop-node-test.true at.auto.nodes at.invariant.nodes read made, at.invariant.count, c.len-left.ensures, c.retain.new.self.ok);
-    }
+    let t = turn g (goal.at.loop-node-preserved g c).After-retain in
+    record { nodes = t.nodes_are; count = omega (arith, t.count, c.loop-node.invariant.count, c.len-left.ensures, c.retain.new.self.ok) }
 
 pub returns-clause-nodes : goal.returns-clause-nodes
 returns-clause-nodes g c =

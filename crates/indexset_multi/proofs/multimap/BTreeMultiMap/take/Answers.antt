@@ -12,22 +12,19 @@ returns-in_err-pair-in-Some-clause-refusal g c =
 pub invariant_of-self-in-Some : goal.invariant_of-self-in-Some
 invariant_of-self-in-Some g c =
     let done = c.in_ok-pair-in-Some.ensures in
-    let two = rw c.maximum_node_size-size.ensures.value at c.maximum_node_size-size.ensures.two in
-    let taken = taken g.K.Ord.cmp g.met.K.Ord.total c.self.view_is c.node_count-nodes.ensures.lawful c.in-Some.is c.requires done.item two done.replay in
+    let taken = taken g.K.Ord.cmp g.met.K.Ord.total c.self.view_is c.node_count-nodes.ensures.lawful c.in-Some.is c.requires done.item done.replay in
     taken.below c.self.inside.pair_next c.self.invariant
 
 pub returns-in_ok-pair-in-Some-clause-contents : goal.returns-in_ok-pair-in-Some-clause-contents
 returns-in_ok-pair-in-Some-clause-contents g c =
     let done = c.in_ok-pair-in-Some.ensures in
-    let two = rw c.maximum_node_size-size.ensures.value at c.maximum_node_size-size.ensures.two in
-    let taken = taken g.K.Ord.cmp g.met.K.Ord.total c.self.view_is c.node_count-nodes.ensures.lawful c.in-Some.is c.requires done.item two done.replay in
+    let taken = taken g.K.Ord.cmp g.met.K.Ord.total c.self.view_is c.node_count-nodes.ensures.lawful c.in-Some.is c.requires done.item done.replay in
     taken.contents
 
 pub returns-in_ok-pair-in-Some-clause-replay : goal.returns-in_ok-pair-in-Some-clause-replay
 returns-in_ok-pair-in-Some-clause-replay g c =
     let done = c.in_ok-pair-in-Some.ensures in
-    let two = rw c.maximum_node_size-size.ensures.value at c.maximum_node_size-size.ensures.two in
-    let taken = taken g.K.Ord.cmp g.met.K.Ord.total c.self.view_is c.node_count-nodes.ensures.lawful c.in-Some.is c.requires done.item two done.replay in
+    let taken = taken g.K.Ord.cmp g.met.K.Ord.total c.self.view_is c.node_count-nodes.ensures.lawful c.in-Some.is c.requires done.item done.replay in
     taken.replayed
 
 pub returns-in_ok-pair-in-Some-clause-next : goal.returns-in_ok-pair-in-Some-clause-next

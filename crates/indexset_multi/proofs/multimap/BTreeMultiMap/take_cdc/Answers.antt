@@ -22,22 +22,19 @@ returns-in_err-pair-in-Some-clause-no_event g c =
 pub invariant_of-self-in-Some : goal.invariant_of-self-in-Some
 invariant_of-self-in-Some g c =
     let done = c.in_ok-pair-in-Some.ensures in
-    let two = rw c.maximum_node_size-size.ensures.value at c.maximum_node_size-size.ensures.two in
-    let taken = taken g.K.Ord.cmp g.met.K.Ord.total c.self.view_is c.node_count-nodes.ensures.lawful c.in-Some.is c.requires.place done.item two (rw done.events at done.replay) in
+    let taken = taken g.K.Ord.cmp g.met.K.Ord.total c.self.view_is c.node_count-nodes.ensures.lawful c.in-Some.is c.requires.place done.item (rw done.events at done.replay) in
     taken.below c.self.inside.pair_next c.self.invariant
 
 pub returns-in_ok-pair-in-Some-clause-contents : goal.returns-in_ok-pair-in-Some-clause-contents
 returns-in_ok-pair-in-Some-clause-contents g c =
     let done = c.in_ok-pair-in-Some.ensures in
-    let two = rw c.maximum_node_size-size.ensures.value at c.maximum_node_size-size.ensures.two in
-    let taken = taken g.K.Ord.cmp g.met.K.Ord.total c.self.view_is c.node_count-nodes.ensures.lawful c.in-Some.is c.requires.place done.item two (rw done.events at done.replay) in
+    let taken = taken g.K.Ord.cmp g.met.K.Ord.total c.self.view_is c.node_count-nodes.ensures.lawful c.in-Some.is c.requires.place done.item (rw done.events at done.replay) in
     taken.contents
 
 pub returns-in_ok-pair-in-Some-clause-events : goal.returns-in_ok-pair-in-Some-clause-events
 returns-in_ok-pair-in-Some-clause-events g c =
     let done = c.in_ok-pair-in-Some.ensures in
-    let two = rw c.maximum_node_size-size.ensures.value at c.maximum_node_size-size.ensures.two in
-    let taken = taken g.K.Ord.cmp g.met.K.Ord.total c.self.view_is c.node_count-nodes.ensures.lawful c.in-Some.is c.requires.place done.item two (rw done.events at done.replay) in
+    let taken = taken g.K.Ord.cmp g.met.K.Ord.total c.self.view_is c.node_count-nodes.ensures.lawful c.in-Some.is c.requires.place done.item (rw done.events at done.replay) in
     done.events ∙ taken.told
 
 pub returns-in_ok-pair-in-Some-clause-numbered : goal.returns-in_ok-pair-in-Some-clause-numbered

@@ -1,7 +1,7 @@
 use Rattle.std.proofs.Common.{◌≡◌, true, refl, ap, sym, ◌∙◌}
 use Rattle.indexset_core.specs.Nodes.{joined}
 use Rattle.indexset_core.specs.Order.{has_equal}
-use Rattle.indexset_log.proofs.CallerLemmas.{checked_there}
+use Rattle.indexset_log.specs.Table.{checked_put_events}
 use Rattle.indexset_bench.proofs.LoggedSets.{enough, few_checked, few_removing}
 use Rattle.indexset_bench.proofs.logged.set.BTreeSetLogged.act.Goals as goal
 
@@ -22,14 +22,16 @@ returns-in-Some-clause-fits g c =
     rw c.in-PutChecked.is (enough c.args.self.now.next _ c.in_ok-events-in-PutChecked.ensures.fits)
 
 pub returns-in-None-clause-events : goal.returns-in-None-clause-events
+unfolding checked_put_events
 returns-in-None-clause-events g c =
     let there : has_equal g.T.Ord.cmp (joined c.args.self.now.nodes) c.in-PutChecked.value ≡ true = sym (rw c.in-None.is at c.in_ok-events-in-PutChecked.ensures.answer) in
-    rw (c.in-PutChecked.is, checked_there g.T.Ord.cmp c.args.self.now.size c.args.self.now.nodes c.in-PutChecked.value there) c.new.ensures.items
+    rw (c.in-PutChecked.is, there) c.new.ensures.items
 
 pub returns-in-None-clause-replay : goal.returns-in-None-clause-replay
+unfolding checked_put_events
 returns-in-None-clause-replay g c =
     let there : has_equal g.T.Ord.cmp (joined c.args.self.now.nodes) c.in-PutChecked.value ≡ true = sym (rw c.in-None.is at c.in_ok-events-in-PutChecked.ensures.answer) in
-    let same = rw (checked_there g.T.Ord.cmp c.args.self.now.size c.args.self.now.nodes c.in-PutChecked.value there) at c.in_ok-events-in-PutChecked.ensures.replay in
+    let same = rw (there) at c.in_ok-events-in-PutChecked.ensures.replay in
     rw c.new.ensures.items same
 
 pub returns-in-None-clause-few : goal.returns-in-None-clause-few

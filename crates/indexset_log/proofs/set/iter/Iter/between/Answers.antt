@@ -1,6 +1,5 @@
-use Rattle.std.proofs.Common.{◌≡◌, ◌+◌, ◌<◌, ◌≤◌, ◌++◌, length, map, ap, ◌∙◌, arith}
+use Rattle.std.proofs.Common.{◌∙◌, arith}
 use Rattle.std.proofs.lemmas.Grind.{common_steps}
-use Rattle.indexset_core.specs.Nodes.{joined}
 use Rattle.indexset_log.proofs.Places.{parts_fit, walk_none, walk_back, walk_in, walk_across}
 use Rattle.indexset_log.proofs.set.iter.Iter.between.Goals as goal
 use Rattle.indexset_log.proofs.set.iter.Iter.between.Goals.{then-is_empty-via-then-is_empty, then-is_empty-via-else-is_empty+then-from-to}

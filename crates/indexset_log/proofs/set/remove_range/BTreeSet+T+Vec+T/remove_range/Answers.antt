@@ -7,41 +7,37 @@ use Rattle.indexset_core.specs.Nodes.{joined}
 use Rattle.indexset_log.specs.Made.{outside, without_range}
 use Rattle.indexset_log.specs.Nodes.{is_filled}
 use Rattle.indexset_log.proofs.Ranges.{has_items, filled-map, joined_filled, joined-filter, ranged_lawful}
+use Rattle.indexset_log.proofs.set.remove_range.BTreeSet+T+Vec+T.remove_range.Given.{Over}
+use Rattle.indexset_log.proofs.set.remove_range.BTreeSet+T+Vec+T.remove_range.Goals.{After-retain}
 use Rattle.indexset_log.proofs.set.remove_range.BTreeSet+T+Vec+T.remove_range.Goals as goal
 
 pub remove_within-self-inside-requires : goal.remove_within-self-inside-requires
 remove_within-self-inside-requires g c = rw c.as_mut_slice.ensures.value (omega (arith, c.self.invariant.counted))
 
+-- the nodes that are left
+left : (g : Over) (c : After-retain g) → map (λ (v : Vec g.row.T.Denot Global). v.items) c.retain.new.self.items ≡ without_range g.T.Ord.cmp (map (λ v. v.items) c.self.inside.nodes.items) (bound_map (λ (v : Bor g.row.T.Denot). v.now) c.args.range.0) (bound_map (λ (v : Bor g.row.T.Denot). v.now) c.args.range.1)
+left g c =
+    let asked = c.remove_within-self-inside in
+    let written = with_items_is c.self.inside.nodes asked.new.nodes (omega (arith, c.as_mut_slice.ensures.len)) in
+    let kept : c.retain.new.self.items ≡ filter (λ v. not (vec_len v == 0)) asked.new.nodes = filter_same _ (λ v. not (vec_len v == 0)) _ (λ x b f2 k. search rules) _ _ c.retain.ensures.filtered ∙ ap (λ q. filter (λ v. not (vec_len v == 0)) q) written in
+    ap (λ q. map (λ (v : Vec g.row.T.Denot Global). v.items) q) kept ∙ (filled-map (λ v. v.items) (λ v. not (vec_len v == 0)) (λ v. has_items (vec_len v) v.items (omega (arith, v.ok))) asked.new.nodes ∙ ap (filter is_filled) (rw c.as_mut_slice.ensures.value at asked.ensures.nodes))
+
 pub invariant_of-self : goal.invariant_of-self
 invariant_of-self g c =
     let asked = c.remove_within-self-inside in
+    let held = map (λ (v : Vec g.row.T.Denot Global). v.items) c.self.inside.nodes.items in
     let start = bound_map (λ (v : Bor g.row.T.Denot). v.now) c.args.range.0 in
     let end = bound_map (λ (v : Bor g.row.T.Denot). v.now) c.args.range.1 in
-    let held = map (λ (v : Vec g.row.T.Denot Global). v.items) c.self.inside.nodes.items in
-    let written = with_items_is c.self.inside.nodes asked.new.nodes (omega (arith, c.as_mut_slice.ensures.len)) in
-    let kept : c.retain.new.self.items ≡ filter (λ v. not (vec_len v == 0)) asked.new.nodes = filter_same _ (λ v. not (vec_len v == 0)) _ (λ x b f2 k. search rules) _ _ c.retain.ensures.filtered ∙ ap (λ q. filter (λ v. not (vec_len v == 0)) q) written in
-    let lost : map (λ v. v.items) asked.new.nodes ≡ map (outside g.T.Ord.cmp start end) held = rw c.as_mut_slice.ensures.value at asked.ensures.nodes in
-    let left : map (λ v. v.items) c.retain.new.self.items ≡ without_range g.T.Ord.cmp held start end = ap (λ q. map (λ (v : Vec g.row.T.Denot Global). v.items) q) kept ∙ (filled-map (λ v. v.items) (λ v. not (vec_len v == 0)) (λ v. has_items (vec_len v) v.items (omega (arith, v.ok))) asked.new.nodes ∙ ap (filter is_filled) lost) in
-    let keep : g.row.T.Denot → Bool = λ x. not (is_within g.T.Ord.cmp start end x) in
-    rw left (record {
-      lawful = ranged_lawful g.T.Ord.cmp keep c.self.inside.size held c.self.invariant.lawful;
+    rw (left g (goal.at.invariant_of-self g c).After-retain) (record {
+      lawful = ranged_lawful g.T.Ord.cmp (λ x. not (is_within g.T.Ord.cmp start end x)) c.self.inside.size held c.self.invariant.lawful;
       two = c.self.invariant.two;
       within = c.self.invariant.within;
-      counted = asked.ensures.count ∙ ap (λ q. length q) (ap joined lost ∙ sym (joined_filled (map (outside g.T.Ord.cmp start end) held)));
+      counted = asked.ensures.count ∙ ap (λ q. length q) (ap joined (rw c.as_mut_slice.ensures.value at asked.ensures.nodes) ∙ sym (joined_filled (map (outside g.T.Ord.cmp start end) held)));
     })
 
 pub returns-clause-nodes : goal.returns-clause-nodes
 returns-clause-nodes g c =
-    let asked = c.remove_within-self-inside in
-    let start = bound_map (λ (v : Bor g.row.T.Denot). v.now) c.args.range.0 in
-    let end = bound_map (λ (v : Bor g.row.T.Denot). v.now) c.args.range.1 in
-    let held = map (λ (v : Vec g.row.T.Denot Global). v.items) c.self.inside.nodes.items in
-    let written = with_items_is c.self.inside.nodes asked.new.nodes (omega (arith, c.as_mut_slice.ensures.len)) in
-    let kept : c.retain.new.self.items ≡ filter (λ v. not (vec_len v == 0)) asked.new.nodes = filter_same _ (λ v. not (vec_len v == 0)) _ (λ x b f2 k. search rules) _ _ c.retain.ensures.filtered ∙ ap (λ q. filter (λ v. not (vec_len v == 0)) q) written in
-    let lost : map (λ v. v.items) asked.new.nodes ≡ map (outside g.T.Ord.cmp start end) held = rw c.as_mut_slice.ensures.value at asked.ensures.nodes in
-    let left : map (λ v. v.items) c.retain.new.self.items ≡ without_range g.T.Ord.cmp held start end = ap (λ q. map (λ (v : Vec g.row.T.Denot Global). v.items) q) kept ∙ (filled-map (λ v. v.items) (λ v. not (vec_len v == 0)) (λ v. has_items (vec_len v) v.items (omega (arith, v.ok))) asked.new.nodes ∙ ap (filter is_filled) lost) in
-    let same : held ≡ c.args.self.now.nodes = ap (λ t. t.nodes) c.self.view_is in
-    left ∙ ap (λ q. without_range g.T.Ord.cmp q start end) same
+    left g (goal.at.returns-clause-nodes g c).After-retain ∙ ap (λ t. without_range g.T.Ord.cmp t.nodes (bound_map (λ (v : Bor g.row.T.Denot). v.now) c.args.range.0) (bound_map (λ (v : Bor g.row.T.Denot). v.now) c.args.range.1)) c.self.view_is
 
 pub returns-clause-contents : goal.returns-clause-contents
 returns-clause-contents g c =

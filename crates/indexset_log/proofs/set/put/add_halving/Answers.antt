@@ -1,0 +1,16 @@
+use Rattle.std.proofs.Common.{◌-◌, length, arith}
+use Rattle.std.proofs.lemmas.Bool.{eq-eqb}
+use Rattle.indexset_core.proofs.CallerLemmas.{read_item}
+use Rattle.indexset_log.proofs.Theorem.{last_some}
+use Rattle.indexset_log.proofs.set.put.add_halving.Goals as goal
+
+pub add-requires : goal.add-requires
+add-requires g c =
+    omega (arith, rw (eq-eqb (length c.args.items.now) c.args.size c.if-items-size.true) at c.requires.fits)
+
+pub returns-in_ok-add-clause-events : goal.returns-in_ok-add-clause-events
+returns-in_ok-add-clause-events g c v =
+    let n = c.args.items.now in
+    let y = c.index-items-items.result in
+    let last = read_item n (length n - 1) y (omega (arith, c.requires.some)) c.index-items-items.is in
+    rw (eq-eqb (length n) c.args.size c.if-items-size.true, last_some n v y last, ← c.requires.clones _ _ c.in_ok-clone.ensures.cases) c.in_ok-add.ensures.events
