@@ -1,12 +1,17 @@
 pub mod CommandRuns
 pub mod Digits
 pub mod Lines
+pub mod LoggedMaps
 pub mod LoggedRuns
 pub mod LoggedSets
 pub mod Meanings
+pub mod PairChanges
+pub mod PairMeanings
 pub mod Pieces
 pub mod ReplicaAttach
 pub mod ReplicaEdits
 pub mod ReplicaNodes
 pub mod ReplicaSteps
 pub mod Runs
+pub mod Spellings
+pub mod Written

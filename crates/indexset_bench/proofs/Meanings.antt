@@ -1,5 +1,5 @@
 -- `meaning` gives the command that a line spells.
-use Rattle.std.proofs.Common.{take, take-append-drop, Option, None, Some, MatchOption, ◌≡◌, ◌≢◌, ℕ, ◌+◌, ◌*◌, ◌<◌, ◌^◌, Bool, true, false, cond, ◌&&◌, List, [], ◌∷◌, ◌++◌, drop, get_or, length, refl, sym, ap, subst, ◌∙◌, arith}
+use Rattle.std.proofs.Common.{take, take-append-drop, Option, None, Some, MatchOption, ◌≡◌, ◌≢◌, ℕ, ◌+◌, ◌*◌, ◌<◌, ◌^◌, true, false, List, [], ◌∷◌, ◌++◌, drop, get_or, length, refl, sym, ap, subst, ◌∙◌, arith}
 use lib.Chars.{codes}
 use Rattle.std.proofs.Math.Seq.{take-append_seam, drop-append_seam}
 use Rattle.std.specs.List.{find}
@@ -9,47 +9,12 @@ use Rattle.std.specs.Str.{bytes_eq}
 use Rattle.std.proofs.lemmas.Slice.Eq.{bytes_eq-Decides}
 use Rattle.std.proofs.lemmas.Fmt.{decimal_is_IsNumeral, decimal_injective}
 use Rattle.std.proofs.lemmas.Bool.{ltb-true, lt-ltb}
+use Rattle.indexset_bench.proofs.Spellings.{found_spelled, spelled_found, spells}
 use Rattle.indexset_bench.specs.declared.command.Command.{Command}
 use Rattle.indexset_bench.specs.declared.command.Command.TheVariants.{Add, Del, Has, Rank, At, Len}
 use Rattle.indexset_bench.specs.Command.{spelling, FitsU64, fits_u64, candidates, meaning}
 
--- ---- a search for the one that passes
-
--- what `find` finds passes the test
-find_passes : {X : Type 0} (p : X → Bool) (xs : List X) (x : X) → find p xs ≡ Some x → p x ≡ true
-find_passes p [] x found = cc
-find_passes {X} p (y ∷ ys) x found = at (p y) refl (find_passes p ys x) found
-  where
-    at : (b : Bool) → p y ≡ b → (find p ys ≡ Some x → p x ≡ true) → cond b (Some y) (find p ys) ≡ Some x → p x ≡ true
-    at true e rest h = ap p (cc) ∙ e
-    at false e rest h = rest h
-
--- a member that passes keeps the search from finding nothing
-find_some : {X : Type 0} (p : X → Bool) (front back : List X) (x : X) → p x ≡ true → find p (front ++ x ∷ back) ≢ None
-find_some p [] back x pass none = let e : cond (p x) (Some x) (find p back) ≡ Some x = ap (λ b. cond b (Some x) (find p back)) pass in cc
-find_some {X} p (y ∷ ys) back x pass none = at (p y) (find_some p ys back x pass) none
-  where
-    at : (b : Bool) → find p (ys ++ x ∷ back) ≢ None → cond b (Some y) (find p (ys ++ x ∷ back)) ≡ None → ⊥
-    at true rest h = cc
-    at false rest h = rest h
-
--- the one that passes is found
-find_one : {X : Type 0} (p : X → Bool) (front back : List X) (x : X) → p x ≡ true → ((y : X) → p y ≡ true → y ≡ x) → find p (front ++ x ∷ back) ≡ Some x
-find_one {X} p front back x pass only = at (find p (front ++ x ∷ back)) refl
-  where
-    at : (o : Option X) → find p (front ++ x ∷ back) ≡ o → o ≡ Some x
-    at None e = absurd (find_some p front back x pass e)
-    at (Some y) e = ap Some (only y (find_passes p (front ++ x ∷ back) y e))
-
 -- ---- spellings
-
-both : (a b : Bool) → (a && b) ≡ true → (a ≡ true) × (b ≡ true)
-both true true e = (refl, refl)
-both true false e = cc
-both false b e = cc
-
-both-true : (a b : Bool) → a ≡ true → b ≡ true → (a && b) ≡ true
-both-true a b p q = ap (λ x. x && b) p ∙ q
 
 FitsU64-from_test : (c : Command) → fits_u64 c ≡ true → FitsU64 c
 FitsU64-from_test (Add n) e = grind (arith, ltb-true)
@@ -82,16 +47,9 @@ spelling_injective (At m) (At n) p q e = ap At (decimal_injective m n p q (ap (d
 spelling_injective Len Len p q e = refl
 spelling_injective x y p q e = absurd (omega (arith, ap key e))
 
-spells : List ℕ → Command → Bool
-spells line c = fits_u64 c && bytes_eq line (spelling c)
-
-spells-sound : (line : List ℕ) (c : Command) → spells line c ≡ true → (line ≡ spelling c) × FitsU64 c
-unfolding spells
-spells-sound line c e = let tests = both (fits_u64 c) (bytes_eq line (spelling c)) e in ((bytes_eq-Decides line (spelling c)).0 tests.1, FitsU64-from_test c tests.0)
-
 pub sound : (line : List ℕ) (c : Command) → meaning line ≡ Some c → (line ≡ spelling c) × FitsU64 c
-unfolding meaning spells
-sound line c e = spells-sound line c (find_passes (spells line) (candidates line) c e)
+unfolding meaning
+sound line c e = found_spelled spelling fits_u64 FitsU64 FitsU64-from_test test-from_FitsU64 line (candidates line) c e
 
 -- the candidates of a number
 abbrev each : ℕ → List Command
@@ -107,12 +65,11 @@ placed (At n) h = let v = (decimal_is_IsNumeral n h).1 in (Add n ∷ Del n ∷ H
 placed Len h = (Add 0 ∷ Del 0 ∷ Has 0 ∷ Rank 0 ∷ At 0 ∷ [], [], refl)
 
 pub complete : (line : List ℕ) (c : Command) → line ≡ spelling c → FitsU64 c → meaning line ≡ Some c
-unfolding meaning spells
+unfolding meaning
 complete line c e h =
     let place = placed c h in
-    ap meaning e ∙ ap (find (spells (spelling c))) place.2
-    ∙ find_one (spells (spelling c)) place.0 place.1 c (both-true (fits_u64 c) (bytes_eq (spelling c) (spelling c)) (test-from_FitsU64 c h) ((bytes_eq-Decides (spelling c) (spelling c)).1 refl))
-    (λ d pass. let told = spells-sound (spelling c) d pass in spelling_injective d c told.1 h (sym told.0))
+    ap meaning e ∙ ap (find (spells spelling fits_u64 FitsU64 FitsU64-from_test test-from_FitsU64 (spelling c))) place.2
+    ∙ spelled_found spelling fits_u64 FitsU64 FitsU64-from_test test-from_FitsU64 spelling_injective c h place.0 place.1
 
 -- the command that the line spells, or none where it spells none
 abbrev Means : List ℕ → Option Command → Type 0
@@ -176,7 +133,7 @@ same_word x c digits e = absurd (omega (arith, ap key e))
 abbrev pub IsAfter : List ℕ → List ℕ → List ℕ → Type 0
 IsAfter p line digits = (bytes_eq (take (length p) line) p ≡ true) × (digits ≡ drop (length p) line) × (length digits + length p ≡ length line)
 
-is_append : (p line digits : List ℕ) → IsAfter p line digits → line ≡ p ++ digits
+pub is_append : (p line digits : List ℕ) → IsAfter p line digits → line ≡ p ++ digits
 is_append p line digits cut =
     sym (take-append-drop (length p) line) ∙ ap (λ l. l ++ drop (length p) line) ((bytes_eq-Decides (take (length p) line) p).0 cut.0) ∙ ap (λ l. p ++ l) (sym cut.1)
 

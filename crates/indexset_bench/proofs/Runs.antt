@@ -1,35 +1,34 @@
 -- How a run goes on, line by line.
-use Rattle.std.proofs.Common.{Option, Bool, ◌≡◌, ◌≢◌, ℕ, List, [], ◌∷◌, ◌++◌, refl, sym, ap, subst, ◌∙◌, arith, append_assoc, append-nil}
+use Rattle.std.proofs.Common.{Option, Bool, ◌≡◌, ◌≢◌, ℕ, ◌<◌, List, [], ◌∷◌, ◌++◌, refl, sym, ap, subst, ◌∙◌, arith, append_assoc, append-nil}
 use Rattle.std.proofs.lemmas.List.Elements.{All-nil}
+use Rattle.std.below.core.specs.declared.int.u64.TheConstants.{MAX}
 use Rattle.std.specs.Io.KnownBytes.{Appends, Consumes, Keeps}
 use Rattle.std.proofs.KnownBytes.{Consumes-nil, Appends-nil, Consumes-trans, Appends-trans, Appends-kept}
 use Rattle.std.proofs.Transfers.{StopsAt-of_All, StopsAt-append}
 use Rattle.indexset_bench.specs.declared.line.Part.{Part}
 use Rattle.indexset_bench.specs.declared.line.Part.TheVariants.{Whole, Last, End}
-use Rattle.indexset_bench.specs.Command.{meaning}
 use Rattle.indexset_bench.specs.Lines.{IsLinePart, IsWhole, lines_of}
 use Rattle.indexset_bench.specs.Reading.{Reads}
-use Rattle.indexset_bench.specs.Reply.{contents_after}
-use Rattle.indexset_bench.specs.Run.{AnswersAll, AnswersWholeLines}
-use Rattle.indexset_bench.specs.Text.{replies_of, contents_of, reply_line, text_of}
-use Rattle.indexset_bench.proofs.Lines.{lines_of-end, lines_of-last, lines_of-append, IsWhole-end, replies_of-append, contents_of-append}
+use Rattle.indexset_bench.specs.Run.{AnswersAll, AnswersWholeLines, LacksNumbers}
+use Rattle.indexset_bench.specs.Text.{Stores, no_stores, replies_of, reply_line, stores_after, stores_of, text_of}
+use Rattle.indexset_bench.proofs.Lines.{lines_of-end, lines_of-last, lines_of-append, IsWhole-end, replies_of-append, stores_of-append}
 use Rattle.indexset_bench.proofs.Pieces.{at_end-after}
 
--- whole lines were read and answered, and the set holds what they leave
-pub record SoFar (reader reader' writer writer' : Option (List ℕ)) (set : List ℕ) : Type 0 where
+-- whole lines were read and answered, and what is held is what they leave
+pub record SoFar (reader reader' writer writer' : Option (List ℕ)) (held : Stores) : Type 0 where
   pub whole : List ℕ
   pub is_whole : IsWhole whole
   pub read : Consumes reader reader' whole
   pub written : Appends writer writer' (text_of whole)
-  pub held : set ≡ contents_of [] (lines_of whole)
+  pub left : held ≡ stores_of no_stores (lines_of whole)
 
-pub start : (r w : Option (List ℕ)) (set : List ℕ) → set ≡ [] → SoFar r r w w set
-unfolding IsWhole lines_of replies_of contents_of
-start r w set none = record { whole = []; is_whole = λ some. absurd (omega (arith, some)); read = Consumes-nil r; written = Appends-nil w; held = none }
+pub start : (r w : Option (List ℕ)) (held : Stores) → held ≡ no_stores → SoFar r r w w held
+unfolding IsWhole lines_of replies_of stores_of
+start r w held none = record { whole = []; is_whole = λ some. absurd (omega (arith, some)); read = Consumes-nil r; written = Appends-nil w; left = none }
 
 -- the writer was flushed
-pub flushed : (r r1 w w1 w2 : Option (List ℕ)) (set : List ℕ) → SoFar r r1 w w1 set → Keeps w1 w2 → SoFar r r1 w w2 set
-flushed r r1 w w1 w2 set far kept = record { whole = far.whole; is_whole = far.is_whole; read = far.read; written = Appends-kept w w1 w2 (text_of far.whole) far.written kept; held = far.held }
+pub flushed : (r r1 w w1 w2 : Option (List ℕ)) (held : Stores) → SoFar r r1 w w1 held → Keeps w1 w2 → SoFar r r1 w w2 held
+flushed r r1 w w1 w2 held far kept = record { whole = far.whole; is_whole = far.is_whole; read = far.read; written = Appends-kept w w1 w2 (text_of far.whole) far.written kept; left = far.left }
 
 -- nothing was read, and nothing answered
 pub nothing_read : (r w : Option (List ℕ)) → AnswersWholeLines IsLinePart r r w w
@@ -45,47 +44,47 @@ nothing_read r w = record {
 
 -- ---- whole lines and one more
 
-module _ (whole part line set : List ℕ) (is_whole : IsWhole whole) (one : lines_of part ≡ line ∷ []) (held : set ≡ contents_of [] (lines_of whole)) where
-  text_of-more : text_of (whole ++ part) ≡ text_of whole ++ reply_line set line
+module _ (whole part line : List ℕ) (held : Stores) (is_whole : IsWhole whole) (one : lines_of part ≡ line ∷ []) (left : held ≡ stores_of no_stores (lines_of whole)) where
+  text_of-more : text_of (whole ++ part) ≡ text_of whole ++ reply_line held line
   unfolding replies_of
   text_of-more =
-      ap (replies_of []) (lines_of-append whole part is_whole ∙ ap (λ ls. lines_of whole ++ ls) one)
-      ∙ replies_of-append [] (lines_of whole) (line ∷ [])
-      ∙ ap (λ t. text_of whole ++ t) (append-nil (reply_line (contents_of [] (lines_of whole)) line) ∙ ap (λ s. reply_line s line) (sym held))
+      ap (replies_of no_stores) (lines_of-append whole part is_whole ∙ ap (λ ls. lines_of whole ++ ls) one)
+      ∙ replies_of-append no_stores (lines_of whole) (line ∷ [])
+      ∙ ap (λ t. text_of whole ++ t) (append-nil (reply_line (stores_of no_stores (lines_of whole)) line) ∙ ap (λ s. reply_line s line) (sym left))
 
-  contents_of-more : contents_of [] (lines_of (whole ++ part)) ≡ contents_after set (meaning line)
-  unfolding contents_of
-  contents_of-more =
-      ap (contents_of []) (lines_of-append whole part is_whole ∙ ap (λ ls. lines_of whole ++ ls) one)
-      ∙ contents_of-append [] (lines_of whole) (line ∷ [])
-      ∙ ap (λ s. contents_after s (meaning line)) (sym held)
+  stores_of-more : stores_of no_stores (lines_of (whole ++ part)) ≡ stores_after held line
+  unfolding stores_of
+  stores_of-more =
+      ap (stores_of no_stores) (lines_of-append whole part is_whole ∙ ap (λ ls. lines_of whole ++ ls) one)
+      ∙ stores_of-append no_stores (lines_of whole) (line ∷ [])
+      ∙ ap (λ s. stores_after s line) (sym left)
 
-module _ (r r1 r2 w w1 w2 : Option (List ℕ)) (set line : List ℕ) (far : SoFar r r1 w w1 set) where
+module _ (r r1 r2 w w1 w2 : Option (List ℕ)) (held : Stores) (line : List ℕ) (far : SoFar r r1 w w1 held) where
   -- a line that was answered
-  pub further : (part : Part) (is_used_up : Bool) (passed set' : List ℕ) → part ≡ Whole is_used_up → passed ≡ line → Reads r1 r2 line part
-      → Appends w1 w2 (reply_line set passed) → set' ≡ contents_after set (meaning passed) → SoFar r r2 w w2 set'
-  further part is_used_up passed set' is same reads told next =
+  pub further : (part : Part) (is_used_up : Bool) (passed : List ℕ) (held' : Stores) → part ≡ Whole is_used_up → passed ≡ line → Reads r1 r2 line part
+      → Appends w1 w2 (reply_line held passed) → held' ≡ stores_after held passed → SoFar r r2 w w2 held'
+  further part is_used_up passed held' is same reads told next =
       let read = subst (Reads r1 r2 line) is reads in
       let one = lines_of-end line read.0 in
-      let line_told = subst (λ l. Appends w1 w2 (reply_line set l)) same told in
+      let line_told = subst (λ l. Appends w1 w2 (reply_line held l)) same told in
       record {
         whole = far.whole ++ (line ++ 10 ∷ []);
         is_whole = subst IsWhole (append_assoc far.whole line (10 ∷ [])) (IsWhole-end (far.whole ++ line));
         read = Consumes-trans r r1 r2 far.whole (line ++ 10 ∷ []) far.read read.1;
-        written = subst (Appends w w2) (sym (text_of-more far.whole (line ++ 10 ∷ []) line set far.is_whole one far.held)) (Appends-trans w w1 w2 (text_of far.whole) (reply_line set line) far.written line_told);
-        held = next ∙ ap (λ l. contents_after set (meaning l)) same ∙ sym (contents_of-more far.whole (line ++ 10 ∷ []) line set far.is_whole one far.held);
+        written = subst (Appends w w2) (sym (text_of-more far.whole (line ++ 10 ∷ []) line held far.is_whole one far.left)) (Appends-trans w w1 w2 (text_of far.whole) (reply_line held line) far.written line_told);
+        left = next ∙ ap (λ l. stores_after held l) same ∙ sym (stores_of-more far.whole (line ++ 10 ∷ []) line held far.is_whole one far.left);
       }
 
   -- the last line was answered
-  pub all_but_end : (part : Part) (passed : List ℕ) → part ≡ Last → passed ≡ line → Reads r1 r2 line part → Appends w1 w2 (reply_line set passed) → AnswersAll r r2 w w2
+  pub all_but_end : (part : Part) (passed : List ℕ) → part ≡ Last → passed ≡ line → Reads r1 r2 line part → Appends w1 w2 (reply_line held passed) → AnswersAll r r2 w w2
   all_but_end part passed is same reads told =
       let read = subst (Reads r1 r2 line) is reads in
-      let line_told = subst (λ l. Appends w1 w2 (reply_line set l)) same told in
+      let line_told = subst (λ l. Appends w1 w2 (reply_line held l)) same told in
       record {
         input = far.whole ++ line;
         read = Consumes-trans r r1 r2 far.whole line far.read read.1;
         at_end = at_end-after r r1 r2 far.whole far.read read.3;
-        written = subst (Appends w w2) (sym (text_of-more far.whole line line set far.is_whole (lines_of-last line read.0 read.2) far.held)) (Appends-trans w w1 w2 (text_of far.whole) (reply_line set line) far.written line_told);
+        written = subst (Appends w w2) (sym (text_of-more far.whole line line held far.is_whole (lines_of-last line read.0 read.2) far.left)) (Appends-trans w w1 w2 (text_of far.whole) (reply_line held line) far.written line_told);
       }
 
   -- a line was read, and not answered
@@ -103,3 +102,19 @@ module _ (r r1 r2 w w1 w2 : Option (List ℕ)) (set line : List ℕ) (far : SoFa
   unanswered (Whole is_used_up) other reads kept = unanswered_rest (line ++ 10 ∷ []) (StopsAt-append line (10 ∷ []) 10 reads.0 (All-nil (λ x. x ≢ 10))) reads.1 kept
   unanswered Last other reads kept = unanswered_rest line (StopsAt-of_All line 10 reads.0) reads.1 kept
   unanswered End other reads kept = absurd (other refl)
+
+  -- a line was read whose events do not fit
+  pub lacking : (part : Part) (passed : List ℕ) → part ≢ End → passed ≡ line → Reads r1 r2 line part → Keeps w1 w2 → MAX < (stores_after held passed).pairs.next → LacksNumbers r r2 w w2
+  unfolding unanswered unanswered_rest
+  lacking (Whole is_used_up) passed other same reads kept many =
+      let after = stores_of-more far.whole (line ++ 10 ∷ []) line held far.is_whole (lines_of-end line reads.0) far.left in
+      (unanswered (Whole is_used_up) other reads kept, subst (λ s. MAX < s.pairs.next) (ap (stores_after held) same ∙ sym after) many)
+  lacking Last passed other same reads kept many =
+      let after = stores_of-more far.whole line line held far.is_whole (lines_of-last line reads.0 reads.2) far.left in
+      (unanswered Last other reads kept, subst (λ s. MAX < s.pairs.next) (ap (stores_after held) same ∙ sym after) many)
+  lacking End passed other same reads kept many = absurd (other refl)
+
+-- the writer was flushed
+pub flushed_lacking : (r r' w w1 w2 : Option (List ℕ)) → LacksNumbers r r' w w1 → Keeps w1 w2 → LacksNumbers r r' w w2
+flushed_lacking r r' w w1 w2 (a, many) kept =
+    (record { whole = a.whole; rest = a.rest; is_whole = a.is_whole; is_rest = a.is_rest; read = a.read; written = Appends-kept w w1 w2 (text_of a.whole) a.written kept }, many)

@@ -1,8 +1,12 @@
 pub mod Command
 pub mod Fault
 pub mod Lines
+pub mod LoggedMap
 pub mod LoggedSet
 pub mod MapRun
+pub mod PairCommand
+pub mod PairText
+pub mod Pairs
 pub mod Reading
 pub mod Replica
 pub mod Reply

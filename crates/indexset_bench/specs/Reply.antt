@@ -1,12 +1,12 @@
 -- What a command does to the set, an ascending list, and the reply to it.
-use Rattle.std.specs.Prelude.{Option, ◌≡◌, false, ℕ, if◌then◌else◌, List, length, None, Some, codes, slice_get}
+use Rattle.std.specs.Prelude.{Option, ◌≡◌, false, ℕ, ◌++◌, if◌then◌else◌, List, length, None, Some, codes, slice_get}
 use Rattle.std.specs.Ordering.{nat_cmp}
 use Rattle.std.specs.Fmt.{decimal}
 use Rattle.indexset_core.specs.Order.{rank, has_equal, keep, without}
 use Rattle.indexset_bench.specs.declared.command.Command.{Command}
 use Rattle.indexset_bench.specs.declared.command.Command.TheVariants.{Add, Del, Has, Rank, At, Len}
 use Rattle.indexset_bench.specs.declared.reply.Reply.{Reply}
-use Rattle.indexset_bench.specs.declared.reply.Reply.TheVariants.{New, Old, Gone, Yes, No, Count, Item, Nothing, Bad}
+use Rattle.indexset_bench.specs.declared.reply.Reply.TheVariants.{New, Old, OldValue, Gone, GoneValue, Yes, No, Count, Item, Nothing, Empty, Bad}
 
 -- the element, where there is one
 abbrev pub item_reply : Option ℕ → Reply
@@ -42,10 +42,13 @@ AddsNew s other = ⊥
 abbrev pub reply_text : Reply → List ℕ
 reply_text New = codes "new"
 reply_text Old = codes "old"
+reply_text (OldValue v) = codes "old " ++ decimal v
 reply_text Gone = codes "gone"
+reply_text (GoneValue v) = codes "gone " ++ decimal v
 reply_text Yes = codes "yes"
 reply_text No = codes "no"
 reply_text (Count n) = decimal n
 reply_text (Item n) = decimal n
 reply_text Nothing = codes "none"
+reply_text Empty = codes "empty"
 reply_text Bad = codes "bad"

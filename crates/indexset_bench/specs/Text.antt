@@ -1,23 +1,51 @@
 -- The text that answers an input.
-use Rattle.std.specs.Prelude.{ℕ, List, [], ◌∷◌, ◌++◌}
+use Rattle.std.specs.Prelude.{ℕ, ◌≢◌, List, [], ◌∷◌, ◌++◌, MatchOption}
+use Rattle.std.specs.Option.{option_map_or}
+use Rattle.indexset_log.specs.Tree.{fresh}
 use Rattle.indexset_bench.specs.Command.{meaning}
+use Rattle.indexset_bench.specs.PairCommand.{pair_meaning}
 use Rattle.indexset_bench.specs.Lines.{lines_of}
-use Rattle.indexset_bench.specs.Reply.{reply_to, contents_after, reply_text}
+use Rattle.indexset_bench.specs.Pairs.{PairTree, pair_events, pair_reply, pairs_after, reply_ended}
+use Rattle.indexset_bench.specs.Reply.{AddsNew, reply_to, contents_after}
 
--- the reply to a line, ended by a byte 10
-abbrev pub reply_line : List ℕ → List ℕ → List ℕ
-reply_line s line = reply_text (reply_to s (meaning line)) ++ 10 ∷ []
+-- what a run holds: the numbers of the set, and the map
+pub record Stores : Type 0 where
+  pub numbers : List ℕ
+  pub pairs : PairTree
+
+abbrev pub stores : List ℕ → PairTree → Stores
+stores s t = record { numbers = s; pairs = t }
+
+-- at first: nothing, in nodes of four pairs at most, and the first event is to have the number 0
+abbrev pub no_stores : Stores
+no_stores = stores [] (fresh 4)
+
+-- the reply to a line, each of its lines ended by a byte 10
+abbrev pub reply_line : Stores → List ℕ → List ℕ
+reply_line s line = option_map_or (pair_reply s.pairs) (pair_meaning line) (reply_ended (reply_to s.numbers (meaning line)))
+
+-- what the run holds after it
+abbrev pub stores_after : Stores → List ℕ → Stores
+stores_after s line = option_map_or (λ c. stores s.numbers (pairs_after s.pairs c)) (pair_meaning line) (stores (contents_after s.numbers (meaning line)) s.pairs)
+
+-- the line changes the map, or is none to the map and puts in a number that is not there
+abbrev pub Changes : Stores → List ℕ → Type 0
+Changes s line = MatchOption (pair_meaning line) (AddsNew s.numbers (meaning line)) (λ c. pair_events s.pairs c ≢ [])
 
 -- the replies to the lines, joined
-unfoldable pub replies_of : List ℕ → List (List ℕ) → List ℕ
+unfoldable pub replies_of : Stores → List (List ℕ) → List ℕ
 replies_of s [] = []
-replies_of s (line ∷ lines) = reply_line s line ++ replies_of (contents_after s (meaning line)) lines
+replies_of s (line ∷ lines) = reply_line s line ++ replies_of (stores_after s line) lines
 
--- what the set holds after the lines
-unfoldable pub contents_of : List ℕ → List (List ℕ) → List ℕ
-contents_of s [] = s
-contents_of s (line ∷ lines) = contents_of (contents_after s (meaning line)) lines
+-- what the run holds after the lines
+unfoldable pub stores_of : Stores → List (List ℕ) → Stores
+stores_of s [] = s
+stores_of s (line ∷ lines) = stores_of (stores_after s line) lines
 
--- the replies to the lines of the input, from the empty set on
+-- the replies to the lines of the input, from nothing on
 abbrev pub text_of : List ℕ → List ℕ
-text_of input = replies_of [] (lines_of input)
+text_of input = replies_of no_stores (lines_of input)
+
+-- how many events the lines of the input tell
+abbrev pub events_told : List ℕ → ℕ
+events_told input = (stores_of no_stores (lines_of input)).pairs.next

@@ -22,7 +22,7 @@ pub enum Command {
 }
 
 /// The number of which this is the plain decimal text.
-fn number(text: &[u8]) -> Option<u64>
+pub fn number(text: &[u8]) -> Option<u64>
     ensures { MatchOption result
         ((n : ℕ) → n < 2 ^ 64 → text.now ≢ decimal n)
         (λ n. (text.now ≡ decimal n) × (n < 2 ^ 64)) }

@@ -1,4 +1,4 @@
-//! Lines of commands over a set of numbers, and the reply to each.
+//! Lines of commands over a set and a map of numbers, and the reply to each.
 #![tactic(auto)]
 
 mod command;
@@ -9,6 +9,9 @@ mod line;
 pub mod logged;
 pub mod logged_run;
 pub mod map_run;
+mod pair_command;
+mod pair_text;
+mod pairs;
 mod perform;
 mod program;
 pub mod replica;

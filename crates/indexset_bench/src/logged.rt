@@ -3,6 +3,7 @@ ghost use Rattle.std.specs.Prelude.{◌≡◌, ◌+◌, ◌≤◌, ℕ, List, Bo
 ghost use Rattle.indexset_log.specs.Replay.{replay, numbered_from};
 ghost use Rattle.indexset_log.specs.declared.change.ChangeEventUnassigned.{ChangeEventUnassigned};
 
+pub mod map;
 pub mod set;
 
 use indexset_core::refusal::Refusal;

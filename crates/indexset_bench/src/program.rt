@@ -1,23 +1,27 @@
 //! The run over a reader and a writer.
 
-ghost use Rattle.std.specs.Prelude.{◌≡◌, ◌≢◌, ◌⊎◌, [], Some, Err, OnOk, IfErr, IfSome, OnSome};
+ghost use Rattle.std.specs.Prelude.{◌≡◌, ◌≢◌, ◌⊎◌, ◌<◌, [], Some, Err, OnOk, IfErr, IfSome, OnSome};
+ghost use Rattle.std.below.core.specs.declared.int.u64.TheConstants.{MAX};
 ghost use Rattle.std.specs.Io.KnownBytes.{Appends, Keeps};
 ghost use Rattle.indexset_spine.specs.Cut.{items};
 ghost use Rattle.indexset_bench.specs.Command.{meaning};
 ghost use Rattle.indexset_bench.specs.Lines.{HasNoEnd, IsLinePart};
-ghost use Rattle.indexset_bench.specs.Reply.{AddsNew, contents_after};
-ghost use Rattle.indexset_bench.specs.Run.{AnswersAll, AnswersWholeLines};
-ghost use Rattle.indexset_bench.specs.Text.{reply_line, text_of};
+ghost use Rattle.indexset_bench.specs.Reply.{AddsNew, contents_after, reply_to};
+ghost use Rattle.indexset_bench.specs.Pairs.{reply_ended};
+ghost use Rattle.indexset_bench.specs.Run.{AnswersAll, AnswersWholeLines, LacksNumbers};
+ghost use Rattle.indexset_bench.specs.Text.{Changes, reply_line, stores, stores_after, text_of};
 
 use crate::command::parse;
 use crate::fault::RunFault;
 use crate::line::{Part, flush, is_at_end, next_line};
+use crate::pair_command::parse_pairs;
+use crate::pairs::{Pairs, answer_pairs, write_line};
 use crate::perform::perform;
 use indexset_set::BTreeSet;
 use std::alloc::Global;
 use std::io::{BufRead, Write};
 
-/// Answers each line of the reader on the writer, over a set that starts empty. The writer is flushed
+/// Answers each line of the reader on the writer, over a set and a map that start empty. The writer is flushed
 /// where the reader's buffer is used up, so that each reply is out before more is waited for.
 ///
 /// A fault ends the run at once, and the first fault is told. A line past the first 2^64 - 1 is a
@@ -47,7 +51,11 @@ pub fn run<R: BufRead, W: Write>(
     ensures memory_refused { result ≡ Err RunFault.Memory → AnswersWholeLines IsLinePart
         (R.remaining reader.old) (R.remaining reader.new)
         (W.contents writer.old) (W.contents writer.new) }
-    ensures numbers_fit { result ≢ Err RunFault.Numbers }
+
+    // The same, and the events of the refused line did not fit.
+    ensures numbers_refused { result ≡ Err RunFault.Numbers → LacksNumbers
+        (R.remaining reader.old) (R.remaining reader.new)
+        (W.contents writer.old) (W.contents writer.new) }
 {
     let answered = answer_lines(alloc, reader, writer);
     let flushed = flush(writer);
@@ -70,19 +78,22 @@ fn answer_lines<R: BufRead, W: Write>(
     ensures memory_refused { result ≡ Err RunFault.Memory → AnswersWholeLines IsLinePart
         (R.remaining reader.old) (R.remaining reader.new)
         (W.contents writer.old) (W.contents writer.new) }
-    ensures numbers_fit { result ≢ Err RunFault.Numbers }
+    ensures numbers_refused { result ≡ Err RunFault.Numbers → LacksNumbers
+        (R.remaining reader.old) (R.remaining reader.new)
+        (W.contents writer.old) (W.contents writer.new) }
 {
     let mut set = BTreeSet::new(alloc)?;
+    let mut pairs = Pairs::with_maximum_node_size(alloc, 4);
     let mut line = Vec::new(alloc);
     for _ in 0..u64::MAX {
         match next_line(reader, writer, &mut line)? {
             Part::Whole { is_used_up } => {
-                answer_line(writer, &mut set, &line)?;
+                answer_line(writer, &mut set, &mut pairs, &line)?;
                 if is_used_up {
                     flush(writer)?;
                 }
             }
-            Part::Last => return answer_line(writer, &mut set, &line),
+            Part::Last => return answer_line(writer, &mut set, &mut pairs, &line),
             Part::End => return Ok(()),
         }
     }
@@ -94,20 +105,47 @@ fn answer_lines<R: BufRead, W: Write>(
     }
 }
 
-/// Answers one line. Where memory is refused, nothing is written.
+/// Answers one line. Where it is refused, nothing is written.
 fn answer_line<W: Write>(
+    writer: &mut W,
+    set: &mut BTreeSet<u64>,
+    pairs: &mut Pairs,
+    line: &[u8],
+) -> Result<(), RunFault>
+    ensures held { OnOk result (stores (items set.new) pairs.new
+        ≡ stores_after (stores (items set.old) pairs.old) line.now) }
+    ensures told { OnOk result (Appends (W.contents writer.old) (W.contents writer.new)
+        (reply_line (stores (items set.old) pairs.old) line.now)) }
+    ensures memory_refused { result ≡ Err RunFault.Memory
+        → Keeps (W.contents writer.old) (W.contents writer.new) }
+    ensures numbers_refused { result ≡ Err RunFault.Numbers
+        → Keeps (W.contents writer.old) (W.contents writer.new) }
+    ensures only_changes { result ≡ Err RunFault.Memory
+        → Changes (stores (items set.old) pairs.old) line.now }
+    ensures no_numbers { result ≡ Err RunFault.Numbers
+        → MAX < (stores_after (stores (items set.old) pairs.old) line.now).pairs.next }
+    ensures no_read { result ≢ Err RunFault.Read }
+{
+    match parse_pairs(line) {
+        Some(command) => answer_pairs(writer, pairs, command),
+        None => answer_numbers(writer, set, line),
+    }
+}
+
+/// Answers a line over the set. Where memory is refused, nothing is written.
+fn answer_numbers<W: Write>(
     writer: &mut W,
     set: &mut BTreeSet<u64>,
     line: &[u8],
 ) -> Result<(), RunFault>
     ensures set { OnOk result (items set.new ≡ contents_after (items set.old) (meaning line.now)) }
     ensures told { OnOk result (Appends (W.contents writer.old) (W.contents writer.new)
-        (reply_line (items set.old) line.now)) }
+        (reply_ended (reply_to (items set.old) (meaning line.now)))) }
     ensures untold { result ≡ Err RunFault.Memory
         → Keeps (W.contents writer.old) (W.contents writer.new) }
     ensures only_new { result ≡ Err RunFault.Memory → AddsNew (items set.old) (meaning line.now) }
     ensures fault { IfErr result (λ fault. (fault ≡ RunFault.Memory) ⊎ (fault ≡ RunFault.Write)) }
 {
     let reply = perform(set, parse(line))?;
-    writer.writeln(reply).map_err(|_| RunFault::Write)
+    write_line(writer, reply)
 }

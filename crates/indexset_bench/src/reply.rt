@@ -10,12 +10,15 @@ use std::fmt;
 pub enum Reply {
     New,
     Old,
+    OldValue(u64),
     Gone,
+    GoneValue(u64),
     Yes,
     No,
     Count(usize),
     Item(u64),
     Nothing,
+    Empty,
     Bad,
 }
 
@@ -26,12 +29,15 @@ impl fmt::Display for Reply {
         match self {
             Reply::New => f.write_str("new"),
             Reply::Old => f.write_str("old"),
+            Reply::OldValue(value) => write!(f, "old {value}"),
             Reply::Gone => f.write_str("gone"),
+            Reply::GoneValue(value) => write!(f, "gone {value}"),
             Reply::Yes => f.write_str("yes"),
             Reply::No => f.write_str("no"),
             Reply::Count(n) => fmt::Display::fmt(n, f),
             Reply::Item(n) => fmt::Display::fmt(n, f),
             Reply::Nothing => f.write_str("none"),
+            Reply::Empty => f.write_str("empty"),
             Reply::Bad => f.write_str("bad"),
         }
     }

@@ -110,6 +110,11 @@ impl<K: Ord + Clone + Drop, V: Clone + Drop, Node: NodeLike<Pair<K, V>>> BTreeMa
         self.set.events_issued()
     }
 
+    /// The allocator that it keeps. (The Rust crate's tree keeps none.)
+    pub fn allocator(&self) -> &Global {
+        self.set.allocator()
+    }
+
     /// The nodes, in order. (The Rust crate lends them locked.)
     pub fn iter_nodes(&self) -> Nodes<'_, Node>
         ensures rest { map Node.list result ≡ self.now.nodes }

@@ -1,4 +1,4 @@
-//! Keeps a set of numbers by the commands of its input, and writes the reply to each.
+//! Keeps a set and a map of numbers by the commands of its input, and writes the reply to each.
 #![tactic(auto)]
 
 use indexset_bench::{RunFault, run};

@@ -59,6 +59,7 @@ impl<K: Ord + Clone + Drop, V: Clone + Drop, Node: NodeLike<Pair<K, V>>> BTreeMa
         ensures replay { OnOk result (replay (by_key K.cmp) self.old.nodes (numbered_from self.old.next (checked_put_events (by_key K.cmp) self.old.size self.old.nodes (pair key value))) ≡ Some self.new.nodes) }
         ensures size { self.new.size ≡ self.old.size }
         ensures next { OnOk result (self.new.next ≡ self.old.next + length (checked_put_events (by_key K.cmp) self.old.size self.old.nodes (pair key value))) }
+        ensures fits { OnOk result (self.old.next + length (checked_put_events (by_key K.cmp) self.old.size self.old.nodes (pair key value)) ≤ u64.MAX) }
         ensures refusal { IfErr result (λ e. e.cause ≡ refusal_for self.old.next (length (checked_put_events (by_key K.cmp) self.old.size self.old.nodes (pair key value)))) }
         ensures no_event { has_key K.cmp (joined self.old.nodes) key ≡ true → IsOk result }
         ensures given_back { IfErr result (λ e. e.value ≡ (key, value)) }

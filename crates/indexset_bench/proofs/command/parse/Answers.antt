@@ -1,7 +1,5 @@
-use Rattle.std.proofs.Common.{rules, ◌≡◌, ◌∙◌}
+use Rattle.std.proofs.Common.{rules}
 use lib.Chars.{codes}
-use Rattle.std.specs.Option.{option_map}
-use Rattle.indexset_bench.specs.declared.command.Command.TheVariants.{Add, Del, Has, Rank, At}
 use Rattle.indexset_bench.proofs.Meanings.{added, deleted, asked, ranked, placed_at, length_asked, no_command, no_front, same_line, other_line}
 use Rattle.indexset_bench.proofs.command.parse.Goals as goal
 

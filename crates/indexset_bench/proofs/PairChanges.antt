@@ -1,0 +1,91 @@
+-- What a command to the map does, from what the map's calls say.
+use Rattle.std.proofs.Common.{Option, None, Some, ◌≡◌, ◌≢◌, ℕ, ◌+◌, ◌==◌, Bool, true, false, cond, List, [], ◌∷◌, ◌++◌, length, Ordering, refl, sym, ap, ◌∙◌, unwrap_or}
+use Rattle.std.specs.Option.{option_map, option_map_or}
+use Rattle.std.specs.Ordering.{nat_cmp}
+use Rattle.indexset_core.specs.Nodes.{node_at}
+use Rattle.indexset_core.specs.Order.{has_equal, rank}
+use Rattle.indexset_core.specs.Pairs.{by_key, entry_of}
+use Rattle.indexset_core.specs.declared.pair.Pair.{Pair}
+use Rattle.indexset_log.specs.Nodes.{is_filled}
+use Rattle.indexset_log.specs.Replay.{replay}
+use Rattle.indexset_log.specs.Table.{halving_events, node_events, part_for, put_events, replace_events, target, target_events}
+use Rattle.indexset_log.specs.Tree.{Tree}
+use Rattle.indexset_log.specs.declared.change.ChangeEvent.{ChangeEvent}
+use Rattle.indexset_bench.specs.Command.{meaning}
+use Rattle.indexset_bench.specs.PairCommand.{pair_meaning}
+use Rattle.indexset_bench.specs.Pairs.{PairTree, pair_events, pair_reply, pairs_after, reply_ended, told_events}
+use Rattle.indexset_bench.specs.Reply.{AddsNew, contents_after, reply_to}
+use Rattle.indexset_bench.specs.Text.{Changes, reply_line, stores, stores_after}
+use Rattle.indexset_bench.specs.declared.pair_command.PairCommand.{PairCommand}
+
+-- ---- a put tells an event
+
+append_some : {X : Type 0} (xs ys : List X) → ys ≢ [] → xs ++ ys ≢ []
+append_some [] ys some e = some e
+append_some (x ∷ xs) ys some e = cc
+
+module _ {T : Type 0} (cmp : T → T → Ordering) where
+  replace_some : (n : List T) (v : T) → replace_events cmp n v ≢ []
+  unfolding replace_events
+  replace_some n v = at (length n == 1) (rank cmp n v + 1 == length n) _ _ _ _ _ _
+    where
+      at : (a b : Bool) {X : Type 0} (x y z w p q : X) → cond a (x ∷ y ∷ []) (cond b (z ∷ w ∷ []) (p ∷ q ∷ [])) ≢ []
+      at true b x y z w p q e = cc
+      at false true x y z w p q e = cc
+      at false false x y z w p q e = cc
+
+  node_some : (n : List T) (v : T) → node_events cmp n v ≢ []
+  unfolding node_events
+  node_some n v = at (has_equal cmp n v) _ (replace_some n v)
+    where
+      at : (b : Bool) {X : Type 0} {l : List X} (x : X) → l ≢ [] → cond b l (x ∷ []) ≢ []
+      at true x some e = some e
+      at false x some e = cc
+
+  pub put_some : (size : ℕ) (ns : List (List T)) (v : T) → put_events cmp size ns v ≢ []
+  unfolding put_events target_events
+  put_some size ns v = at (is_filled ns) _ (append_some (halving_events size (node_at ns (target cmp ns v)) v) _ (node_some (part_for cmp size (node_at ns (target cmp ns v)) v) v))
+    where
+      at : (b : Bool) {X : Type 0} {l : List X} (x : X) → l ≢ [] → cond b l (x ∷ []) ≢ []
+      at true x some e = some e
+      at false x some e = cc
+
+-- ---- the map after a command
+
+same_tree : {T : Type 0} (t u : Tree T) → t.nodes ≡ u.nodes → t.size ≡ u.size → t.next ≡ u.next → t ≡ u
+same_tree t u p q r = λ i. record { nodes = p i; size = q i; next = r i }
+
+module _ (t u : PairTree) (c : PairCommand) where
+  -- its events were told, and their replay leads to its nodes
+  pub after_change : (told : List (ChangeEvent (Pair ℕ ℕ))) → told ≡ told_events t c → replay (by_key nat_cmp) t.nodes told ≡ Some u.nodes → u.size ≡ t.size → u.next ≡ t.next + length (pair_events t c) → u ≡ pairs_after t c
+  after_change told is led same next =
+      let replayed : replay (by_key nat_cmp) t.nodes (told_events t c) ≡ Some u.nodes = ap (replay (by_key nat_cmp) t.nodes) (sym is) ∙ led in
+      same_tree u (pairs_after t c) (sym (ap (λ o. unwrap_or o t.nodes) replayed)) same next
+
+-- the value of the pair that went
+pub value_out : {R : Type 0} (f : ℕ → R) (d : R) (o : Option (Pair ℕ ℕ)) → option_map_or (λ e. f e.1) (option_map entry_of o) d ≡ option_map_or f (option_map (λ p. p.value) o) d
+value_out f d None = refl
+value_out f d (Some p) = refl
+
+-- ---- a line of either kind
+
+module _ (s : List ℕ) (t : PairTree) (line : List ℕ) where
+  module _ (c : PairCommand) (e : pair_meaning line ≡ Some c) where
+    pub pairs_reply : reply_line (stores s t) line ≡ pair_reply t c
+    pairs_reply = ap (λ o. option_map_or (pair_reply t) o (reply_ended (reply_to s (meaning line)))) e
+
+    pub pairs_left : stores_after (stores s t) line ≡ stores s (pairs_after t c)
+    pairs_left = ap (λ o. option_map_or (λ d. stores s (pairs_after t d)) o (stores (contents_after s (meaning line)) t)) e
+
+    pub pairs_change : pair_events t c ≢ [] → Changes (stores s t) line
+    pairs_change some = rw e some
+
+  module _ (e : pair_meaning line ≡ None) where
+    pub numbers_reply : reply_line (stores s t) line ≡ reply_ended (reply_to s (meaning line))
+    numbers_reply = ap (λ o. option_map_or (pair_reply t) o (reply_ended (reply_to s (meaning line)))) e
+
+    pub numbers_left : stores_after (stores s t) line ≡ stores (contents_after s (meaning line)) t
+    numbers_left = ap (λ o. option_map_or (λ d. stores s (pairs_after t d)) o (stores (contents_after s (meaning line)) t)) e
+
+    pub numbers_change : AddsNew s (meaning line) → Changes (stores s t) line
+    numbers_change added = rw e added

@@ -1,0 +1,19 @@
+use Rattle.std.proofs.Common.{rules, arith, ◌≡◌, take}
+use Rattle.std.proofs.KnownBytes.{Appends-nil}
+use Rattle.std.proofs.lemmas.List.{take_all}
+use Rattle.indexset_bench.specs.PairText.{event_text}
+use Rattle.indexset_bench.proofs.Written.{more_lines, on_ok_given}
+use Rattle.indexset_bench.proofs.pairs.write_events.Goals as goal
+
+pub loop-event-init : goal.loop-event-init
+loop-event-init g c = Appends-nil _
+
+pub loop-event-preserved : goal.loop-event-preserved
+loop-event-preserved g c =
+    let told = on_ok_given _ c.writeln.result _ c.writeln.ensures.bytes (search rules) in
+    more_lines event_text c.args.events.now c.loop-event.event-index _ (omega arith) _ _ _ c.loop-event.invariant told
+
+pub returns-clause-told : goal.returns-clause-told
+returns-clause-told g c =
+    let all : take c.loop-event.event-index c.args.events.now ≡ c.args.events.now = take_all _ _ c.loop-event-test.false in
+    rw all at c.loop-event.invariant

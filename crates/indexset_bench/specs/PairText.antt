@@ -1,0 +1,34 @@
+-- How pairs, events and nodes are written.
+use Rattle.std.specs.Prelude.{ℕ, List, [], ◌∷◌, ◌++◌, map, codes}
+use Rattle.std.specs.List.{concat, join_with_byte}
+use Rattle.std.specs.Fmt.{decimal}
+use Rattle.indexset_core.specs.declared.pair.Pair.{Pair}
+use Rattle.indexset_log.specs.declared.change.ChangeEvent.{ChangeEvent}
+use Rattle.indexset_log.specs.declared.change.ChangeEvent.TheVariants.{InsertAt, RemoveAt, CreateNode, RemoveNode, SplitNode}
+use Rattle.indexset_log.specs.declared.change.Id.{Id}
+
+abbrev pub pair_text : Pair ℕ ℕ → List ℕ
+pair_text p = decimal p.key ++ codes ":" ++ decimal p.value
+
+-- the number of an event, its word, and the pair that names its node
+abbrev pub event_head : Id → List ℕ → Pair ℕ ℕ → List ℕ
+event_head id word max = decimal id.0 ++ word ++ pair_text max
+
+abbrev pub event_text : ChangeEvent (Pair ℕ ℕ) → List ℕ
+event_text (CreateNode id max) = event_head id (codes " create ") max
+event_text (RemoveNode id max) = event_head id (codes " drop ") max
+event_text (InsertAt id max p i) = event_head id (codes " insert ") max ++ codes " " ++ pair_text p ++ codes " " ++ decimal i
+event_text (RemoveAt id max p i) = event_head id (codes " remove ") max ++ codes " " ++ pair_text p ++ codes " " ++ decimal i
+event_text (SplitNode id max k) = event_head id (codes " split ") max ++ codes " " ++ decimal k
+
+-- the pairs of a node, parted by one space
+abbrev pub node_text : List (Pair ℕ ℕ) → List ℕ
+node_text n = join_with_byte 32 (map pair_text n)
+
+-- a text and a byte 10
+abbrev pub ended : List ℕ → List ℕ
+ended text = text ++ 10 ∷ []
+
+-- one line for each thing
+abbrev pub lines_for : {X : Type 0} → (X → List ℕ) → List X → List ℕ
+lines_for text xs = concat (map (λ x. ended (text x)) xs)

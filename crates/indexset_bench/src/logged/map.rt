@@ -1,0 +1,87 @@
+//! Commands to a logged map.
+
+use super::Logged;
+use indexset_core::node::NodeLike;
+use indexset_core::pair::Pair;
+use indexset_core::refusal::Refusal;
+use indexset_log::change::ChangeEvent;
+use indexset_log::map::BTreeMap;
+
+/// What is asked of a logged map. The reply is `OldValue`, `Added` or `Out`, as it is said here.
+#[derive(Debug, Drop)]
+pub enum LoggedMapCommand<K, V> {
+    /// Puts the pair in, for any of an equal key: `OldValue`, its value.
+    Insert(K, V),
+    /// Puts the pair in, unless the key is there: `Added`, whether it was put in.
+    CheckedInsert(K, V),
+    /// Takes the pair of the key out: `Out`, that pair.
+    Remove(K),
+}
+
+/// The reply to a command.
+#[derive(Debug, PartialEq, Drop)]
+pub enum LoggedMapReply<K, V> {
+    /// The value that was there, where there was one.
+    OldValue(Option<V>),
+    /// Whether the pair was put in.
+    Added(bool),
+    /// The key and the value that were there, where they were.
+    Out(Option<(K, V)>),
+}
+
+impl<K: Ord + Clone + Drop, V: Clone + Drop, Node: NodeLike<Pair<K, V>>> Logged
+    for BTreeMap<K, V, Node> {
+    ghost use Rattle.std.specs.Prelude.{◌≡◌, ◌+◌, List, length, nat_lt};
+    ghost use Rattle.std.below.core.specs.declared.int.u64.TheConstants.{MAX};
+    ghost use Rattle.indexset_core.specs.Nodes.{joined};
+    ghost use Rattle.indexset_core.specs.declared.pair.Pair.{Pair};
+    ghost use Rattle.indexset_bench.specs.LoggedMap.{logged_map_reply, logged_map_after, logged_map_events};
+
+    type Item = Pair<K, V>;
+
+    type Command = LoggedMapCommand<K, V>;
+
+    type Reply = LoggedMapReply<K, V>;
+
+    ghost State = { List (Pair K V) };
+
+    ghost nodes = { λ t. t.nodes };
+
+    ghost size = { λ t. t.size };
+
+    ghost next = { λ t. t.next };
+
+    ghost state = { λ t. joined t.nodes };
+
+    ghost reply = { logged_map_reply K.cmp };
+
+    ghost after = { logged_map_after K.cmp };
+
+    ghost events = { logged_map_events K.cmp };
+
+    ghost lacks_numbers = { λ t command. nat_lt MAX (t.next + length (logged_map_events K.cmp t command)) };
+
+    ghost clones = { ((x y : K) → K.is_clone x y → y ≡ x) × ((x y : V) → V.is_clone x y → y ≡ x) };
+
+    fn act(
+        &mut self,
+        command: LoggedMapCommand<K, V>,
+    ) -> Result<(LoggedMapReply<K, V>, Vec<ChangeEvent<Pair<K, V>>>), Refusal> {
+        match command {
+            LoggedMapCommand::Insert(key, value) => {
+                let (old, events) = self.insert_cdc(key, value)?;
+                Ok((LoggedMapReply::OldValue(old), events))
+            }
+            LoggedMapCommand::CheckedInsert(key, value) => {
+                match self.checked_insert_cdc(key, value)? {
+                    Some(events) => Ok((LoggedMapReply::Added(true), events)),
+                    None => Ok((LoggedMapReply::Added(false), Vec::new(*self.allocator()))),
+                }
+            }
+            LoggedMapCommand::Remove(key) => {
+                let (out, events) = self.remove_cdc(&key)?;
+                Ok((LoggedMapReply::Out(out), events))
+            }
+        }
+    }
+}

@@ -1,0 +1,133 @@
+//! What a line does to the map, and what is written to it: a reply and events, or the nodes.
+
+ghost use Rattle.std.specs.Prelude.{◌≡◌, ◌≢◌, ◌+◌, ◌<◌, [], length, Err, OnOk, IfErr};
+ghost use Rattle.std.specs.Option.{option_map_or};
+ghost use Rattle.std.specs.Io.KnownBytes.{Appends, Keeps};
+ghost use Rattle.indexset_bench.specs.Pairs.{pair_events, pair_reply, pairs_after, reply_ended};
+ghost use Rattle.indexset_bench.specs.PairText.{ended, event_text, lines_for, node_text};
+ghost use Rattle.std.below.core.specs.declared.int.u64.TheConstants.{MAX};
+
+use crate::fault::RunFault;
+use crate::pair_command::PairCommand;
+use crate::pair_text::{EventText, PairText};
+use crate::reply::Reply;
+use indexset_core::pair::Pair;
+use indexset_log::change::ChangeEvent;
+use indexset_log::map::BTreeMap;
+use std::io::Write;
+
+/// A map of numbers, which tells its changes.
+pub type Pairs = BTreeMap<u64, u64, Vec<Pair<u64, u64>>>;
+
+/// Does what a line says to the map, and writes the reply to it. A refused call changes nothing, and
+/// nothing is written.
+pub fn answer_pairs<W: Write>(
+    writer: &mut W,
+    pairs: &mut Pairs,
+    command: PairCommand,
+) -> Result<(), RunFault>
+    ensures pairs { OnOk result (pairs.new ≡ pairs_after pairs.old command) }
+    ensures told { OnOk result (Appends (W.contents writer.old) (W.contents writer.new)
+        (pair_reply pairs.old command)) }
+    ensures memory_refused { result ≡ Err RunFault.Memory
+        → Keeps (W.contents writer.old) (W.contents writer.new) }
+    ensures numbers_refused { result ≡ Err RunFault.Numbers
+        → Keeps (W.contents writer.old) (W.contents writer.new) }
+    ensures only_changes { result ≡ Err RunFault.Memory → pair_events pairs.old command ≢ [] }
+    ensures no_numbers { result ≡ Err RunFault.Numbers
+        → MAX < pairs.old.next + length (pair_events pairs.old command) }
+    ensures no_read { result ≢ Err RunFault.Read }
+{
+    match command {
+        PairCommand::Put(key, value) => {
+            let done = pairs.insert_cdc(key, value);
+            let (old, events) = done.map_err(|refused| refused.cause)?;
+            write_line(writer, reply_to_put(old))?;
+            write_events(writer, &events)
+        }
+        PairCommand::Cut(key) => {
+            let (out, events) = pairs.remove_cdc(&key)?;
+            write_line(writer, reply_to_cut(out))?;
+            write_events(writer, &events)
+        }
+        PairCommand::Nodes => {
+            if pairs.node_count() == 0 {
+                write_line(writer, Reply::Empty)
+            } else {
+                write_nodes(writer, pairs)
+            }
+        }
+    }
+}
+
+/// The reply to a put.
+fn reply_to_put(old: Option<u64>) -> Reply
+    ensures { result ≡ option_map_or Reply.OldValue old Reply.New }
+{
+    match old {
+        Some(value) => Reply::OldValue(value),
+        None => Reply::New,
+    }
+}
+
+/// The reply to a cut.
+fn reply_to_cut(out: Option<(u64, u64)>) -> Reply
+    ensures { result ≡ option_map_or (λ entry. Reply.GoneValue entry.1) out Reply.Nothing }
+{
+    match out {
+        Some((_, value)) => Reply::GoneValue(value),
+        None => Reply::Nothing,
+    }
+}
+
+/// Writes a reply as a line.
+pub fn write_line<W: Write>(writer: &mut W, reply: Reply) -> Result<(), RunFault>
+    ensures told { OnOk result (Appends (W.contents writer.old) (W.contents writer.new)
+        (reply_ended reply)) }
+    ensures fault { IfErr result (λ fault. fault ≡ RunFault.Write) }
+{
+    writer.writeln(reply).map_err(|_| RunFault::Write)
+}
+
+/// Writes each event as a line.
+fn write_events<W: Write>(
+    writer: &mut W,
+    events: &[ChangeEvent<Pair<u64, u64>>],
+) -> Result<(), RunFault>
+    ensures told { OnOk result (Appends (W.contents writer.old) (W.contents writer.new)
+        (lines_for event_text events.now)) }
+    ensures fault { IfErr result (λ fault. fault ≡ RunFault.Write) }
+{
+    for event in events {
+        let shown = EventText(event);
+        writer.writeln(shown).map_err(|_| RunFault::Write)?;
+    }
+    Ok(())
+}
+
+/// Writes each node as a line.
+fn write_nodes<W: Write>(writer: &mut W, pairs: &Pairs) -> Result<(), RunFault>
+    ensures told { OnOk result (Appends (W.contents writer.old) (W.contents writer.new)
+        (lines_for node_text pairs.now.nodes)) }
+    ensures fault { IfErr result (λ fault. fault ≡ RunFault.Write) }
+{
+    for node in pairs.iter_nodes() {
+        write_node(writer, node)?;
+    }
+    Ok(())
+}
+
+/// Writes a node as a line: its pairs, parted by one space.
+fn write_node<W: Write>(writer: &mut W, node: &[Pair<u64, u64>]) -> Result<(), RunFault>
+    ensures told { OnOk result (Appends (W.contents writer.old) (W.contents writer.new)
+        (ended (node_text node.now))) }
+    ensures fault { IfErr result (λ fault. fault ≡ RunFault.Write) }
+{
+    let mut lead = "";
+    for pair in node {
+        let shown = PairText(pair);
+        write!(writer, "{lead}{shown}").map_err(|_| RunFault::Write)?;
+        lead = " ";
+    }
+    writeln!(writer).map_err(|_| RunFault::Write)
+}
