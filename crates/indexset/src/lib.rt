@@ -12,6 +12,7 @@ pub mod base {
 /// Rust crate's name.
 pub mod concurrent {
     pub use indexset_log::{map, set};
+    pub use indexset_multi::multimap;
 }
 
 /// The events of a tree's changes.
