@@ -1,12 +1,12 @@
 -- A whole node that a replica is given.
-use Rattle.std.proofs.Common.{◌≡◌, ℕ, ◌-◌, ◌≤◌, true, false, List, length, get_or, insert, drop, slice_get, Some, None, Ordering, ap, sym, ◌∙◌, subst, arith}
+use Rattle.std.proofs.Common.{◌≡◌, ℕ, ◌-◌, ◌≤◌, Bool, true, false, List, length, get_or, insert, drop, slice_get, Option, Some, None, Ordering, refl, ap, sym, ◌∙◌, subst, arith}
 use Rattle.std.specs.Cmp.{IsTotalOrder}
 use Rattle.std.specs.List.{position_or_len}
 use Rattle.std.specs.Ordering.{is_lt}
 use Rattle.indexset_core.specs.Nodes.{joined, node_at, IsNodeList}
-use Rattle.indexset_core.specs.declared.refusal.Refusal.TheVariants.{Overlaps}
+use Rattle.indexset_core.specs.declared.refusal.Refusal.TheVariants.{Empty, Unsorted, Overlaps}
 use Rattle.indexset_log.specs.Attach.{attach_index, attach_refusal, lies_apart}
-use Rattle.indexset_log.specs.Nodes.{is_ascending, last_of}
+use Rattle.indexset_log.specs.Nodes.{is_ascending, is_filled, last_of}
 use Rattle.indexset_log.specs.Replay.{reaches}
 use Rattle.indexset_log.proofs.CallerLemmas.{Attaches, Ruled, attaches_node, filled_first, last_answer, last_any, not_refused, refused_overlap, ruled_nodes}
 use Rattle.indexset_bench.specs.Replica.{first_item}
