@@ -1,11 +1,11 @@
 -- How a run over a list of commands to a logged tree goes on, command by command.
-use Rattle.std.proofs.Common.{◌≡◌, ℕ, ◌+◌, ◌*◌, ◌-◌, ◌≤◌, List, [], ◌∷◌, ◌++◌, length, slice_get, Some, None, Ordering, option_and_then, refl, ap, sym, ◌∙◌, subst, inl, inr, arith, length-append}
+use Rattle.std.proofs.Common.{◌≡◌, ℕ, ◌+◌, ◌*◌, ◌-◌, ◌<◌, ◌≤◌, List, [], ◌∷◌, ◌++◌, length, get_or, slice_get, Option, Some, None, Ordering, option_and_then, refl, ap, sym, ◌∙◌, subst, inl, inr, arith, length-append}
 use Rattle.std.proofs.lemmas.Bool.{cases_lt}
 use Rattle.std.proofs.lemmas.List.{get_or_append_left}
 use Rattle.std.proofs.Math.Seq.{get_or-append_right}
 use Rattle.indexset_log.specs.declared.change.ChangeEvent.{ChangeEvent}
 use Rattle.indexset_log.specs.declared.change.ChangeEventUnassigned.{ChangeEventUnassigned}
-use Rattle.indexset_log.specs.Replay.{replay, step, numbered_from, IsNumberedFrom}
+use Rattle.indexset_log.specs.Replay.{replay, step, numbered_from, assigned, IsNumberedFrom}
 use Rattle.indexset_log.proofs.CallerLemmas.{numbered_is}
 
 pub length-numbered : {T : Type 0} (s : ℕ) (es : List (ChangeEventUnassigned T)) → length (numbered_from s es) ≡ length es

@@ -2,7 +2,7 @@
 use Rattle.std.proofs.Common.{◌≡◌, ◌+◌, ◌≤◌, ℕ, false, List, length, nat_lt, Ordering, arith}
 use Rattle.std.below.core.specs.declared.int.u64.TheConstants.{MAX}
 use Rattle.std.proofs.lemmas.Bool.{le-ltb}
-use Rattle.indexset_log.specs.Table.{checked_put_events, removal_events, removing_events}
+use Rattle.indexset_log.specs.Table.{put_events, checked_put_events, removal_events, removing_events}
 use Rattle.indexset_log.proofs.CallerLemmas.{three_at_most}
 
 module _ {T : Type 0} (cmp : T → T → Ordering) (ns : List (List T)) (v : T) where

@@ -1,19 +1,13 @@
--- What a command to the map does, from what the map's calls say.
-use Rattle.std.proofs.Common.{Option, None, Some, ◌≡◌, ◌≢◌, ℕ, ◌+◌, ◌==◌, Bool, true, false, cond, List, [], ◌∷◌, ◌++◌, length, Ordering, refl, sym, ap, ◌∙◌, unwrap_or}
-use Rattle.std.specs.Option.{option_map, option_map_or}
-use Rattle.std.specs.Ordering.{nat_cmp}
+-- What a line does, by the kind of its command.
+use Rattle.std.proofs.Common.{None, Some, ◌≡◌, ◌≢◌, ℕ, ◌+◌, ◌==◌, Bool, true, false, cond, List, [], ◌∷◌, ◌++◌, length, Ordering, ap}
+use Rattle.std.specs.Option.{option_map_or}
 use Rattle.indexset_core.specs.Nodes.{node_at}
 use Rattle.indexset_core.specs.Order.{has_equal, rank}
-use Rattle.indexset_core.specs.Pairs.{by_key, entry_of}
-use Rattle.indexset_core.specs.declared.pair.Pair.{Pair}
 use Rattle.indexset_log.specs.Nodes.{is_filled}
-use Rattle.indexset_log.specs.Replay.{replay}
 use Rattle.indexset_log.specs.Table.{halving_events, node_events, part_for, put_events, replace_events, target, target_events}
-use Rattle.indexset_log.specs.Tree.{Tree}
-use Rattle.indexset_log.specs.declared.change.ChangeEvent.{ChangeEvent}
 use Rattle.indexset_bench.specs.Command.{meaning}
 use Rattle.indexset_bench.specs.PairCommand.{pair_meaning}
-use Rattle.indexset_bench.specs.Pairs.{PairTree, pair_events, pair_reply, pairs_after, reply_ended, told_events}
+use Rattle.indexset_bench.specs.Pairs.{PairTree, pair_events, pair_reply, pairs_after, reply_ended}
 use Rattle.indexset_bench.specs.Reply.{AddsNew, contents_after, reply_to}
 use Rattle.indexset_bench.specs.Text.{Changes, reply_line, stores, stores_after}
 use Rattle.indexset_bench.specs.declared.pair_command.PairCommand.{PairCommand}
@@ -49,23 +43,6 @@ module _ {T : Type 0} (cmp : T → T → Ordering) where
       at : (b : Bool) {X : Type 0} {l : List X} (x : X) → l ≢ [] → cond b l (x ∷ []) ≢ []
       at true x some e = some e
       at false x some e = cc
-
--- ---- the map after a command
-
-same_tree : {T : Type 0} (t u : Tree T) → t.nodes ≡ u.nodes → t.size ≡ u.size → t.next ≡ u.next → t ≡ u
-same_tree t u p q r = λ i. record { nodes = p i; size = q i; next = r i }
-
-module _ (t u : PairTree) (c : PairCommand) where
-  -- its events were told, and their replay leads to its nodes
-  pub after_change : (told : List (ChangeEvent (Pair ℕ ℕ))) → told ≡ told_events t c → replay (by_key nat_cmp) t.nodes told ≡ Some u.nodes → u.size ≡ t.size → u.next ≡ t.next + length (pair_events t c) → u ≡ pairs_after t c
-  after_change told is led same next =
-      let replayed : replay (by_key nat_cmp) t.nodes (told_events t c) ≡ Some u.nodes = ap (replay (by_key nat_cmp) t.nodes) (sym is) ∙ led in
-      same_tree u (pairs_after t c) (sym (ap (λ o. unwrap_or o t.nodes) replayed)) same next
-
--- the value of the pair that went
-pub value_out : {R : Type 0} (f : ℕ → R) (d : R) (o : Option (Pair ℕ ℕ)) → option_map_or (λ e. f e.1) (option_map entry_of o) d ≡ option_map_or f (option_map (λ p. p.value) o) d
-value_out f d None = refl
-value_out f d (Some p) = refl
 
 -- ---- a line of either kind
 

@@ -1,15 +1,19 @@
 -- What an event does to the nodes of a replica, and when it does not fit.
-use Rattle.std.proofs.Common.{◌≡◌, ℕ, ◌+◌, ◌<◌, ◌≤◌, true, false, not, cond, List, [], ◌∷◌, length, map, get_or, slice_get, take, drop, set, insert, remove, ltb, leb, eqb, Option, Some, None, Ordering, refl, ap, sym, ◌∙◌, add-one, arith}
+use Rattle.std.proofs.Common.{◌≡◌, ℕ, zero, suc, ◌+◌, ◌-◌, ◌<◌, ◌≤◌, ◌||◌, Bool, true, false, not, cond, if◌then◌else◌, ◌&&◌, List, [], ◌∷◌, ◌++◌, length, map, get_or, slice_get, take, drop, set, insert, remove, nat_lt, nat_le, ltb, leb, eqb, Option, Some, None, is_some, Ordering, refl, ap, sym, ◌∙◌, subst, add-one, arith}
+use Rattle.std.specs.Cmp.{IsTotalOrder}
 use Rattle.std.proofs.lemmas.Option.{slice_get-get_or}
-use Rattle.std.proofs.lemmas.List.{get_or_read, length-map, set_split}
-use Rattle.std.specs.List.{position_or_len, splice}
+use Rattle.std.proofs.lemmas.List.{get_or_read, length-map, map-append, set_split}
+use Rattle.std.specs.List.{position_or_len, splice, take-map, drop-map}
 use Rattle.std.specs.Ordering.{is_eq, is_ne}
 use Rattle.std.specs.declared.cmp.Ordering.TheVariants.{Less, Equal, Greater}
-use Rattle.std.proofs.lemmas.Bool.{lt-ltb, le-ltb, le-leb, lt-leb, eq-eqb, ne_eqb, ltb-true, or_right}
+use Rattle.std.proofs.lemmas.Bool.{false≢true, cases_Bool, lt-ltb, le-ltb, le-leb, lt-leb, eq-eqb, ne_eqb, ltb-true, leb-true, eqb-true, or_right}
+use Rattle.std.proofs.lemmas.Bool.Decides.{nat_tests}
 use Rattle.indexset_core.specs.Nodes.{joined, node_at}
+use Rattle.indexset_core.specs.declared.refusal.Refusal.{Refusal}
 use Rattle.indexset_core.specs.declared.refusal.Refusal.TheVariants.{NoSuchNode, IndexOutside, ValueDiffers, WouldBeEmpty, OutOfOrder, BadSplit}
-use Rattle.indexset_log.specs.Nodes.{is_ascending}
-use Rattle.indexset_log.specs.Replay.{has_name, node_named, reaches}
+use Rattle.indexset_log.specs.Nodes.{is_filled, last_of, is_ascending, are_nodes}
+use Rattle.indexset_log.specs.Replay.{edit, has_name, node_named, reaches, step_plain}
+use Rattle.indexset_log.specs.declared.change.ChangeEventUnassigned.{ChangeEventUnassigned}
 use Rattle.indexset_log.specs.declared.change.ChangeEventUnassigned.TheVariants.{InsertAt, RemoveAt, CreateNode, RemoveNode, SplitNode}
 use Rattle.indexset_log.proofs.CallerLemmas.{node_is}
 use Rattle.indexset_bench.specs.Replica.{IsEdit, misfit}

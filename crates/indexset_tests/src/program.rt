@@ -110,7 +110,7 @@ fn answers_a_line_of_a_megabyte(rt: HostRuntime) -> Result<(), Fail> {
 
 #[test]
 fn answers_each_line(rt: HostRuntime) -> Result<(), Fail> {
-    let cases: [(&[u8], &[u8]); 5] = [
+    let cases: [(&[u8], &[u8]); 4] = [
         (
             b"add 5\nadd 5\nrank 9\nat 1\n\nlen",
             b"new\nold\n1\nnone\nbad\n1\n",
@@ -122,12 +122,46 @@ fn answers_each_line(rt: HostRuntime) -> Result<(), Fail> {
             has 18446744073709551615\nat 0\ndel 7\ndel 18446744073709551615\nlen",
             b"new\nbad\nbad\nbad\nbad\nyes\n18446744073709551615\nnone\ngone\n0\n",
         ),
-        (b"put 1 2\ncut 1\nnodes\n", b"bad\nbad\nbad\n"),
     ];
     for (input, output) in cases {
         let written = text(rt.alloc(), input)?;
         assert_eq!(rt; written.as_slice(), output);
     }
+    Ok(())
+}
+
+#[test]
+fn tells_events(rt: HostRuntime) -> Result<(), Fail> {
+    let cases: [(&[u8], &[u8]); 3] = [
+        (
+            b"put 0 10\nput 1 11\nput 2 12\nput 3 13\nput 1 99\nnodes\ncut 0\n",
+            b"new\n0 create 0:10\nnew\n1 insert 0:10 1:11 1\nnew\n2 insert 1:11 2:12 2\n\
+            new\n3 insert 2:12 3:13 3\nold 11\n4 split 3:13 2\n5 remove 1:11 1:11 1\n\
+            6 insert 0:10 1:99 1\n0:10 1:99\n2:12 3:13\ngone 10\n7 remove 1:99 0:10 0\n",
+        ),
+        (
+            b"put 1 2\ncut 1\nnodes\ncut 1\n",
+            b"new\n0 create 1:2\ngone 2\n1 drop 1:2\nempty\nnone\n",
+        ),
+        (
+            b"put 1\nput 1 2 3\nput  1 2\nput 1  2\nput 01 2\nput 1 18446744073709551616\n\
+            cut\ncut 1 2\ncut +1\nnodes \nnodes 1\nnodes\nput 0 18446744073709551615\n",
+            b"bad\nbad\nbad\nbad\nbad\nbad\nbad\nbad\nbad\nbad\nbad\nempty\n\
+            new\n0 create 0:18446744073709551615\n",
+        ),
+    ];
+    for (input, output) in cases {
+        let written = text(rt.alloc(), input)?;
+        assert_eq!(rt; written.as_slice(), output);
+    }
+    Ok(())
+}
+
+#[test]
+fn keeps_numbers_and_pairs_apart(rt: HostRuntime) -> Result<(), Fail> {
+    let written = text(rt.alloc(), b"add 5\ncut 5\nput 5 6\ndel 5\nlen\nnodes\n")?;
+    let expected = b"new\nnone\nnew\n0 create 5:6\ngone\n0\n5:6\n".as_slice();
+    assert_eq!(rt; written.as_slice(), expected);
     Ok(())
 }
 

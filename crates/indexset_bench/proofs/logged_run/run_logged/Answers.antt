@@ -1,4 +1,4 @@
-use Rattle.std.proofs.Common.{◌++◌, length, refl, ap, subst, sym, arith, length-append, rules, ◌∙◌}
+use Rattle.std.proofs.Common.{◌≡◌, ◌+◌, ◌++◌, length, Some, refl, ap, subst, sym, arith, length-append, rules, ◌∙◌}
 use Rattle.std.specs.Vec.Iter.{into_iter_items}
 use Rattle.indexset_bench.proofs.LoggedRuns.{LogSoFar, more_log, next_command, no_log}
 use Rattle.indexset_bench.proofs.CommandRuns.{replies_to_first, held_after_first, count_of_replies, count_of_done, further}

@@ -1,4 +1,4 @@
-use Rattle.std.proofs.Common.{◌≡◌, true, sym}
+use Rattle.std.proofs.Common.{◌≡◌, true, refl, ap, sym, ◌∙◌}
 use Rattle.indexset_core.specs.Nodes.{joined}
 use Rattle.indexset_core.specs.Order.{has_equal}
 use Rattle.indexset_log.specs.Table.{checked_put_events}
