@@ -13,6 +13,7 @@ pub mod iter;
 mod put;
 pub mod range;
 mod remove;
+mod traits;
 
 use crate::set::BTreeSet;
 use crate::set::nodes::Nodes;

@@ -16,6 +16,7 @@ mod put;
 pub mod range;
 mod remove;
 mod remove_range;
+mod traits;
 
 use crate::locate::node_by;
 use indexset_core::constants::DEFAULT_INNER_SIZE;

@@ -1,0 +1,16 @@
+//! The text of a logged map.
+
+use super::BTreeMap;
+use indexset_core::node::NodeLike;
+use indexset_core::pair::Pair;
+use std::fmt;
+
+impl<
+    K: Ord + Clone + Drop + fmt::Debug,
+    V: Clone + Drop + fmt::Debug,
+    Node: NodeLike<Pair<K, V>>,
+> fmt::Debug for BTreeMap<K, V, Node> {
+    fn fmt<W: fmt::Write>(&self, f: &mut fmt::Formatter<W>) -> fmt::Result {
+        f.debug_map().entries(self.iter()).finish()
+    }
+}
