@@ -1,8 +1,8 @@
 -- Where a search of lawful nodes ends, as the code passes it on.
 use Rattle.std.proofs.Common.{◌≡◌, ℕ, ◌+◌, ◌-◌, ◌<◌, ◌≤◌, zero, suc, Bool, true, false, List, slice_get, [], ◌∷◌, ◌++◌, length, map, Result, Ok, Err, is_ok, is_some, Ordering, refl, ap, sym, ◌∙◌, arith, length-append}
 use Rattle.std.specs.Cmp.{IsTotalOrder}
-use Rattle.std.specs.List.{All, find, list_any}
-use Rattle.std.specs.Ordering.{is_eq}
+use Rattle.std.specs.List.{All, count_by, find, list_any}
+use Rattle.std.specs.Ordering.{is_eq, is_le}
 use Rattle.std.specs.Result.{result_ok}
 use Rattle.std.proofs.lemmas.List.{length-map}
 use Rattle.indexset_core.specs.declared.multipair.MultiPair.{MultiPair}
@@ -13,8 +13,9 @@ use Rattle.indexset_core.proofs.CallerLemmas.{is_some-find}
 use Rattle.indexset_log.specs.Located.{located}
 use Rattle.indexset_log.specs.Places.{IsPlace, items_before}
 use Rattle.indexset_log.proofs.CallerLemmas.{IsEnd, end_at, end_found, end_node, end_offset, gap_at, gap_found, last_before, lawful_ascends, lawful_filled}
+use Rattle.indexset_multi.specs.Keys.{AreNumberedBelow}
 use Rattle.indexset_multi.specs.Places.{item_at, IsItemPlace}
-use Rattle.indexset_multi.proofs.Numbers.{answer_to, parted_keys, parted_numbers}
+use Rattle.indexset_multi.proofs.Numbers.{answer_to, parted_keys, parted_numbers, up_to_number}
 
 module _ {T : Type 0} (cmp : T → T → Ordering) (size : ℕ) (ns : List (List T)) (law : IsLawful cmp size ns) (answer : T → Ordering) (parted : IsParted answer (joined ns)) (r : Result (ℕ × ℕ) (ℕ × ℕ)) (e : r ≡ located answer ns) where
   -- it stands at an item where it has found one
@@ -49,12 +50,6 @@ module _ {T : Type 0} (cmp : T → T → Ordering) (size : ℕ) (ns : List (List
   pub err_before : (p : ℕ × ℕ) → r ≡ Err p → items_before ns p ≡ less_count answer (joined ns)
   err_before p is = let end : IsEnd answer false ns p = gap_at answer ns (lawful_filled cmp size ns law) parted r e p is in end.before
 
-  pub ok_place_at : (p : ℕ × ℕ) → r ≡ Ok p → IsPlace ns p
-  ok_place_at p is = let end : IsEnd answer true ns p = end_at answer ns (lawful_filled cmp size ns law) parted r e p is in end.place
-
-  pub err_place_at : (p : ℕ × ℕ) → r ≡ Err p → IsPlace ns p
-  err_place_at p is = let end : IsEnd answer false ns p = gap_at answer ns (lawful_filled cmp size ns law) parted r e p is in end.place
-
 -- probes by a key, and by a key and a number, find the pairs of lawful nodes in order
 module _ {K V : Type 0} (cmp : K → K → Ordering) (o : IsTotalOrder cmp) (size : ℕ) (ns : List (List (MultiPair K V))) (law : IsLawful (by_number cmp) size ns) (k : K) where
   pub lawful_keys : IsParted (λ p. cmp p.key k) (joined ns)
@@ -62,6 +57,14 @@ module _ {K V : Type 0} (cmp : K → K → Ordering) (o : IsTotalOrder cmp) (siz
 
   pub lawful_numbers : (n : ℕ) → IsParted (answer_to cmp k n) (joined ns)
   lawful_numbers n = parted_numbers cmp o (joined ns) (lawful_ascends (by_number cmp) size ns law) k n
+
+  -- a search for a number that all are below ends before the first greater key
+  module _ (n : ℕ) (below : AreNumberedBelow n (joined ns)) (r : Result (ℕ × ℕ) (ℕ × ℕ)) (e : r ≡ located (answer_to cmp k n) ns) (p : ℕ × ℕ) where
+    pub ok_above : r ≡ Ok p → items_before ns p ≡ count_by (λ q. is_le (cmp q.key k)) (joined ns)
+    ok_above is = ok_before (by_number cmp) size ns law (answer_to cmp k n) (lawful_numbers n) r e p is ∙ up_to_number cmp (joined ns) k n below
+
+    pub err_above : r ≡ Err p → items_before ns p ≡ count_by (λ q. is_le (cmp q.key k)) (joined ns)
+    err_above is = err_before (by_number cmp) size ns law (answer_to cmp k n) (lawful_numbers n) r e p is ∙ up_to_number cmp (joined ns) k n below
 
 -- the last of the nodes as the code holds them: f tells the list of each
 last_node : {T N : Type 0} (f : N → List T) (s : List N) (n : N) → node_at (map f (s ++ n ∷ [])) (length s) ≡ f n

@@ -12,7 +12,7 @@ ghost use Rattle.indexset_core.specs.Pairs.{pair_shown};
 ghost use Rattle.indexset_core.specs.Parted.{less_count};
 ghost use Rattle.indexset_log.specs.Located.{located};
 ghost use Rattle.indexset_log.specs.Places.{IsPlace, items_before};
-ghost use Rattle.indexset_multi.specs.Keys.{AreNumberedBelow, entries, number_shown, pairs_between, pairs_of};
+ghost use Rattle.indexset_multi.specs.Keys.{entries, number_shown, pairs_between, pairs_of};
 
 use super::BTreeMultiMap;
 use crate::number::ByNumber;
@@ -287,11 +287,9 @@ impl<K: Ord + Clone + Drop, V: Eq + Clone + Drop, Node: NodeLike<MultiPair<K, V>
     ) -> Result<(usize, usize), (usize, usize)>
         ensures place { result ≡ located (λ p. ordering_then (K.cmp p.key key.now) (nat_cmp p.discriminator number)) self.now.nodes }
         ensures lawful { IsLawful (by_number K.cmp) self.now.size self.now.nodes }
-        ensures numbers { AreNumberedBelow self.now.pair_next (joined self.now.nodes) }
     {
         // A set says here that its pairs ascend, so a probe by number may go by them.
         let _nodes = self.set.node_count();
-        let _next = self.pair_next;
         self.set.locate_by(&mut ByNumber::new(key, number))
     }
 }
