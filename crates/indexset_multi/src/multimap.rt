@@ -11,6 +11,7 @@ pub mod iter;
 mod put;
 pub mod range;
 mod remove;
+mod traits;
 
 use indexset_core::constants::DEFAULT_INNER_SIZE;
 use indexset_core::multipair::MultiPair;
