@@ -3,11 +3,11 @@ use Rattle.std.proofs.Common.{Option, Bool, ◌≡◌, ◌≢◌, ℕ, ◌<◌, 
 use Rattle.std.proofs.lemmas.List.Elements.{All-nil}
 use Rattle.std.below.core.specs.declared.int.u64.TheConstants.{MAX}
 use Rattle.std.specs.Io.KnownBytes.{Appends, Consumes, Keeps}
-use Rattle.std.proofs.KnownBytes.{Consumes-nil, Appends-nil, Consumes-trans, Appends-trans, Appends-kept}
+use Rattle.std.proofs.KnownBytes.{Consumes-nil, Consumes-kept, Appends-nil, Consumes-trans, Appends-trans, Appends-kept, Keeps-refl}
 use Rattle.std.proofs.Transfers.{StopsAt-of_All, StopsAt-append}
 use Rattle.indexset_bench.specs.declared.line.Part.{Part}
 use Rattle.indexset_bench.specs.declared.line.Part.TheVariants.{Whole, Last, End}
-use Rattle.indexset_bench.specs.Lines.{IsLinePart, IsWhole, lines_of}
+use Rattle.indexset_bench.specs.Lines.{HasNoEnd, IsLinePart, IsWhole, lines_of}
 use Rattle.indexset_bench.specs.Reading.{Reads}
 use Rattle.indexset_bench.specs.Run.{AnswersAll, AnswersWholeLines, LacksNumbers}
 use Rattle.indexset_bench.specs.Text.{Stores, no_stores, replies_of, reply_line, stores_after, stores_of, text_of}
@@ -87,6 +87,17 @@ module _ (r r1 r2 w w1 w2 : Option (List ℕ)) (held : Stores) (line : List ℕ)
         written = subst (Appends w w2) (sym (text_of-more far.whole line line held far.is_whole (lines_of-last line read.0 read.2) far.left)) (Appends-trans w w1 w2 (text_of far.whole) (reply_line held line) far.written line_told);
       }
 
+  -- the reader stopped within a line
+  pub stopped : (IsRest : List ℕ → Type 0) → IsRest line → Consumes r1 r2 line → Keeps w1 w2 → AnswersWholeLines IsRest r r2 w w2
+  stopped IsRest is_rest read kept = record {
+    whole = far.whole;
+    rest = line;
+    is_whole = far.is_whole;
+    is_rest = is_rest;
+    read = Consumes-trans r r1 r2 far.whole line far.read read;
+    written = Appends-kept w w1 w2 (text_of far.whole) far.written kept;
+  }
+
   -- a line was read, and not answered
   unanswered_rest : (rest : List ℕ) → IsLinePart rest → Consumes r1 r2 rest → Keeps w1 w2 → AnswersWholeLines IsLinePart r r2 w w2
   unanswered_rest rest stops read kept = record {
@@ -113,6 +124,10 @@ module _ (r r1 r2 w w1 w2 : Option (List ℕ)) (held : Stores) (line : List ℕ)
       let after = stores_of-more far.whole line line held far.is_whole (lines_of-last line reads.0 reads.2) far.left in
       (unanswered Last other reads kept, subst (λ s. MAX < s.pairs.next) (ap (stores_after held) same ∙ sym after) many)
   lacking End passed other same reads kept many = absurd (other refl)
+
+-- nothing more was read
+pub unread : (r r1 r2 w w1 : Option (List ℕ)) (held : Stores) → SoFar r r1 w w1 held → Keeps r1 r2 → AnswersWholeLines HasNoEnd r r2 w w1
+unread r r1 r2 w w1 held far kept = stopped r r1 r2 w w1 w1 held [] far HasNoEnd (All-nil (λ x. x ≢ 10)) (Consumes-kept r1 r1 r2 [] (Consumes-nil r1) kept) (Keeps-refl w1)
 
 -- the writer was flushed
 pub flushed_lacking : (r r' w w1 w2 : Option (List ℕ)) → LacksNumbers r r' w w1 → Keeps w1 w2 → LacksNumbers r r' w w2

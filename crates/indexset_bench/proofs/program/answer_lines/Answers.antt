@@ -1,13 +1,15 @@
 use Rattle.std.proofs.Common.{◌≡◌, [], Err, arith, rules}
 use Rattle.std.proofs.lemmas.Grind.{common_steps}
 use Rattle.std.proofs.lemmas.Result.{on_ok_weaker}
+use Rattle.std.proofs.Transfers.{StopsAt-of_All}
 use Rattle.std.specs.Io.KnownBytes.{Keeps}
 use Rattle.indexset_log.specs.Tree.{fresh}
 use Rattle.indexset_spine.specs.Cut.{items}
+use Rattle.indexset_bench.specs.Lines.{HasNoEnd, IsLinePart}
 use Rattle.indexset_bench.specs.Text.{stores}
 use Rattle.indexset_bench.specs.declared.fault.RunFault.TheVariants.{Numbers}
 use Rattle.indexset_bench.specs.declared.line.Part.TheVariants.{Whole, Last}
-use Rattle.indexset_bench.proofs.Runs.{start, flushed, nothing_read, further, all_but_end, unanswered, lacking}
+use Rattle.indexset_bench.proofs.Runs.{start, flushed, nothing_read, further, all_but_end, stopped, unanswered, unread, lacking}
 use Rattle.indexset_bench.proofs.program.answer_lines.Goals.{then-is_used_up+in_ok-flush-in-Whole, else-is_used_up}
 use Rattle.indexset_bench.proofs.program.answer_lines.Goals as goal
 
@@ -19,6 +21,27 @@ loop-init g c =
 
 pub returns-in_err-set-clause-memory_refused : goal.returns-in_err-set-clause-memory_refused
 returns-in_err-set-clause-memory_refused g c refused = nothing_read _ _
+
+pub returns-in_err-is_used_up-clause-read_failed : goal.returns-in_err-is_used_up-clause-read_failed
+returns-in_err-is_used_up-clause-read_failed g c failed =
+    let stops = c.in_err-is_used_up.ensures.err in
+    stopped _ _ (g.R.Read.remaining c.next_line.new.reader) _ _ (g.W.Write.contents c.next_line.new.writer) _ c.next_line.new.line.items c.loop.invariant HasNoEnd stops.0 stops.1 c.next_line.ensures.unwritten
+
+pub returns-in_err-is_used_up-clause-memory_refused : goal.returns-in_err-is_used_up-clause-memory_refused
+returns-in_err-is_used_up-clause-memory_refused g c refused =
+    let stops = c.in_err-is_used_up.ensures.err in
+    stopped _ _ (g.R.Read.remaining c.next_line.new.reader) _ _ (g.W.Write.contents c.next_line.new.writer) _ c.next_line.new.line.items c.loop.invariant IsLinePart (StopsAt-of_All c.next_line.new.line.items 10 stops.0) stops.1 c.next_line.ensures.unwritten
+
+pub returns-in_err-is_at_end-clause-read_failed : goal.returns-in_err-is_at_end-clause-read_failed
+returns-in_err-is_at_end-clause-read_failed g c failed = unread _ _ (g.R.Read.remaining c.is_at_end.new.reader) _ _ _ c.loop.invariant c.is_at_end.ensures.unread
+
+pub returns-clause-read_failed : goal.returns-clause-read_failed
+returns-clause-read_failed g c failed = unread _ _ (g.R.Read.remaining c.is_at_end.new.reader) _ _ _ c.loop.invariant c.is_at_end.ensures.unread
+
+pub returns-in-Last-clause-memory_refused : goal.returns-in-Last-clause-memory_refused
+returns-in-Last-clause-memory_refused g c refused =
+    let kept : Keeps (g.W.Write.contents c.loop.writer) (g.W.Write.contents c.answer_line-in-Last.new.writer) = search rules in
+    unanswered _ _ (g.R.Read.remaining c.next_line.new.reader) _ _ _ _ c.next_line.new.line.items c.loop.invariant Last (λ e. cc) (rw c.in-Last.is at c.in_ok-is_used_up.ensures.ok) kept
 
 pub returns-in_err-answer_line-in-Whole-clause-memory_refused : goal.returns-in_err-answer_line-in-Whole-clause-memory_refused
 returns-in_err-answer_line-in-Whole-clause-memory_refused g c refused =

@@ -1,8 +1,7 @@
 use Rattle.std.proofs.Common.{◌≡◌, true, sym}
 use Rattle.indexset_core.specs.Nodes.{joined}
 use Rattle.indexset_core.specs.Pairs.{by_key, has_key, pair}
-use Rattle.indexset_log.proofs.CallerLemmas.{checked_there}
-use Rattle.indexset_bench.proofs.LoggedMaps.{few_key_removing}
+use Rattle.indexset_bench.proofs.LoggedMaps.{checked_there, few_key_removing}
 use Rattle.indexset_bench.proofs.LoggedSets.{enough, few_checked}
 use Rattle.indexset_bench.proofs.logged.map.BTreeMapLogged.act.Goals as goal
 
