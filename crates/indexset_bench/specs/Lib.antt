@@ -2,6 +2,7 @@ pub mod Command
 pub mod Fault
 pub mod Lines
 pub mod LoggedMap
+pub mod LoggedMulti
 pub mod LoggedSet
 pub mod MapRun
 pub mod PairCommand

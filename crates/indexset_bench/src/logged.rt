@@ -4,6 +4,7 @@ ghost use Rattle.indexset_log.specs.Replay.{replay, numbered_from};
 ghost use Rattle.indexset_log.specs.declared.change.ChangeEventUnassigned.{ChangeEventUnassigned};
 
 pub mod map;
+pub mod multimap;
 pub mod set;
 
 use indexset_core::refusal::Refusal;

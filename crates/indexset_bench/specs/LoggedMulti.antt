@@ -1,0 +1,55 @@
+-- Commands to a multimap, by its numbered pairs in order, by the number of its next new pair, and by its nodes.
+use Rattle.std.specs.Prelude.{ℕ, ◌+◌, Bool, false, List, is_none, if◌then◌else◌}
+use Rattle.std.specs.Option.{option_map, unwrap_or}
+use Rattle.std.specs.declared.cmp.Ordering.{Ordering}
+use Rattle.indexset_core.specs.MultiPairs.{by_number, numbered_pair}
+use Rattle.indexset_core.specs.Nodes.{joined}
+use Rattle.indexset_core.specs.Order.{put}
+use Rattle.indexset_core.specs.declared.multipair.MultiPair.{MultiPair}
+use Rattle.indexset_log.specs.declared.change.ChangeEventUnassigned.{ChangeEventUnassigned}
+use Rattle.indexset_multi.specs.Keys.{entry_of, equal_pair, first_pair, kept_number, without_pair}
+use Rattle.indexset_multi.specs.Tree.{MultiTree, insertion_events, lacks_number, pair_removal_events}
+use Rattle.indexset_bench.specs.declared.logged.multimap.LoggedMultiCommand.{LoggedMultiCommand}
+use Rattle.indexset_bench.specs.declared.logged.multimap.LoggedMultiCommand.TheVariants.{Insert, RemoveSome, Remove}
+use Rattle.indexset_bench.specs.declared.logged.multimap.LoggedMultiReply.{LoggedMultiReply}
+use Rattle.indexset_bench.specs.declared.logged.multimap.LoggedMultiReply.TheVariants.{OldValue, Out}
+
+-- what a command sees and changes: the pairs, and the number of the next new one
+pub record MultiState (K V : Type 0) : Type 0 where
+  pub pairs : List (MultiPair K V)
+  pub pair_next : ℕ
+
+module _ {K V : Type 0} (cmp : K → K → Ordering) (eq : V → V → Bool) where
+  -- the reply to a command
+  abbrev pub logged_multi_reply : MultiState K V → LoggedMultiCommand K V → LoggedMultiReply K V
+  logged_multi_reply s (Insert k w) = OldValue (option_map (λ p. p.value) (equal_pair cmp eq s.pairs k w))
+  logged_multi_reply s (RemoveSome k) = Out (option_map entry_of (first_pair cmp s.pairs k))
+  logged_multi_reply s (Remove k w) = Out (option_map entry_of (equal_pair cmp eq s.pairs k w))
+
+  -- the pairs after it
+  abbrev pub logged_multi_pairs : MultiState K V → LoggedMultiCommand K V → List (MultiPair K V)
+  logged_multi_pairs s (Insert k w) = put (by_number cmp) s.pairs (numbered_pair k w (unwrap_or (kept_number cmp eq s.pairs k w) s.pair_next))
+  logged_multi_pairs s (RemoveSome k) = without_pair cmp s.pairs (first_pair cmp s.pairs k)
+  logged_multi_pairs s (Remove k w) = without_pair cmp s.pairs (equal_pair cmp eq s.pairs k w)
+
+  -- the number of the next new pair after it: one more where a new pair was put in
+  abbrev pub logged_multi_next : MultiState K V → LoggedMultiCommand K V → ℕ
+  logged_multi_next s (Insert k w) = if is_none (kept_number cmp eq s.pairs k w) then s.pair_next + 1 else s.pair_next
+  logged_multi_next s (RemoveSome k) = s.pair_next
+  logged_multi_next s (Remove k w) = s.pair_next
+
+  -- both
+  abbrev pub logged_multi_after : MultiState K V → LoggedMultiCommand K V → MultiState K V
+  logged_multi_after s command = record { pairs = logged_multi_pairs s command; pair_next = logged_multi_next s command }
+
+  -- the events of it
+  abbrev pub logged_multi_events : MultiTree K V → LoggedMultiCommand K V → List (ChangeEventUnassigned (MultiPair K V))
+  logged_multi_events m (Insert k w) = insertion_events cmp eq m k w
+  logged_multi_events m (RemoveSome k) = pair_removal_events cmp m.nodes (first_pair cmp (joined m.nodes) k)
+  logged_multi_events m (Remove k w) = pair_removal_events cmp m.nodes (equal_pair cmp eq (joined m.nodes) k w)
+
+  -- it needs a number for a new pair, and none is left
+  abbrev pub lacks_pair_number : MultiTree K V → LoggedMultiCommand K V → Bool
+  lacks_pair_number m (Insert k w) = lacks_number cmp eq m k w
+  lacks_pair_number m (RemoveSome k) = false
+  lacks_pair_number m (Remove k w) = false

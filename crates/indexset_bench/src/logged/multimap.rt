@@ -1,0 +1,83 @@
+//! Commands to a multimap.
+
+use super::Logged;
+use indexset_core::multipair::MultiPair;
+use indexset_core::node::NodeLike;
+use indexset_core::refusal::Refusal;
+use indexset_log::change::ChangeEvent;
+use indexset_multi::multimap::BTreeMultiMap;
+
+/// What is asked of a multimap. The reply is `OldValue` or `Out`, as it is said here.
+#[derive(Debug, Drop)]
+pub enum LoggedMultiCommand<K, V> {
+    /// Puts the pair in, for the first of its key with an equal value: `OldValue`, that value.
+    Insert(K, V),
+    /// Takes the first pair of the key out: `Out`, that pair.
+    RemoveSome(K),
+    /// Takes the first pair of the key with an equal value out: `Out`, that pair.
+    Remove(K, V),
+}
+
+/// The reply to a command.
+#[derive(Debug, PartialEq, Drop)]
+pub enum LoggedMultiReply<K, V> {
+    /// The value that was there, where there was one.
+    OldValue(Option<V>),
+    /// The key and the value that were there, where they were.
+    Out(Option<(K, V)>),
+}
+
+impl<K: Ord + Clone + Drop, V: Eq + Clone + Drop, Node: NodeLike<MultiPair<K, V>>> Logged
+    for BTreeMultiMap<K, V, Node> {
+    ghost use Rattle.std.specs.Prelude.{◌≡◌, ◌+◌, ◌||◌, List, length, nat_lt};
+    ghost use Rattle.std.below.core.specs.declared.int.u64.TheConstants.{MAX};
+    ghost use Rattle.indexset_core.specs.Nodes.{joined};
+    ghost use Rattle.indexset_core.specs.declared.multipair.MultiPair.{MultiPair};
+    ghost use Rattle.indexset_bench.specs.LoggedMulti.{MultiState, logged_multi_reply, logged_multi_after, logged_multi_events, lacks_pair_number};
+
+    type Item = MultiPair<K, V>;
+
+    type Command = LoggedMultiCommand<K, V>;
+
+    type Reply = LoggedMultiReply<K, V>;
+
+    ghost State = { MultiState K V };
+
+    ghost nodes = { λ m. m.nodes };
+
+    ghost size = { λ m. m.size };
+
+    ghost next = { λ m. m.next };
+
+    ghost state = { λ m. record { pairs = joined m.nodes; pair_next = m.pair_next } };
+
+    ghost reply = { logged_multi_reply K.cmp V.eq };
+
+    ghost after = { logged_multi_after K.cmp V.eq };
+
+    ghost events = { logged_multi_events K.cmp V.eq };
+
+    ghost lacks_numbers = { λ m command. lacks_pair_number K.cmp V.eq m command || nat_lt MAX (m.next + length (logged_multi_events K.cmp V.eq m command)) };
+
+    ghost clones = { ((x y : K) → K.is_clone x y → y ≡ x) × ((x y : V) → V.is_clone x y → y ≡ x) };
+
+    fn act(
+        &mut self,
+        command: LoggedMultiCommand<K, V>,
+    ) -> Result<(LoggedMultiReply<K, V>, Vec<ChangeEvent<MultiPair<K, V>>>), Refusal> {
+        match command {
+            LoggedMultiCommand::Insert(key, value) => {
+                let (old, events) = self.insert_cdc(key, value)?;
+                Ok((LoggedMultiReply::OldValue(old), events))
+            }
+            LoggedMultiCommand::RemoveSome(key) => {
+                let (out, events) = self.remove_some_cdc(&key)?;
+                Ok((LoggedMultiReply::Out(out), events))
+            }
+            LoggedMultiCommand::Remove(key, value) => {
+                let (out, events) = self.remove_cdc(&key, &value)?;
+                Ok((LoggedMultiReply::Out(out), events))
+            }
+        }
+    }
+}
