@@ -1,23 +1,18 @@
-//! Worked examples of lists of commands to logged trees, and of a replica that follows.
+//! Worked examples of lists of commands to a logged set and map, and of a replica that follows.
 
 use indexset_bench::logged::map::{LoggedMapCommand, LoggedMapReply};
-use indexset_bench::logged::multimap::{LoggedMultiCommand, LoggedMultiReply};
 use indexset_bench::logged::set::{LoggedSetCommand, LoggedSetReply};
 use indexset_bench::logged_run::run_logged;
 use indexset_bench::replica::Replica;
-use indexset_core::multipair::MultiPair;
 use indexset_core::pair::Pair;
 use indexset_core::refusal::Refusal;
 use indexset_log::map::BTreeMap;
 use indexset_log::set::BTreeSet;
-use indexset_multi::multimap::BTreeMultiMap;
 use std::test::Fail;
 
 type Set = BTreeSet<u64, Vec<u64>>;
 
 type Map = BTreeMap<u64, u64, Vec<Pair<u64, u64>>>;
-
-type MultiMap = BTreeMultiMap<u64, char, Vec<MultiPair<u64, char>>>;
 
 #[test]
 fn each_command_once_and_a_replica_follows(rt: HostRuntime) -> Result<(), Fail> {
@@ -120,59 +115,5 @@ fn no_commands(rt: HostRuntime) -> Result<(), Fail> {
     assert_eq!(rt; run.refused, None);
     assert!(rt; run.replies.is_empty() && run.events.is_empty());
     assert_eq!(rt; set.events_issued(), 5);
-    Ok(())
-}
-
-#[test]
-fn each_command_to_a_multimap_once_and_a_replica_follows(rt: HostRuntime) -> Result<(), Fail> {
-    let mut map: MultiMap = BTreeMultiMap::with_maximum_node_size(rt.alloc(), 3);
-    let commands = vec![in rt.alloc();
-        LoggedMultiCommand::Insert(1u64, 'a'),
-        LoggedMultiCommand::Insert(1, 'b'),
-        LoggedMultiCommand::Insert(1, 'a'),
-        LoggedMultiCommand::Remove(1, 'b'),
-        LoggedMultiCommand::Remove(1, 'b'),
-        LoggedMultiCommand::RemoveSome(1),
-        LoggedMultiCommand::Insert(1, 'a'),
-    ]?;
-    let run = run_logged(rt.alloc(), &mut map, commands);
-    let expected = vec![in rt.alloc();
-        LoggedMultiReply::OldValue(None),
-        LoggedMultiReply::OldValue(None),
-        LoggedMultiReply::OldValue(Some('a')),
-        LoggedMultiReply::Out(Some((1, 'b'))),
-        LoggedMultiReply::Out(None),
-        LoggedMultiReply::Out(Some((1, 'a'))),
-        LoggedMultiReply::OldValue(None),
-    ]?;
-    assert_eq!(rt; run.refused, None);
-    assert_eq!(rt; run.replies, expected);
-    assert_eq!(rt; run.events.len(), 7);
-    assert_eq!(rt; map.events_issued(), 7);
-    let mut replica = Replica::new(rt.alloc(), 0);
-    for event in run.events.iter() {
-        assert_eq!(rt; replica.apply(event), Ok(()));
-    }
-    let nodes = replica.nodes();
-    assert_eq!(rt; nodes.len(), 1);
-    // The third pair that was new has the number 2.
-    assert_eq!(rt; nodes[0].as_slice(), [MultiPair::new(1, 'a', 2)].as_slice());
-    Ok(())
-}
-
-#[test]
-fn a_run_ends_where_no_pair_number_is_left(rt: HostRuntime) -> Result<(), Fail> {
-    let mut map: MultiMap = BTreeMultiMap::with_maximum_node_size(rt.alloc(), 3);
-    let node = vec![in rt.alloc(); MultiPair::new(5u64, 'a', u64::MAX - 1)]?;
-    assert!(rt; map.attach_multi_node(node).is_ok());
-    let commands = vec![in rt.alloc();
-        LoggedMultiCommand::Insert(5u64, 'a'),
-        LoggedMultiCommand::Insert(6, 'a'),
-    ]?;
-    let run = run_logged(rt.alloc(), &mut map, commands);
-    assert_eq!(rt; run.refused, Some(Refusal::Numbers));
-    assert_eq!(rt; run.replies.len(), 1);
-    assert_eq!(rt; run.events.len(), 2);
-    assert_eq!(rt; map.len(), 1);
     Ok(())
 }
