@@ -44,13 +44,27 @@ fn other_calls(rt: HostRuntime) -> Result<(), Fail> {
 #[test]
 fn calls_of_a_map(rt: HostRuntime) -> Result<(), Fail> {
     let mut prices = BTreeMap::new(rt.alloc())?;
-    assert_eq!(rt; prices.insert("pear", 120).is_ok_and(|old| old.is_none()), true);
-    assert_eq!(rt; prices.insert("apple", 80).is_ok_and(|old| old.is_none()), true);
-    assert_eq!(rt; prices.insert("pear", 130).is_ok_and(|old| old == Some(120)), true);
+    assert_eq!(rt;
+        prices.insert("pear", 120).is_ok_and(|old| old.is_none()),
+        true
+    );
+    assert_eq!(rt;
+        prices.insert("apple", 80).is_ok_and(|old| old.is_none()),
+        true
+    );
+    assert_eq!(rt;
+        prices.insert("pear", 130).is_ok_and(|old| old == Some(120)),
+        true
+    );
     assert_eq!(rt; prices.get(&"pear"), Some(&130));
     assert_eq!(rt; prices.get_index(0), Some((&"apple", &80)));
     assert_eq!(rt; prices.rank(&"banana"), 1);
-    assert!(rt; prices.entry("fig").or_insert(45).is_ok_and(|price| *price == 45));
+    assert!(rt;
+        prices
+            .entry("fig")
+            .or_insert(45)
+            .is_ok_and(|price| *price == 45)
+    );
     if let Some(price) = prices.get_mut(&"apple") {
         *price = 90;
     }
@@ -63,17 +77,33 @@ fn calls_of_a_map(rt: HostRuntime) -> Result<(), Fail> {
 
 #[test]
 fn a_tree_tells_what_it_did(rt: HostRuntime) -> Result<(), Fail> {
-    let mut tree: set::BTreeSet<u64, Vec<u64>> =
-        set::BTreeSet::with_maximum_node_size(rt.alloc(), 2);
+    let mut tree: set::BTreeSet<u64, Vec<u64>> = set::BTreeSet::with_maximum_node_size(
+        rt.alloc(),
+        2,
+    );
     let (old, made) = tree.put_cdc(5).map_err(|refused| refused.cause)?;
     assert_eq!(rt; old, None);
     assert_eq!(rt; made.len(), 1);
-    if let Some(ChangeEvent::CreateNode { event_id, max_value }) = made.first() {
+    if let Some(
+        ChangeEvent::CreateNode {
+            event_id,
+            max_value,
+        },
+    ) = made.first()
+    {
         assert_eq!(rt; event_id.inner(), 0);
         assert_eq!(rt; *max_value, 5);
     }
     let (_, put) = tree.put_cdc(7).map_err(|refused| refused.cause)?;
-    if let Some(ChangeEvent::InsertAt { event_id, max_value, value, index }) = put.first() {
+    if let Some(
+        ChangeEvent::InsertAt {
+            event_id,
+            max_value,
+            value,
+            index,
+        },
+    ) = put.first()
+    {
         assert_eq!(rt; event_id.inner(), 1);
         assert_eq!(rt; (*max_value, *value, *index), (5, 7, 1));
     }

@@ -41,7 +41,10 @@ impl<K: Ord + Drop, V: Drop> FromIterator<(K, V)> for BTreeMap<K, V> {
 
     ghost from_iter_gives = { λ entries m. m ≡ with_all K.cmp (no_pairs DEFAULT_INNER_SIZE) entries };
 
-    fn from_iter<I: IntoIterator<Item = (K, V)>>(alloc: Global, iter: I) -> Result<Self, AllocError> {
+    fn from_iter<I: IntoIterator<Item = (K, V)>>(
+        alloc: Global,
+        iter: I,
+    ) -> Result<Self, AllocError> {
         let rest = iter.into_iter();
         let mut map = BTreeMap::new(alloc).map_err(|_| AllocError)?;
         map.extend(rest)?;
