@@ -1,16 +1,16 @@
 -- What the code reads of a spine, and where its searches end.
-use Rattle.std.proofs.Common.{◌≡◌, ℕ, ◌+◌, ◌-◌, ◌<◌, ◌≤◌, false, List, [], length, get_or, take, Option, Ordering, inl, inr, sym, ap, ◌∙◌, arith, subst}
-use Rattle.std.specs.List.{All}
+use Rattle.std.proofs.Common.{◌≡◌, ℕ, ◌+◌, ◌-◌, ◌<◌, ◌≤◌, false, true, List, [], ◌∷◌, length, get_or, take, Option, Ordering, inl, inr, sym, ap, ◌∙◌, arith, subst}
+use Rattle.std.specs.List.{All, HoldsAt}
 use Rattle.std.specs.Option.{option_map_or}
 use Rattle.std.specs.Ordering.{is_lt, is_eq}
-use Rattle.std.proofs.lemmas.Bool.{cases_lt}
+use Rattle.std.proofs.lemmas.Bool.{cases_lt, false≢true}
 use Rattle.std.proofs.lemmas.List.{get_or-map, length-map}
 use Rattle.std.proofs.lemmas.Option.{slice_get_past}
 use Rattle.std.specs.declared.vec.Vec.{Vec}
 use Rattle.indexset_core.specs.Nodes.{joined, node_lengths, ends_less, equal_at, node_for, node_at}
 use Rattle.indexset_core.specs.Parted.{IsParted, less_count}
 use Rattle.indexset_core.proofs.CallerLemmas as nodes
-use Rattle.indexset_core.proofs.CallerLemmas.{ends_for, get_in_node, parted_node, place_for}
+use Rattle.indexset_core.proofs.CallerLemmas.{count_parted, ends_for, equal_none, ends_last, ends_until, front-is_lt, get_in_node, node_found, parted_node, place_for}
 use Rattle.indexset_spine.specs.Cut.{Cut, cut, IsCut, items, vec_items}
 use Rattle.indexset_spine.proofs.VecNodes.{length-vec_items, node_read}
 
@@ -69,3 +69,38 @@ module _ {X : Type 0} (answer : X → Ordering) (s : Cut X) (k : ℕ) (n : List 
         | inl lt ↦ (rw h.node at (sym (get_in_node s.nodes k o h.inside (rw h.node lt))))
         | inr ge ↦ slice_get_past n o ge ∙ sym (slice_get_past (items s) _ (past ge))
       ])
+
+-- where the last item of a list is answered Less, all are
+pub all_less : {X : Type 0} (answer : X → Ordering) (xs : List X) → IsParted answer xs → ends_less answer xs ≡ true → length xs ≡ less_count answer xs
+all_less answer [] parted ends = absurd (false≢true ends)
+all_less answer (x ∷ xs) parted ends =
+    let n = length (x ∷ xs) in
+    let last : (d : _) → is_lt (answer (get_or (x ∷ xs) (n - 1) d)) ≡ true = λ d. sym (ends_last answer (x ∷ xs) d (omega arith)) ∙ ends in
+    sym (count_parted (λ y. is_lt (answer y)) (x ∷ xs) n (omega arith)
+    (λ k d low high. front-is_lt _ _ (parted k (n - 1) d (omega (arith, high)) (omega arith)) (last d)) (λ k d low high. absurd (omega (arith, low, high))))
+
+-- where the last node's last item is answered Less, the answers name that node
+last_named : {X : Type 0} (answer : X → Ordering) (ns : List (List X)) → 1 ≤ length ns → (2 ≤ length ns → All (λ n. 1 ≤ n) (node_lengths ns)) → IsParted answer (joined ns) → ends_less answer (node_at ns (length ns - 1)) ≡ true → length ns - 1 ≡ node_for answer ns
+last_named answer ns some filled parted ends =
+    let none : length ns - 1 < length ns - 1 → HoldsAt (λ n. ends_less answer n ≡ false) ns (length ns - 1) = λ lt. absurd (omega (arith, lt)) in
+    elim (cases_lt 1 (length ns)) [
+      | inl two ↦ node_found answer ns (length ns - 1) some (omega arith) (λ k d low high. ends_until answer ns (filled (omega (arith, two))) parted (length ns - 1) (omega arith) ends k d low (omega (arith, high))) none
+      | inr one ↦ node_found answer ns (length ns - 1) some (omega arith) (λ k d low high. absurd (omega (arith, high, one))) none
+    ]
+
+pub read_last : {X Z : Type 0} (vs : List (Vec X Z)) (size : ℕ) (s : Cut X) → cut (vec_items vs) size ≡ s → IsCut (node_lengths (vec_items vs)) size
+    → (answer : X → Ordering) → IsParted answer (items s) → (k : ℕ) (v : Vec X Z) → k ≡ length vs - 1 → v ≡ get_or vs k v → ends_less answer v.items ≡ true → NodeFound answer s k v.items
+read_last {X} vs size s view is answer parted k v last at ends =
+    let long = length-vec_items vs in
+    let counted = length-map (vec_items vs) (λ n. length n) in
+    let inside : k < length vs = omega (arith, last, is.some, long, counted) in
+    let same : k ≡ length (vec_items vs) - 1 = omega (arith, last, long) in
+    let there : ends_less answer (node_at (vec_items vs) (length (vec_items vs) - 1)) ≡ true = rw (← same) (rw (node_read vs k v inside at []) ends) in
+    let named = last_named answer (vec_items vs) (omega (arith, is.some, counted)) (λ two. is.filled (omega (arith, two, counted))) (subst (λ (t : Cut X). IsParted answer (items t)) (sym view) parted) there in
+    read_node vs size s view is answer k v (same ∙ named) at
+
+-- and no item follows them
+pub none_after : {X : Type 0} (answer : X → Ordering) (s : Cut X) (k : ℕ) (n : List X) → NodeFound answer s k n → IsParted answer (items s) → ends_less answer n ≡ true → false ≡ equal_at answer (items s) (length (joined (take k s.nodes)) + length n)
+none_after answer s k n here parted ends =
+    let all = all_less answer n (node_parted answer s k n here parted) ends in
+    sym (equal_none answer n (length n) (slice_get_past n (length n) (omega arith))) ∙ told answer s k n here parted (length n) all

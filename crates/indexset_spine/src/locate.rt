@@ -2,11 +2,16 @@
 ghost use Rattle.std.specs.Prelude.{◌≡◌, ◌+◌, ◌≤◌, length};
 ghost use Rattle.std.specs.List.{All};
 ghost use Rattle.indexset_core.specs.Digits.{digits};
-ghost use Rattle.indexset_core.specs.Parted.{IsParted};
-ghost use Rattle.indexset_core.specs.Nodes.{joined, node_lengths, node_for};
+ghost use Rattle.indexset_core.specs.Parted.{IsParted, less_count};
+ghost use Rattle.indexset_core.specs.Nodes.{ends_less, joined, node_lengths, node_for};
 ghost use Rattle.indexset_spine.specs.Cut.{vec_items};
 
 use indexset_core::probe::Probe;
+use indexset_core::search;
+
+// Up to how many items a search within a node takes no branch on an answer: more would not stay in the
+// cache, where a branch that is guessed fetches ahead.
+const NEAR: usize = 1 << 17;
 
 /// The first node whose last item is not answered Less, else the last node.
 pub(crate) fn node_by<T, P: Probe<T>>(nodes: &[Vec<T>], probe: &mut P) -> usize
@@ -29,4 +34,30 @@ pub(crate) fn node_by<T, P: Probe<T>>(nodes: &[Vec<T>], probe: &mut P) -> usize
         }
     }
     low
+}
+
+/// How many items of a node are answered Less, where the tree has `len` items.
+pub(crate) fn offset_by<T, P: Probe<T>>(node: &[T], probe: &mut P, len: usize) -> usize
+    requires { IsParted (P.answer probe.old) node.now }
+    ensures count { result ≡ less_count (P.answer probe.old) node.now }
+    ensures fixed { P.answer probe.new ≡ P.answer probe.old }
+    ensures few { P.asked probe.new ≤ P.asked probe.old + digits (length node.now) }
+{
+    if len <= NEAR {
+        search::first_not_less_near(node, probe)
+    } else {
+        search::first_not_less(node, probe)
+    }
+}
+
+/// Whether the last item of a node is answered Less, by one question.
+pub(crate) fn ends_less<T, P: Probe<T>>(node: &[T], probe: &mut P) -> bool
+    ensures value { result ≡ ends_less (P.answer probe.old) node.now }
+    ensures fixed { P.answer probe.new ≡ P.answer probe.old }
+    ensures few { P.asked probe.new ≤ P.asked probe.old + 1 }
+{
+    match node.last() {
+        Some(last) => probe.place(last).is_lt(),
+        None => false,
+    }
 }

@@ -96,13 +96,38 @@ impl<T> Spine<T> {
     {
         let node = locate::node_by(self.nodes.as_slice(), probe);
         let items = self.nodes[node].as_slice();
-        let offset = search::first_not_less(items, probe);
+        let offset = locate::offset_by(items, probe, self.len);
         let found = search::is_equal_at(items, offset, probe);
         Spot {
             node,
             offset,
             found,
         }
+    }
+
+    /// The same, where the last item is asked for first: where that one is answered Less, all are, and no
+    /// other question follows. Else there is one question more. It is for items that come in order.
+    pub fn locate_from_end_by<P: Probe<T>>(&self, probe: &mut P) -> Spot
+        requires { IsParted (P.answer probe.old) (items self.now) }
+        ensures node { result.node ≡ node_for (P.answer probe.old) self.now.nodes }
+        ensures offset { result.offset ≡ less_count (P.answer probe.old) (node_at self.now.nodes result.node) }
+        ensures found { result.found ≡ equal_at (P.answer probe.old) (items self.now) (position_of self.now.nodes result) }
+        ensures spot { IsSpot self.now.nodes result }
+        ensures item { IsTrue result.found → IsItemSpot self.now.nodes result }
+        ensures position { position_of self.now.nodes result ≡ less_count (P.answer probe.old) (items self.now) }
+        ensures fixed { P.answer probe.new ≡ P.answer probe.old }
+        ensures few { P.asked probe.new ≤ P.asked probe.old + (digits (length self.now.nodes) + digits self.now.size + 2) }
+    {
+        let node = self.nodes.len() - 1;
+        let items = self.nodes[node].as_slice();
+        if locate::ends_less(items, probe) {
+            return Spot {
+                node,
+                offset: items.len(),
+                found: false,
+            };
+        }
+        self.locate_by(probe)
     }
 
     /// How many items stand before a spot: its position.

@@ -5,7 +5,7 @@ ghost use Rattle.indexset_core.specs.Order.{has_equal, keep, put, without, equal
 ghost use Rattle.indexset_set.specs.SetNodes.{nodes_kept, nodes_put, nodes_without};
 
 use super::BTreeSet;
-use super::lookup::locate;
+use super::lookup::{locate, locate_from_end};
 use indexset_core::refusal::{Refusal, Refused};
 
 impl<T: Ord + Drop> BTreeSet<T> {
@@ -22,7 +22,7 @@ impl<T: Ord + Drop> BTreeSet<T> {
         ensures given_back { IfErr result (λ e. (e.value ≡ value) × (e.cause ≡ Refusal.Memory)) }
         ensures err { OnErr result (self.new ≡ self.old) }
     {
-        let spot = locate(&self.spine, &value);
+        let spot = locate_from_end(&self.spine, &value);
         if spot.found {
             return Ok(false);
         }

@@ -4,21 +4,21 @@ use Rattle.indexset_spine.proofs.VecNodes.{length-vec_items}
 use Rattle.indexset_spine.proofs.SpineReads.{read_node, node_within, node_parted, located, told}
 use Rattle.indexset_spine.proofs.spine.Spine.locate_by.Goals as goal
 
-pub first_not_less-offset-requires : goal.first_not_less-offset-requires
-first_not_less-offset-requires g c =
+pub offset_by-offset-requires : goal.offset_by-offset-requires
+offset_by-offset-requires g c =
     let here = read_node _ _ c.args.self.now c.self.view_is c.self.invariant.is_spine.is_cut _ _ c.index.result.now (rw c.as_slice.ensures.value at c.node_by-node.ensures.node) c.index.ensures in
     rw (c.node_by-node.ensures.fixed, c.as_slice-items.ensures.value) (node_parted _ _ _ _ here c.requires)
 
 pub returns-clause-position : goal.returns-clause-position
 returns-clause-position g c =
     let here = read_node _ _ c.args.self.now c.self.view_is c.self.invariant.is_spine.is_cut _ _ c.index.result.now (rw c.as_slice.ensures.value at c.node_by-node.ensures.node) c.index.ensures in
-    located _ _ _ _ here c.requires _ (rw (c.node_by-node.ensures.fixed, c.as_slice-items.ensures.value) at c.first_not_less-offset.ensures.count)
+    located _ _ _ _ here c.requires _ (rw (c.node_by-node.ensures.fixed, c.as_slice-items.ensures.value) at c.offset_by-offset.ensures.count)
 
 pub returns-clause-found : goal.returns-clause-found
 returns-clause-found g c =
     let here = read_node _ _ c.args.self.now c.self.view_is c.self.invariant.is_spine.is_cut _ _ c.index.result.now (rw c.as_slice.ensures.value at c.node_by-node.ensures.node) c.index.ensures in
-    let offset = rw (c.node_by-node.ensures.fixed, c.as_slice-items.ensures.value) at c.first_not_less-offset.ensures.count in
-    let equal = rw (c.first_not_less-offset.ensures.fixed, c.node_by-node.ensures.fixed, c.as_slice-items.ensures.value) at c.is_equal_at-found.ensures.found in
+    let offset = rw (c.node_by-node.ensures.fixed, c.as_slice-items.ensures.value) at c.offset_by-offset.ensures.count in
+    let equal = rw (c.offset_by-offset.ensures.fixed, c.node_by-node.ensures.fixed, c.as_slice-items.ensures.value) at c.is_equal_at-found.ensures.found in
     equal ∙ told _ _ _ _ here c.requires _ offset
 
 pub returns-clause-few : goal.returns-clause-few
@@ -29,4 +29,4 @@ returns-clause-few g c =
     let node = ap (λ l. length l) c.as_slice-items.ensures.value in
     let nodes = ap (λ l. length l) c.as_slice.ensures.value in
     let count = ap (λ t. length t.nodes) c.self.view_is in
-    omega (arith, c.node_by-node.ensures.few, c.first_not_less-offset.ensures.few, c.is_equal_at-found.ensures.few, digits-mono (length c.as_slice-items.result.now) s.size (omega arith), digits-mono (length c.as_slice.result.now) (length s.nodes) (omega (arith, length-vec_items c.self.inside.nodes.items)))
+    omega (arith, c.node_by-node.ensures.few, c.offset_by-offset.ensures.few, c.is_equal_at-found.ensures.few, digits-mono (length c.as_slice-items.result.now) s.size (omega arith), digits-mono (length c.as_slice.result.now) (length s.nodes) (omega (arith, length-vec_items c.self.inside.nodes.items)))
