@@ -1,9 +1,9 @@
 pub mod CallerLemmas
-pub mod CompareLemmas
 pub mod LentPairs
 pub mod MergeLemmas
 pub mod SetAlgebraLaws
 pub mod SetAlgebraLemmas
+pub mod SetAppendLemmas
 pub mod SetBulkLemmas
 pub mod SetCloneLemmas
 pub mod SetMemberLemmas

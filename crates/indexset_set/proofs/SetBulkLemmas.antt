@@ -1,5 +1,5 @@
 -- What a call that changes many elements leaves of an ascending list.
-use Rattle.std.proofs.Common.{◌≡◌, ℕ, zero, suc, ◌<◌, Bool, true, false, not, cond, List, [], ◌∷◌, ◌++◌, length, take, drop, filter, Ordering, IfSome, Some, slice_get, refl, ap, sym, ◌∙◌, subst, arith}
+use Rattle.std.proofs.Common.{◌≡◌, ℕ, zero, suc, ◌<◌, Bool, true, false, not, cond, List, [], ◌∷◌, ◌++◌, length, take, drop, filter, Ordering, IfSome, Some, Result, Ok, Err, OnErr, slice_get, refl, ap, sym, ◌∙◌, subst, arith}
 use Rattle.std.specs.declared.cmp.Ordering.TheVariants.{Less}
 use Rattle.std.specs.Cmp.{IsTotalOrder}
 use Rattle.std.specs.List.{All, AllPairs, fold, items_where_true}
@@ -9,6 +9,7 @@ use Rattle.std.proofs.lemmas.List.{take-append-drop}
 use Rattle.std.proofs.lemmas.List.Kept.{AllPairs-cons}
 use Rattle.std.proofs.lemmas.List.Sums.{fold-append}
 use Rattle.indexset_core.specs.Order.{IsAscending, below, rank, put}
+use Rattle.indexset_spine.specs.Cut.{Cut, items}
 use Rattle.indexset_set.specs.SetAlgebra.{put_all, MovesSome}
 use Rattle.indexset_set.specs.SetRanges.{not_below}
 use Rattle.indexset_core.proofs.CallerLemmas.{parted_by_item, Parts, count_parts, front-is_lt, filter_front, filter_back}
@@ -67,6 +68,11 @@ module _ {T : Type 0} (cmp : T → T → Ordering) where
   pub moved_none : (l xs : List T) → MovesSome cmp l xs l xs
   unfolding put_all
   moved_none l xs = (0, refl, refl)
+
+  -- a call that changes nothing where it is refused
+  pub refused_moves_none : {U E : Type 0} (r : Result U E) (s t s' t' : Cut T) → OnErr r (s' ≡ s) → OnErr r (t' ≡ t) → OnErr r (MovesSome cmp (items s) (items t) (items s') (items t'))
+  refused_moves_none (Ok u) s t s' t' kept other_kept = tt
+  refused_moves_none (Err e) s t s' t' kept other_kept = rw (kept, other_kept) (moved_none (items s) (items t))
 
   next_of : (k : ℕ) (xs : List T) (y : T) (ys : List T) → drop k xs ≡ y ∷ ys → (take (suc k) xs ≡ take k xs ++ y ∷ []) × (drop (suc k) xs ≡ ys)
   next_of zero [] y ys e = absurd (cc)

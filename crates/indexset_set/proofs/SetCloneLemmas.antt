@@ -10,7 +10,7 @@ use Rattle.indexset_core.proofs.CallerLemmas.{gap_keep}
 
 -- the item behind the first ones is put behind them
 module _ {T : Type 0} (cmp : T → T → Ordering) (l : List T) (x : T) (rest : List T) (up : IsAscending cmp (l ++ x ∷ rest)) where
-  gap_behind : IsGapFor cmp l x (length l)
+  pub gap_behind : IsGapFor cmp l x (length l)
   gap_behind = record {
     inside = omega arith;
     below_before = λ k d low high.

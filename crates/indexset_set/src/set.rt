@@ -11,6 +11,7 @@ mod compare;
 pub mod cursor;
 mod edits;
 pub mod iter;
+mod key_range;
 pub mod laws;
 mod lookup;
 mod make;

@@ -3,6 +3,7 @@ pub mod CellExamples
 pub mod CellLemmas
 pub mod CutEdits
 pub mod CutExamples
+pub mod CutJoins
 pub mod CutLemmas
 pub mod CutSplits
 pub mod EditSteps
@@ -16,6 +17,7 @@ pub mod PartLemmas
 pub mod PrefixLemmas
 pub mod RemoveSteps
 pub mod RetainSteps
+pub mod RunLemmas
 pub mod SpineReads
 pub mod SplitSteps
 pub mod SpotLemmas

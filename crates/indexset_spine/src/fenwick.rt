@@ -71,7 +71,17 @@ impl Fenwick {
         ensures kept { self.old.room ≤ self.new.room }
         ensures refusal { IfErr result (λ e. e ≡ Refusal.Memory) }
     {
-        self.cells.reserve(1)?;
+        self.reserve(1)
+    }
+
+    /// Makes room for as many more lengths as are asked for. A refused call changes nothing.
+    pub fn reserve(&mut self, more: usize) -> Result<(), Refusal>
+        ensures room { OnOk result (length self.new.lengths + more ≤ self.new.room) }
+        ensures lengths { self.new.lengths ≡ self.old.lengths }
+        ensures kept { self.old.room ≤ self.new.room }
+        ensures refusal { IfErr result (λ e. e ≡ Refusal.Memory) }
+    {
+        self.cells.reserve(more)?;
         Ok(())
     }
 

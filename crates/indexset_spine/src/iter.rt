@@ -7,6 +7,7 @@ ghost use Rattle.std.specs.Map.Iter.{TakesFirst, TakesLast, deref};
 ghost use Rattle.indexset_core.specs.Nodes.{joined};
 ghost use Rattle.indexset_spine.specs.Cut.{vec_items, IsSpot, position_of};
 
+pub mod runs;
 mod traits;
 
 use crate::spot::Spot;

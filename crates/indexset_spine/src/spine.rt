@@ -9,6 +9,7 @@ ghost use Rattle.indexset_core.specs.Parted.{IsParted, less_count};
 ghost use Rattle.indexset_core.specs.Nodes.{node_at, node_for, equal_at, node_lengths};
 ghost use Rattle.indexset_spine.specs.Cut.{items, vec_items, IsCut, IsSpot, IsItemSpot, position_of};
 
+mod append;
 mod ends;
 mod insert;
 mod make;

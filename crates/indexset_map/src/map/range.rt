@@ -28,11 +28,7 @@ impl<K: Ord, V> BTreeMap<K, V> {
         ensures runs { ShowsInOrder (pair_shown {K = K} {V = V}) }
         ensures runs_back { ShowsInReverse (pair_shown {K = K} {V = V}) }
     {
-        // A map says here that its keys ascend, so the two positions cut out the range.
-        let _len = self.len();
-        let from = self.start_position(range.0);
-        let to = self.end_position(range.1);
-        self.range_idx((Bound::Included(from), Bound::Excluded(to)))
+        IterMap::of(self.set.range_by_key(range))
     }
 
     /// The pairs at the positions that satisfy both bounds, in order. There is none where the bounds

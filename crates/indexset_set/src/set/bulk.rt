@@ -1,9 +1,9 @@
 //! Calls that change many elements of a set at once.
-ghost use Rattle.std.specs.Prelude.{◌≡◌, ◌<◌, ◌≤◌, take, [], IfOk, OnOk, IfErr, OnErr, IfSome, length, drop, slice_get};
+ghost use Rattle.std.specs.Prelude.{◌≡◌, ◌<◌, ◌≤◌, ◌↔◌, ◌++◌, IsTrue, take, [], IfOk, OnOk, IfErr, OnErr, IfSome, length, drop, slice_get};
 ghost use Rattle.std.specs.Fn.{CalledAt};
 ghost use Rattle.std.specs.List.Retain.{IsFiltered};
 ghost use Rattle.indexset_spine.specs.Cut.{items};
-ghost use Rattle.indexset_core.specs.Order.{below, put};
+ghost use Rattle.indexset_core.specs.Order.{IsAscending, below, put};
 ghost use Rattle.indexset_set.specs.SetAlgebra.{put_all, MovesSome};
 ghost use Rattle.indexset_set.specs.SetRanges.{not_below};
 
@@ -62,7 +62,8 @@ impl<T: Ord + Drop> BTreeSet<T> {
 
     /// Puts the elements of another set in their places, first to last, each for the equal one where
     /// there is one, and takes them out of the other. A refused call has moved some first elements and
-    /// leaves the others.
+    /// leaves the others. Where all of them are above those here, and the other's node size is not
+    /// larger, whole nodes move.
     pub fn append(&mut self, other: &mut Self) -> Result<(), Refusal>
         ensures ok { OnOk result (items self.new ≡ put_all T.cmp (items self.old) (items other.old)) }
         ensures emptied { OnOk result (items other.new ≡ []) }
@@ -72,9 +73,41 @@ impl<T: Ord + Drop> BTreeSet<T> {
         ensures err { OnErr result (MovesSome T.cmp (items self.old) (items other.old) (items self.new) (items other.new)) }
         ensures some_left { OnErr result (0 < length (items other.new)) }
     {
+        if other.maximum_node_size() <= self.maximum_node_size() && self.is_below(other) {
+            return self.append_nodes(other);
+        }
         while !other.is_empty() {
             self.put_first_of(other)?;
         }
+        Ok(())
+    }
+
+    // Whether both sets have elements, and each here is below each there. It compares once at most.
+    fn is_below(&self, other: &Self) -> bool
+        ensures { IsTrue result ↔ ((0 < length (items self.now)) × (0 < length (items other.now)) × IsAscending T.cmp (items self.now ++ items other.now)) }
+    {
+        let (Some(last), Some(first)) = (self.spine.last_spot(), other.spine.first_spot()) else {
+            return false;
+        };
+        self.spine.item(&last).cmp(other.spine.item(&first)).is_lt()
+    }
+
+    // Moves the nodes of another set, whose elements are above those here, behind the nodes here. A
+    // refused call changes neither.
+    fn append_nodes(&mut self, other: &mut Self) -> Result<(), Refusal>
+        requires some { 0 < length (items self.old) }
+        requires other_some { 0 < length (items other.old) }
+        requires fits { other.old.size ≤ self.old.size }
+        requires order { IsAscending T.cmp (items self.old ++ items other.old) }
+        ensures ok { OnOk result (items self.new ≡ put_all T.cmp (items self.old) (items other.old)) }
+        ensures emptied { OnOk result (items other.new ≡ []) }
+        ensures size { self.new.size ≡ self.old.size }
+        ensures other_size { other.new.size ≡ other.old.size }
+        ensures refusal { IfErr result (λ e. e ≡ Refusal.Memory) }
+        ensures err { OnErr result (self.new ≡ self.old) }
+        ensures other_err { OnErr result (other.new ≡ other.old) }
+    {
+        self.spine.append(&mut other.spine)?;
         Ok(())
     }
 

@@ -6,6 +6,7 @@ ghost use Rattle.std.specs.Cmp.Lexicographic.{pointwise, slice_cmp, slice_partia
 ghost use Rattle.indexset_spine.specs.Cut.{items};
 
 use super::BTreeSet;
+use indexset_spine::iter::runs;
 use std::cmp::Ordering;
 use std::hash::{Hash, Hasher};
 
@@ -18,7 +19,7 @@ impl<T: Ord> PartialEq for BTreeSet<T> {
         if self.spine.len() != other.spine.len() {
             return false;
         }
-        self.spine.iter().eq(other.spine.iter())
+        runs::have_equal_items(self.spine.iter(), other.spine.iter())
     }
 }
 

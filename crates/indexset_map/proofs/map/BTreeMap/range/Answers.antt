@@ -1,7 +1,9 @@
-use Rattle.std.proofs.Common.{◌∙◌}
-use Rattle.indexset_core.proofs.CallerLemmas.{key_range_is}
+use Rattle.std_collections.proofs.IterRuns.{shows_in_order, shows_in_reverse}
+use Rattle.indexset_core.specs.Pairs.{pair_shown}
 use Rattle.indexset_map.proofs.map.BTreeMap.range.Goals as goal
 
-pub returns-clause-rest : goal.returns-clause-rest
-returns-clause-rest g c =
-    c.range_idx.ensures.rest ∙ key_range_is g.K.Ord.cmp g.met.K.Ord.total c.args.self.now.pairs c.len-len.ensures.ascending _ _ c.requires _ _ c.start_position-from.ensures c.end_position-to.ensures
+pub returns-clause-runs : goal.returns-clause-runs
+returns-clause-runs g c = shows_in_order pair_shown
+
+pub returns-clause-runs_back : goal.returns-clause-runs_back
+returns-clause-runs_back g c = shows_in_reverse pair_shown

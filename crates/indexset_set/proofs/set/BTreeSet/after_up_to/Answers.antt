@@ -1,4 +1,4 @@
-use Rattle.std.proofs.Common.{◌≡◌, ◌+◌, ◌∙◌, arith, ap, length, sym}
+use Rattle.std.proofs.Common.{◌+◌, arith, ap, length, sym}
 use Rattle.indexset_spine.specs.Cut.{items, position_of}
 use Rattle.indexset_core.proofs.CallerLemmas.{found_not_above, gap_not_above, offset-le}
 use Rattle.indexset_set.proofs.set.BTreeSet.after_up_to.Goals as goal

@@ -1,7 +1,10 @@
 use Rattle.std.proofs.Common.{◌<◌, ◌∙◌, length, rules}
 use Rattle.indexset_spine.specs.Cut.{items}
-use Rattle.indexset_set.proofs.SetBulkLemmas.{moved_none, moved_more, moved_all}
+use Rattle.indexset_set.proofs.SetBulkLemmas.{moved_none, moved_more, moved_all, refused_moves_none}
 use Rattle.indexset_set.proofs.set.BTreeSet.append.Goals as goal
+
+pub returns-then-is_below-clause-err : goal.returns-then-is_below-clause-err
+returns-then-is_below-clause-err g c = refused_moves_none g.T.Ord.cmp _ _ _ _ _ c.append_nodes.ensures.err c.append_nodes.ensures.other_err
 
 pub loop-self-init : goal.loop-self-init
 loop-self-init g c = record { moves = moved_none g.T.Ord.cmp _ _; size = search rules; other_size = search rules }

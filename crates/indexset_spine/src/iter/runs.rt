@@ -1,0 +1,58 @@
+//! A walk by runs, the items that stand in one node, and two walks compared by them.
+ghost use Rattle.std.specs.Prelude.{◌≡◌, ◌<◌, ◌++◌, length};
+ghost use Rattle.std.specs.Cmp.Lexicographic.{pointwise};
+
+use super::Iter;
+
+impl<'a, T> Iter<'a, T> {
+    /// Takes off what is left of the front node, or of the next that has items: nothing only at the end.
+    fn next_run(&mut self) -> &'a [T]
+        ensures taken { self.old ≡ result.now ++ self.new }
+        ensures some { 0 < length self.old → 0 < length result.now }
+    {
+        let mut run = self.front;
+        self.front = &[];
+        while run.is_empty()
+            && let Some((node, rest)) = self.middle.split_first()
+        {
+            run = node.as_slice();
+            self.middle = rest;
+        }
+        if run.is_empty() {
+            run = self.back;
+            self.back = &[];
+        }
+        self.left -= run.len();
+        run
+    }
+}
+
+/// Whether two walks have as many items left, each equal to its counterpart: slice by slice, as far as both nodes reach.
+pub fn have_equal_items<'a, T: PartialEq>(mut left: Iter<'a, T>, mut right: Iter<'a, T>) -> bool
+    ensures { result ≡ pointwise T.eq left.entry right.entry }
+{
+    let (mut run, mut other): (&[T], &[T]) = (&[], &[]);
+    loop {
+        run = or_next_run(run, &mut left);
+        other = or_next_run(other, &mut right);
+        let common = run.len().min(other.len());
+        if common == 0 {
+            return run.len() == other.len();
+        }
+        let (front, rest) = run.split_at(common);
+        let (other_front, other_rest) = other.split_at(common);
+        if front != other_front {
+            return false;
+        }
+        run = rest;
+        other = other_rest;
+    }
+}
+
+// The run, or where it is used up, the next one of the walk.
+fn or_next_run<'a, T>(run: &'a [T], walk: &mut Iter<'a, T>) -> &'a [T]
+    ensures taken { result.now ++ walk.new ≡ run.now ++ walk.old }
+    ensures some { 0 < length (run.now ++ walk.old) → 0 < length result.now }
+{
+    if run.is_empty() { walk.next_run() } else { run }
+}
