@@ -51,7 +51,7 @@ fn remove_all_told(set: &mut Set, keys: u64) -> io::Result<u64> {
     Ok(told)
 }
 
-pub fn measure(rt: &HostRuntime, keys: u64) -> io::Result<()> {
+pub(crate) fn measure(rt: &HostRuntime, keys: u64) -> io::Result<()> {
     let start = Instant::now(rt)?;
     let mut set = insert_all(rt.alloc(), keys)?;
     report(rt, "logged set, insert, random order", start, keys)?;

@@ -1,6 +1,7 @@
 //! Times the calls of the plain set and map and of the logged set, for people: nanoseconds an operation.
 #![tactic(auto)]
 
+mod ends;
 mod log;
 mod map;
 
@@ -166,6 +167,7 @@ fn main(rt: HostRuntime) -> io::Result<()> {
     match arguments.nth(1).and_then(|text| text.as_str().parse().ok()) {
         Some(keys) => {
             measure(&rt, keys)?;
+            ends::measure(&rt, keys)?;
             map::measure(&rt, keys)?;
             log::measure(&rt, keys)
         }

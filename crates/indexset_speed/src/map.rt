@@ -40,7 +40,7 @@ fn walked(map: &BTreeMap<u64, u64>) -> u64 {
     sum
 }
 
-pub fn measure(rt: &HostRuntime, keys: u64) -> io::Result<()> {
+pub(crate) fn measure(rt: &HostRuntime, keys: u64) -> io::Result<()> {
     let start = Instant::now(rt)?;
     let mut map = insert_all(rt.alloc(), keys)?;
     report(rt, "map, insert, random order", start, keys)?;

@@ -1,5 +1,6 @@
 //! A paged listing: the elements page by page.
-ghost use Rattle.std.specs.Prelude.{◌≡◌, ◌<◌, ◌^◌, ◌+◌, ◌*◌, IfOk};
+ghost use Rattle.std.specs.Prelude.{◌≡◌, ◌<◌, ◌^◌, ◌+◌, length, IfOk};
+ghost use Rattle.std.specs.Int.{div_ceil};
 ghost use Rattle.std.specs.declared.ops.Bound.TheVariants.{Included, Excluded};
 ghost use Rattle.indexset.specs.Words.{in_positions, items};
 
@@ -25,6 +26,7 @@ pub fn page(
 /// How many pages there are.
 pub fn page_count(set: &BTreeSet<u64>, size: usize) -> usize
     requires { 0 < size }
+    ensures { result ≡ div_ceil (length (items set.now)) size }
 {
     set.len().div_ceil(size)
 }

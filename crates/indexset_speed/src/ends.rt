@@ -1,0 +1,51 @@
+//! Times calls at the ends of a set, and keys that come in order.
+
+use super::{failure, report};
+use indexset_set::BTreeSet;
+use std::alloc::Global;
+use std::io;
+use std::time::Instant;
+
+fn insert_ascending(alloc: Global, keys: u64) -> io::Result<BTreeSet<u64>> {
+    let mut set = BTreeSet::new(alloc).map_err(failure)?;
+    for key in 0..keys {
+        set.insert(key).map_err(|refused| failure(refused.cause))?;
+    }
+    Ok(set)
+}
+
+fn popped_from_the_back(set: &mut BTreeSet<u64>) -> u64 {
+    let mut sum = 0u64;
+    while let Some(element) = set.pop_last() {
+        sum = sum.wrapping_add(element);
+    }
+    sum
+}
+
+fn popped_from_the_front(set: &mut BTreeSet<u64>) -> u64 {
+    let mut sum = 0u64;
+    while let Some(element) = set.pop_first() {
+        sum = sum.wrapping_add(element);
+    }
+    sum
+}
+
+/// Prints a line a call.
+pub(crate) fn measure(rt: &HostRuntime, keys: u64) -> io::Result<()> {
+    let start = Instant::now(rt)?;
+    let mut set = insert_ascending(rt.alloc(), keys)?;
+    report(rt, "insert, ascending order", start, keys)?;
+    let start = Instant::now(rt)?;
+    let mut copy = set.clone().map_err(failure)?;
+    report(rt, "clone", start, keys)?;
+    let start = Instant::now(rt)?;
+    let same = set == copy;
+    report(rt, "equality", start, keys)?;
+    let start = Instant::now(rt)?;
+    let back = popped_from_the_back(&mut set);
+    report(rt, "pop_last of all", start, keys)?;
+    let start = Instant::now(rt)?;
+    let front = popped_from_the_front(&mut copy);
+    report(rt, "pop_first of all", start, keys)?;
+    println!(rt; "check {same} {back} {front}")
+}
