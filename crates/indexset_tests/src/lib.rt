@@ -10,11 +10,15 @@ mod fenwick;
 #[cfg(test)]
 mod logged;
 #[cfg(test)]
+mod logged_map;
+#[cfg(test)]
 mod logged_run;
 #[cfg(test)]
 mod logged_walks;
 #[cfg(test)]
 mod map;
+#[cfg(test)]
+mod multimap;
 #[cfg(test)]
 mod node;
 #[cfg(test)]

@@ -2,7 +2,9 @@
 ghost use Rattle.std.specs.Prelude.{◌≤◌, ◌<◌, length, IfOk};
 ghost use Rattle.indexset_core.specs.Nodes.{node_at};
 
+use crate::node::node_of;
 use crate::tagged::Tagged;
+use indexset_core::array_node::ArrayNode;
 use indexset_core::node::NodeLike;
 use indexset_core::probe::ByItem;
 use indexset_core::refusal::{Refusal, Refused};
@@ -10,6 +12,7 @@ use indexset_log::change::{ChangeEvent, ChangeEventUnassigned, Id};
 use indexset_log::set::BTreeSet;
 use std::alloc::Global;
 use std::ops::Bound;
+use std::process::Abort;
 use std::test::Fail;
 
 type Set = BTreeSet<u64, Vec<u64>>;
@@ -96,17 +99,11 @@ fn places_of<Node: NodeLike<u64>>(
     Ok(places)
 }
 
-/// A node of these values.
-fn node_of(alloc: Global, values: &[u64]) -> Result<Vec<u64>, Fail> {
-    let mut node = Vec::new(alloc);
-    for value in values {
-        node.push(*value)?;
-    }
-    Ok(node)
-}
-
 /// Why a node is refused, and how long what is handed back is.
-fn refusal_of(tree: &mut Set, node: Vec<u64>) -> Option<(Refusal, usize)> {
+fn refusal_of<Node: NodeLike<u64>>(
+    tree: &mut BTreeSet<u64, Node>,
+    node: Node,
+) -> Option<(Refusal, usize)> {
     match tree.attach_node(node) {
         Ok(()) => None,
         Err(refused) => Some((refused.cause, refused.value.len())),
@@ -198,12 +195,14 @@ fn a_range_to_the_end_taken_out(rt: HostRuntime) -> Result<(), Fail> {
     Ok(())
 }
 
-#[test]
-fn the_last_number(rt: HostRuntime) -> Result<(), Fail> {
-    let mut tree: Set = BTreeSet::starting_at(rt.alloc(), 4, u64::MAX - 1);
+// The last number of an event, and what is refused after it.
+fn at_the_last_number<Node: NodeLike<u64>>(rt: &impl Abort, alloc: Global) -> Result<(), Fail>
+    requires { 4 ≤ Node.most }
+{
+    let mut tree: BTreeSet<u64, Node> = BTreeSet::starting_at(alloc, 4, u64::MAX - 1);
     let (old, events) = tree.put_cdc(1)?;
     assert_eq!(rt; old, None);
-    let rows = rows_of(rt.alloc(), events.as_slice())?;
+    let rows = rows_of(alloc, events.as_slice())?;
     assert_eq!(rt;
         rows.as_slice(),
         [(18446744073709551614, "create", 1, 0, 0)].as_slice()
@@ -225,30 +224,51 @@ fn the_last_number(rt: HostRuntime) -> Result<(), Fail> {
 }
 
 #[test]
-fn nodes_attached(rt: HostRuntime) -> Result<(), Fail> {
-    let mut tree: Set = BTreeSet::with_maximum_node_size(rt.alloc(), 4);
-    tree.attach_node(node_of(rt.alloc(), &[5, 6])?)?;
-    tree.attach_node(node_of(rt.alloc(), &[9])?)?;
-    let none = node_of(rt.alloc(), &[])?;
-    let five = node_of(rt.alloc(), &[1, 2, 3, 4, 5])?;
-    let twice = node_of(rt.alloc(), &[7, 7])?;
-    let equal = node_of(rt.alloc(), &[6, 7])?;
-    let across = node_of(rt.alloc(), &[4, 10])?;
-    let between = node_of(rt.alloc(), &[7, 8])?;
+fn the_last_number(rt: HostRuntime) -> Result<(), Fail> {
+    at_the_last_number::<Vec<u64>>(&rt, rt.alloc())?;
+    at_the_last_number::<ArrayNode<u64, 4>>(&rt, rt.alloc())
+}
+
+// Nodes attached to a tree of two nodes, and one that goes between them.
+fn attached_between<Node: NodeLike<u64>>(rt: &impl Abort, alloc: Global) -> Result<(), Fail>
+    requires { 8 ≤ Node.most }
+{
+    let mut tree: BTreeSet<u64, Node> = BTreeSet::with_maximum_node_size(alloc, 4);
+    assert_eq!(rt; refusal_of(&mut tree, node_of(alloc, &[5, 6])?), None);
+    assert_eq!(rt; refusal_of(&mut tree, node_of(alloc, &[9])?), None);
+    let none = node_of(alloc, &[])?;
+    let five = node_of(alloc, &[1, 2, 3, 4, 5])?;
+    let equal = node_of(alloc, &[6, 7])?;
+    let across = node_of(alloc, &[4, 10])?;
+    let between = node_of(alloc, &[7, 8])?;
     assert_eq!(rt; refusal_of(&mut tree, none), Some((Refusal::Empty, 0)));
     assert_eq!(rt; refusal_of(&mut tree, five), Some((Refusal::TooLarge, 5)));
-    assert_eq!(rt; refusal_of(&mut tree, twice), Some((Refusal::Unsorted, 2)));
     assert_eq!(rt; refusal_of(&mut tree, equal), Some((Refusal::Overlaps, 2)));
     assert_eq!(rt; refusal_of(&mut tree, across), Some((Refusal::Overlaps, 2)));
     assert_eq!(rt; refusal_of(&mut tree, between), None);
     assert_eq!(rt; tree.node_count(), 3);
     assert_eq!(rt; tree.len(), 5);
     assert_eq!(rt; tree.events_issued(), 0);
-    let places = places_of(rt.alloc(), &tree, &[5, 6, 7, 8, 9])?;
+    let places = places_of(alloc, &tree, &[5, 6, 7, 8, 9])?;
     assert_eq!(rt;
         places.as_slice(),
         [Ok((0, 0)), Ok((0, 1)), Ok((1, 0)), Ok((1, 1)), Ok((2, 0))].as_slice()
     );
+    Ok(())
+}
+
+#[test]
+fn nodes_attached(rt: HostRuntime) -> Result<(), Fail> {
+    attached_between::<Vec<u64>>(&rt, rt.alloc())?;
+    attached_between::<ArrayNode<u64, 8>>(&rt, rt.alloc())
+}
+
+#[test]
+fn a_node_of_equal_items_is_refused(rt: HostRuntime) -> Result<(), Fail> {
+    let mut tree: Set = BTreeSet::with_maximum_node_size(rt.alloc(), 4);
+    let twice = vec![in rt.alloc(); 7, 7]?;
+    assert_eq!(rt; refusal_of(&mut tree, twice), Some((Refusal::Unsorted, 2)));
+    assert!(rt; tree.is_empty());
     Ok(())
 }
 
@@ -264,21 +284,29 @@ fn an_empty_tree_has_no_node(rt: HostRuntime) -> Result<(), Fail> {
     Ok(())
 }
 
-#[test]
-fn a_node_of_one_comes_and_goes(rt: HostRuntime) -> Result<(), Fail> {
-    let mut tree: Set = BTreeSet::with_maximum_node_size(rt.alloc(), 4);
+// A node of one item that comes, goes and comes again.
+fn one_item_by_turns<Node: NodeLike<u64>>(rt: &impl Abort, alloc: Global) -> Result<(), Fail>
+    requires { 4 ≤ Node.most }
+{
+    let mut tree: BTreeSet<u64, Node> = BTreeSet::with_maximum_node_size(alloc, 4);
     let (_, made) = tree.put_cdc(7)?;
     let (item, gone) = tree.remove_cdc(&7)?;
     assert_eq!(rt; item, Some(7));
     assert_eq!(rt; tree.node_count(), 0);
     let (_, again) = tree.put_cdc(8)?;
-    let made = rows_of(rt.alloc(), made.as_slice())?;
-    let gone = rows_of(rt.alloc(), gone.as_slice())?;
-    let again = rows_of(rt.alloc(), again.as_slice())?;
+    let made = rows_of(alloc, made.as_slice())?;
+    let gone = rows_of(alloc, gone.as_slice())?;
+    let again = rows_of(alloc, again.as_slice())?;
     assert_eq!(rt; made.as_slice(), [(0, "create", 7, 0, 0)].as_slice());
     assert_eq!(rt; gone.as_slice(), [(1, "drop", 7, 0, 0)].as_slice());
     assert_eq!(rt; again.as_slice(), [(2, "create", 8, 0, 0)].as_slice());
     Ok(())
+}
+
+#[test]
+fn a_node_of_one_comes_and_goes(rt: HostRuntime) -> Result<(), Fail> {
+    one_item_by_turns::<Vec<u64>>(&rt, rt.alloc())?;
+    one_item_by_turns::<ArrayNode<u64, 4>>(&rt, rt.alloc())
 }
 
 #[test]
@@ -359,7 +387,7 @@ fn ranges_taken_out_one_after_another(rt: HostRuntime) -> Result<(), Fail> {
 
 #[test]
 fn a_tree_of_values(rt: HostRuntime) -> Result<(), Fail> {
-    let tree: Set = BTreeSet::from(rt.alloc(), node_of(rt.alloc(), &[3, 1, 3, 2])?)?;
+    let tree: Set = BTreeSet::from(rt.alloc(), vec![in rt.alloc(); 3, 1, 3, 2]?)?;
     assert_eq!(rt; tree.len(), 3);
     assert_eq!(rt; tree.events_issued(), 3);
     let places = places_of(rt.alloc(), &tree, &[1, 2, 3])?;

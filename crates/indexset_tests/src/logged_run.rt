@@ -1,23 +1,35 @@
-//! Worked examples of lists of commands to a logged set and map, and of a replica that follows.
+//! Worked examples of lists of commands to the logged trees, and of a replica that follows.
+ghost use Rattle.std.specs.Prelude.{◌≤◌};
 
 use indexset_bench::logged::map::{LoggedMapCommand, LoggedMapReply};
+use indexset_bench::logged::multimap::{LoggedMultiCommand, LoggedMultiReply};
 use indexset_bench::logged::set::{LoggedSetCommand, LoggedSetReply};
 use indexset_bench::logged_run::run_logged;
 use indexset_bench::replica::Replica;
+use indexset_core::array_node::ArrayNode;
+use indexset_core::multipair::MultiPair;
+use indexset_core::node::NodeLike;
 use indexset_core::pair::Pair;
 use indexset_core::refusal::Refusal;
 use indexset_log::map::BTreeMap;
 use indexset_log::set::BTreeSet;
+use indexset_multi::multimap::BTreeMultiMap;
+use std::alloc::Global;
+use std::process::Abort;
 use std::test::Fail;
 
 type Set = BTreeSet<u64, Vec<u64>>;
 
 type Map = BTreeMap<u64, u64, Vec<Pair<u64, u64>>>;
 
-#[test]
-fn each_command_once_and_a_replica_follows(rt: HostRuntime) -> Result<(), Fail> {
-    let mut set: Set = BTreeSet::with_maximum_node_size(rt.alloc(), 2);
-    let commands = vec![in rt.alloc();
+type MultiMap = BTreeMultiMap<u64, u64, Vec<MultiPair<u64, u64>>>;
+
+// Each command to a set, and a replica that follows.
+fn each_command_to_a_set<Node: NodeLike<u64>>(rt: &impl Abort, alloc: Global) -> Result<(), Fail>
+    requires { 2 ≤ Node.most }
+{
+    let mut set: BTreeSet<u64, Node> = BTreeSet::with_maximum_node_size(alloc, 2);
+    let commands = vec![in alloc;
         LoggedSetCommand::Put(1u64),
         LoggedSetCommand::Put(2),
         LoggedSetCommand::PutChecked(3),
@@ -27,8 +39,8 @@ fn each_command_once_and_a_replica_follows(rt: HostRuntime) -> Result<(), Fail> 
         LoggedSetCommand::Remove(9),
         LoggedSetCommand::PutChecked(4),
     ]?;
-    let run = run_logged(rt.alloc(), &mut set, commands);
-    let expected = vec![in rt.alloc();
+    let run = run_logged(alloc, &mut set, commands);
+    let expected = vec![in alloc;
         LoggedSetReply::Old(None),
         LoggedSetReply::Old(None),
         LoggedSetReply::Added(true),
@@ -42,7 +54,7 @@ fn each_command_once_and_a_replica_follows(rt: HostRuntime) -> Result<(), Fail> 
     assert_eq!(rt; run.replies, expected);
     assert_eq!(rt; run.events.len(), 8);
     assert_eq!(rt; set.events_issued(), 8);
-    let mut replica = Replica::new(rt.alloc(), 0);
+    let mut replica = Replica::new(alloc, 0);
     for event in run.events.iter() {
         assert_eq!(rt; replica.apply(event), Ok(()));
     }
@@ -54,6 +66,12 @@ fn each_command_once_and_a_replica_follows(rt: HostRuntime) -> Result<(), Fail> 
     assert_eq!(rt; set.node_count(), 2);
     assert_eq!(rt; set.len(), 3);
     Ok(())
+}
+
+#[test]
+fn each_command_once_and_a_replica_follows(rt: HostRuntime) -> Result<(), Fail> {
+    each_command_to_a_set::<Vec<u64>>(&rt, rt.alloc())?;
+    each_command_to_a_set::<ArrayNode<u64, 2>>(&rt, rt.alloc())
 }
 
 #[test]
@@ -86,6 +104,36 @@ fn each_command_to_a_map_once(rt: HostRuntime) -> Result<(), Fail> {
     assert_eq!(rt; map.events_issued(), 8);
     assert_eq!(rt; map.node_count(), 2);
     assert_eq!(rt; map.len(), 3);
+    Ok(())
+}
+
+#[test]
+fn each_command_to_a_multimap_once(rt: HostRuntime) -> Result<(), Fail> {
+    let mut map: MultiMap = BTreeMultiMap::with_maximum_node_size(rt.alloc(), 3);
+    let commands = vec![in rt.alloc();
+        LoggedMultiCommand::Insert(1u64, 10u64),
+        LoggedMultiCommand::Insert(1, 11),
+        LoggedMultiCommand::Insert(1, 10),
+        LoggedMultiCommand::Remove(1, 11),
+        LoggedMultiCommand::Remove(1, 11),
+        LoggedMultiCommand::RemoveSome(1),
+        LoggedMultiCommand::RemoveSome(1),
+    ]?;
+    let run = run_logged(rt.alloc(), &mut map, commands);
+    let expected = vec![in rt.alloc();
+        LoggedMultiReply::OldValue(None),
+        LoggedMultiReply::OldValue(None),
+        LoggedMultiReply::OldValue(Some(10)),
+        LoggedMultiReply::Out(Some((1, 11))),
+        LoggedMultiReply::Out(None),
+        LoggedMultiReply::Out(Some((1, 10))),
+        LoggedMultiReply::Out(None),
+    ]?;
+    assert_eq!(rt; run.refused, None);
+    assert_eq!(rt; run.replies, expected);
+    assert_eq!(rt; run.events.len(), 6);
+    assert_eq!(rt; map.events_issued(), 6);
+    assert_eq!(rt; map.len(), 0);
     Ok(())
 }
 

@@ -118,6 +118,7 @@ fn nodes_of_four<Node: NodeLike<u64>>(rt: &impl Abort, alloc: Global) -> Result<
     requires { 4 ≤ Node.most }
 {
     let set: BTreeSet<u64, Node> = ascending(alloc, 4, 0, 10)?;
+    assert_eq!(rt; set.events_issued(), 13);
     let mut nodes = set.iter_nodes();
     assert_eq!(rt; nodes.len(), 4);
     assert!(rt;

@@ -1,5 +1,5 @@
 //! Worked examples of the Vec node, through the trait.
-ghost use Rattle.std.specs.Prelude.{IfOk};
+ghost use Rattle.std.specs.Prelude.{◌≤◌, length, IfOk};
 ghost use Rattle.std.specs.Ordering.{nat_cmp};
 ghost use Rattle.indexset_core.specs.Order.{IsAscending};
 
@@ -11,13 +11,14 @@ use std::ops::Bound;
 use std::test::Fail;
 
 /// A node of these values, put in one after another.
-pub(crate) fn node_of(alloc: Global, values: &[u64]) -> Result<Vec<u64>, Fail>
-    ensures { IfOk result (λ node. IsAscending nat_cmp node.items) }
+pub(crate) fn node_of<Node: NodeLike<u64>>(alloc: Global, values: &[u64]) -> Result<Node, Fail>
+    requires { length values.now ≤ Node.most }
+    ensures { IfOk result (λ node. IsAscending nat_cmp (Node.list node)) }
 {
-    let mut node: Vec<u64> = NodeLike::with_capacity(alloc, values.len())?;
+    let mut node = Node::with_capacity(alloc, values.len())?;
     for value in values {
-        if node.len() < usize::MAX {
-            NodeLike::insert(&mut node, *value).map_err(|refused| refused.cause)?;
+        if node.len() < Node::limit() {
+            node.insert(*value).map_err(|refused| refused.cause)?;
         }
     }
     Ok(node)
@@ -25,7 +26,7 @@ pub(crate) fn node_of(alloc: Global, values: &[u64]) -> Result<Vec<u64>, Fail>
 
 #[test]
 fn an_insert_finds_its_place(rt: HostRuntime) -> Result<(), Fail> {
-    let node = node_of(rt.alloc(), &[1, 9, 2, 7, 6, 3, 5, 4, 10, 8])?;
+    let node: Vec<u64> = node_of(rt.alloc(), &[1, 9, 2, 7, 6, 3, 5, 4, 10, 8])?;
     assert_eq!(rt; node.as_slice(), [1, 2, 3, 4, 5, 6, 7, 8, 9, 10].as_slice());
     assert_eq!(rt; NodeLike::max(&node), Some(&10));
     assert_eq!(rt; NodeLike::min(&node), Some(&1));
@@ -60,7 +61,7 @@ fn a_node_is_cut_at_half_its_length(rt: HostRuntime) -> Result<(), Fail> {
 
 #[test]
 fn the_rank_of_a_bound(rt: HostRuntime) -> Result<(), Fail> {
-    let node = node_of(rt.alloc(), &[1, 3, 5, 7, 9])?;
+    let node: Vec<u64> = node_of(rt.alloc(), &[1, 3, 5, 7, 9])?;
     let table: [(u64, [Option<usize>; 4]); 5] = [
         (1, [None, Some(0), Some(3), Some(4)]),
         (5, [Some(1), Some(2), Some(1), Some(2)]),
@@ -95,10 +96,10 @@ fn the_rank_of_a_bound(rt: HostRuntime) -> Result<(), Fail> {
 
 #[test]
 fn an_unbounded_rank_and_an_empty_node(rt: HostRuntime) -> Result<(), Fail> {
-    let node = node_of(rt.alloc(), &[1, 3, 5, 7, 9])?;
+    let node: Vec<u64> = node_of(rt.alloc(), &[1, 3, 5, 7, 9])?;
     assert_eq!(rt; node.rank(Bound::Unbounded, true), None);
     assert_eq!(rt; node.rank(Bound::Unbounded, false), None);
-    let none = node_of(rt.alloc(), &[])?;
+    let none: Vec<u64> = node_of(rt.alloc(), &[])?;
     assert_eq!(rt; none.rank(Bound::Included(&1), true), None);
     assert_eq!(rt; none.rank(Bound::Excluded(&1), false), None);
     assert_eq!(rt; none.rank(Bound::Unbounded, true), None);
@@ -109,7 +110,7 @@ fn an_unbounded_rank_and_an_empty_node(rt: HostRuntime) -> Result<(), Fail> {
 
 #[test]
 fn looks_up_and_deletes(rt: HostRuntime) -> Result<(), Fail> {
-    let mut node = node_of(rt.alloc(), &[2, 4, 6])?;
+    let mut node: Vec<u64> = node_of(rt.alloc(), &[2, 4, 6])?;
     assert!(rt; NodeLike::contains(&node, &4));
     assert!(rt; !NodeLike::contains(&node, &5));
     assert_eq!(rt; node.try_select(&6), Some(2));
@@ -122,7 +123,7 @@ fn looks_up_and_deletes(rt: HostRuntime) -> Result<(), Fail> {
 
 #[test]
 fn counts_its_questions(rt: HostRuntime) -> Result<(), Fail> {
-    let node = node_of(rt.alloc(), &[2, 4, 6, 8, 10, 12, 14])?;
+    let node: Vec<u64> = node_of(rt.alloc(), &[2, 4, 6, 8, 10, 12, 14])?;
     let mut probe = Counting::new(ByItem::new(&8));
     assert_eq!(rt; NodeLike::first_not_less(&node, &mut probe), 3);
     assert!(rt; probe.asked() <= 3);

@@ -125,14 +125,19 @@ fn few_questions_in_few_nodes(rt: HostRuntime) -> Result<(), Fail> {
 
 #[test]
 fn equal_whatever_the_nodes(rt: HostRuntime) -> Result<(), Fail> {
-    let small = descending(rt.alloc(), 2, 6)?;
-    let large = ascending(rt.alloc(), 1024, 6)?;
+    let mut small = BTreeSet::with_maximum_node_size(rt.alloc(), 2)?;
+    for key in [5u64, 4, 3, 2, 1] {
+        add(&mut small, key)?;
+    }
+    let large = BTreeSet::from(rt.alloc(), vec![in rt.alloc(); 1u64, 2, 3, 4, 5]?)?;
     assert!(rt; small.node_count() > large.node_count());
+    assert_eq!(rt; large.maximum_node_size(), 1024);
     assert!(rt; small == large);
     assert!(rt; small <= large && small >= large);
     let hashes = BuildHasherDefault::<FoldHasher>::new();
     assert_eq!(rt; hashes.hash_one(&small), hashes.hash_one(&large));
-    let longer = ascending(rt.alloc(), 2, 7)?;
+    let mut longer = small.clone()?;
+    add(&mut longer, 6)?;
     assert!(rt; small != longer);
     assert!(rt; small < longer);
     Ok(())

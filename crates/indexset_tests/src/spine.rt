@@ -183,3 +183,22 @@ fn clones_and_clears(rt: HostRuntime) -> Result<(), Fail> {
     assert!(rt; shows(&same, &[&[1], &[2], &[3], &[4], &[5], &[6, 7]]));
     Ok(())
 }
+
+#[test]
+fn one_spine_behind_another(rt: HostRuntime) -> Result<(), Fail> {
+    let mut spine = ascending(rt.alloc())?;
+    let mut other = Spine::new(rt.alloc(), 2)?;
+    for x in 8..10 {
+        other.insert(end_spot(&other), x)?;
+    }
+    let fits = other.maximum_node_size() <= spine.maximum_node_size();
+    if fits && spine.len() > 0 && other.len() > 0 {
+        spine.append(&mut other)?;
+    }
+    assert!(rt; shows(&spine, &[&[1], &[2], &[3], &[4], &[5], &[6, 7], &[8, 9]]));
+    assert!(rt; shows(&other, &[&[]]));
+    assert_eq!(rt; spine.first_spot(), spine.spot(0));
+    assert_eq!(rt; spine.last_spot(), spine.spot(8));
+    assert!(rt; other.first_spot().is_none() && other.last_spot().is_none());
+    Ok(())
+}

@@ -1,5 +1,6 @@
 //! Ranges by bounds and by positions.
-use super::ascending;
+use super::{add, ascending};
+use indexset_core::pair::Pair;
 use indexset_set::BTreeSet;
 use std::ops::Bound::{self, Excluded, Included, Unbounded};
 use std::test::Fail;
@@ -42,5 +43,18 @@ fn positions_of_ten(rt: HostRuntime) -> Result<(), Fail> {
         assert!(rt; shows(&set, Included(0), Included(7), 0, 8));
         assert!(rt; shows(&set, Excluded(4), Included(6), 5, 7));
     }
+    Ok(())
+}
+
+#[test]
+fn bounds_on_the_keys_of_pairs(rt: HostRuntime) -> Result<(), Fail> {
+    let mut set = BTreeSet::with_maximum_node_size(rt.alloc(), 2)?;
+    for (key, value) in [(1u64, 'a'), (2, 'b'), (3, 'c'), (5, 'd')] {
+        add(&mut set, Pair { key, value })?;
+    }
+    let range = set.range_by_key((Included(&2), Excluded(&5)));
+    assert!(rt; range.map(|pair| pair.value).eq(['b', 'c']));
+    let range = set.range_by_key((Excluded(&2), Unbounded));
+    assert!(rt; range.rev().map(|pair| pair.value).eq(['d', 'c']));
     Ok(())
 }

@@ -34,9 +34,18 @@ fn questions(spine: &Spine<u64>, value: u64) -> (Spot, u64)
     (spot, probe.asked())
 }
 
+/// The same, where the last item is asked for first.
+fn questions_from_the_end(spine: &Spine<u64>, value: u64) -> (Spot, u64)
+    requires { IsAscending nat_cmp (items spine.now) }
+{
+    let mut probe = Counting::new(ByItem::new(&value));
+    let spot = spine.locate_from_end_by(&mut probe);
+    (spot, probe.asked())
+}
+
 #[test]
 fn a_spot_by_few_questions(rt: HostRuntime) -> Result<(), Fail> {
-    let node = node_of(rt.alloc(), &[2, 4, 6, 8, 10])?;
+    let node: Vec<u64> = node_of(rt.alloc(), &[2, 4, 6, 8, 10])?;
     let spine = spine_of(rt.alloc(), 2, node.as_slice())?;
     // Nodes [2] [4] [6] [8, 10]: 3 + 2 + 1 questions at most.
     assert_eq!(rt; spine.node_count(), 4);
@@ -62,8 +71,24 @@ fn a_spot_by_few_questions(rt: HostRuntime) -> Result<(), Fail> {
 }
 
 #[test]
+fn the_last_item_is_asked_for_first(rt: HostRuntime) -> Result<(), Fail> {
+    let node: Vec<u64> = node_of(rt.alloc(), &[2, 4, 6, 8, 10])?;
+    let spine = spine_of(rt.alloc(), 2, node.as_slice())?;
+    let end = Spot {
+        node: 3,
+        offset: 2,
+        found: false,
+    };
+    assert_eq!(rt; questions_from_the_end(&spine, 11), (end, 1));
+    let (spot, asked) = questions_from_the_end(&spine, 6);
+    assert_eq!(rt; Some(spot), spine.spot(2));
+    assert!(rt; asked <= 7);
+    Ok(())
+}
+
+#[test]
 fn an_index_in_a_slice(rt: HostRuntime) -> Result<(), Fail> {
-    let node = node_of(rt.alloc(), &[2, 4, 6])?;
+    let node: Vec<u64> = node_of(rt.alloc(), &[2, 4, 6])?;
     assert_eq!(rt; search::find(node.as_slice(), &4), Ok(1));
     assert_eq!(rt; search::find(node.as_slice(), &5), Err(2));
     assert_eq!(rt; search::find(node.as_slice(), &7), Err(3));

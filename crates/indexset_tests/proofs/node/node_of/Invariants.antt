@@ -3,4 +3,4 @@ use Rattle.indexset_core.specs.Order.{IsAscending}
 use Rattle.indexset_tests.proofs.node.node_of.Given as goal
 
 abbrev pub invariant-loop-value : goal.invariant-loop-value
-invariant-loop-value l = IsAscending nat_cmp l.node.items
+invariant-loop-value g l = IsAscending nat_cmp (g.Node.NodeLike.list l.node)
