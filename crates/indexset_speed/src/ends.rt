@@ -16,16 +16,16 @@ fn insert_ascending(alloc: Global, keys: u64) -> io::Result<BTreeSet<u64>> {
 
 fn popped_from_the_back(set: &mut BTreeSet<u64>) -> u64 {
     let mut sum = 0u64;
-    while let Some(element) = set.pop_last() {
-        sum = sum.wrapping_add(element);
+    for _ in 0..set.len() {
+        sum = sum.wrapping_add(set.pop_last().unwrap_or(0));
     }
     sum
 }
 
 fn popped_from_the_front(set: &mut BTreeSet<u64>) -> u64 {
     let mut sum = 0u64;
-    while let Some(element) = set.pop_first() {
-        sum = sum.wrapping_add(element);
+    for _ in 0..set.len() {
+        sum = sum.wrapping_add(set.pop_first().unwrap_or(0));
     }
     sum
 }
