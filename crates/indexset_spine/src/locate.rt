@@ -1,4 +1,4 @@
-//! The search for a node, by the nodes' last items.
+//! Searches in two steps: for a node, by the nodes' last items, and within it.
 ghost use Rattle.std.specs.Prelude.{◌≡◌, ◌+◌, ◌≤◌, length};
 ghost use Rattle.std.specs.List.{All};
 ghost use Rattle.indexset_core.specs.Digits.{digits};

@@ -7,6 +7,7 @@ use indexset_core::refusal::Refusal;
 
 impl<T> Spine<T> {
     /// Moves the nodes of another spine behind those of this one, and leaves the other one empty node.
+    /// Both have items, and the other's node size is not larger.
     /// It is refused for want of memory, and where the lengths add up to more than the greatest usize;
     /// a refused call changes neither.
     pub fn append(&mut self, other: &mut Spine<T>) -> Result<(), Refusal>
