@@ -1,8 +1,25 @@
 -- A tree as its contract sees it, and as the code holds it.
-use Rattle.std.proofs.Common.{◌≡◌, ℕ, ◌<◌, List, map, length, get_or, Ordering, ap, subst, arith}
+use Rattle.std.proofs.Common.{◌≡◌, ℕ, ◌+◌, ◌<◌, Option, List, map, length, get_or, take, Ordering, ap, subst, sym, ◌∙◌, arith}
+use Rattle.std.specs.Iterator.Runs.{ItemsAre, Run}
+use Rattle.std.proofs.lemmas.List.{get_or-take, length-take-le, same_lists}
+use Rattle.std.proofs.lemmas.Option.{same_Some}
 use Rattle.indexset_core.specs.Nodes.{node_at}
-use Rattle.indexset_log.specs.Tree.{Tree, IsTree}
+use Rattle.std.proofs.lemmas.Bool.Decides.{nat_tests}
+use Rattle.std.below.core.specs.declared.int.u64.TheConstants.{MAX}
+use Rattle.indexset_core.specs.declared.refusal.Refusal.TheVariants.{Numbers}
+use Rattle.indexset_log.specs.Tree.{Tree, IsTree, refusal_for}
 use Rattle.indexset_log.proofs.Views.{node_is, length_view}
+
+-- where a call is refused for want of numbers, its events do not fit
+pub ran_out : (next count : ℕ) → Numbers ≡ refusal_for next count → MAX < next + count
+ran_out next count refused = grind (arith, nat_tests)
+
+-- a run that reads a list gives a front of it
+pub front_of_run : {S A : Type 0} {steps : S → Option A → S → Type 0} (p : Run steps) (xs : List A) → ItemsAre p xs → p.items ≡ take p.len xs
+front_of_run p xs are =
+    same_lists p.items (take p.len xs) (sym p.long ∙ sym (length-take-le p.len xs are.0)) (λ k d inside.
+    let here : k < p.len = omega (arith, p.long, inside) in
+    same_Some _ _ (sym (p.reads k d here) ∙ are.2 k d here) ∙ sym (get_or-take p.len xs k d here))
 
 -- f tells the list of each node that the code holds
 pub record Held {T N : Type 0} (cmp : T → T → Ordering) (most : ℕ) (f : N → List T) (items : List N) (size len next : ℕ) (t : Tree T) : Type 0 where

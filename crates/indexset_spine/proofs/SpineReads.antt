@@ -88,6 +88,21 @@ last_named answer ns some filled parted ends =
       | inr one ↦ node_found answer ns (length ns - 1) some (omega arith) (λ k d low high. absurd (omega (arith, high, one))) none
     ]
 
+-- the answers name the node that the code reads
+pub read_named : {X Z : Type 0} (vs : List (Vec X Z)) (size : ℕ) (s : Cut X) → cut (vec_items vs) size ≡ s → IsCut (node_lengths (vec_items vs)) size
+    → (answer : X → Ordering) (k : ℕ) (v : Vec X Z) → k ≡ node_for answer s.nodes → v ≡ get_or vs k v → NodeFound answer s k v.items
+read_named {X} vs size s view is answer k v found = read_node vs size s view is answer k v (found ∙ ap (λ (t : Cut X). node_for answer t.nodes) (sym view))
+
+-- and the node k, where the last item of the node before it is answered Less, and its own is not or it is the last node
+pub sought : {X Z : Type 0} (answer : X → Ordering) (vs : List (Vec X Z)) → (2 ≤ length vs → All (λ n. 1 ≤ n) (node_lengths (vec_items vs))) → IsParted answer (joined (vec_items vs))
+    → (k : ℕ) → k < length vs → 1 ≤ k → (v : Vec X Z) → v ≡ get_or vs (k - 1) v → ends_less answer v.items ≡ true → (k + 1 < length vs → HoldsAt (λ n. ends_less answer n ≡ false) (vec_items vs) k) → k ≡ node_for answer (vec_items vs)
+sought answer vs filled parted k inside some v at ends here =
+    let ns = vec_items vs in let long = length-vec_items vs in
+    let before : ends_less answer (get_or ns (k - 1) []) ≡ true = rw (node_read vs (k - 1) v (omega arith) at []) ends in
+    node_found answer ns k (omega (arith, long)) (omega (arith, long))
+    (λ j d low high. ends_until answer ns (filled (omega arith)) parted (k - 1) (omega (arith, long)) before j d low (omega (arith, high)))
+    (λ lt. here (omega (arith, long, lt)))
+
 pub read_last : {X Z : Type 0} (vs : List (Vec X Z)) (size : ℕ) (s : Cut X) → cut (vec_items vs) size ≡ s → IsCut (node_lengths (vec_items vs)) size
     → (answer : X → Ordering) → IsParted answer (items s) → (k : ℕ) (v : Vec X Z) → k ≡ length vs - 1 → v ≡ get_or vs k v → ends_less answer v.items ≡ true → NodeFound answer s k v.items
 read_last {X} vs size s view is answer parted k v last at ends =

@@ -1,5 +1,5 @@
 //! Searches in two steps: for a node, by the nodes' last items, and within it.
-ghost use Rattle.std.specs.Prelude.{◌≡◌, ◌+◌, ◌≤◌, length};
+ghost use Rattle.std.specs.Prelude.{◌≡◌, ◌+◌, ◌<◌, ◌≤◌, IsTrue, length};
 ghost use Rattle.std.specs.List.{All};
 ghost use Rattle.indexset_core.specs.Digits.{digits};
 ghost use Rattle.indexset_core.specs.Parted.{IsParted, less_count};
@@ -34,6 +34,24 @@ pub(crate) fn node_by<T, P: Probe<T>>(nodes: &[Vec<T>], probe: &mut P) -> usize
         }
     }
     low
+}
+
+/// Whether the node k is the one that `node_by` answers, by at most two questions: false of a node that
+/// is not there.
+pub(crate) fn is_sought<T, P: Probe<T>>(nodes: &[Vec<T>], k: usize, probe: &mut P) -> bool
+    requires filled { 2 ≤ length nodes.now → All (λ n. 1 ≤ n) (node_lengths (vec_items nodes.now)) }
+    requires parted { IsParted (P.answer probe.old) (joined (vec_items nodes.now)) }
+    ensures node { IsTrue result → k ≡ node_for (P.answer probe.old) (vec_items nodes.now) }
+    ensures fixed { P.answer probe.new ≡ P.answer probe.old }
+    ensures few { P.asked probe.new ≤ P.asked probe.old + 2 }
+{
+    if k >= nodes.len() {
+        return false;
+    }
+    if k + 1 < nodes.len() && ends_less(&nodes[k], probe) {
+        return false;
+    }
+    k == 0 || ends_less(&nodes[k - 1], probe)
 }
 
 /// How many items of a node are answered Less, where the tree has `len` items.

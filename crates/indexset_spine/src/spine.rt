@@ -96,14 +96,7 @@ impl<T> Spine<T> {
         ensures few { P.asked probe.new ≤ P.asked probe.old + (digits (length self.now.nodes) + digits self.now.size + 1) }
     {
         let node = locate::node_by(self.nodes.as_slice(), probe);
-        let items = self.nodes[node].as_slice();
-        let offset = locate::offset_by(items, probe, self.len);
-        let found = search::is_equal_at(items, offset, probe);
-        Spot {
-            node,
-            offset,
-            found,
-        }
+        self.locate_in(node, probe)
     }
 
     /// The same, where the last item is asked for first: where that one is answered Less, all are, and no
@@ -129,6 +122,48 @@ impl<T> Spine<T> {
             };
         }
         self.locate_by(probe)
+    }
+
+    /// The same, where the node `near` is tried first, by two questions at most: it is for items that go
+    /// near each other.
+    pub fn locate_near_by<P: Probe<T>>(&self, near: usize, probe: &mut P) -> Spot
+        requires { IsParted (P.answer probe.old) (items self.now) }
+        ensures node { result.node ≡ node_for (P.answer probe.old) self.now.nodes }
+        ensures offset { result.offset ≡ less_count (P.answer probe.old) (node_at self.now.nodes result.node) }
+        ensures found { result.found ≡ equal_at (P.answer probe.old) (items self.now) (position_of self.now.nodes result) }
+        ensures spot { IsSpot self.now.nodes result }
+        ensures item { IsTrue result.found → IsItemSpot self.now.nodes result }
+        ensures position { position_of self.now.nodes result ≡ less_count (P.answer probe.old) (items self.now) }
+        ensures fixed { P.answer probe.new ≡ P.answer probe.old }
+        ensures few { P.asked probe.new ≤ P.asked probe.old + (digits (length self.now.nodes) + digits self.now.size + 3) }
+    {
+        if locate::is_sought(self.nodes.as_slice(), near, probe) {
+            return self.locate_in(near, probe);
+        }
+        self.locate_by(probe)
+    }
+
+    // Where the probe finds what it seeks, in the node that a search names.
+    fn locate_in<P: Probe<T>>(&self, node: usize, probe: &mut P) -> Spot
+        requires parted { IsParted (P.answer probe.old) (items self.now) }
+        requires node { node ≡ node_for (P.answer probe.old) self.now.nodes }
+        ensures node { result.node ≡ node }
+        ensures offset { result.offset ≡ less_count (P.answer probe.old) (node_at self.now.nodes result.node) }
+        ensures found { result.found ≡ equal_at (P.answer probe.old) (items self.now) (position_of self.now.nodes result) }
+        ensures spot { IsSpot self.now.nodes result }
+        ensures item { IsTrue result.found → IsItemSpot self.now.nodes result }
+        ensures position { position_of self.now.nodes result ≡ less_count (P.answer probe.old) (items self.now) }
+        ensures fixed { P.answer probe.new ≡ P.answer probe.old }
+        ensures few { P.asked probe.new ≤ P.asked probe.old + (digits self.now.size + 1) }
+    {
+        let items = self.nodes[node].as_slice();
+        let offset = locate::offset_by(items, probe, self.len);
+        let found = search::is_equal_at(items, offset, probe);
+        Spot {
+            node,
+            offset,
+            found,
+        }
     }
 
     /// How many items stand before a spot: its position.

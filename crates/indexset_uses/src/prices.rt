@@ -1,10 +1,12 @@
 //! Prices: a map from items to what they cost.
-ghost use Rattle.std.specs.Prelude.{◌≡◌, Some, IfOk, OnErr};
+ghost use Rattle.std.specs.Prelude.{◌≡◌, Some, IfOk, OnErr, length};
 ghost use Rattle.std.specs.Ordering.{nat_cmp};
-ghost use Rattle.indexset.specs.Words.{value_of};
+ghost use Rattle.std.specs.declared.ops.Bound.TheVariants.{Excluded, Unbounded};
+ghost use Rattle.indexset.specs.Words.{pairs_within, value_of};
 
 use indexset::BTreeMap;
 use indexset::base::refusal::Refused;
+use std::ops::Bound;
 
 /// Writes a price, and answers the price that the item has then.
 pub fn set_price(
@@ -24,4 +26,12 @@ pub fn price_of(prices: &BTreeMap<u64, u64>, item: u64) -> Option<u64>
     ensures { result ≡ value_of nat_cmp prices.now.pairs item }
 {
     prices.get(&item).copied()
+}
+
+/// How many of the items below one have a price.
+pub fn priced_below(prices: &BTreeMap<u64, u64>, item: u64) -> usize
+    ensures { result ≡ length (pairs_within nat_cmp prices.now.pairs Unbounded (Excluded item)) }
+{
+    let below = (Bound::Unbounded, Bound::Excluded(&item));
+    prices.range(below).len()
 }

@@ -1,7 +1,7 @@
 //! Sets made of items.
-ghost use Rattle.std.specs.Prelude.{◌≡◌, ◌⊎◌, [], IfOk, IfErr, fold};
+ghost use Rattle.std.specs.Prelude.{◌≡◌, ◌⊎◌, ◌<◌, ℕ, [], Err, IfOk, IfErr, fold, take};
 ghost use Rattle.std.specs.Iterator.{IsFiniteIterable};
-ghost use Rattle.std.specs.Iterator.Runs.{WholeRun};
+ghost use Rattle.std.specs.Iterator.Runs.{SomeRun, WholeRun};
 ghost use Rattle.indexset_core.specs.Nodes.{joined};
 ghost use Rattle.indexset_core.specs.Order.{keep};
 ghost use Rattle.indexset_log.specs.Made.{inserted};
@@ -14,7 +14,8 @@ use std::alloc::Global;
 
 impl<T: Ord + Clone + Drop> BTreeSet<T, Vec<T>> {
     /// The tree of what an iterator gives, each item put in by `insert`: of equal ones the first
-    /// stays. Refused for want of memory or of numbers, and then all are let go.
+    /// stays. Refused for want of memory, or of numbers for the events of the items that came, and then
+    /// all are let go.
     pub fn from_iter<I: IntoIterator<Item = T>>(alloc: Global, iter: I) -> Result<Self, Refusal>
         requires { IsFiniteIterable I.into_iter_gives I.IntoIter.can_next I.IntoIter.remaining iter }
         ensures contents { IfOk result (λ s. (it : I.IntoIter) × I.into_iter_gives iter it
@@ -22,11 +23,13 @@ impl<T: Ord + Clone + Drop> BTreeSet<T, Vec<T>> {
         ensures tree { IfOk result (λ s. (it : I.IntoIter) × I.into_iter_gives iter it
             × WholeRun I.IntoIter.next_gives it (λ run. s ≡ fold (inserted T.cmp) (fresh DEFAULT_INNER_SIZE) run.items)) }
         ensures refusal { IfErr result (λ e. (e ≡ Refusal.Memory) ⊎ (e ≡ Refusal.Numbers)) }
+        ensures numbers { result ≡ Err Refusal.Numbers → (it : I.IntoIter) × I.into_iter_gives iter it
+            × SomeRun I.IntoIter.next_gives it (λ run. u64.MAX < (fold (inserted T.cmp) (fresh DEFAULT_INNER_SIZE) run.items).next) }
     {
         let rest = iter.into_iter();
         let mut set = Self::new(alloc);
         for value in rest {
-            set.insert(value).map_err(|refused| refused.cause)?;
+            set.insert(value)?;
         }
         Ok(set)
     }
@@ -36,6 +39,7 @@ impl<T: Ord + Clone + Drop> BTreeSet<T, Vec<T>> {
         ensures contents { IfOk result (λ s. joined s.nodes ≡ fold (keep T.cmp) [] values.items) }
         ensures tree { IfOk result (λ s. s ≡ fold (inserted T.cmp) (fresh DEFAULT_INNER_SIZE) values.items) }
         ensures refusal { IfErr result (λ e. (e ≡ Refusal.Memory) ⊎ (e ≡ Refusal.Numbers)) }
+        ensures numbers { result ≡ Err Refusal.Numbers → (n : ℕ) × (u64.MAX < (fold (inserted T.cmp) (fresh DEFAULT_INNER_SIZE) (take n values.items)).next) }
     {
         Self::from_iter(alloc, values)
     }

@@ -8,7 +8,7 @@ ghost use Rattle.indexset_set.specs.SetAlgebra.{put_all, MovesSome};
 ghost use Rattle.indexset_set.specs.SetRanges.{not_below};
 
 use super::BTreeSet;
-use super::lookup::locate;
+use super::lookup::{locate, locate_near};
 use indexset_core::refusal::Refusal;
 
 impl<T: Ord + Drop> BTreeSet<T> {
@@ -76,8 +76,9 @@ impl<T: Ord + Drop> BTreeSet<T> {
         if other.maximum_node_size() <= self.maximum_node_size() && self.is_below(other) {
             return self.append_nodes(other);
         }
+        let mut near = 0;
         while !other.is_empty() {
-            self.put_first_of(other)?;
+            near = self.put_first_of(other, near)?;
         }
         Ok(())
     }
@@ -111,9 +112,9 @@ impl<T: Ord + Drop> BTreeSet<T> {
         Ok(())
     }
 
-    // Puts the first element of another set in its place, and takes it out of the other. A refused call
-    // changes neither.
-    fn put_first_of(&mut self, other: &mut Self) -> Result<(), Refusal>
+    // Puts the first element of another set in its place, takes it out of the other, and answers the
+    // node that it was put near. The node `near` is tried first. A refused call changes neither.
+    fn put_first_of(&mut self, other: &mut Self, near: usize) -> Result<usize, Refusal>
         requires some { 0 < length (items other.old) }
         ensures ok { OnOk result (IfSome (slice_get (items other.old) 0) (λ x. items self.new ≡ put T.cmp (items self.old) x)) }
         ensures rest { OnOk result (items other.new ≡ drop 1 (items other.old)) }
@@ -126,12 +127,13 @@ impl<T: Ord + Drop> BTreeSet<T> {
         let Some(first) = other.spine.first_spot() else {
             unreachable!()
         };
-        let spot = locate(&self.spine, other.spine.item(&first));
+        let spot = locate_near(&self.spine, near, other.spine.item(&first));
+        let node = spot.node;
         if spot.found {
             self.spine.replace(spot, other.spine.remove(first));
-            return Ok(());
+            return Ok(node);
         }
         self.spine.insert_from(spot, &mut other.spine)?;
-        Ok(())
+        Ok(node)
     }
 }

@@ -41,6 +41,19 @@ pub(super) fn locate_from_end<T: Ord>(spine: &Spine<T>, value: &T) -> Spot
     spine.locate_from_end_by(&mut ByItem::new(value))
 }
 
+// The same, where a node is tried first: it is for values that go near each other.
+pub(super) fn locate_near<T: Ord>(spine: &Spine<T>, near: usize, value: &T) -> Spot
+    requires { IsAscending T.cmp (items spine.now) }
+    ensures spot { IsSpot spine.now.nodes result }
+    ensures item { IsTrue result.found → IsItemSpot spine.now.nodes result }
+    ensures position { position_of spine.now.nodes result ≡ rank T.cmp (items spine.now) value.now }
+    ensures place { result ≡ spot_of T.cmp spine.now.nodes value.now }
+    ensures found { OnTrue result.found (IsFoundAt T.cmp (items spine.now) value.now (position_of spine.now.nodes result)) }
+    ensures gap { OnFalse result.found (IsGapFor T.cmp (items spine.now) value.now (position_of spine.now.nodes result)) }
+{
+    spine.locate_near_by(near, &mut ByItem::new(value))
+}
+
 impl<T: Ord> BTreeSet<T> {
     /// The element equal to the value, where there is one.
     pub fn get(&self, value: &T) -> Option<&T>

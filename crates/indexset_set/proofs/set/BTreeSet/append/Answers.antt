@@ -12,7 +12,7 @@ loop-self-init g c = record { moves = moved_none g.T.Ord.cmp _ _; size = search 
 pub loop-self-preserved : goal.loop-self-preserved
 loop-self-preserved g c =
     let some : 0 < length (items c.loop-self.other) = search rules in
-    let moved = c.in_ok-put_first_of.ensures in
+    let moved = c.in_ok-near.ensures in
     record {
       moves = moved_more g.T.Ord.cmp _ _ _ _ _ _ c.loop-self.invariant.moves some moved.ok moved.rest;
       size = moved.size ∙ c.loop-self.invariant.size;
