@@ -14,6 +14,16 @@ fn insert_ascending(alloc: Global, keys: u64) -> io::Result<BTreeSet<u64>> {
     Ok(set)
 }
 
+/// Every second key, from the first one on.
+fn every_second(alloc: Global, first: u64, keys: u64) -> io::Result<BTreeSet<u64>> {
+    let mut set = BTreeSet::new(alloc).map_err(failure)?;
+    for i in 0..keys / 2 {
+        set.insert(i.wrapping_mul(2).wrapping_add(first))
+            .map_err(|refused| failure(refused.cause))?;
+    }
+    Ok(set)
+}
+
 fn popped_from_the_back(set: &mut BTreeSet<u64>) -> u64 {
     let mut sum = 0u64;
     for _ in 0..set.len() {
@@ -47,5 +57,10 @@ pub(crate) fn measure(rt: &HostRuntime, keys: u64) -> io::Result<()> {
     let start = Instant::now(rt)?;
     let front = popped_from_the_front(&mut copy);
     report(rt, "pop_first of all", start, keys)?;
-    println!(rt; "check {same} {back} {front}")
+    let mut even = every_second(rt.alloc(), 0, keys)?;
+    let mut odd = every_second(rt.alloc(), 1, keys)?;
+    let start = Instant::now(rt)?;
+    even.append(&mut odd).map_err(failure)?;
+    report(rt, "append of every second element", start, keys / 2)?;
+    println!(rt; "check {same} {back} {front} {}", even.len())
 }
