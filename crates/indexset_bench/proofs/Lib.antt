@@ -3,7 +3,6 @@ pub mod Digits
 pub mod Lines
 pub mod LoggedMaps
 pub mod LoggedRuns
-pub mod LoggedSets
 pub mod Meanings
 pub mod PairChanges
 pub mod PairMeanings

@@ -6,11 +6,7 @@ use Rattle.std.proofs.Math.Seq.{get_or-append_right}
 use Rattle.indexset_log.specs.declared.change.ChangeEvent.{ChangeEvent}
 use Rattle.indexset_log.specs.declared.change.ChangeEventUnassigned.{ChangeEventUnassigned}
 use Rattle.indexset_log.specs.Replay.{replay, step, numbered_from, assigned, IsNumberedFrom}
-use Rattle.indexset_log.proofs.CallerLemmas.{numbered_is}
-
-pub length-numbered : {T : Type 0} (s : ℕ) (es : List (ChangeEventUnassigned T)) → length (numbered_from s es) ≡ length es
-length-numbered s [] = refl
-length-numbered s (e ∷ es) = simp (length-numbered (s + 1) es)
+use Rattle.indexset_log.proofs.CallerLemmas.{length-numbered, numbered_is}
 
 module _ {T : Type 0} (cmp : T → T → Ordering) where
   pub replay-append : (ns : List (List T)) (a b : List (ChangeEvent T)) → replay cmp ns (a ++ b) ≡ option_and_then (λ r. replay cmp r b) (replay cmp ns a)
@@ -42,7 +38,7 @@ module _ {T : Type 0} (cmp : T → T → Ordering) (ns : List (List T)) (from : 
 
   -- one more command
   pub more_log : (now after : List (List T)) (next next' count : ℕ) (events made : List (ChangeEvent T)) (es : List (ChangeEventUnassigned T))
-      → LogSoFar cmp ns now from next count events → made ≡ events ++ numbered_from next es → replay cmp now (numbered_from next es) ≡ Some after → length es ≤ 3 → next' ≡ next + length es
+      → LogSoFar cmp ns now from next count events → made ≡ events ++ numbered_from next es → replay cmp now (numbered_from next es) ≡ Some after → length made ≤ length events + 3 → next' ≡ next + length es
       → LogSoFar cmp ns after from next' (count + 1) made
   more_log now after next next' count events made es far is step few num =
       let size : length made ≡ length events + length es = ap (λ q. length q) is ∙ (length-append events (numbered_from next es) ∙ omega (arith, length-numbered next es)) in
@@ -51,7 +47,7 @@ module _ {T : Type 0} (cmp : T → T → Ordering) (ns : List (List T)) (from : 
         replayed = rw (is, replay-append cmp ns events (numbered_from next es), far.replayed) step;
         numbered = subst (IsNumberedFrom from) (sym is) (numbered-append from events (numbered_from next es) far.numbered places);
         next_is = omega (arith, size, num, far.next_is);
-        few = omega (arith, size, few, far.few);
+        few = omega (arith, few, far.few);
       }
 
 -- the command that comes after those that were answered

@@ -58,7 +58,7 @@ pub trait Logged {
         ensures state { OnOk result (state self.new ≡ after (state self.old) command) }
         ensures events { IfOk result (λ r. r.1.items ≡ numbered_from (next self.old) (events self.old command)) }
         ensures replay { IfOk result (λ r. replay Self.Item.Ord.cmp (nodes self.old) r.1.items ≡ Some (nodes self.new)) }
-        ensures few { length (events self.old command) ≤ 3 }
+        ensures few { IfOk result (λ r. length r.1.items ≤ 3) }
         ensures next { OnOk result (next self.new ≡ next self.old + length (events self.old command)) }
         ensures size { size self.new ≡ size self.old }
         ensures fits { OnOk result (lacks_numbers self.old command ≡ false) }

@@ -76,7 +76,7 @@ fn answer<L: Logged>(
     ensures state { OnOk result (L.state tree.new ≡ L.after (L.state tree.old) command) }
     ensures events { OnOk result (events.new.items ≡ events.old.items ++ numbered_from (L.next tree.old) (L.events tree.old command)) }
     ensures replay { OnOk result (replay L.Item.Ord.cmp (L.nodes tree.old) (numbered_from (L.next tree.old) (L.events tree.old command)) ≡ Some (L.nodes tree.new)) }
-    ensures few { OnOk result (length (L.events tree.old command) ≤ 3) }
+    ensures few { OnOk result (length events.new.items ≤ length events.old.items + 3) }
     ensures next { OnOk result (L.next tree.new ≡ L.next tree.old + length (L.events tree.old command)) }
     ensures size { L.size tree.new ≡ L.size tree.old }
     ensures refusal { IfErr result (λ e. e ≢ Refusal.Memory → (e ≡ Refusal.Numbers) × (L.lacks_numbers tree.old command ≡ true)) }

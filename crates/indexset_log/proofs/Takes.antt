@@ -23,7 +23,7 @@ use Rattle.indexset_log.specs.Replay.{replay, replay_plain, numbered_from, assig
 use Rattle.indexset_log.specs.Table.{target, taking_events, removal_events, removing_events}
 use Rattle.indexset_log.proofs.Ups.{Each, each-append, each-left, each-right, each-map, Up, up-right, up-between, Ruled, parts-without, length_filled, ascends, lawful_from, lawful_ruled, lawful_bounded}
 use Rattle.indexset_log.proofs.Steps.{At, at_ruled, ruled_at, remove_step, remove_node_step, remove_at}
-use Rattle.indexset_log.proofs.Theorem.{numbered_replay, up_node}
+use Rattle.indexset_log.proofs.Theorem.{length-numbered, numbered_replay, up_node}
 
 -- a list seen around the item at a place
 pub at_place : {X : Type 0} (P : List X → ℕ → X → Type 0) → ((b : List X) (x : X) (a : List X) → P (b ++ x ∷ a) (length b) x) → (xs : List X) (k : ℕ) (x : X) → slice_get xs k ≡ Some x → P xs k x
@@ -36,6 +36,9 @@ taking_one n i x = elim (eqb (length n) 1) as (λ t. length (if t then RemoveNod
   | true ↦ refl
   | false ↦ refl
 ]
+
+pub one_told : {T : Type 0} (n : List T) (i : ℕ) (x : T) (s : ℕ) (items : List (ChangeEvent T)) → items ≡ numbered_from s (taking_events n i x) → length items ≤ 3
+one_told n i x s items told = omega (arith, ap (λ l. length l) told, length-numbered s (taking_events n i x), taking_one n i x)
 
 module _ {T : Type 0} (cmp : T → T → Ordering) (o : IsTotalOrder cmp) (size : ℕ) where
   -- the events lead to the nodes without the item, which are lawful, and it alone is gone

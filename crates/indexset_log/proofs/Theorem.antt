@@ -44,6 +44,10 @@ numbered_is s (e ∷ es) (suc i) lt d = numbered_is (s + 1) es i (omega arith) d
 pub numbered_on : {T : Type 0} (s : ℕ) (es : List (ChangeEventUnassigned T)) (items : List (ChangeEvent T)) → items ≡ numbered_from s es → IsNumberedFrom s items
 numbered_on s es items e = rw e (numbered_is s es)
 
+pub length-numbered : {T : Type 0} (s : ℕ) (es : List (ChangeEventUnassigned T)) → length (numbered_from s es) ≡ length es
+length-numbered s [] = refl
+length-numbered s (e ∷ es) = simp (length-numbered (s + 1) es)
+
 -- at most three events
 module _ {T : Type 0} (cmp : T → T → Ordering) (size : ℕ) (v : T) where
   two_at_most : (n : List T) → length (node_events cmp n v) ≤ 2
@@ -53,6 +57,9 @@ module _ {T : Type 0} (cmp : T → T → Ordering) (size : ℕ) (v : T) where
   pub three_at_most : (ns : List (List T)) → length (put_events cmp size ns v) ≤ 3
   unfolding put_events target_events
   three_at_most ns = grind (arith, two_at_most)
+
+  pub three_told : (ns : List (List T)) (s : ℕ) (items : List (ChangeEvent T)) → items ≡ numbered_from s (put_events cmp size ns v) → length items ≤ 3
+  three_told ns s items told = omega (arith, ap (λ l. length l) told, length-numbered s (put_events cmp size ns v), three_at_most ns)
 
 pub none_lawful : {T : Type 0} (cmp : T → T → Ordering) (size : ℕ) → IsLawful cmp size []
 none_lawful cmp size = lawful_from cmp size [] (record { filled = tt; up = tt }) tt

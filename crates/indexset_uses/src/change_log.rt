@@ -1,5 +1,5 @@
 //! A change log: what a copy of a tree elsewhere needs to be told.
-ghost use Rattle.std.specs.Prelude.{◌≡◌, Some, IfOk, OnErr};
+ghost use Rattle.std.specs.Prelude.{◌≡◌, ◌≤◌, length, Some, IfOk, OnErr};
 ghost use Rattle.std.specs.Ordering.{nat_cmp};
 ghost use Rattle.indexset.specs.Words.{IsNumberedFrom, joined, put, replay, without};
 
@@ -10,11 +10,13 @@ use indexset::concurrent::set::BTreeSet;
 /// A logged set of numbers.
 pub type Numbers = BTreeSet<u64, Vec<u64>>;
 
-/// Puts a number in, and answers the events, which make of a copy's nodes the nodes that are here now.
+/// Puts a number in, and answers the events, at most three, which make of a copy's nodes the nodes
+/// that are here now.
 pub fn put(tree: &mut Numbers, value: u64) -> Result<Vec<ChangeEvent<u64>>, Refused<u64>>
     ensures contents { IfOk result (λ _. joined tree.new.nodes ≡ put nat_cmp (joined tree.old.nodes) value) }
     ensures replay { IfOk result (λ events. replay nat_cmp tree.old.nodes events.items ≡ Some tree.new.nodes) }
     ensures numbered { IfOk result (λ events. IsNumberedFrom tree.old.next events.items) }
+    ensures few { IfOk result (λ events. length events.items ≤ 3) }
     ensures same { OnErr result (tree.new ≡ tree.old) }
 {
     let (_, events) = tree.put_cdc(value)?;
@@ -26,6 +28,7 @@ pub fn take(tree: &mut Numbers, value: u64) -> Result<Vec<ChangeEvent<u64>>, Ref
     ensures contents { IfOk result (λ _. joined tree.new.nodes ≡ without nat_cmp (joined tree.old.nodes) value) }
     ensures replay { IfOk result (λ events. replay nat_cmp tree.old.nodes events.items ≡ Some tree.new.nodes) }
     ensures numbered { IfOk result (λ events. IsNumberedFrom tree.old.next events.items) }
+    ensures few { IfOk result (λ events. length events.items ≤ 3) }
     ensures same { OnErr result (tree.new ≡ tree.old) }
 {
     let (_, events) = tree.remove_cdc(&value)?;

@@ -1,8 +1,8 @@
 //! A leaderboard: scores with their ranks.
-ghost use Rattle.std.specs.Prelude.{◌≡◌, ◌+◌, ◌-◌, true, length, slice_get, IfOk};
+ghost use Rattle.std.specs.Prelude.{◌≡◌, ◌+◌, ◌-◌, true, [], length, slice_get, IfOk, IfSome};
 ghost use Rattle.std.specs.Option.{option_copied};
 ghost use Rattle.std.specs.Ordering.{nat_cmp};
-ghost use Rattle.indexset.specs.Words.{items, rank};
+ghost use Rattle.indexset.specs.Words.{above, items, rank};
 
 use indexset::BTreeSet;
 use indexset::base::refusal::Refusal;
@@ -15,9 +15,10 @@ pub fn enter(board: &mut BTreeSet<u64>, score: u64) -> Result<bool, Refusal>
     Ok(board.contains(&score))
 }
 
-/// The best score.
+/// The best score: none is above it.
 pub fn best(board: &BTreeSet<u64>) -> Option<u64>
-    ensures { result ≡ slice_get (items board.now) (length (items board.now) - 1) }
+    ensures last { result ≡ slice_get (items board.now) (length (items board.now) - 1) }
+    ensures greatest { IfSome result (λ best. above nat_cmp (items board.now) best ≡ []) }
 {
     board.last().copied()
 }

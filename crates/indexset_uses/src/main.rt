@@ -64,6 +64,7 @@ fn show_prices(rt: &HostRuntime) -> Result<()> {
     }
     println!(rt; "prices: {prices:?}")?;
     println!(rt; "price of 7: {:?}", prices::price_of(&prices, 7))?;
+    println!(rt; "price of 5: {}", prices::price_or(&mut prices, 5, 95)?)?;
     println!(rt; "priced below 7: {}", prices::priced_below(&prices, 7))?;
     Ok(())
 }

@@ -1,5 +1,5 @@
 //! Prices: a map from items to what they cost.
-ghost use Rattle.std.specs.Prelude.{◌≡◌, Some, IfOk, OnErr, length};
+ghost use Rattle.std.specs.Prelude.{◌≡◌, Some, IfOk, OnErr, length, unwrap_or};
 ghost use Rattle.std.specs.Ordering.{nat_cmp};
 ghost use Rattle.std.specs.declared.ops.Bound.TheVariants.{Excluded, Unbounded};
 ghost use Rattle.indexset.specs.Words.{pairs_within, value_of};
@@ -26,6 +26,20 @@ pub fn price_of(prices: &BTreeMap<u64, u64>, item: u64) -> Option<u64>
     ensures { result ≡ value_of nat_cmp prices.now.pairs item }
 {
     prices.get(&item).copied()
+}
+
+/// The price of an item, which it has from now on: the usual one, where it has none.
+pub fn price_or(
+    prices: &mut BTreeMap<u64, u64>,
+    item: u64,
+    usual: u64,
+) -> Result<u64, Refused<(u64, u64)>>
+    ensures price { IfOk result (λ price. price ≡ unwrap_or (value_of nat_cmp prices.old.pairs item) usual) }
+    ensures now { IfOk result (λ price. value_of nat_cmp prices.new.pairs item ≡ Some price) }
+    ensures same { OnErr result (prices.new ≡ prices.old) }
+{
+    let price = prices.entry(item).or_insert(usual)?;
+    Ok(*price)
 }
 
 /// How many of the items below one have a price.

@@ -30,7 +30,7 @@ impl<K: Ord + Clone + Drop, V: Clone + Drop, Node: NodeLike<Pair<K, V>>> BTreeMa
         ensures events { IfOk result (λ r. r.1.items ≡ numbered_from self.old.next (put_events (by_key K.cmp) self.old.size self.old.nodes (pair key value))) }
         ensures numbered { IfOk result (λ r. IsNumberedFrom self.old.next r.1.items) }
         ensures replay { IfOk result (λ r. replay (by_key K.cmp) self.old.nodes r.1.items ≡ Some self.new.nodes) }
-        ensures few { length (put_events (by_key K.cmp) self.old.size self.old.nodes (pair key value)) ≤ 3 }
+        ensures few { IfOk result (λ r. length r.1.items ≤ 3) }
         ensures size { self.new.size ≡ self.old.size }
         ensures next { OnOk result (self.new.next ≡ self.old.next + length (put_events (by_key K.cmp) self.old.size self.old.nodes (pair key value))) }
         ensures fits { OnOk result (self.old.next + length (put_events (by_key K.cmp) self.old.size self.old.nodes (pair key value)) ≤ u64.MAX) }
@@ -57,6 +57,7 @@ impl<K: Ord + Clone + Drop, V: Clone + Drop, Node: NodeLike<Pair<K, V>>> BTreeMa
         ensures events { IfOk result (λ r. IfSome r (λ events. events.items ≡ numbered_from self.old.next (checked_put_events (by_key K.cmp) self.old.size self.old.nodes (pair key value)))) }
         ensures numbered { IfOk result (λ r. IfSome r (λ events. IsNumberedFrom self.old.next events.items)) }
         ensures replay { OnOk result (replay (by_key K.cmp) self.old.nodes (numbered_from self.old.next (checked_put_events (by_key K.cmp) self.old.size self.old.nodes (pair key value))) ≡ Some self.new.nodes) }
+        ensures few { IfOk result (λ r. IfSome r (λ events. length events.items ≤ 3)) }
         ensures size { self.new.size ≡ self.old.size }
         ensures next { OnOk result (self.new.next ≡ self.old.next + length (checked_put_events (by_key K.cmp) self.old.size self.old.nodes (pair key value))) }
         ensures fits { OnOk result (self.old.next + length (checked_put_events (by_key K.cmp) self.old.size self.old.nodes (pair key value)) ≤ u64.MAX) }

@@ -27,6 +27,7 @@ impl<K: Ord + Clone + Drop, V: Clone + Drop, Node: NodeLike<Pair<K, V>>> BTreeMa
         ensures events { IfOk result (λ r. r.1.items ≡ numbered_from self.old.next (key_removal_events K.cmp self.old.nodes key.now)) }
         ensures numbered { IfOk result (λ r. IsNumberedFrom self.old.next r.1.items) }
         ensures replay { IfOk result (λ r. replay (by_key K.cmp) self.old.nodes r.1.items ≡ Some self.new.nodes) }
+        ensures few { IfOk result (λ r. length r.1.items ≤ 3) }
         ensures size { self.new.size ≡ self.old.size }
         ensures next { OnOk result (self.new.next ≡ self.old.next + length (key_removal_events K.cmp self.old.nodes key.now)) }
         ensures fits { OnOk result (self.old.next + length (key_removal_events K.cmp self.old.nodes key.now) ≤ u64.MAX) }

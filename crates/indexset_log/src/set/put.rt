@@ -22,7 +22,6 @@ use indexset_core::search;
 impl<T: Ord + Clone + Drop, Node: NodeLike<T>> BTreeSet<T, Node> {
     /// Puts an item in, for any equal one, and tells the events. A refused call hands the item back
     /// and changes nothing.
-    #[tactic(auto, using(crate::proofs::Theorem::three_at_most))]
     pub fn put_cdc(&mut self, value: T) -> Result<(Option<T>, Vec<ChangeEvent<T>>), Refused<T>>
         requires clones { (x y : T) → T.is_clone x y → y ≡ x }
         ensures answer { IfOk result (λ r. r.0 ≡ equal_element T.cmp (joined self.old.nodes) value) }
@@ -31,7 +30,7 @@ impl<T: Ord + Clone + Drop, Node: NodeLike<T>> BTreeSet<T, Node> {
         ensures events { IfOk result (λ r. r.1.items ≡ numbered_from self.old.next (put_events T.cmp self.old.size self.old.nodes value)) }
         ensures numbered { IfOk result (λ r. IsNumberedFrom self.old.next r.1.items) }
         ensures replay { IfOk result (λ r. replay T.cmp self.old.nodes r.1.items ≡ Some self.new.nodes) }
-        ensures few { length (put_events T.cmp self.old.size self.old.nodes value) ≤ 3 }
+        ensures few { IfOk result (λ r. length r.1.items ≤ 3) }
         ensures size { self.new.size ≡ self.old.size }
         ensures next { OnOk result (self.new.next ≡ self.old.next + length (put_events T.cmp self.old.size self.old.nodes value)) }
         ensures fits { OnOk result (self.old.next + length (put_events T.cmp self.old.size self.old.nodes value) ≤ u64.MAX) }
@@ -54,6 +53,7 @@ impl<T: Ord + Clone + Drop, Node: NodeLike<T>> BTreeSet<T, Node> {
         ensures events { IfOk result (λ r. IfSome r (λ events. events.items ≡ numbered_from self.old.next (checked_put_events T.cmp self.old.size self.old.nodes value))) }
         ensures numbered { IfOk result (λ r. IfSome r (λ events. IsNumberedFrom self.old.next events.items)) }
         ensures replay { OnOk result (replay T.cmp self.old.nodes (numbered_from self.old.next (checked_put_events T.cmp self.old.size self.old.nodes value)) ≡ Some self.new.nodes) }
+        ensures few { IfOk result (λ r. IfSome r (λ events. length events.items ≤ 3)) }
         ensures size { self.new.size ≡ self.old.size }
         ensures next { OnOk result (self.new.next ≡ self.old.next + length (checked_put_events T.cmp self.old.size self.old.nodes value)) }
         ensures fits { OnOk result (self.old.next + length (checked_put_events T.cmp self.old.size self.old.nodes value) ≤ u64.MAX) }
@@ -141,6 +141,7 @@ impl<T: Ord + Clone + Drop, Node: NodeLike<T>> BTreeSet<T, Node> {
         ensures events { IfOk result (λ r. r.1.items ≡ numbered_from self.old.next (put_events T.cmp self.old.size self.old.nodes value)) }
         ensures numbered { IfOk result (λ r. IsNumberedFrom self.old.next r.1.items) }
         ensures replay { OnOk result (replay T.cmp self.old.nodes (numbered_from self.old.next (put_events T.cmp self.old.size self.old.nodes value)) ≡ Some self.new.nodes) }
+        ensures few { IfOk result (λ r. length r.1.items ≤ 3) }
         ensures size { self.new.size ≡ self.old.size }
         ensures next { OnOk result (self.new.next ≡ self.old.next + length (put_events T.cmp self.old.size self.old.nodes value)) }
         ensures fits { OnOk result (self.old.next + length (put_events T.cmp self.old.size self.old.nodes value) ≤ u64.MAX) }

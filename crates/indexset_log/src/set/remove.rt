@@ -22,6 +22,7 @@ impl<T: Ord + Clone + Drop, Node: NodeLike<T>> BTreeSet<T, Node> {
         ensures events { IfOk result (λ r. r.1.items ≡ numbered_from self.old.next (removal_events T.cmp self.old.nodes value.now)) }
         ensures numbered { IfOk result (λ r. IsNumberedFrom self.old.next r.1.items) }
         ensures replay { IfOk result (λ r. replay T.cmp self.old.nodes r.1.items ≡ Some self.new.nodes) }
+        ensures few { IfOk result (λ r. length r.1.items ≤ 3) }
         ensures size { self.new.size ≡ self.old.size }
         ensures next { OnOk result (self.new.next ≡ self.old.next + length (removal_events T.cmp self.old.nodes value.now)) }
         ensures fits { OnOk result (self.old.next + length (removal_events T.cmp self.old.nodes value.now) ≤ u64.MAX) }
@@ -52,6 +53,7 @@ impl<T: Ord + Clone + Drop, Node: NodeLike<T>> BTreeSet<T, Node> {
         ensures events { IfOk result (λ r. r.1.items ≡ numbered_from self.old.next (taking_events (node_at self.old.nodes node) offset r.0)) }
         ensures numbered { IfOk result (λ r. IsNumberedFrom self.old.next r.1.items) }
         ensures replay { IfOk result (λ r. replay T.cmp self.old.nodes r.1.items ≡ Some self.new.nodes) }
+        ensures few { IfOk result (λ r. length r.1.items ≤ 3) }
         ensures size { self.new.size ≡ self.old.size }
         ensures next { OnOk result (self.new.next ≡ self.old.next + 1) }
         ensures fits { OnOk result (self.old.next + 1 ≤ u64.MAX) }

@@ -38,7 +38,7 @@ impl<K: Ord + Clone + Drop, V: Eq + Clone + Drop, Node: NodeLike<MultiPair<K, V>
         ensures events { IfOk result (λ r. r.1.items ≡ numbered_from self.old.next (insertion_events K.cmp V.eq self.old key value)) }
         ensures numbered { IfOk result (λ r. IsNumberedFrom self.old.next r.1.items) }
         ensures replay { IfOk result (λ r. replay (by_number K.cmp) self.old.nodes r.1.items ≡ Some self.new.nodes) }
-        ensures few { length (insertion_events K.cmp V.eq self.old key value) ≤ 3 }
+        ensures few { IfOk result (λ r. length r.1.items ≤ 3) }
         ensures size { self.new.size ≡ self.old.size }
         ensures next { OnOk result (self.new.next ≡ self.old.next + length (insertion_events K.cmp V.eq self.old key value)) }
         ensures pair_next { OnOk result (self.new.pair_next ≡ pair_next_after K.cmp V.eq self.old key value) }

@@ -33,7 +33,7 @@ impl<K: Ord + Clone + Drop, V: Eq + Clone + Drop, Node: NodeLike<MultiPair<K, V>
         ensures events { IfOk result (λ r. r.1.items ≡ numbered_from self.old.next (pair_removal_events K.cmp self.old.nodes (first_pair K.cmp (joined self.old.nodes) key.now))) }
         ensures numbered { IfOk result (λ r. IsNumberedFrom self.old.next r.1.items) }
         ensures replay { IfOk result (λ r. replay (by_number K.cmp) self.old.nodes r.1.items ≡ Some self.new.nodes) }
-        ensures few { length (pair_removal_events K.cmp self.old.nodes (first_pair K.cmp (joined self.old.nodes) key.now)) ≤ 3 }
+        ensures few { IfOk result (λ r. length r.1.items ≤ 3) }
         ensures size { self.new.size ≡ self.old.size }
         ensures next { OnOk result (self.new.next ≡ self.old.next + length (pair_removal_events K.cmp self.old.nodes (first_pair K.cmp (joined self.old.nodes) key.now))) }
         ensures pair_next { self.new.pair_next ≡ self.old.pair_next }
@@ -76,7 +76,7 @@ impl<K: Ord + Clone + Drop, V: Eq + Clone + Drop, Node: NodeLike<MultiPair<K, V>
         ensures events { IfOk result (λ r. r.1.items ≡ numbered_from self.old.next (pair_removal_events K.cmp self.old.nodes (equal_pair K.cmp V.eq (joined self.old.nodes) key.now value.now))) }
         ensures numbered { IfOk result (λ r. IsNumberedFrom self.old.next r.1.items) }
         ensures replay { IfOk result (λ r. replay (by_number K.cmp) self.old.nodes r.1.items ≡ Some self.new.nodes) }
-        ensures few { length (pair_removal_events K.cmp self.old.nodes (equal_pair K.cmp V.eq (joined self.old.nodes) key.now value.now)) ≤ 3 }
+        ensures few { IfOk result (λ r. length r.1.items ≤ 3) }
         ensures size { self.new.size ≡ self.old.size }
         ensures next { OnOk result (self.new.next ≡ self.old.next + length (pair_removal_events K.cmp self.old.nodes (equal_pair K.cmp V.eq (joined self.old.nodes) key.now value.now))) }
         ensures pair_next { self.new.pair_next ≡ self.old.pair_next }
@@ -137,7 +137,7 @@ impl<K: Ord + Clone + Drop, V: Eq + Clone + Drop, Node: NodeLike<MultiPair<K, V>
         ensures events { IfOk result (λ r. r.1.items ≡ numbered_from self.old.next (pair_removal_events K.cmp self.old.nodes (item_at self.old.nodes place))) }
         ensures numbered { IfOk result (λ r. IsNumberedFrom self.old.next r.1.items) }
         ensures replay { IfOk result (λ r. replay (by_number K.cmp) self.old.nodes r.1.items ≡ Some self.new.nodes) }
-        ensures few { length (pair_removal_events K.cmp self.old.nodes (item_at self.old.nodes place)) ≤ 3 }
+        ensures few { IfOk result (λ r. length r.1.items ≤ 3) }
         ensures size { self.new.size ≡ self.old.size }
         ensures next { OnOk result (self.new.next ≡ self.old.next + length (pair_removal_events K.cmp self.old.nodes (item_at self.old.nodes place))) }
         ensures pair_next { self.new.pair_next ≡ self.old.pair_next }

@@ -1,6 +1,7 @@
 //! Calls that go by position: the element there, and the element there taken out.
-ghost use Rattle.std.specs.Prelude.{◌≡◌, ◌-◌, ◌<◌, Some, MatchOption, length, take, drop, remove, slice_get};
+ghost use Rattle.std.specs.Prelude.{◌≡◌, ◌-◌, ◌<◌, [], Some, IfSome, MatchOption, length, take, drop, remove, slice_get};
 ghost use Rattle.std.specs.Option.{option_copied};
+ghost use Rattle.indexset_core.specs.Order.{above, below};
 ghost use Rattle.indexset_spine.specs.Cut.{items};
 ghost use Rattle.indexset_set.specs.SetNodes.{IsWithoutAt};
 
@@ -17,14 +18,16 @@ impl<T: Ord> BTreeSet<T> {
 
     /// The least element, where there is one.
     pub fn first(&self) -> Option<&T>
-        ensures { option_copied result ≡ slice_get (items self.now) 0 }
+        ensures element { option_copied result ≡ slice_get (items self.now) 0 }
+        ensures least { IfSome result (λ least. below T.cmp (items self.now) least.now ≡ []) }
     {
         self.spine.iter().next()
     }
 
     /// The greatest element, where there is one.
     pub fn last(&self) -> Option<&T>
-        ensures { option_copied result ≡ slice_get (items self.now) (length (items self.now) - 1) }
+        ensures element { option_copied result ≡ slice_get (items self.now) (length (items self.now) - 1) }
+        ensures greatest { IfSome result (λ greatest. above T.cmp (items self.now) greatest.now ≡ []) }
     {
         self.spine.iter().next_back()
     }

@@ -23,6 +23,7 @@ returns-in_ok-pair-in-Ok g c =
       events = rw taken.events done.events;
       numbered = done.numbered;
       replay = done.replay;
+      few = done.few;
       size = done.size;
       next = rw one done.next;
       fits = rw one done.fits;

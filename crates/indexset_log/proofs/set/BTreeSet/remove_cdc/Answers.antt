@@ -27,6 +27,7 @@ returns-in_ok-item-in-Some g c =
       events = rw (found_events g.met.T.Ord.total t.rule.lawful found done.item) done.events;
       numbered = done.numbered;
       replay = done.replay;
+      few = done.few;
       size = done.size;
       next = rw one done.next;
       fits = rw one done.fits;

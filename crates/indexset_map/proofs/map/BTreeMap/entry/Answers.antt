@@ -2,7 +2,9 @@ use Rattle.std.proofs.Common.{refl, Some, None, Bool, sym, ap, ◌∙◌, if◌t
 use Rattle.std.specs.Option.{option_map}
 use Rattle.indexset_core.proofs.CallerLemmas.{key_absent, key_inside, key_no_pair, key_pair, key_there}
 use Rattle.indexset_map.proofs.EntryLemmas.{shown_key}
+use Rattle.indexset_core.specs.Pairs.{value_of}
 use Rattle.indexset_map.proofs.KeyLemmas.{put_found, without_found, without_absent}
+use Rattle.indexset_map.proofs.ThereLemmas.{value_there}
 use Rattle.indexset_map.proofs.map.BTreeMap.entry.Goals as goal
 
 pub returns-in-Ok-clause-value : goal.returns-in-Ok-clause-value
@@ -19,6 +21,14 @@ returns-clause-value g c = sym (ap (option_map (λ p. p.value)) (key_no_pair g.K
 
 pub returns-clause-update : goal.returns-clause-update
 returns-clause-update g c = λ w. refl
+
+pub returns-in-Ok-clause-there : goal.returns-in-Ok-clause-there
+returns-in-Ok-clause-there g c = λ w.
+    let put = put_found g.K.Ord.cmp c.args.self.now c.args.key c.in-Ok.index (c.in-Ok.ensures {u = tt}).found w in
+    ap (λ m. value_of g.K.Ord.cmp m.pairs c.args.key) put ∙ value_there g.K.Ord.cmp g.met.K.Ord.total c.args.self.now.pairs c.args.key w
+
+pub returns-clause-there : goal.returns-clause-there
+returns-clause-there g c = λ w. value_there g.K.Ord.cmp g.met.K.Ord.total c.args.self.now.pairs c.args.key w
 
 pub returns-in-Ok-clause-key : goal.returns-in-Ok-clause-key
 returns-in-Ok-clause-key g c =

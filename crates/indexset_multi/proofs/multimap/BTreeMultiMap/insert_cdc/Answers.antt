@@ -1,10 +1,6 @@
 use Rattle.std.proofs.Common.{◌≡◌, ap, arith}
 use Rattle.std.proofs.lemmas.Grind.{common_steps}
-use Rattle.indexset_log.proofs.CallerLemmas.{three_at_most}
 use Rattle.indexset_multi.proofs.multimap.BTreeMultiMap.insert_cdc.Goals as goal
-
-pub returns-in_err-pair-clause-few : goal.returns-in_err-pair-clause-few
-returns-in_err-pair-clause-few g c = three_at_most _ _ _ _
 
 pub returns-in_err-old-clause-refusal : goal.returns-in_err-old-clause-refusal
 returns-in_err-old-clause-refusal g c =

@@ -3,11 +3,6 @@ use Rattle.std.proofs.lemmas.Grind.{common_steps}
 use Rattle.indexset_multi.proofs.Takes.{taken, taken_one}
 use Rattle.indexset_multi.proofs.multimap.BTreeMultiMap.take_cdc.Goals as goal
 
-pub returns-in_err-pair-in-Some-clause-few : goal.returns-in_err-pair-in-Some-clause-few
-returns-in_err-pair-in-Some-clause-few g c =
-    let one = taken_one g.K.Ord.cmp g.met.K.Ord.total c.self.view_is c.node_count-nodes.ensures.lawful c.in-Some.is c.requires.place in
-    rw one (omega arith)
-
 pub returns-in_err-pair-in-Some-clause-refusal : goal.returns-in_err-pair-in-Some-clause-refusal
 returns-in_err-pair-in-Some-clause-refusal g c =
     let one = taken_one g.K.Ord.cmp g.met.K.Ord.total c.self.view_is c.node_count-nodes.ensures.lawful c.in-Some.is c.requires.place in
@@ -41,11 +36,6 @@ pub returns-in_ok-pair-in-Some-clause-numbered : goal.returns-in_ok-pair-in-Some
 returns-in_ok-pair-in-Some-clause-numbered g c =
     let next : c.self.inside.set.next ≡ c.args.self.now.next = ap (λ m. m.next) c.self.view_is in
     rw (← next) c.in_ok-pair-in-Some.ensures.numbered
-
-pub returns-in_ok-pair-in-Some-clause-few : goal.returns-in_ok-pair-in-Some-clause-few
-returns-in_ok-pair-in-Some-clause-few g c =
-    let one = taken_one g.K.Ord.cmp g.met.K.Ord.total c.self.view_is c.node_count-nodes.ensures.lawful c.in-Some.is c.requires.place in
-    rw one (omega arith)
 
 pub returns-in_ok-pair-in-Some-clause-next : goal.returns-in_ok-pair-in-Some-clause-next
 returns-in_ok-pair-in-Some-clause-next g c =

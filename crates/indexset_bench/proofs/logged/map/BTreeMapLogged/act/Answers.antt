@@ -1,25 +1,14 @@
 use Rattle.std.proofs.Common.{◌≡◌, true, sym}
+use Rattle.std.below.core.specs.declared.int.u64.TheConstants.{MAX}
+use Rattle.std.proofs.lemmas.Bool.{le-ltb}
 use Rattle.indexset_core.specs.Nodes.{joined}
 use Rattle.indexset_core.specs.Pairs.{by_key, has_key, pair}
-use Rattle.indexset_bench.proofs.LoggedMaps.{checked_there, few_key_removing}
-use Rattle.indexset_bench.proofs.LoggedSets.{enough, few_checked}
+use Rattle.indexset_bench.proofs.LoggedMaps.{checked_there}
 use Rattle.indexset_bench.proofs.logged.map.BTreeMapLogged.act.Goals as goal
-
-pub returns-in_err-events-in-CheckedInsert-clause-few : goal.returns-in_err-events-in-CheckedInsert-clause-few
-returns-in_err-events-in-CheckedInsert-clause-few g c =
-    rw c.in-CheckedInsert.is (few_checked (by_key g.K.Ord.cmp) c.args.self.now.nodes (pair c.in-CheckedInsert.key c.in-CheckedInsert.value) c.args.self.now.size)
-
-pub returns-in_err-out-in-Remove-clause-few : goal.returns-in_err-out-in-Remove-clause-few
-returns-in_err-out-in-Remove-clause-few g c =
-    rw c.in-Remove.is (few_key_removing g.K.Ord.cmp c.args.self.now.nodes c.in-Remove.key)
-
-pub returns-in-Some-clause-few : goal.returns-in-Some-clause-few
-returns-in-Some-clause-few g c =
-    rw c.in-CheckedInsert.is (few_checked (by_key g.K.Ord.cmp) c.args.self.now.nodes (pair c.in-CheckedInsert.key c.in-CheckedInsert.value) c.args.self.now.size)
 
 pub returns-in-Some-clause-fits : goal.returns-in-Some-clause-fits
 returns-in-Some-clause-fits g c =
-    rw c.in-CheckedInsert.is (enough c.args.self.now.next _ c.in_ok-events-in-CheckedInsert.ensures.fits)
+    rw c.in-CheckedInsert.is (le-ltb MAX _ c.in_ok-events-in-CheckedInsert.ensures.fits)
 
 pub returns-in-None-clause-events : goal.returns-in-None-clause-events
 returns-in-None-clause-events g c =
@@ -32,18 +21,10 @@ returns-in-None-clause-replay g c =
     let same = rw (checked_there (by_key g.K.Ord.cmp) c.args.self.now.size c.args.self.now.nodes (pair c.in-CheckedInsert.key c.in-CheckedInsert.value) there) at c.in_ok-events-in-CheckedInsert.ensures.replay in
     rw c.new.ensures.items same
 
-pub returns-in-None-clause-few : goal.returns-in-None-clause-few
-returns-in-None-clause-few g c =
-    rw c.in-CheckedInsert.is (few_checked (by_key g.K.Ord.cmp) c.args.self.now.nodes (pair c.in-CheckedInsert.key c.in-CheckedInsert.value) c.args.self.now.size)
-
 pub returns-in-None-clause-fits : goal.returns-in-None-clause-fits
 returns-in-None-clause-fits g c =
-    rw c.in-CheckedInsert.is (enough c.args.self.now.next _ c.in_ok-events-in-CheckedInsert.ensures.fits)
-
-pub returns-in_ok-out-in-Remove-clause-few : goal.returns-in_ok-out-in-Remove-clause-few
-returns-in_ok-out-in-Remove-clause-few g c =
-    rw c.in-Remove.is (few_key_removing g.K.Ord.cmp c.args.self.now.nodes c.in-Remove.key)
+    rw c.in-CheckedInsert.is (le-ltb MAX _ c.in_ok-events-in-CheckedInsert.ensures.fits)
 
 pub returns-in_ok-out-in-Remove-clause-fits : goal.returns-in_ok-out-in-Remove-clause-fits
 returns-in_ok-out-in-Remove-clause-fits g c =
-    rw c.in-Remove.is (enough c.args.self.now.next _ c.in_ok-out-in-Remove.ensures.fits)
+    rw c.in-Remove.is (le-ltb MAX _ c.in_ok-out-in-Remove.ensures.fits)

@@ -1,25 +1,14 @@
 use Rattle.std.proofs.Common.{◌≡◌, true, refl, ap, sym, ◌∙◌}
+use Rattle.std.below.core.specs.declared.int.u64.TheConstants.{MAX}
+use Rattle.std.proofs.lemmas.Bool.{le-ltb}
 use Rattle.indexset_core.specs.Nodes.{joined}
 use Rattle.indexset_core.specs.Order.{has_equal}
 use Rattle.indexset_log.specs.Table.{checked_put_events}
-use Rattle.indexset_bench.proofs.LoggedSets.{enough, few_checked, few_removing}
 use Rattle.indexset_bench.proofs.logged.set.BTreeSetLogged.act.Goals as goal
-
-pub returns-in_err-events-in-PutChecked-clause-few : goal.returns-in_err-events-in-PutChecked-clause-few
-returns-in_err-events-in-PutChecked-clause-few g c =
-    rw c.in-PutChecked.is (few_checked g.T.Ord.cmp c.args.self.now.nodes c.in-PutChecked.value c.args.self.now.size)
-
-pub returns-in_err-old-in-Remove-clause-few : goal.returns-in_err-old-in-Remove-clause-few
-returns-in_err-old-in-Remove-clause-few g c =
-    rw c.in-Remove.is (few_removing g.T.Ord.cmp c.args.self.now.nodes c.in-Remove.value)
-
-pub returns-in-Some-clause-few : goal.returns-in-Some-clause-few
-returns-in-Some-clause-few g c =
-    rw c.in-PutChecked.is (few_checked g.T.Ord.cmp c.args.self.now.nodes c.in-PutChecked.value c.args.self.now.size)
 
 pub returns-in-Some-clause-fits : goal.returns-in-Some-clause-fits
 returns-in-Some-clause-fits g c =
-    rw c.in-PutChecked.is (enough c.args.self.now.next _ c.in_ok-events-in-PutChecked.ensures.fits)
+    rw c.in-PutChecked.is (le-ltb MAX _ c.in_ok-events-in-PutChecked.ensures.fits)
 
 pub returns-in-None-clause-events : goal.returns-in-None-clause-events
 unfolding checked_put_events
@@ -34,14 +23,6 @@ returns-in-None-clause-replay g c =
     let same = rw (there) at c.in_ok-events-in-PutChecked.ensures.replay in
     rw c.new.ensures.items same
 
-pub returns-in-None-clause-few : goal.returns-in-None-clause-few
-returns-in-None-clause-few g c =
-    rw c.in-PutChecked.is (few_checked g.T.Ord.cmp c.args.self.now.nodes c.in-PutChecked.value c.args.self.now.size)
-
 pub returns-in-None-clause-fits : goal.returns-in-None-clause-fits
 returns-in-None-clause-fits g c =
-    rw c.in-PutChecked.is (enough c.args.self.now.next _ c.in_ok-events-in-PutChecked.ensures.fits)
-
-pub returns-in_ok-old-in-Remove-clause-few : goal.returns-in_ok-old-in-Remove-clause-few
-returns-in_ok-old-in-Remove-clause-few g c =
-    rw c.in-Remove.is (few_removing g.T.Ord.cmp c.args.self.now.nodes c.in-Remove.value)
+    rw c.in-PutChecked.is (le-ltb MAX _ c.in_ok-events-in-PutChecked.ensures.fits)

@@ -1,0 +1,41 @@
+-- The ends of an ascending list: nothing is below the first, and nothing above the last.
+use Rattle.std.proofs.Common.{◌≡◌, ℕ, ◌+◌, ◌-◌, ◌<◌, false, List, [], ◌∷◌, ◌++◌, length, length-append, get_or, slice_get, Option, Some, None, IfSome, Ordering, refl, ap, ◌∙◌, inl, inr, subst, arith}
+use Rattle.std.specs.Borrow.{Bor}
+use Rattle.std.specs.Cmp.{IsTotalOrder}
+use Rattle.std.specs.Map.Iter.{TakesFirst, TakesLast, deref}
+use Rattle.std.specs.Ordering.{is_lt, is_gt}
+use Rattle.std.specs.declared.cmp.Ordering.TheVariants.{Less}
+use Rattle.std.proofs.lemmas.Bool.{cases_lt}
+use Rattle.std.proofs.lemmas.Cmp.{tied_itself}
+use Rattle.std.proofs.lemmas.List.{nil_from_length}
+use Rattle.std.proofs.lemmas.List.Sums.{length-filter}
+use Rattle.std.proofs.lemmas.Option.{get_or_from_slice_get, slice_get_within}
+use Rattle.indexset_core.specs.Order.{IsAscending, above, below}
+use Rattle.indexset_core.proofs.CallerLemmas.{count_parted, rank-slice_get, slice_get-right}
+
+module _ {T : Type 0} (cmp : T → T → Ordering) (o : IsTotalOrder cmp) (l : List T) (up : IsAscending cmp l) where
+  none_below : (x : T) → slice_get l 0 ≡ Some x → below cmp l x ≡ []
+  none_below x is = nil_from_length (below cmp l x) (length-filter (λ y. is_lt (cmp y x)) l ∙ rank-slice_get cmp o l up 0 x is)
+
+  up_to_last : (x : T) → slice_get l (length l - 1) ≡ Some x → (k : ℕ) (d : T) → k < length l → is_gt (cmp (get_or l k d) x) ≡ false
+  up_to_last x is k d inside =
+      let last : get_or l (length l - 1) d ≡ x = get_or_from_slice_get l (length l - 1) x d is in
+      elim (cases_lt k (length l - 1)) [
+        | inl before ↦ ap is_gt (subst (λ y. cmp (get_or l k d) y ≡ Less) last (up k (length l - 1) d before (omega arith)))
+        | inr at ↦ let same : k ≡ length l - 1 = omega arith in rw (same, last, tied_itself o x) refl
+      ]
+
+  none_above : (x : T) → slice_get l (length l - 1) ≡ Some x → above cmp l x ≡ []
+  none_above x is =
+      let count = count_parted (λ y. is_gt (cmp y x)) l 0 (omega arith) (λ k d low high. absurd (omega arith)) (λ k d low high. up_to_last x is k d high) in
+      nil_from_length (above cmp l x) (length-filter (λ y. is_gt (cmp y x)) l ∙ count)
+
+  pub first_least : (r : Option (Bor T)) (rest : List T) → TakesFirst deref l r rest → IfSome r (λ x. below cmp l x.now ≡ [])
+  first_least None rest is = tt
+  first_least (Some x) rest is = none_below x.now (rw is refl)
+
+  pub last_greatest : (r : Option (Bor T)) (rest : List T) → TakesLast deref l r rest → IfSome r (λ x. above cmp l x.now ≡ [])
+  last_greatest None rest is = tt
+  last_greatest (Some x) rest is =
+      let end : length l - 1 ≡ length rest + 0 = omega (arith, ap (λ q. length q) is, length-append rest (x.now ∷ [])) in
+      none_above x.now (rw end (rw is (slice_get-right rest (x.now ∷ []) (length rest + 0) 0 refl)))
