@@ -11,7 +11,7 @@ use indexset_core::search;
 
 // Up to how many items a search within a node takes no branch on an answer: more would not stay in the
 // cache, where a branch that is guessed fetches ahead.
-const NEAR: usize = 1 << 17;
+const NEAR: usize = 1 << 18;
 
 /// The first node whose last item is not answered Less, else the last node.
 pub(crate) fn node_by<T, P: Probe<T>>(nodes: &[Vec<T>], probe: &mut P) -> usize

@@ -1,5 +1,5 @@
 //! Sums of the first lengths, and the search for a position.
-ghost use Rattle.std.specs.Prelude.{◌≡◌, ℕ, ◌+◌, ◌<◌, ◌≤◌, ◌^◌, List, length, sum, slice_index, count_ones, MatchOption};
+ghost use Rattle.std.specs.Prelude.{◌≡◌, ℕ, ◌+◌, ◌<◌, ◌≤◌, ◌/◌, ◌^◌, List, length, sum, slice_index, count_ones, MatchOption};
 ghost use Rattle.indexset_core.specs.Digits.{digits};
 ghost use Rattle.indexset_spine.specs.Fenwick.{IsFenwickOf, prefix_sum};
 
@@ -35,24 +35,34 @@ pub fn find_in<C: Cells>(cells: &mut C, position: usize) -> Option<(usize, usize
     ensures few { C.asked cells.new ≤ C.asked cells.old + digits (C.number cells.old) }
 {
     let count = cells.count();
-    let mut level = digits_of(count);
+    let mut step = highest_one(count);
     let mut node = 0;
-    let mut left = position;
-    while level > 0 {
-        level -= 1;
-        let step = 1 << level;
+    let mut before = 0;
+    while step > 0 {
         if step <= count - node {
-            let held = cells.read(node + step);
-            if held <= left {
+            // A sum that is compared and kept costs no branch, as what is left to find would.
+            let sum = before + cells.read(node + step);
+            if sum <= position {
                 node += step;
-                left -= held;
+                before = sum;
             }
         }
+        step /= 2;
     }
     if node < count {
-        Some((node, left))
+        Some((node, position - before))
     } else {
         None
+    }
+}
+
+// The greatest power of two that is not above a number, or 0 of 0.
+fn highest_one(n: usize) -> usize
+    ensures { result ≡ 2 ^ digits n / 2 }
+{
+    match digits_of(n) {
+        0 => 0,
+        digits => 1 << (digits - 1),
     }
 }
 
