@@ -1,19 +1,15 @@
 -- What an event does to the nodes of a replica, and when it does not fit.
-use Rattle.std.proofs.Common.{◌≡◌, ℕ, zero, suc, ◌+◌, ◌-◌, ◌<◌, ◌≤◌, ◌||◌, Bool, true, false, not, cond, if◌then◌else◌, ◌&&◌, List, [], ◌∷◌, ◌++◌, length, map, get_or, slice_get, take, drop, set, insert, remove, nat_lt, nat_le, ltb, leb, eqb, Option, Some, None, is_some, Ordering, refl, ap, sym, ◌∙◌, subst, add-one, arith}
-use Rattle.std.specs.Cmp.{IsTotalOrder}
+use Rattle.std.proofs.Common.{◌≡◌, ℕ, ◌+◌, ◌<◌, ◌≤◌, true, false, not, cond, List, [], ◌∷◌, length, map, get_or, slice_get, take, drop, set, insert, remove, ltb, leb, eqb, Option, Some, None, Ordering, refl, ap, sym, ◌∙◌, add-one, arith}
 use Rattle.std.proofs.lemmas.Option.{slice_get-get_or}
-use Rattle.std.proofs.lemmas.List.{get_or_read, length-map, map-append, set_split}
-use Rattle.std.specs.List.{position_or_len, splice, take-map, drop-map}
+use Rattle.std.proofs.lemmas.List.{get_or_read, length-map, set_split}
+use Rattle.std.specs.List.{position_or_len, splice}
 use Rattle.std.specs.Ordering.{is_eq, is_ne}
 use Rattle.std.specs.declared.cmp.Ordering.TheVariants.{Less, Equal, Greater}
-use Rattle.std.proofs.lemmas.Bool.{false≢true, cases_Bool, lt-ltb, le-ltb, le-leb, lt-leb, eq-eqb, ne_eqb, ltb-true, leb-true, eqb-true, or_right}
-use Rattle.std.proofs.lemmas.Bool.Decides.{nat_tests}
+use Rattle.std.proofs.lemmas.Bool.{lt-ltb, le-ltb, le-leb, lt-leb, eq-eqb, ne_eqb, ltb-true, or_right}
 use Rattle.indexset_core.specs.Nodes.{joined, node_at}
-use Rattle.indexset_core.specs.declared.refusal.Refusal.{Refusal}
 use Rattle.indexset_core.specs.declared.refusal.Refusal.TheVariants.{NoSuchNode, IndexOutside, ValueDiffers, WouldBeEmpty, OutOfOrder, BadSplit}
-use Rattle.indexset_log.specs.Nodes.{is_filled, last_of, is_ascending, are_nodes}
-use Rattle.indexset_log.specs.Replay.{edit, has_name, node_named, reaches, step_plain}
-use Rattle.indexset_log.specs.declared.change.ChangeEventUnassigned.{ChangeEventUnassigned}
+use Rattle.indexset_log.specs.Nodes.{is_ascending}
+use Rattle.indexset_log.specs.Replay.{has_name, node_named, reaches}
 use Rattle.indexset_log.specs.declared.change.ChangeEventUnassigned.TheVariants.{InsertAt, RemoveAt, CreateNode, RemoveNode, SplitNode}
 use Rattle.indexset_log.proofs.CallerLemmas.{node_is}
 use Rattle.indexset_bench.specs.Replica.{IsEdit, misfit}
@@ -68,65 +64,6 @@ module _ {T : Type 0} (cmp : T → T → Ordering) (ns : List (List T)) (m : T) 
     unfolding misfit
     remove_node_edit = record { fits = rw named refl; edited = rw named (ap Some (sym (remove_splice ns p))) }
 
-    -- which is n
-    module _ (n : List T) (node : node_at ns p ≡ n) where
-      module _ (v : T) (i : ℕ) where
-        pub insert_outside : length n < i → misfit cmp ns (InsertAt m v i) ≡ Some IndexOutside
-        unfolding misfit
-        insert_outside out = rw (named, node, lt-ltb (length n) i out) refl
-
-        module _ (inside : i ≤ length n) where
-          pub insert_disorder : is_ascending cmp (joined (splice ns p (p + 1) (insert n i v ∷ []))) ≡ false → misfit cmp ns (InsertAt m v i) ≡ Some OutOfOrder
-          unfolding misfit
-          insert_disorder bad = rw (named, node, le-ltb (length n) i inside, le-leb i (length n) inside, bad) refl
-
-          pub insert_edit : is_ascending cmp (joined (splice ns p (p + 1) (insert n i v ∷ []))) ≡ true → IsEdit cmp ns (InsertAt m v i) (set ns p (insert n i v))
-          unfolding misfit
-          insert_edit good = record {
-            fits = rw (named, node, le-ltb (length n) i inside, le-leb i (length n) inside, good) refl;
-            edited = rw (named, node, le-leb i (length n) inside) (ap Some (sym (set_splice ns p (insert n i v) named_inside)));
-          }
-
-        pub remove_outside : length n ≤ i → misfit cmp ns (RemoveAt m v i) ≡ Some IndexOutside
-        unfolding misfit
-        remove_outside out = rw (named, node, le-leb (length n) i out) refl
-
-        -- the item at the index is x
-        module _ (inside : i < length n) (x : T) (read : x ≡ get_or n i x) where
-          item : get_or n i v ≡ x
-          item = sym (get_or_read n i x inside read v)
-
-          pub remove_differs : is_ne (cmp x v) ≡ true → misfit cmp ns (RemoveAt m v i) ≡ Some ValueDiffers
-          unfolding misfit
-          remove_differs other = rw (named, node, lt-leb (length n) i inside, item, ne_eq (cmp x v) ∙ ap not other) refl
-
-          module _ (same : is_ne (cmp x v) ≡ false) where
-            equal : is_eq (cmp x v) ≡ true
-            equal = ne_eq (cmp x v) ∙ ap not same
-
-            pub remove_empty : length n ≡ 1 → misfit cmp ns (RemoveAt m v i) ≡ Some WouldBeEmpty
-            unfolding misfit
-            remove_empty one = rw (named, node, lt-leb (length n) i inside, item, equal, eq-eqb (length n) 1 one) refl
-
-            pub remove_edit : (length n ≡ 1 → ⊥) → IsEdit cmp ns (RemoveAt m v i) (set ns p (remove n i))
-            unfolding misfit
-            remove_edit more = record {
-              fits = rw (named, node, lt-leb (length n) i inside, item, equal, ne_eqb (length n) 1 more) refl;
-              edited = rw (named, node, le-leb 2 (length n) (omega arith), lt-ltb i (length n) inside, item, equal) (ap Some (sym (set_splice ns p (remove n i) named_inside)));
-            }
-
-      module _ (k : ℕ) where
-        pub split_past : length n ≤ k → misfit cmp ns (SplitNode m k) ≡ Some BadSplit
-        unfolding misfit
-        split_past past = rw (named, node, or_right (eqb k 0) (leb (length n) k) (le-leb (length n) k past)) refl
-
-        pub split_edit : (k ≡ 0 → ⊥) → k < length n → IsEdit cmp ns (SplitNode m k) (splice ns p (p + 1) (take k n ∷ drop k n ∷ []))
-        unfolding misfit
-        split_edit some inside = record {
-          fits = rw (named, node, ne_eqb k 0 some, lt-leb (length n) k inside) refl;
-          edited = rw (named, node, lt-ltb 0 k (omega arith), lt-ltb k (length n) inside) refl;
-        }
-
     pub split_start : (k : ℕ) → k ≡ 0 → misfit cmp ns (SplitNode m k) ≡ Some BadSplit
     unfolding misfit
     split_start k none = rw (named, eq-eqb k 0 none) refl
@@ -142,6 +79,63 @@ module _ {T N : Type 0} (cmp : T → T → Ordering) (f : N → List T) (items :
 
     pub held_at : slice_get items p ≡ Some n
     held_at = slice_get-get_or items p n held_inside ∙ ap Some (sym read)
+
+    module _ (v : T) (i : ℕ) where
+      pub insert_outside : length (f n) < i → misfit cmp (map f items) (InsertAt m v i) ≡ Some IndexOutside
+      unfolding misfit
+      insert_outside out = rw (named, held, lt-ltb (length (f n)) i out) refl
+
+      module _ (inside : i ≤ length (f n)) where
+        pub insert_disorder : is_ascending cmp (joined (splice (map f items) p (p + 1) (insert (node_at (map f items) p) i v ∷ []))) ≡ false → misfit cmp (map f items) (InsertAt m v i) ≡ Some OutOfOrder
+        unfolding misfit
+        insert_disorder bad = rw (named, held, le-ltb (length (f n)) i inside, le-leb i (length (f n)) inside, rw held at bad) refl
+
+        pub insert_edit : is_ascending cmp (joined (splice (map f items) p (p + 1) (insert (node_at (map f items) p) i v ∷ []))) ≡ true → IsEdit cmp (map f items) (InsertAt m v i) (set (map f items) p (insert (f n) i v))
+        unfolding misfit
+        insert_edit good = record {
+          fits = rw (named, held, le-ltb (length (f n)) i inside, le-leb i (length (f n)) inside, rw held at good) refl;
+          edited = rw (named, held, le-leb i (length (f n)) inside) (ap Some (sym (set_splice (map f items) p (insert (f n) i v) (named_inside cmp (map f items) m p named))));
+        }
+
+      pub remove_outside : length (f n) ≤ i → misfit cmp (map f items) (RemoveAt m v i) ≡ Some IndexOutside
+      unfolding misfit
+      remove_outside out = rw (named, held, le-leb (length (f n)) i out) refl
+
+      -- the item at the index is x
+      module _ (inside : i < length (f n)) (x : T) (item_is : x ≡ get_or (f n) i x) where
+        item : get_or (f n) i v ≡ x
+        item = sym (get_or_read (f n) i x inside item_is v)
+
+        pub remove_differs : is_ne (cmp x v) ≡ true → misfit cmp (map f items) (RemoveAt m v i) ≡ Some ValueDiffers
+        unfolding misfit
+        remove_differs other = rw (named, held, lt-leb (length (f n)) i inside, item, ne_eq (cmp x v) ∙ ap not other) refl
+
+        module _ (same : is_ne (cmp x v) ≡ false) where
+          equal : is_eq (cmp x v) ≡ true
+          equal = ne_eq (cmp x v) ∙ ap not same
+
+          pub remove_empty : length (f n) ≡ 1 → misfit cmp (map f items) (RemoveAt m v i) ≡ Some WouldBeEmpty
+          unfolding misfit
+          remove_empty one = rw (named, held, lt-leb (length (f n)) i inside, item, equal, eq-eqb (length (f n)) 1 one) refl
+
+          pub remove_edit : (length (f n) ≡ 1 → ⊥) → IsEdit cmp (map f items) (RemoveAt m v i) (set (map f items) p (remove (f n) i))
+          unfolding misfit
+          remove_edit more = record {
+            fits = rw (named, held, lt-leb (length (f n)) i inside, item, equal, ne_eqb (length (f n)) 1 more) refl;
+            edited = rw (named, held, le-leb 2 (length (f n)) (omega arith), lt-ltb i (length (f n)) inside, item, equal) (ap Some (sym (set_splice (map f items) p (remove (f n) i) (named_inside cmp (map f items) m p named))));
+          }
+
+    module _ (k : ℕ) where
+      pub split_past : length (f n) ≤ k → misfit cmp (map f items) (SplitNode m k) ≡ Some BadSplit
+      unfolding misfit
+      split_past past = rw (named, held, or_right (eqb k 0) (leb (length (f n)) k) (le-leb (length (f n)) k past)) refl
+
+      pub split_edit : (k ≡ 0 → ⊥) → k < length (f n) → IsEdit cmp (map f items) (SplitNode m k) (splice (map f items) p (p + 1) (take k (f n) ∷ drop k (f n) ∷ []))
+      unfolding misfit
+      split_edit some inside = record {
+        fits = rw (named, held, ne_eqb k 0 some, lt-leb (length (f n)) k inside) refl;
+        edited = rw (named, held, lt-ltb 0 k (omega arith), lt-ltb k (length (f n)) inside) refl;
+      }
 
 -- a node of the item alone
 module _ {T : Type 0} (cmp : T → T → Ordering) (ns : List (List T)) (v : T) (p : ℕ) (is : p ≡ position_or_len (reaches cmp v) ns) where

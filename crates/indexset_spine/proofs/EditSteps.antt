@@ -107,62 +107,65 @@ module _ {X Z : Type 0} where
   room_puts vs s u w size v h at is short =
       ap (λ ns. with_item_in ns s v) (lists_kept vs s.node u w h at is) ∙ put_short size (vec_items vs) s v h short
 
-  -- the left half is as long as half the node
-  pub half_len : (u w : Vec X Z) → w.items ≡ take (length u.items / 2) u.items → vec_len w ≡ vec_len u / 2
-  half_len u w left =
-      w.ok.0
-      ∙ (ap (λ (l : List X). length l) left ∙ (length-take-le (length u.items / 2) u.items (omega arith) ∙ ap (λ n. n / 2) (sym u.ok.0)))
+  -- the nodes are vs, u among them, which is cut into its halves w and r
+  pub record IsHalved (ns : List (List X)) (vs : List (Vec X Z)) (s : Spot) (u w r : Vec X Z) : Type 0 where
+    pub same : vec_items vs ≡ ns
+    pub node_in : s.node < length (vec_items vs)
+    pub node : u ≡ get_or vs s.node u
+    pub left : w.items ≡ take (length u.items / 2) u.items
+    pub right : r.items ≡ drop (length u.items / 2) u.items
 
-  -- the nodes are vs, u among them, and are then cut into w and r
-  module _ (ns : List (List X)) (vs : List (Vec X Z)) (same : vec_items vs ≡ ns) (s : Spot) (u w r : Vec X Z) (h : s.node < length (vec_items vs)) (at : u ≡ get_or vs s.node u)
-      (left : w.items ≡ take (length u.items / 2) u.items) (right : r.items ≡ drop (length u.items / 2) u.items) (half : ℕ) (is_half : half ≡ vec_len u / 2) where
-    half_is : half ≡ length u.items / 2
-    half_is = is_half ∙ ap (λ n. n / 2) u.ok.0
+  module _ {ns : List (List X)} {vs : List (Vec X Z)} {s : Spot} {u w r : Vec X Z} (cut : IsHalved ns vs s u w r) where
+    half_is : vec_len w ≡ length u.items / 2
+    half_is = w.ok.0 ∙ (ap (λ (l : List X). length l) cut.left ∙ length-take-le (length u.items / 2) u.items (omega arith))
 
-    half_of : half ≡ length (node_at ns s.node) / 2
-    half_of = half_is ∙ (ap (λ n. length n / 2) (sym (node_is vs s.node u h at)) ∙ ap (λ ms. length (node_at ms s.node) / 2) same)
+    half_of : vec_len w ≡ length (node_at ns s.node) / 2
+    half_of = half_is ∙ (ap (λ n. length n / 2) (sym (node_is vs s.node u cut.node_in cut.node)) ∙ ap (λ ms. length (node_at ms s.node) / 2) cut.same)
 
     inside : s.node < length ns
-    inside = subst (λ (ms : List (List X)). s.node < length ms) same h
+    inside = subst (λ (ms : List (List X)). s.node < length ms) cut.same cut.node_in
 
-    cut_lists : vec_items (insert (slice_set vs s.node w) (s.node + 1) r) ≡ splice ns s.node (s.node + 1) (take half (node_at ns s.node) ∷ drop half (node_at ns s.node) ∷ [])
+    cut_lists : vec_items (insert (slice_set vs s.node w) (s.node + 1) r) ≡ splice ns s.node (s.node + 1) (take (vec_len w) (node_at ns s.node) ∷ drop (vec_len w) (node_at ns s.node) ∷ [])
     cut_lists =
+        let h = cut.node_in in
         ap vec_items (insert_after vs s.node w r (omega (arith, length-vec_items vs)))
         ∙ (vec_items-splice vs (w ∷ r ∷ []) s.node (s.node + 1)
-        ∙ (ap (λ l. splice (vec_items vs) s.node (s.node + 1) (l ∷ r.items ∷ [])) left
-        ∙ (ap (λ l. splice (vec_items vs) s.node (s.node + 1) (take (length u.items / 2) u.items ∷ l ∷ [])) right
+        ∙ (ap (λ l. splice (vec_items vs) s.node (s.node + 1) (l ∷ r.items ∷ [])) cut.left
+        ∙ (ap (λ l. splice (vec_items vs) s.node (s.node + 1) (take (length u.items / 2) u.items ∷ l ∷ [])) cut.right
         ∙ (ap (λ i. splice (vec_items vs) s.node (s.node + 1) (take i u.items ∷ drop i u.items ∷ [])) (sym half_is)
-        ∙ (ap (λ n. splice (vec_items vs) s.node (s.node + 1) (take half n ∷ drop half n ∷ [])) (sym (node_is vs s.node u h at))
-        ∙ ap (λ ms. splice ms s.node (s.node + 1) (take half (node_at ms s.node) ∷ drop half (node_at ms s.node) ∷ [])) same)))))
+        ∙ (ap (λ n. splice (vec_items vs) s.node (s.node + 1) (take (vec_len w) n ∷ drop (vec_len w) n ∷ [])) (sym (node_is vs s.node u h cut.node))
+        ∙ ap (λ ms. splice ms s.node (s.node + 1) (take (vec_len w) (node_at ms s.node) ∷ drop (vec_len w) (node_at ms s.node) ∷ [])) cut.same)))))
 
     pub halved_lists : vec_items (insert (slice_set vs s.node w) (s.node + 1) r) ≡ with_halved ns s.node
     unfolding with_halved
     halved_lists = cut_lists ∙ ap (λ i. splice ns s.node (s.node + 1) (take i (node_at ns s.node) ∷ drop i (node_at ns s.node) ∷ [])) half_of
 
-    pub right_puts : (v : X) → half < s.offset → with_item_in (vec_items (insert (slice_set vs s.node w) (s.node + 1) r)) record { node = s.node + 1; offset = s.offset - half; found = s.found } v ≡ with_inserted (length (node_at ns s.node)) ns s v
-    right_puts v above =
-        ap (λ ms. with_item_in ms record { node = s.node + 1; offset = s.offset - half; found = s.found } v) cut_lists
-        ∙ put_right ns s half v inside half_of above
+    pub right_puts : (half : ℕ) → half ≡ vec_len w → (v : X) → half < s.offset → with_item_in (vec_items (insert (slice_set vs s.node w) (s.node + 1) r)) record { node = s.node + 1; offset = s.offset - half; found = s.found } v ≡ with_inserted (length (node_at ns s.node)) ns s v
+    right_puts half is v above =
+        rw is
+        (ap (λ ms. with_item_in ms record { node = s.node + 1; offset = s.offset - vec_len w; found = s.found } v) cut_lists
+        ∙ put_right ns s (vec_len w) v inside half_of (rw is at above))
 
-    pub left_puts : (v : X) → s.offset ≤ half → with_item_in (vec_items (insert (slice_set vs s.node w) (s.node + 1) r)) s v ≡ with_inserted (length (node_at ns s.node)) ns s v
-    left_puts v upto = ap (λ ms. with_item_in ms s v) cut_lists ∙ put_left ns s half v inside half_of upto
+    pub left_puts : (v : X) → s.offset ≤ vec_len w → with_item_in (vec_items (insert (slice_set vs s.node w) (s.node + 1) r)) s v ≡ with_inserted (length (node_at ns s.node)) ns s v
+    left_puts v upto = ap (λ ms. with_item_in ms s v) cut_lists ∙ put_left ns s (vec_len w) v inside half_of upto
 
     two_in : 2 ≤ length (node_at ns s.node) → 2 ≤ vec_len u
-    two_in two = omega (arith, two, node_len vs s.node u h at, ap (λ (ms : List (List X)). length (node_at ms s.node)) same)
+    two_in two = omega (arith, two, node_len vs s.node u cut.node_in cut.node, ap (λ (ms : List (List X)). length (node_at ms s.node)) cut.same)
 
     pub right_room : 2 ≤ length (node_at ns s.node) → length u.items ≤ vec_capacity r → HoldsAt (λ v. vec_len v < vec_capacity v) (insert (slice_set vs s.node w) (s.node + 1) r) (s.node + 1)
     right_room two room d =
         let long = length-set vs s.node w in
-        let e : get_or (insert (slice_set vs s.node w) (s.node + 1) r) (s.node + 1) d ≡ r = get_or-insert_at (slice_set vs s.node w) (s.node + 1) r d (omega (arith, length-vec_items vs)) in
-        let n : vec_len r ≡ length (drop (length u.items / 2) u.items) = r.ok.0 ∙ ap (λ (l : List X). length l) right in
+        let e : get_or (insert (slice_set vs s.node w) (s.node + 1) r) (s.node + 1) d ≡ r = get_or-insert_at (slice_set vs s.node w) (s.node + 1) r d (omega (arith, cut.node_in, length-vec_items vs)) in
+        let n : vec_len r ≡ length (drop (length u.items / 2) u.items) = r.ok.0 ∙ ap (λ (l : List X). length l) cut.right in
         subst (λ (v : Vec X Z). vec_len v < vec_capacity v) (sym e) (omega (arith, n, room, two_in two, u.ok, length-drop (length u.items / 2) u.items))
 
     pub left_room : 2 ≤ length (node_at ns s.node) → length u.items ≤ vec_capacity w → HoldsAt (λ v. vec_len v < vec_capacity v) (insert (slice_set vs s.node w) (s.node + 1) r) s.node
     left_room two room d =
+        let h = cut.node_in in
         let long = length-set vs s.node w in
         let e : get_or (insert (slice_set vs s.node w) (s.node + 1) r) s.node d ≡ w =
         get_or-insert_below (slice_set vs s.node w) (s.node + 1) r d s.node (omega arith) (omega (arith, length-vec_items vs)) ∙ get_or-set_same vs s.node w d (omega (arith, length-vec_items vs)) in
-        let n : vec_len w ≡ length (take (length u.items / 2) u.items) = w.ok.0 ∙ ap (λ (l : List X). length l) left in
+        let n : vec_len w ≡ length (take (length u.items / 2) u.items) = w.ok.0 ∙ ap (λ (l : List X). length l) cut.left in
         subst (λ (v : Vec X Z). vec_len v < vec_capacity v) (sym e) (omega (arith, n, room, two_in two, u.ok, length-take (length u.items / 2) u.items))
 
 -- a spot, in the nodes as the code holds them

@@ -1,8 +1,17 @@
 use Rattle.std.proofs.Common.{◌∙◌, ap}
 use Rattle.indexset_spine.specs.Cut.{vec_items}
 use Rattle.indexset_core.proofs.CallerLemmas.{on_err}
-use Rattle.indexset_spine.proofs.EditSteps.{lists_kept, right_puts, left_puts, right_room, left_room, half_len, halved_lists}
+use Rattle.indexset_spine.proofs.EditSteps.{IsHalved, lists_kept, right_puts, left_puts, right_room, left_room, halved_lists}
+use Rattle.indexset_spine.proofs.spine.insert.halve_at.Given.{Over}
 use Rattle.indexset_spine.proofs.spine.insert.halve_at.Goals as goal
+use Rattle.indexset_spine.proofs.spine.insert.halve_at.Goals.{In_ok-right}
+
+-- the node is cut in two
+halved : (g : Over) (c : In_ok-right g) → IsHalved (vec_items c.args.nodes.now.items) c.reserve.new.self.items c.args.spot c.index_mut-node.result.now c.halve_node.new.node c.in_ok-right.right
+halved g c =
+    let e = c.reserve.ensures.items in
+    let ok = c.in_ok-right.ensures {u = tt} in
+    record { same = ap vec_items e; node_in = rw e c.requires.spot.node_in; node = c.index_mut-node.ensures.value; left = ok.left; right = ok.right }
 
 pub returns-in_err-right-clause-err : goal.returns-in_err-right-clause-err
 returns-in_err-right-clause-err g c =
@@ -12,36 +21,28 @@ returns-in_err-right-clause-err g c =
 
 pub returns-then-half-spot-clause-room : goal.returns-then-half-spot-clause-room
 returns-then-half-spot-clause-room g c =
-    let e = c.reserve.ensures.items in let ok = c.in_ok-right.ensures {u = tt} in
     rw c.insert_item.ensures.items
-    (right_room (vec_items c.args.nodes.now.items) _ (ap vec_items e) c.args.spot _ _ c.in_ok-right.right (rw e c.requires.spot.node_in) c.index_mut-node.ensures.value ok.left ok.right _ (c.len-half.ensures ∙ half_len c.index_mut-node.result.now c.halve_node.new.node ok.left) c.requires.two ok.right_room)
+    (right_room (halved g (goal.at.returns-then-half-spot-clause-room g c).In_ok-right) c.requires.two (c.in_ok-right.ensures {u = tt}).right_room)
 
 pub returns-then-half-spot-clause-nodes : goal.returns-then-half-spot-clause-nodes
 returns-then-half-spot-clause-nodes g c =
-    let e = c.reserve.ensures.items in let ok = c.in_ok-right.ensures {u = tt} in
     λ value. rw c.insert_item.ensures.items
-    (right_puts _ _ (ap vec_items e) c.args.spot _ _ c.in_ok-right.right (rw e c.requires.spot.node_in) c.index_mut-node.ensures.value ok.left ok.right _ (c.len-half.ensures ∙ half_len c.index_mut-node.result.now c.halve_node.new.node ok.left) value c.if-half-spot.true)
+    (right_puts (halved g (goal.at.returns-then-half-spot-clause-nodes g c).In_ok-right) _ c.len-half.ensures value c.if-half-spot.true)
 
 pub returns-clause-room : goal.returns-clause-room
 returns-clause-room g c =
-    let e = c.reserve.ensures.items in let ok = c.in_ok-right.ensures {u = tt} in
     rw c.insert_item.ensures.items
-    (left_room (vec_items c.args.nodes.now.items) _ (ap vec_items e) c.args.spot _ _ c.in_ok-right.right (rw e c.requires.spot.node_in) c.index_mut-node.ensures.value ok.left ok.right _ (c.len-half.ensures ∙ half_len c.index_mut-node.result.now c.halve_node.new.node ok.left) c.requires.two ok.left_room)
+    (left_room (halved g (goal.at.returns-clause-room g c).In_ok-right) c.requires.two (c.in_ok-right.ensures {u = tt}).left_room)
 
 pub returns-clause-nodes : goal.returns-clause-nodes
 returns-clause-nodes g c =
-    let e = c.reserve.ensures.items in let ok = c.in_ok-right.ensures {u = tt} in
     λ value. rw c.insert_item.ensures.items
-    (left_puts _ _ (ap vec_items e) c.args.spot _ _ c.in_ok-right.right (rw e c.requires.spot.node_in) c.index_mut-node.ensures.value ok.left ok.right _ (c.len-half.ensures ∙ half_len c.index_mut-node.result.now c.halve_node.new.node ok.left) value c.if-half-spot.false)
+    (left_puts (halved g (goal.at.returns-clause-nodes g c).In_ok-right) value (rw c.len-half.ensures at c.if-half-spot.false))
 
 pub returns-then-half-spot-clause-halved : goal.returns-then-half-spot-clause-halved
 returns-then-half-spot-clause-halved g c =
-    let e = c.reserve.ensures.items in let ok = c.in_ok-right.ensures {u = tt} in
-    ap vec_items c.insert_item.ensures.items
-    ∙ halved_lists (vec_items c.args.nodes.now.items) _ (ap vec_items e) c.args.spot _ _ c.in_ok-right.right (rw e c.requires.spot.node_in) c.index_mut-node.ensures.value ok.left ok.right _ (c.len-half.ensures ∙ half_len c.index_mut-node.result.now c.halve_node.new.node ok.left)
+    ap vec_items c.insert_item.ensures.items ∙ halved_lists (halved g (goal.at.returns-then-half-spot-clause-halved g c).In_ok-right)
 
 pub returns-clause-halved : goal.returns-clause-halved
 returns-clause-halved g c =
-    let e = c.reserve.ensures.items in let ok = c.in_ok-right.ensures {u = tt} in
-    ap vec_items c.insert_item.ensures.items
-    ∙ halved_lists (vec_items c.args.nodes.now.items) _ (ap vec_items e) c.args.spot _ _ c.in_ok-right.right (rw e c.requires.spot.node_in) c.index_mut-node.ensures.value ok.left ok.right _ (c.len-half.ensures ∙ half_len c.index_mut-node.result.now c.halve_node.new.node ok.left)
+    ap vec_items c.insert_item.ensures.items ∙ halved_lists (halved g (goal.at.returns-clause-halved g c).In_ok-right)
