@@ -1,4 +1,4 @@
--- What is found under a key, once a value was put there or its pair was taken out.
+-- What is found under a key, once a value was put there.
 use Rattle.std.proofs.Common.{◌≡◌, Bool, true, false, ◌||◌, not, List, [], ◌∷◌, ◌++◌, if◌then◌else◌, Ordering, Some, None, refl, ap, ◌∙◌}
 use Rattle.std.specs.declared.cmp.Ordering.TheVariants.{Less, Equal, Greater}
 use Rattle.std.specs.Cmp.{IsTotalOrder}
@@ -48,14 +48,4 @@ module _ {K V : Type 0} (cmp : K → K → Ordering) where
       elim (has_key cmp l k) as (λ b. has_key cmp l k ≡ b → value_of cmp (if b then set_value cmp l k w else put (by_key cmp) l (pair k w)) k ≡ Some w) [
         | true ↦ λ e. written l k w e
         | false ↦ λ e. placed o l k w
-      ] refl
-
-  pub key_gone : (l : List (Pair K V)) (k : K) → has_key cmp (without_key cmp l k) k ≡ false
-  unfolding without_key
-  key_gone [] k = refl
-  key_gone (p ∷ l) k =
-      let is : Bool = is_eq (cmp p.key k) in
-      elim is as (λ b. is ≡ b → has_key cmp (if not b then p ∷ without_key cmp l k else without_key cmp l k) k ≡ false) [
-        | true ↦ λ e. key_gone l k
-        | false ↦ λ e. rw e (key_gone l k)
       ] refl

@@ -7,7 +7,6 @@ pub mod SetAppendLemmas
 pub mod SetBulkLemmas
 pub mod SetCloneLemmas
 pub mod SetEndLemmas
-pub mod SetMemberLemmas
 pub mod SetNodeLemmas
 pub mod SetPairLemmas
 pub mod SetProbeLemmas

@@ -1,5 +1,5 @@
 -- The ends of an ascending list: nothing is below the first, and nothing above the last.
-use Rattle.std.proofs.Common.{◌≡◌, ℕ, ◌+◌, ◌-◌, ◌<◌, false, List, [], ◌∷◌, ◌++◌, length, length-append, get_or, slice_get, Option, Some, None, IfSome, Ordering, refl, ap, ◌∙◌, inl, inr, subst, arith}
+use Rattle.std.proofs.Common.{◌≡◌, ℕ, zero, suc, ◌+◌, ◌-◌, ◌<◌, false, List, [], ◌∷◌, ◌++◌, length, length-append, remove, get_or, slice_get, Option, Some, None, IfSome, Ordering, refl, ap, ◌∙◌, inl, inr, subst, arith}
 use Rattle.std.specs.Borrow.{Bor}
 use Rattle.std.specs.Cmp.{IsTotalOrder}
 use Rattle.std.specs.Map.Iter.{TakesFirst, TakesLast, deref}
@@ -39,3 +39,13 @@ module _ {T : Type 0} (cmp : T → T → Ordering) (o : IsTotalOrder cmp) (l : L
   last_greatest (Some x) rest is =
       let end : length l - 1 ≡ length rest + 0 = omega (arith, ap (λ q. length q) is, length-append rest (x.now ∷ [])) in
       none_above x.now (rw end (rw is (slice_get-right rest (x.now ∷ []) (length rest + 0) 0 refl)))
+
+parted_at : {T : Type 0} (l : List T) (i : ℕ) (x : T) → slice_get l i ≡ Some x → i + 1 ≡ length l → l ≡ remove l i ++ x ∷ []
+parted_at [] i x is end = absurd (omega (arith, end))
+parted_at (y ∷ []) zero x is end = let same : y ≡ x = cc in rw same refl
+parted_at (y ∷ z ∷ l) zero x is end = absurd (omega (arith, end))
+parted_at (y ∷ l) (suc i) x is end = ap (λ q. y ∷ q) (parted_at l i x is (omega (arith, end)))
+
+-- a list is what is left without its last element, and that one
+pub last_parted : {T : Type 0} (l : List T) (i : ℕ) (x : T) → slice_get l i ≡ Some x → i ≡ length l - 1 → l ≡ remove l i ++ x ∷ []
+last_parted l i x is end = parted_at l i x is (omega (arith, end, slice_get_within l i x is))

@@ -5,7 +5,7 @@ use Rattle.indexset_core.specs.Nodes.{equal_at, joined, node_at, node_for}
 use Rattle.std.specs.Bool.{OnTrue, OnFalse}
 use Rattle.std.specs.Cmp.{IsTotalOrder}
 use Rattle.indexset_spine.specs.Cut.{Cut, items, position_of, with_inserted, with_replaced, without_item}
-use Rattle.indexset_core.specs.Order.{IsAscending, IsFoundAt, IsGapFor, has_equal}
+use Rattle.indexset_core.specs.Order.{IsAscending, IsFoundAt, IsGapFor, has_equal, rank}
 use Rattle.indexset_core.specs.Parted.{less_count}
 use Rattle.indexset_core.proofs.CallerLemmas.{told_found, told_gap, told_has_equal, parted_by_item}
 use Rattle.indexset_set.specs.SetNodes.{spot_of, nodes_kept, nodes_put, nodes_without}
@@ -24,6 +24,7 @@ module _ {T : Type 0} (cmp : T → T → Ordering) where
     pub found : OnTrue spot.found (IsFoundAt cmp (items s) v (position_of s.nodes spot))
     pub gap : OnFalse spot.found (IsGapFor cmp (items s) v (position_of s.nodes spot))
     pub place : spot ≡ spot_of cmp s.nodes v
+    pub position : position_of s.nodes spot ≡ rank cmp (items s) v
 
   -- as the spot that a search for w answers does, which is v
   pub tells_of : IsTotalOrder cmp → (s : Cut T) → IsAscending cmp (items s) → (v w : T) → w ≡ v → (spot : Spot)
@@ -33,7 +34,7 @@ module _ {T : Type 0} (cmp : T → T → Ordering) where
       let parted = parted_by_item cmp total (items s) up v in
       let found = told_found cmp _ _ _ _ same parted _ position told in
       let gap = told_gap cmp _ _ _ _ same parted _ position told in
-      record { found = found; gap = gap; place = spot_told s.nodes v w spot same node offset (told_has_equal cmp _ _ _ _ found gap) }
+      record { found = found; gap = gap; place = spot_told s.nodes v w spot same node offset (told_has_equal cmp _ _ _ _ found gap); position = position ∙ ap (λ u. less_count (λ x. cmp x u) (items s)) same }
 
   module _ (s : Cut T) (v : T) where
     pub kept_there : has_equal cmp (items s) v ≡ true → nodes_kept cmp s v ≡ s.nodes

@@ -1,5 +1,5 @@
 //! A change log: what a copy of a tree elsewhere needs to be told.
-ghost use Rattle.std.specs.Prelude.{◌≡◌, ◌≤◌, length, Some, IfOk, OnErr};
+ghost use Rattle.std.specs.Prelude.{◌≡◌, ◌≤◌, length, true, Some, IfOk, IfErr, OnErr};
 ghost use Rattle.std.specs.Ordering.{nat_cmp};
 ghost use Rattle.indexset.specs.Words.{IsNumberedFrom, joined, put, replay, without};
 
@@ -17,10 +17,19 @@ pub fn put(tree: &mut Numbers, value: u64) -> Result<Vec<ChangeEvent<u64>>, Refu
     ensures replay { IfOk result (λ events. replay nat_cmp tree.old.nodes events.items ≡ Some tree.new.nodes) }
     ensures numbered { IfOk result (λ events. IsNumberedFrom tree.old.next events.items) }
     ensures few { IfOk result (λ events. length events.items ≤ 3) }
+    ensures given_back { IfErr result (λ refused. refused.value ≡ value) }
     ensures same { OnErr result (tree.new ≡ tree.old) }
 {
     let (_, events) = tree.put_cdc(value)?;
     Ok(events)
+}
+
+/// Puts a number in, and tells whether it is there, as it then always is.
+pub fn hold(tree: &mut Numbers, value: u64) -> Result<bool, Refused<u64>>
+    ensures { IfOk result (λ there. there ≡ true) }
+{
+    tree.insert(value)?;
+    Ok(tree.contains(&value))
 }
 
 /// Takes a number out, and answers the events.

@@ -66,6 +66,9 @@ fn show_prices(rt: &HostRuntime) -> Result<()> {
     println!(rt; "price of 7: {:?}", prices::price_of(&prices, 7))?;
     println!(rt; "price of 5: {}", prices::price_or(&mut prices, 5, 95)?)?;
     println!(rt; "priced below 7: {}", prices::priced_below(&prices, 7))?;
+    prices::raise(&mut prices);
+    println!(rt; "raised: {prices:?}")?;
+    println!(rt; "price of 3: {:?}", prices::forget(&mut prices, 3))?;
     Ok(())
 }
 
@@ -75,6 +78,7 @@ fn show_changes(rt: &HostRuntime) -> Result<()> {
         let events = change_log::put(&mut tree, number)?;
         println!(rt; "put {number}: {} events", events.len())?;
     }
+    println!(rt; "holds 20: {}", change_log::hold(&mut tree, 20)?)?;
     let events = change_log::take(&mut tree, 10)?;
     println!(rt; "take 10: {} events", events.len())?;
     Ok(())

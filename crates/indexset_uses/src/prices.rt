@@ -1,8 +1,8 @@
 //! Prices: a map from items to what they cost.
-ghost use Rattle.std.specs.Prelude.{◌≡◌, Some, IfOk, OnErr, length, unwrap_or};
+ghost use Rattle.std.specs.Prelude.{◌≡◌, ◌+◌, ◌-◌, ◌^◌, Some, None, IfOk, OnErr, length, min, unwrap_or};
 ghost use Rattle.std.specs.Ordering.{nat_cmp};
 ghost use Rattle.std.specs.declared.ops.Bound.TheVariants.{Excluded, Unbounded};
-ghost use Rattle.indexset.specs.Words.{pairs_within, value_of};
+ghost use Rattle.indexset.specs.Words.{pairs_within, value_of, written};
 
 use indexset::BTreeMap;
 use indexset::base::refusal::Refused;
@@ -40,6 +40,25 @@ pub fn price_or(
 {
     let price = prices.entry(item).or_insert(usual)?;
     Ok(*price)
+}
+
+/// Raises each price by 10, as far as a u64 goes.
+pub fn raise(prices: &mut BTreeMap<u64, u64>)
+    ensures { prices.new.pairs ≡ written (λ pair. min (pair.value + 10) (2 ^ 64 - 1)) prices.old.pairs 0 (length prices.old.pairs) }
+{
+    let mut walk = prices.iter_mut();
+    while walk.has_next() {
+        let (_, price) = walk.next_pair();
+        *price = price.saturating_add(10);
+    }
+}
+
+/// Takes the price of an item away, and answers the price that it has then: none.
+pub fn forget(prices: &mut BTreeMap<u64, u64>, item: u64) -> Option<u64>
+    ensures { result ≡ None }
+{
+    prices.remove(&item);
+    prices.get(&item).copied()
 }
 
 /// How many of the items below one have a price.

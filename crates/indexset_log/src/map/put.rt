@@ -26,6 +26,7 @@ impl<K: Ord + Clone + Drop, V: Clone + Drop, Node: NodeLike<Pair<K, V>>> BTreeMa
         requires values { (x y : V) → V.is_clone x y → y ≡ x }
         ensures answer { IfOk result (λ r. r.0 ≡ value_of K.cmp (joined self.old.nodes) key) }
         ensures contents { OnOk result (joined self.new.nodes ≡ put (by_key K.cmp) (joined self.old.nodes) (pair key value)) }
+        ensures there { OnOk result (has_key K.cmp (joined self.new.nodes) key ≡ true) }
         ensures nodes { OnOk result (self.new.nodes ≡ with_put (by_key K.cmp) self.old.size self.old.nodes (pair key value)) }
         ensures events { IfOk result (λ r. r.1.items ≡ numbered_from self.old.next (put_events (by_key K.cmp) self.old.size self.old.nodes (pair key value))) }
         ensures numbered { IfOk result (λ r. IsNumberedFrom self.old.next r.1.items) }
@@ -53,6 +54,7 @@ impl<K: Ord + Clone + Drop, V: Clone + Drop, Node: NodeLike<Pair<K, V>>> BTreeMa
         requires values { (x y : V) → V.is_clone x y → y ≡ x }
         ensures answer { IfOk result (λ r. is_none r ≡ has_key K.cmp (joined self.old.nodes) key) }
         ensures contents { OnOk result (joined self.new.nodes ≡ keep (by_key K.cmp) (joined self.old.nodes) (pair key value)) }
+        ensures there { OnOk result (has_key K.cmp (joined self.new.nodes) key ≡ true) }
         ensures nodes { OnOk result (self.new.nodes ≡ with_checked_put (by_key K.cmp) self.old.size self.old.nodes (pair key value)) }
         ensures events { IfOk result (λ r. IfSome r (λ events. events.items ≡ numbered_from self.old.next (checked_put_events (by_key K.cmp) self.old.size self.old.nodes (pair key value)))) }
         ensures numbered { IfOk result (λ r. IfSome r (λ events. IsNumberedFrom self.old.next events.items)) }
@@ -74,6 +76,7 @@ impl<K: Ord + Clone + Drop, V: Clone + Drop, Node: NodeLike<Pair<K, V>>> BTreeMa
     pub fn insert(&mut self, key: K, value: V) -> Result<Option<V>, Refused<(K, V)>>
         ensures answer { IfOk result (λ old. old ≡ value_of K.cmp (joined self.old.nodes) key) }
         ensures contents { OnOk result (joined self.new.nodes ≡ put (by_key K.cmp) (joined self.old.nodes) (pair key value)) }
+        ensures there { OnOk result (has_key K.cmp (joined self.new.nodes) key ≡ true) }
         ensures nodes { OnOk result (self.new.nodes ≡ with_put (by_key K.cmp) self.old.size self.old.nodes (pair key value)) }
         ensures replay { OnOk result (replay (by_key K.cmp) self.old.nodes (numbered_from self.old.next (put_events (by_key K.cmp) self.old.size self.old.nodes (pair key value))) ≡ Some self.new.nodes) }
         ensures size { self.new.size ≡ self.old.size }
@@ -91,6 +94,7 @@ impl<K: Ord + Clone + Drop, V: Clone + Drop, Node: NodeLike<Pair<K, V>>> BTreeMa
     pub fn checked_insert(&mut self, key: K, value: V) -> Result<Option<()>, Refused<(K, V)>>
         ensures answer { IfOk result (λ r. is_none r ≡ has_key K.cmp (joined self.old.nodes) key) }
         ensures contents { OnOk result (joined self.new.nodes ≡ keep (by_key K.cmp) (joined self.old.nodes) (pair key value)) }
+        ensures there { OnOk result (has_key K.cmp (joined self.new.nodes) key ≡ true) }
         ensures nodes { OnOk result (self.new.nodes ≡ with_checked_put (by_key K.cmp) self.old.size self.old.nodes (pair key value)) }
         ensures replay { OnOk result (replay (by_key K.cmp) self.old.nodes (numbered_from self.old.next (checked_put_events (by_key K.cmp) self.old.size self.old.nodes (pair key value))) ≡ Some self.new.nodes) }
         ensures size { self.new.size ≡ self.old.size }

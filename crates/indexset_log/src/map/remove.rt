@@ -1,8 +1,8 @@
 //! Calls that take pairs out.
-ghost use Rattle.std.specs.Prelude.{◌≡◌, ◌+◌, ◌<◌, ◌≤◌, [], length, Some, IfOk, OnOk, IfErr, OnErr, IsOk};
+ghost use Rattle.std.specs.Prelude.{◌≡◌, ◌+◌, ◌<◌, ◌≤◌, [], length, Some, false, IfOk, OnOk, IfErr, OnErr, IsOk};
 ghost use Rattle.std.specs.Option.{option_map};
 ghost use Rattle.indexset_core.specs.Nodes.{joined};
-ghost use Rattle.indexset_core.specs.Pairs.{by_key, entry_of, pair_of, without_key};
+ghost use Rattle.indexset_core.specs.Pairs.{by_key, entry_of, has_key, pair_of, without_key};
 ghost use Rattle.indexset_log.specs.Keys.{key_removal_events};
 ghost use Rattle.indexset_log.specs.Replay.{replay, numbered_from, IsNumberedFrom};
 ghost use Rattle.indexset_log.specs.Tree.{refusal_for};
@@ -24,6 +24,7 @@ impl<K: Ord + Clone + Drop, V: Clone + Drop, Node: NodeLike<Pair<K, V>>> BTreeMa
         requires values { (x y : V) → V.is_clone x y → y ≡ x }
         ensures answer { IfOk result (λ r. r.0 ≡ option_map entry_of (pair_of K.cmp (joined self.old.nodes) key.now)) }
         ensures contents { OnOk result (joined self.new.nodes ≡ without_key K.cmp (joined self.old.nodes) key.now) }
+        ensures gone { OnOk result (has_key K.cmp (joined self.new.nodes) key.now ≡ false) }
         ensures events { IfOk result (λ r. r.1.items ≡ numbered_from self.old.next (key_removal_events K.cmp self.old.nodes key.now)) }
         ensures numbered { IfOk result (λ r. IsNumberedFrom self.old.next r.1.items) }
         ensures replay { IfOk result (λ r. replay (by_key K.cmp) self.old.nodes r.1.items ≡ Some self.new.nodes) }
@@ -50,6 +51,7 @@ impl<K: Ord + Clone + Drop, V: Clone + Drop, Node: NodeLike<Pair<K, V>>> BTreeMa
     pub fn remove(&mut self, key: &K) -> Result<Option<(K, V)>, Refusal>
         ensures answer { IfOk result (λ entry. entry ≡ option_map entry_of (pair_of K.cmp (joined self.old.nodes) key.now)) }
         ensures contents { OnOk result (joined self.new.nodes ≡ without_key K.cmp (joined self.old.nodes) key.now) }
+        ensures gone { OnOk result (has_key K.cmp (joined self.new.nodes) key.now ≡ false) }
         ensures replay { OnOk result (replay (by_key K.cmp) self.old.nodes (numbered_from self.old.next (key_removal_events K.cmp self.old.nodes key.now)) ≡ Some self.new.nodes) }
         ensures size { self.new.size ≡ self.old.size }
         ensures next { OnOk result (self.new.next ≡ self.old.next + length (key_removal_events K.cmp self.old.nodes key.now)) }

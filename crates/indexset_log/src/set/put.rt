@@ -26,6 +26,7 @@ impl<T: Ord + Clone + Drop, Node: NodeLike<T>> BTreeSet<T, Node> {
         requires clones { (x y : T) → T.is_clone x y → y ≡ x }
         ensures answer { IfOk result (λ r. r.0 ≡ equal_element T.cmp (joined self.old.nodes) value) }
         ensures contents { OnOk result (joined self.new.nodes ≡ put T.cmp (joined self.old.nodes) value) }
+        ensures there { OnOk result (has_equal T.cmp (joined self.new.nodes) value ≡ true) }
         ensures nodes { OnOk result (self.new.nodes ≡ with_put T.cmp self.old.size self.old.nodes value) }
         ensures events { IfOk result (λ r. r.1.items ≡ numbered_from self.old.next (put_events T.cmp self.old.size self.old.nodes value)) }
         ensures numbered { IfOk result (λ r. IsNumberedFrom self.old.next r.1.items) }
@@ -49,6 +50,7 @@ impl<T: Ord + Clone + Drop, Node: NodeLike<T>> BTreeSet<T, Node> {
         requires clones { (x y : T) → T.is_clone x y → y ≡ x }
         ensures answer { IfOk result (λ r. is_none r ≡ has_equal T.cmp (joined self.old.nodes) value) }
         ensures contents { OnOk result (joined self.new.nodes ≡ keep T.cmp (joined self.old.nodes) value) }
+        ensures there { OnOk result (has_equal T.cmp (joined self.new.nodes) value ≡ true) }
         ensures nodes { OnOk result (self.new.nodes ≡ with_checked_put T.cmp self.old.size self.old.nodes value) }
         ensures events { IfOk result (λ r. IfSome r (λ events. events.items ≡ numbered_from self.old.next (checked_put_events T.cmp self.old.size self.old.nodes value))) }
         ensures numbered { IfOk result (λ r. IfSome r (λ events. IsNumberedFrom self.old.next events.items)) }
@@ -79,6 +81,7 @@ impl<T: Ord + Clone + Drop, Node: NodeLike<T>> BTreeSet<T, Node> {
     pub fn put(&mut self, value: T) -> Result<Option<T>, Refused<T>>
         ensures answer { IfOk result (λ old. old ≡ equal_element T.cmp (joined self.old.nodes) value) }
         ensures contents { OnOk result (joined self.new.nodes ≡ put T.cmp (joined self.old.nodes) value) }
+        ensures there { OnOk result (has_equal T.cmp (joined self.new.nodes) value ≡ true) }
         ensures nodes { OnOk result (self.new.nodes ≡ with_put T.cmp self.old.size self.old.nodes value) }
         ensures replay { OnOk result (replay T.cmp self.old.nodes (numbered_from self.old.next (put_events T.cmp self.old.size self.old.nodes value)) ≡ Some self.new.nodes) }
         ensures size { self.new.size ≡ self.old.size }
@@ -97,6 +100,7 @@ impl<T: Ord + Clone + Drop, Node: NodeLike<T>> BTreeSet<T, Node> {
     pub fn insert(&mut self, value: T) -> Result<bool, Refused<T>>
         ensures answer { IfOk result (λ r. r ≡ not (has_equal T.cmp (joined self.old.nodes) value)) }
         ensures contents { OnOk result (joined self.new.nodes ≡ keep T.cmp (joined self.old.nodes) value) }
+        ensures there { OnOk result (has_equal T.cmp (joined self.new.nodes) value ≡ true) }
         ensures nodes { OnOk result (self.new.nodes ≡ with_checked_put T.cmp self.old.size self.old.nodes value) }
         ensures replay { OnOk result (replay T.cmp self.old.nodes (numbered_from self.old.next (checked_put_events T.cmp self.old.size self.old.nodes value)) ≡ Some self.new.nodes) }
         ensures size { self.new.size ≡ self.old.size }
@@ -137,6 +141,7 @@ impl<T: Ord + Clone + Drop, Node: NodeLike<T>> BTreeSet<T, Node> {
         requires aim { IsAimed T.cmp self.old.size self.old.nodes value aim }
         ensures answer { IfOk result (λ r. r.0 ≡ equal_element T.cmp (joined self.old.nodes) value) }
         ensures contents { OnOk result (joined self.new.nodes ≡ put T.cmp (joined self.old.nodes) value) }
+        ensures there { OnOk result (has_equal T.cmp (joined self.new.nodes) value ≡ true) }
         ensures nodes { OnOk result (self.new.nodes ≡ with_put T.cmp self.old.size self.old.nodes value) }
         ensures events { IfOk result (λ r. r.1.items ≡ numbered_from self.old.next (put_events T.cmp self.old.size self.old.nodes value)) }
         ensures numbered { IfOk result (λ r. IsNumberedFrom self.old.next r.1.items) }
@@ -163,6 +168,7 @@ impl<T: Ord + Clone + Drop, Node: NodeLike<T>> BTreeSet<T, Node> {
         requires { IsAimed T.cmp self.old.size self.old.nodes value aim }
         ensures answer { IfOk result (λ old. old ≡ equal_element T.cmp (joined self.old.nodes) value) }
         ensures contents { OnOk result (joined self.new.nodes ≡ put T.cmp (joined self.old.nodes) value) }
+        ensures there { OnOk result (has_equal T.cmp (joined self.new.nodes) value ≡ true) }
         ensures nodes { OnOk result (self.new.nodes ≡ with_put T.cmp self.old.size self.old.nodes value) }
         ensures replay { OnOk result (replay T.cmp self.old.nodes (numbered_from self.old.next (put_events T.cmp self.old.size self.old.nodes value)) ≡ Some self.new.nodes) }
         ensures size { self.new.size ≡ self.old.size }

@@ -1,7 +1,7 @@
 //! Calls that take items out.
-ghost use Rattle.std.specs.Prelude.{◌≡◌, ◌+◌, ◌<◌, ◌≤◌, [], length, slice_get, Some, IfOk, OnOk, IfErr, OnErr, IsOk, IfSome};
+ghost use Rattle.std.specs.Prelude.{◌≡◌, ◌+◌, ◌<◌, ◌≤◌, [], length, slice_get, Some, false, IfOk, OnOk, IfErr, OnErr, IsOk, IfSome};
 ghost use Rattle.indexset_core.specs.Nodes.{joined, node_at};
-ghost use Rattle.indexset_core.specs.Order.{without, equal_element};
+ghost use Rattle.indexset_core.specs.Order.{equal_element, has_equal, without};
 ghost use Rattle.indexset_log.specs.Edits.{with_taken};
 ghost use Rattle.indexset_log.specs.Replay.{replay, numbered_from, IsNumberedFrom};
 ghost use Rattle.indexset_log.specs.Table.{taking_events, removal_events};
@@ -19,6 +19,7 @@ impl<T: Ord + Clone + Drop, Node: NodeLike<T>> BTreeSet<T, Node> {
         requires clones { (x y : T) → T.is_clone x y → y ≡ x }
         ensures answer { IfOk result (λ r. r.0 ≡ equal_element T.cmp (joined self.old.nodes) value.now) }
         ensures contents { OnOk result (joined self.new.nodes ≡ without T.cmp (joined self.old.nodes) value.now) }
+        ensures gone { OnOk result (has_equal T.cmp (joined self.new.nodes) value.now ≡ false) }
         ensures events { IfOk result (λ r. r.1.items ≡ numbered_from self.old.next (removal_events T.cmp self.old.nodes value.now)) }
         ensures numbered { IfOk result (λ r. IsNumberedFrom self.old.next r.1.items) }
         ensures replay { IfOk result (λ r. replay T.cmp self.old.nodes r.1.items ≡ Some self.new.nodes) }
@@ -72,6 +73,7 @@ impl<T: Ord + Clone + Drop, Node: NodeLike<T>> BTreeSet<T, Node> {
     pub fn remove(&mut self, value: &T) -> Result<Option<T>, Refusal>
         ensures answer { IfOk result (λ item. item ≡ equal_element T.cmp (joined self.old.nodes) value.now) }
         ensures contents { OnOk result (joined self.new.nodes ≡ without T.cmp (joined self.old.nodes) value.now) }
+        ensures gone { OnOk result (has_equal T.cmp (joined self.new.nodes) value.now ≡ false) }
         ensures replay { OnOk result (replay T.cmp self.old.nodes (numbered_from self.old.next (removal_events T.cmp self.old.nodes value.now)) ≡ Some self.new.nodes) }
         ensures size { self.new.size ≡ self.old.size }
         ensures next { OnOk result (self.new.next ≡ self.old.next + length (removal_events T.cmp self.old.nodes value.now)) }

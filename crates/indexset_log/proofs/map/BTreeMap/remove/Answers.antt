@@ -1,6 +1,8 @@
 use Rattle.std.proofs.Common.{refl, arith, ap, ◌∙◌}
 use Rattle.std.proofs.lemmas.Grind.{common_steps}
 use Rattle.indexset_core.specs.Nodes.{joined}
+use Rattle.indexset_core.specs.Pairs.{has_key}
+use Rattle.indexset_core.proofs.CallerLemmas.{key_gone}
 use Rattle.indexset_log.proofs.Keys.{key_one, key_taken, no_key}
 use Rattle.indexset_log.proofs.map.BTreeMap.remove.Goals as goal
 
@@ -15,6 +17,7 @@ returns-in_ok-pair-in-Ok g c =
     record {
       answer = rw taken.pair_is refl;
       contents = ap joined done.nodes ∙ taken.contents;
+      gone = ap (λ l. has_key g.K.Ord.cmp l c.args.key.now) (ap joined done.nodes ∙ taken.contents) ∙ key_gone g.K.Ord.cmp (joined c.args.self.now.nodes) c.args.key.now;
       replay = rw taken.events done.replay;
       size = done.size;
       next = rw (key_one g.met.K.Ord.total c.locate.ensures.lawful c.args.key.now c.locate.ensures.place c.in-Ok.is) done.next;
@@ -28,6 +31,7 @@ returns-in-Err g c =
     record {
       answer = rw none.pair_is refl;
       contents = none.contents;
+      gone = ap (λ l. has_key g.K.Ord.cmp l c.args.key.now) none.contents ∙ key_gone g.K.Ord.cmp (joined c.args.self.now.nodes) c.args.key.now;
       replay = rw none.events refl;
       size = refl;
       next = rw none.events (omega arith);

@@ -1,6 +1,8 @@
 use Rattle.std.proofs.Common.{length, refl, arith, ap, ◌∙◌}
 use Rattle.std.proofs.lemmas.Grind.{common_steps}
 use Rattle.indexset_core.specs.Nodes.{joined}
+use Rattle.indexset_core.specs.Pairs.{has_key}
+use Rattle.indexset_core.proofs.CallerLemmas.{key_gone}
 use Rattle.indexset_log.proofs.Keys.{key_one, key_taken, no_key}
 use Rattle.indexset_log.proofs.map.BTreeMap.remove_cdc.Goals as goal
 
@@ -20,6 +22,7 @@ returns-in_ok-pair-in-Ok g c =
     record {
       answer = rw taken.pair_is refl;
       contents = ap joined done.nodes ∙ taken.contents;
+      gone = ap (λ l. has_key g.K.Ord.cmp l c.args.key.now) (ap joined done.nodes ∙ taken.contents) ∙ key_gone g.K.Ord.cmp (joined c.args.self.now.nodes) c.args.key.now;
       events = rw taken.events done.events;
       numbered = done.numbered;
       replay = done.replay;
@@ -37,6 +40,11 @@ returns-in-Err-clause-answer g c = let none = no_key g.met.K.Ord.total c.locate.
 
 pub returns-in-Err-clause-contents : goal.returns-in-Err-clause-contents
 returns-in-Err-clause-contents g c = let none = no_key g.met.K.Ord.total c.locate.ensures.lawful c.args.key.now c.locate.ensures.place c.in-Err.is in none.contents
+
+pub returns-in-Err-clause-gone : goal.returns-in-Err-clause-gone
+returns-in-Err-clause-gone g c =
+    let none = no_key g.met.K.Ord.total c.locate.ensures.lawful c.args.key.now c.locate.ensures.place c.in-Err.is in
+    ap (λ l. has_key g.K.Ord.cmp l c.args.key.now) none.contents ∙ key_gone g.K.Ord.cmp (joined c.args.self.now.nodes) c.args.key.now
 
 pub returns-in-Err-clause-events : goal.returns-in-Err-clause-events
 returns-in-Err-clause-events g c = let none = no_key g.met.K.Ord.total c.locate.ensures.lawful c.args.key.now c.locate.ensures.place c.in-Err.is in rw none.events (grind (arith, common_steps))

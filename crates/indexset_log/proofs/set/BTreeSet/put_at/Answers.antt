@@ -1,5 +1,7 @@
 use Rattle.std.proofs.Common.{Some, ap, sym, ◌∙◌}
+use Rattle.indexset_core.specs.Order.{has_equal}
 use Rattle.indexset_core.specs.Nodes.{joined}
+use Rattle.indexset_core.proofs.CallerLemmas.{has_put}
 use Rattle.indexset_log.proofs.Puts.{count_aimed, put_contents, put_replayed}
 use Rattle.indexset_log.proofs.Theorem.{on_ok_map}
 use Rattle.indexset_log.proofs.Trees.{held}
@@ -9,6 +11,12 @@ pub returns-in-Ok-clause-contents : goal.returns-in-Ok-clause-contents
 returns-in-Ok-clause-contents g c =
     let t = held g.Node.NodeLike.list c.self.inside.nodes.items c.self.view_is c.self.invariant in
     on_ok_map c.carry_out.result c.carry_out.ensures.nodes (λ e. ap joined e ∙ put_contents g.met.T.Ord.total t.rule c.args.value)
+
+pub returns-in-Ok-clause-there : goal.returns-in-Ok-clause-there
+returns-in-Ok-clause-there g c =
+    let t = held g.Node.NodeLike.list c.self.inside.nodes.items c.self.view_is c.self.invariant in
+    let l = joined c.args.self.now.nodes in
+    on_ok_map c.carry_out.result c.carry_out.ensures.nodes (λ e. ap (λ q. has_equal g.T.Ord.cmp q c.args.value) (ap joined e ∙ put_contents g.met.T.Ord.total t.rule c.args.value) ∙ has_put g.T.Ord.cmp l c.args.value g.met.T.Ord.total)
 
 pub returns-in-Ok-clause-replay : goal.returns-in-Ok-clause-replay
 returns-in-Ok-clause-replay g c =

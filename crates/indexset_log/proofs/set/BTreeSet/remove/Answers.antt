@@ -1,6 +1,8 @@
 use Rattle.std.proofs.Common.{arith, ap, sym, refl, ◌∙◌}
 use Rattle.std.proofs.lemmas.Grind.{common_steps}
 use Rattle.indexset_core.specs.Nodes.{joined}
+use Rattle.indexset_core.specs.Order.{has_equal}
+use Rattle.indexset_core.proofs.CallerLemmas.{has_none}
 use Rattle.indexset_log.proofs.Takes.{found_events, found_one, found_contents, absent_events, absent_contents}
 use Rattle.indexset_log.proofs.Trees.{held}
 use Rattle.indexset_log.proofs.set.BTreeSet.remove.Goals as goal
@@ -18,6 +20,7 @@ returns-in_ok-remove_at-in-Some g c =
     record {
       answer = sym done.item ∙ found.item;
       contents = ap joined done.nodes ∙ found_contents g.met.T.Ord.total t.rule.lawful found done.item;
+      gone = ap (λ l. has_equal g.T.Ord.cmp l c.args.value.now) (ap joined done.nodes ∙ found_contents g.met.T.Ord.total t.rule.lawful found done.item) ∙ has_none g.T.Ord.cmp (joined c.args.self.now.nodes) c.args.value.now;
       replay = rw (found_events g.met.T.Ord.total t.rule.lawful found done.item) done.replay;
       size = done.size;
       next = rw (found_one g.met.T.Ord.total t.rule.lawful found) done.next;
@@ -31,6 +34,7 @@ returns-in-None g c =
     record {
       answer = sym c.in-None.ensures;
       contents = absent_contents g.T.Ord.cmp c.args.self.now.nodes c.args.value.now c.in-None.ensures;
+      gone = ap (λ l. has_equal g.T.Ord.cmp l c.args.value.now) (absent_contents g.T.Ord.cmp c.args.self.now.nodes c.args.value.now c.in-None.ensures) ∙ has_none g.T.Ord.cmp (joined c.args.self.now.nodes) c.args.value.now;
       replay = rw events refl;
       size = refl;
       next = rw events (omega arith);

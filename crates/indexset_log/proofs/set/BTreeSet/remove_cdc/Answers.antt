@@ -1,6 +1,8 @@
 use Rattle.std.proofs.Common.{length, arith, ap, sym, refl, ◌∙◌}
 use Rattle.std.proofs.lemmas.Grind.{common_steps}
 use Rattle.indexset_core.specs.Nodes.{joined}
+use Rattle.indexset_core.specs.Order.{has_equal}
+use Rattle.indexset_core.proofs.CallerLemmas.{has_none}
 use Rattle.indexset_log.proofs.Takes.{found_events, found_one, found_contents, absent_events, absent_contents}
 use Rattle.indexset_log.proofs.Trees.{held}
 use Rattle.indexset_log.proofs.set.BTreeSet.remove_cdc.Goals as goal
@@ -24,6 +26,7 @@ returns-in_ok-item-in-Some g c =
     record {
       answer = sym done.item ∙ found.item;
       contents = ap joined done.nodes ∙ found_contents g.met.T.Ord.total t.rule.lawful found done.item;
+      gone = ap (λ l. has_equal g.T.Ord.cmp l c.args.value.now) (ap joined done.nodes ∙ found_contents g.met.T.Ord.total t.rule.lawful found done.item) ∙ has_none g.T.Ord.cmp (joined c.args.self.now.nodes) c.args.value.now;
       events = rw (found_events g.met.T.Ord.total t.rule.lawful found done.item) done.events;
       numbered = done.numbered;
       replay = done.replay;
@@ -38,6 +41,10 @@ returns-in_ok-item-in-Some g c =
 
 pub returns-in-None-clause-contents : goal.returns-in-None-clause-contents
 returns-in-None-clause-contents g c = absent_contents g.T.Ord.cmp c.args.self.now.nodes c.args.value.now c.in-None.ensures
+
+pub returns-in-None-clause-gone : goal.returns-in-None-clause-gone
+returns-in-None-clause-gone g c =
+    ap (λ l. has_equal g.T.Ord.cmp l c.args.value.now) (absent_contents g.T.Ord.cmp c.args.self.now.nodes c.args.value.now c.in-None.ensures) ∙ has_none g.T.Ord.cmp (joined c.args.self.now.nodes) c.args.value.now
 
 pub returns-in-None-clause-events : goal.returns-in-None-clause-events
 returns-in-None-clause-events g c = rw (absent_events g.T.Ord.cmp c.args.self.now.nodes c.args.value.now c.in-None.ensures) (grind (arith, common_steps))

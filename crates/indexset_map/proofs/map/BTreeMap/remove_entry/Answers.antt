@@ -1,9 +1,8 @@
 use Rattle.std.proofs.Common.{sym, ap, ◌∙◌}
 use Rattle.std.specs.Option.{option_map}
-use Rattle.indexset_core.specs.Pairs.{entry_of, has_key}
-use Rattle.indexset_core.proofs.CallerLemmas.{key_pair, key_no_pair, key_absent}
+use Rattle.indexset_core.specs.Pairs.{entry_of, has_key, value_of}
+use Rattle.indexset_core.proofs.CallerLemmas.{key_absent, key_gone, key_no_pair, key_pair, no_value}
 use Rattle.indexset_map.proofs.KeyLemmas.{without_found, without_absent}
-use Rattle.indexset_map.proofs.ThereLemmas.{key_gone}
 use Rattle.indexset_map.proofs.map.BTreeMap.remove_entry.Goals as goal
 
 pub returns-in-Ok-clause-value : goal.returns-in-Ok-clause-value
@@ -27,3 +26,11 @@ returns-in-Ok-clause-gone g c =
 
 pub returns-in-Err-clause-gone : goal.returns-in-Err-clause-gone
 returns-in-Err-clause-gone g c = key_absent g.K.Ord.cmp _ _ (c.in-Err.ensures {u = tt}).absent
+
+pub returns-in-Ok-clause-no_value : goal.returns-in-Ok-clause-no_value
+returns-in-Ok-clause-no_value g c =
+    let rest = c.pop_index.ensures.rest ∙ without_found g.K.Ord.cmp c.args.self.now c.args.key.now c.in-Ok.i (c.in-Ok.ensures {u = tt}).found g.met.K.Ord.total c.find.ensures.ascending in
+    ap (λ m. value_of g.K.Ord.cmp m.pairs c.args.key.now) rest ∙ no_value g.K.Ord.cmp _ c.args.key.now (key_gone g.K.Ord.cmp c.args.self.now.pairs c.args.key.now)
+
+pub returns-in-Err-clause-no_value : goal.returns-in-Err-clause-no_value
+returns-in-Err-clause-no_value g c = no_value g.K.Ord.cmp _ c.args.key.now (key_absent g.K.Ord.cmp _ _ (c.in-Err.ensures {u = tt}).absent)
