@@ -3,7 +3,7 @@ ghost use Rattle.std.specs.Prelude.{◌≡◌, ◌+◌, ◌<◌, ◌≤◌, IsTr
 ghost use Rattle.std.specs.List.{All};
 ghost use Rattle.indexset_core.specs.Digits.{digits};
 ghost use Rattle.indexset_core.specs.Parted.{IsParted, less_count};
-ghost use Rattle.indexset_core.specs.Nodes.{ends_less, joined, node_lengths, node_for};
+ghost use Rattle.indexset_core.specs.Nodes.{ends_less, equal_at, joined, node_lengths, node_for};
 ghost use Rattle.indexset_spine.specs.Cut.{vec_items};
 
 use indexset_core::probe::Probe;
@@ -54,18 +54,20 @@ pub(crate) fn is_sought<T, P: Probe<T>>(nodes: &[Vec<T>], k: usize, probe: &mut 
     k == 0 || ends_less(&nodes[k - 1], probe)
 }
 
-/// How many items of a node are answered Less, where the tree has `len` items.
-pub(crate) fn offset_by<T, P: Probe<T>>(node: &[T], probe: &mut P, len: usize) -> usize
+/// How many items of a node are answered Less, and whether the one after them is answered Equal, where
+/// the tree has `len` items.
+pub(crate) fn place_in<T, P: Probe<T>>(node: &[T], probe: &mut P, len: usize) -> (usize, bool)
     requires { IsParted (P.answer probe.old) node.now }
-    ensures count { result ≡ less_count (P.answer probe.old) node.now }
+    ensures count { result.0 ≡ less_count (P.answer probe.old) node.now }
+    ensures found { result.1 ≡ equal_at (P.answer probe.old) node.now result.0 }
     ensures fixed { P.answer probe.new ≡ P.answer probe.old }
-    ensures few { P.asked probe.new ≤ P.asked probe.old + digits (length node.now) }
+    ensures few { P.asked probe.new ≤ P.asked probe.old + (digits (length node.now) + 1) }
 {
     if len <= NEAR {
-        search::first_not_less_near(node, probe)
-    } else {
-        search::first_not_less(node, probe)
+        return search::first_not_less_near(node, probe);
     }
+    let offset = search::first_not_less(node, probe);
+    (offset, search::is_equal_at(node, offset, probe))
 }
 
 /// Whether the last item of a node is answered Less, by one question.

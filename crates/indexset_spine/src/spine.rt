@@ -24,7 +24,6 @@ use crate::iter::Iter;
 use crate::spot::Spot;
 use crate::{lengths, locate};
 use indexset_core::probe::Probe;
-use indexset_core::search;
 use std::alloc::Global;
 use std::marker::Model;
 
@@ -157,8 +156,7 @@ impl<T> Spine<T> {
         ensures few { P.asked probe.new ≤ P.asked probe.old + (digits self.now.size + 1) }
     {
         let items = self.nodes[node].as_slice();
-        let offset = locate::offset_by(items, probe, self.len);
-        let found = search::is_equal_at(items, offset, probe);
+        let (offset, found) = locate::place_in(items, probe, self.len);
         Spot {
             node,
             offset,
