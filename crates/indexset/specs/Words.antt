@@ -3,7 +3,7 @@ pub use Rattle.indexset_spine.specs.Cut.{items}
 pub use Rattle.indexset_core.specs.Order.{IsAscending, below, above, rank, has_equal, equal_element, lower_element, put, keep, without}
 pub use Rattle.indexset_core.specs.Bounds.{are_ordered, is_within, in_range, in_positions}
 pub use Rattle.indexset_core.specs.Digits.{digits}
-pub use Rattle.indexset_core.specs.Pairs.{entry_of, has_key, key_rank, pair_keys, pair_of, pair_values, pairs_within, put_value, set_value, value_of, without_key}
+pub use Rattle.indexset_core.specs.Pairs.{by_key, entry_of, has_key, key_rank, pair, pair_keys, pair_of, pair_values, pairs_within, put_value, set_value, value_of, without_key}
 pub use Rattle.indexset_set.specs.SetAlgebra.{difference, intersection, symmetric_difference, union, put_all}
 pub use Rattle.indexset_set.specs.SetRanges.{not_below}
 pub use Rattle.indexset_map.specs.Contents.{with_pairs, with_put, without_pair, without_at}

@@ -9,9 +9,9 @@ ghost use Rattle.indexset_spine.specs.Cut.{vec_items};
 use indexset_core::probe::Probe;
 use indexset_core::search;
 
-// Up to how many items a search within a node takes no branch on an answer: more would not stay in the
+// Among how many items a search within a node takes no branch on an answer: more would not stay in the
 // cache, where a branch that is guessed fetches ahead.
-const NEAR: usize = 1 << 18;
+const NEAR: usize = 1 << 20;
 
 /// The first node whose last item is not answered Less, else the last node.
 pub(crate) fn node_by<T, P: Probe<T>>(nodes: &[Vec<T>], probe: &mut P) -> usize
@@ -54,8 +54,8 @@ pub(crate) fn is_sought<T, P: Probe<T>>(nodes: &[Vec<T>], k: usize, probe: &mut 
     k == 0 || ends_less(&nodes[k - 1], probe)
 }
 
-/// How many items of a node are answered Less, and whether the one after them is answered Equal, where
-/// the tree has `len` items.
+/// How many items of a node are answered Less, and whether the one after them is answered Equal, searched
+/// for as among `len` items.
 pub(crate) fn place_in<T, P: Probe<T>>(node: &[T], probe: &mut P, len: usize) -> (usize, bool)
     requires { IsParted (P.answer probe.old) node.now }
     ensures count { result.0 ≡ less_count (P.answer probe.old) node.now }

@@ -94,8 +94,7 @@ impl<T> Spine<T> {
         ensures fixed { P.answer probe.new ≡ P.answer probe.old }
         ensures few { P.asked probe.new ≤ P.asked probe.old + (digits (length self.now.nodes) + digits self.now.size + 1) }
     {
-        let node = locate::node_by(self.nodes.as_slice(), probe);
-        self.locate_in(node, probe)
+        self.locate_among(probe, self.len)
     }
 
     /// The same, where the last item is asked for first: where that one is answered Less, all are, and no
@@ -120,7 +119,8 @@ impl<T> Spine<T> {
                 found: false,
             };
         }
-        self.locate_by(probe)
+        // An item that is put in moves others, which a search that branches has fetched by then.
+        self.locate_among(probe, self.len.saturating_mul(4))
     }
 
     /// The same, where the node `near` is tried first, by two questions at most: it is for items that go
@@ -137,13 +137,29 @@ impl<T> Spine<T> {
         ensures few { P.asked probe.new ≤ P.asked probe.old + (digits (length self.now.nodes) + digits self.now.size + 3) }
     {
         if locate::is_sought(self.nodes.as_slice(), near, probe) {
-            return self.locate_in(near, probe);
+            return self.locate_in(near, probe, self.len);
         }
         self.locate_by(probe)
     }
 
-    // Where the probe finds what it seeks, in the node that a search names.
-    fn locate_in<P: Probe<T>>(&self, node: usize, probe: &mut P) -> Spot
+    // Where the probe finds what it seeks, searched for as among `len` items.
+    fn locate_among<P: Probe<T>>(&self, probe: &mut P, len: usize) -> Spot
+        requires { IsParted (P.answer probe.old) (items self.now) }
+        ensures node { result.node ≡ node_for (P.answer probe.old) self.now.nodes }
+        ensures offset { result.offset ≡ less_count (P.answer probe.old) (node_at self.now.nodes result.node) }
+        ensures found { result.found ≡ equal_at (P.answer probe.old) (items self.now) (position_of self.now.nodes result) }
+        ensures spot { IsSpot self.now.nodes result }
+        ensures item { IsTrue result.found → IsItemSpot self.now.nodes result }
+        ensures position { position_of self.now.nodes result ≡ less_count (P.answer probe.old) (items self.now) }
+        ensures fixed { P.answer probe.new ≡ P.answer probe.old }
+        ensures few { P.asked probe.new ≤ P.asked probe.old + (digits (length self.now.nodes) + digits self.now.size + 1) }
+    {
+        let node = locate::node_by(self.nodes.as_slice(), probe);
+        self.locate_in(node, probe, len)
+    }
+
+    // The same, in the node that a search names.
+    fn locate_in<P: Probe<T>>(&self, node: usize, probe: &mut P, len: usize) -> Spot
         requires parted { IsParted (P.answer probe.old) (items self.now) }
         requires node { node ≡ node_for (P.answer probe.old) self.now.nodes }
         ensures node { result.node ≡ node }
@@ -156,7 +172,7 @@ impl<T> Spine<T> {
         ensures few { P.asked probe.new ≤ P.asked probe.old + (digits self.now.size + 1) }
     {
         let items = self.nodes[node].as_slice();
-        let (offset, found) = locate::place_in(items, probe, self.len);
+        let (offset, found) = locate::place_in(items, probe, len);
         Spot {
             node,
             offset,

@@ -48,5 +48,17 @@ fn searches_a_slice(rt: HostRuntime) -> Result<(), Fail> {
     assert_eq!(rt; search::first_not_less(&[], &mut ByItem::new(&4)), 0);
     assert_eq!(rt; search::first_greater(&[4], &mut ByItem::new(&4)), 1);
     assert_eq!(rt; search::first_not_less(&[4], &mut ByItem::new(&5)), 1);
+    assert_eq!(rt;
+        search::first_not_less_near(&[4, 6], &mut ByItem::new(&6)),
+        (1, true)
+    );
+    assert_eq!(rt;
+        search::first_not_less_near(&[4, 6], &mut ByItem::new(&5)),
+        (1, false)
+    );
+    assert_eq!(rt;
+        search::first_not_less_near(&[4, 6], &mut ByItem::new(&7)),
+        (2, false)
+    );
     Ok(())
 }
