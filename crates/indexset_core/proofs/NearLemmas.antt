@@ -1,6 +1,6 @@
 -- What a search knows that keeps the place of the item last answered Equal: whether the item at its bound
 -- is, and that this is the place.
-use Rattle.std.proofs.Common.{◌≡◌, ℕ, ◌+◌, ◌-◌, ◌/◌, ◌<◌, ◌≤◌, true, false, cond, List, length, get_or, slice_get, Some, nat_lt, Ordering, refl, ap, sym, ◌∙◌, arith}
+use Rattle.std.proofs.Common.{◌≡◌, ℕ, ◌+◌, ◌/◌, ◌%◌, ◌<◌, ◌≤◌, true, false, cond, List, length, get_or, slice_get, Some, nat_lt, Ordering, refl, ap, sym, ◌∙◌, arith}
 use Rattle.std.specs.declared.cmp.Ordering.TheVariants.{Less, Equal, Greater}
 use Rattle.std.specs.Ordering.{ordering_index, is_eq, is_lt}
 use Rattle.std.proofs.lemmas.Bool.{false≢true, lt-ltb}
@@ -53,12 +53,12 @@ module _ {T : Type 0} (answer : T → Ordering) (xs : List T) (parted : IsParted
           place = λ some. absurd (false≢true (sym none ∙ some));
         }
 
-    pub equal_half : (step next : ℕ) → step ≡ cond (is_lt (answer x)) (left - left / 2) 0 → next ≡ cond (is_eq (answer x)) (low + left / 2) at → IsEqualAt answer xs next (low + step + left / 2)
-    equal_half step next goes keeps =
-        elim (answer x) as (λ o. answer x ≡ o → step ≡ cond (is_lt o) (left - left / 2) 0 → next ≡ cond (is_eq o) (low + left / 2) at → IsEqualAt answer xs next (low + step + left / 2)) [
-          | Less ↦ λ e goes keeps. rw keeps (halved_less (low + step + left / 2) (omega (arith, goes)))
-          | Equal ↦ λ e goes keeps. let bound : low + step + left / 2 ≡ low + left / 2 = omega (arith, goes) in rw (bound, keeps) (halved_equal e)
-          | Greater ↦ λ e goes keeps. let bound : low + step + left / 2 ≡ low + left / 2 = omega (arith, goes) in rw (bound, keeps) (halved_greater e)
+    pub equal_half : (next kept : ℕ) → next ≡ cond (is_lt (answer x)) (low + left / 2 + left % 2) low → kept ≡ cond (is_eq (answer x)) (low + left / 2) at → IsEqualAt answer xs kept (next + left / 2)
+    equal_half next kept goes keeps =
+        elim (answer x) as (λ o. answer x ≡ o → next ≡ cond (is_lt o) (low + left / 2 + left % 2) low → kept ≡ cond (is_eq o) (low + left / 2) at → IsEqualAt answer xs kept (next + left / 2)) [
+          | Less ↦ λ e goes keeps. rw keeps (halved_less (next + left / 2) (omega (arith, goes)))
+          | Equal ↦ λ e goes keeps. rw (goes, keeps) (halved_equal e)
+          | Greater ↦ λ e goes keeps. rw (goes, keeps) (halved_greater e)
         ] refl goes keeps
 
 -- where one was found, its place is the bound

@@ -83,6 +83,7 @@ impl<T> Spine<T> {
     }
 
     /// Where the probe finds what it seeks, by two binary searches.
+    #[inline(always)]
     pub fn locate_by<P: Probe<T>>(&self, probe: &mut P) -> Spot
         requires { IsParted (P.answer probe.old) (items self.now) }
         ensures node { result.node ≡ node_for (P.answer probe.old) self.now.nodes }
@@ -143,6 +144,7 @@ impl<T> Spine<T> {
     }
 
     // Where the probe finds what it seeks, searched for as among `len` items.
+    #[inline(always)]
     fn locate_among<P: Probe<T>>(&self, probe: &mut P, len: usize) -> Spot
         requires { IsParted (P.answer probe.old) (items self.now) }
         ensures node { result.node ≡ node_for (P.answer probe.old) self.now.nodes }

@@ -16,6 +16,7 @@ use indexset_spine::spine::Spine;
 use indexset_spine::spot::Spot;
 
 // Where the element equal to the value is, or where the value would go.
+#[inline(always)]
 pub(super) fn locate<T: Ord>(spine: &Spine<T>, value: &T) -> Spot
     requires { IsAscending T.cmp (items spine.now) }
     ensures spot { IsSpot spine.now.nodes result }

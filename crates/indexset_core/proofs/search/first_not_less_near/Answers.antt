@@ -1,4 +1,4 @@
-use Rattle.std.proofs.Common.{◌≡◌, ◌+◌, ◌-◌, ◌/◌, cond, is_lt, ◌∙◌, arith}
+use Rattle.std.proofs.Common.{◌≡◌, ◌+◌, ◌/◌, ◌%◌, cond, is_lt, ◌∙◌, arith}
 use Rattle.std.specs.Ordering.{is_eq}
 use Rattle.indexset_core.proofs.DigitsLemmas.{digits-half}
 use Rattle.indexset_core.proofs.NearLemmas.{equal_half, equal_met}
@@ -8,12 +8,12 @@ use Rattle.indexset_core.proofs.search.first_not_less_near.Goals as goal
 pub loop-left-preserved : goal.loop-left-preserved
 loop-left-preserved g c =
     let at = c.loop-left in let answer = g.P.Probe.answer c.args.probe.now in
-    let step : c.choose-low.result ≡ cond (is_lt (answer c.index-items-low.result)) (at.left - at.left / 2) 0 = cc in
-    let kept : c.choose-equal.result ≡ cond (is_eq (answer c.index-items-low.result)) (at.low + at.left / 2) at.equal = cc in
+    let goes : c.choose-low.result ≡ cond (is_lt (answer c.index-items-middle.result)) (at.low + at.left / 2 + at.left % 2) at.low = cc in
+    let kept : c.choose-equal.result ≡ cond (is_eq (answer c.index-items-middle.result)) (at.low + at.left / 2) at.equal = cc in
     let now = at.invariant.narrowed in
     record {
-      narrowed = narrowed_half is_lt front-is_lt answer c.args.items.now c.requires at.low at.left (omega arith) now _ c.index-items-low.is _ step;
-      equal = equal_half answer c.args.items.now c.requires at.low at.left at.equal (omega arith) now.within at.invariant.equal _ c.index-items-low.is _ _ step kept;
+      narrowed = narrowed_half is_lt front-is_lt answer c.args.items.now c.requires at.low at.left (omega arith) now _ c.index-items-middle.is _ goes;
+      equal = equal_half answer c.args.items.now c.requires at.low at.left at.equal (omega arith) now.within at.invariant.equal _ c.index-items-middle.is _ _ goes kept;
       fixed = cc;
       few = omega (arith, digits-half at.left (omega arith));
     }
