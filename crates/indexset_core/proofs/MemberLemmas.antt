@@ -1,16 +1,16 @@
 -- Whether a value has an equal one, or a key a pair, once it was put in or taken out.
-use Rattle.std.proofs.Common.{◌≡◌, ℕ, Bool, true, false, not, ◌||◌, List, ◌∷◌, Ordering, if◌then◌else◌, Option, Some, None, find, is_some, refl, ap, sym, ◌∙◌}
+use Rattle.std.proofs.Common.{◌≡◌, ℕ, Bool, true, false, not, ◌||◌, List, [], ◌∷◌, ◌++◌, Ordering, if◌then◌else◌, Option, Some, None, find, is_some, refl, ap, sym, ◌∙◌}
 use Rattle.std.specs.Cmp.{IsTotalOrder}
-use Rattle.std.specs.List.{list_any}
+use Rattle.std.specs.List.{filter, list_any}
 use Rattle.std.proofs.lemmas.Bool.{false≢true}
-use Rattle.std.specs.Ordering.{is_eq, ordering_reverse}
+use Rattle.std.specs.Ordering.{is_eq, is_lt, ordering_reverse}
 use Rattle.std.specs.declared.cmp.Ordering.TheVariants.{Less, Equal, Greater}
 use Rattle.std.proofs.lemmas.List.Folds.{list_any-append}
 use Rattle.std.proofs.lemmas.Map.Views.{any-filter_same}
 use Rattle.std.specs.Option.{option_map}
 use Rattle.indexset_core.specs.declared.pair.Pair.{Pair}
 use Rattle.indexset_core.specs.Order.{IsGapFor, above, below, has_equal, keep, put, without}
-use Rattle.indexset_core.specs.Pairs.{has_key, value_of, without_key}
+use Rattle.indexset_core.specs.Pairs.{by_key, has_key, pair, pair_of, value_of, without_key}
 use Rattle.indexset_core.proofs.AscendingLemmas.{is_some-find}
 use Rattle.indexset_core.proofs.OrderLemmas.{gap_has_equal}
 
@@ -49,6 +49,23 @@ module _ {T : Type 0} (cmp : T → T → Ordering) (l : List T) (v : T) where
 no_part : {X Y : Type 0} (f : X → Y) (o : Option X) → is_some o ≡ false → option_map f o ≡ None
 no_part f None h = refl
 no_part f (Some x) h = absurd (false≢true (sym h))
+
+module _ {K V : Type 0} (cmp : K → K → Ordering) where
+  -- the pairs before a key are not its own
+  pair_past : (l more : List (Pair K V)) (k : K) → pair_of cmp (filter (λ p. is_lt (cmp p.key k)) l ++ more) k ≡ pair_of cmp more k
+  pair_past [] more k = refl
+  pair_past (p ∷ l) more k =
+      elim (cmp p.key k) as (λ o. cmp p.key k ≡ o → pair_of cmp ((if is_lt o then p ∷ filter (λ q. is_lt (cmp q.key k)) l else filter (λ q. is_lt (cmp q.key k)) l) ++ more) k ≡ pair_of cmp more k) [
+        | Less ↦ λ e. rw e (pair_past l more k)
+        | Equal ↦ λ e. pair_past l more k
+        | Greater ↦ λ e. pair_past l more k
+      ] refl
+
+  pub value_put : IsTotalOrder cmp → (l : List (Pair K V)) (k : K) (w : V) → value_of cmp (put (by_key cmp) l (pair k w)) k ≡ Some w
+  unfolding put
+  value_put o l k w =
+      let same : is_eq (cmp k k) ≡ true = own_reverse (cmp k k) (o.antisymm k k) in
+      ap (option_map (λ p. p.value)) (pair_past l (pair k w ∷ above (by_key cmp) l (pair k w)) k) ∙ rw same refl
 
 module _ {K V : Type 0} (cmp : K → K → Ordering) (l : List (Pair K V)) (k : K) where
   pub key_gone : has_key cmp (without_key cmp l k) k ≡ false

@@ -27,6 +27,7 @@ impl<K: Ord + Clone + Drop, V: Clone + Drop, Node: NodeLike<Pair<K, V>>> BTreeMa
         ensures answer { IfOk result (λ r. r.0 ≡ value_of K.cmp (joined self.old.nodes) key) }
         ensures contents { OnOk result (joined self.new.nodes ≡ put (by_key K.cmp) (joined self.old.nodes) (pair key value)) }
         ensures there { OnOk result (has_key K.cmp (joined self.new.nodes) key ≡ true) }
+        ensures written { OnOk result (value_of K.cmp (joined self.new.nodes) key ≡ Some value) }
         ensures nodes { OnOk result (self.new.nodes ≡ with_put (by_key K.cmp) self.old.size self.old.nodes (pair key value)) }
         ensures events { IfOk result (λ r. r.1.items ≡ numbered_from self.old.next (put_events (by_key K.cmp) self.old.size self.old.nodes (pair key value))) }
         ensures numbered { IfOk result (λ r. IsNumberedFrom self.old.next r.1.items) }
@@ -77,6 +78,7 @@ impl<K: Ord + Clone + Drop, V: Clone + Drop, Node: NodeLike<Pair<K, V>>> BTreeMa
         ensures answer { IfOk result (λ old. old ≡ value_of K.cmp (joined self.old.nodes) key) }
         ensures contents { OnOk result (joined self.new.nodes ≡ put (by_key K.cmp) (joined self.old.nodes) (pair key value)) }
         ensures there { OnOk result (has_key K.cmp (joined self.new.nodes) key ≡ true) }
+        ensures written { OnOk result (value_of K.cmp (joined self.new.nodes) key ≡ Some value) }
         ensures nodes { OnOk result (self.new.nodes ≡ with_put (by_key K.cmp) self.old.size self.old.nodes (pair key value)) }
         ensures replay { OnOk result (replay (by_key K.cmp) self.old.nodes (numbered_from self.old.next (put_events (by_key K.cmp) self.old.size self.old.nodes (pair key value))) ≡ Some self.new.nodes) }
         ensures size { self.new.size ≡ self.old.size }

@@ -38,7 +38,7 @@ impl<T: Ord + Drop> BTreeSet<T> {
     pub fn pop_first(&mut self) -> Option<T>
         ensures value { result ≡ slice_get (items self.old) 0 }
         ensures rest { items self.new ≡ drop 1 (items self.old) }
-        ensures parted { items self.old ≡ option_to_list result ++ items self.new }
+        ensures whole { items self.old ≡ option_to_list result ++ items self.new }
         ensures nodes { MatchOption result (self.new ≡ self.old) (λ _. IsWithoutAt self.old.nodes 0 self.new.nodes) }
         ensures size { self.new.size ≡ self.old.size }
     {
@@ -50,7 +50,7 @@ impl<T: Ord + Drop> BTreeSet<T> {
     pub fn pop_last(&mut self) -> Option<T>
         ensures value { result ≡ slice_get (items self.old) (length (items self.old) - 1) }
         ensures rest { items self.new ≡ take (length (items self.old) - 1) (items self.old) }
-        ensures parted { items self.old ≡ items self.new ++ option_to_list result }
+        ensures whole { items self.old ≡ items self.new ++ option_to_list result }
         ensures nodes { MatchOption result (self.new ≡ self.old) (λ _. IsWithoutAt self.old.nodes (length (items self.old) - 1) self.new.nodes) }
         ensures size { self.new.size ≡ self.old.size }
     {
