@@ -261,7 +261,7 @@ impl<T> Spine<T> {
         ensures value { option_copied_mut result ≡ slice_get (items self.old) i }
     {
         match self.spot(i) {
-            Some(spot) => Some(self.item_mut(i, spot)),
+            Some(spot) => Some(self.item_mut(spot)),
             None => None,
         }
     }
@@ -287,12 +287,11 @@ impl<T> Spine<T> {
         Iter::from_to(self.nodes.as_slice(), &start, &end, j - i)
     }
 
-    // The item at a spot, to write.
-    fn item_mut(&mut self, i: usize, spot: Spot) -> &mut T
-        requires spot { IsItemSpot self.old.nodes spot }
-        requires position { position_of self.old.nodes spot ≡ i }
-        ensures* writes_back { sem 𝓛 (lends_at T.row self.entry i result) }
-        ensures value { slice_get (items self.old) i ≡ Some result.now }
+    /// The item at a spot, to write.
+    pub fn item_mut(&mut self, spot: Spot) -> &mut T
+        requires { IsItemSpot self.old.nodes spot }
+        ensures* writes_back { sem 𝓛 (lends_at T.row self.entry (position_of self.old.nodes spot) result) }
+        ensures value { slice_get (items self.old) (position_of self.old.nodes spot) ≡ Some result.now }
     {
         let items = &mut self.nodes[spot.node];
         &mut items[spot.offset]

@@ -1,14 +1,20 @@
 //! Calls on a set of pairs that write values.
-ghost use Rattle.std.specs.Prelude.{◌≡◌, ◌<◌, Some, length, nat_lt, slice_get};
+ghost use Rattle.std.specs.Prelude.{◌≡◌, ◌+◌, ◌<◌, ◌≤◌, Some, find, length, nat_lt, slice_get};
 ghost use Rattle.std.specs.Map.Iter.{deref_pair_mut};
 ghost use Rattle.std.specs.Option.{option_copied_mut, option_map};
 ghost use Rattle.std.specs.Borrow.{sem};
 ghost use Rattle.std.specs.List.Retain.{RetainsInTurn};
-ghost use Rattle.indexset_spine.specs.Cut.{items};
+ghost use Rattle.std.specs.Ordering.{is_eq};
+ghost use Rattle.indexset_spine.specs.Cut.{items, IsItemSpot, position_of};
+ghost use Rattle.indexset_core.specs.Digits.{digits};
+ghost use Rattle.indexset_core.specs.Parted.{less_count};
+ghost use Rattle.indexset_set.specs.SetProbes.{FindsInOrder};
 ghost use Rattle.indexset_core.specs.Pairs.{entry_of, CalledOnPair};
 
 use super::BTreeSet;
 use indexset_core::pair::Pair;
+use indexset_core::probe::Probe;
+use indexset_spine::spot::Spot;
 
 impl<K: Ord, V> BTreeSet<Pair<K, V>> {
     ghost use Rattle.indexset_set.specs.SetLends.{lends_value, lends_pair, lends_pair_if, lends_value_if};
@@ -20,6 +26,23 @@ impl<K: Ord, V> BTreeSet<Pair<K, V>> {
     {
         if i < self.spine.len() {
             Some(self.value_at_mut(i))
+        } else {
+            None
+        }
+    }
+
+    /// The value of the first pair that the probe answers Equal, to write, where there is one. It asks
+    /// as `locate_by` does.
+    pub fn value_mut_by<P: Probe<Pair<K, V>>>(&mut self, probe: &mut P) -> Option<&mut V>
+        requires { FindsInOrder (P.answer probe.old) (items self.old) }
+        ensures* writes_back { sem 𝓛 (lends_value_if K.row V.row K.Ord self.entry (less_count (P.answer probe.old) (items self.old)) result) }
+        ensures value { option_copied_mut result ≡ option_map (λ p. p.value) (find (λ x. is_eq (P.answer probe.old x)) (items self.old)) }
+        ensures fixed { P.answer probe.new ≡ P.answer probe.old }
+        ensures few { P.asked probe.new ≤ P.asked probe.old + (digits (length self.old.nodes) + digits self.old.size + 1) }
+    {
+        let spot = self.spine.locate_by(probe);
+        if spot.found {
+            Some(self.value_in(spot))
         } else {
             None
         }
@@ -52,6 +75,16 @@ impl<K: Ord, V> BTreeSet<Pair<K, V>> {
     {
         let pair = self.spine.get_mut(i).unwrap();
         (&pair.key, &mut pair.value)
+    }
+
+    // The value at a spot, to write.
+    fn value_in(&mut self, spot: Spot) -> &mut V
+        requires { IsItemSpot self.old.nodes spot }
+        ensures* writes_back { sem 𝓛 (lends_value K.row V.row K.Ord self.entry (position_of self.old.nodes spot) result) }
+        ensures value { option_map (λ p. p.value) (slice_get (items self.old) (position_of self.old.nodes spot)) ≡ Some result.now }
+    {
+        let pair = self.spine.item_mut(spot);
+        &mut pair.value
     }
 
     // The value at a position, to write.

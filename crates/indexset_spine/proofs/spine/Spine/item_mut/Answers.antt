@@ -1,17 +1,16 @@
-use Rattle.std.proofs.Common.{refl, ap, ◌∙◌, sym, slice_get}
-use Rattle.indexset_spine.specs.Cut.{items}
+use Rattle.std.proofs.Common.{refl}
 use Rattle.indexset_spine.proofs.CutLemmas.{spot_keeps, spot_writes, spot_reads}
 use Rattle.indexset_spine.proofs.spine.Spine.item_mut.Goals as goal
 
 pub invariant_of-self-lent : goal.invariant_of-self-lent
 invariant_of-self-lent g c =
-    λ w. spot_keeps _ _ c.args.self.now c.args.spot _ w c.self.view_is c.requires.spot c.index_mut-items.ensures.value _ _ c.self.invariant
+    λ w. spot_keeps _ _ c.args.self.now c.args.spot _ w c.self.view_is c.requires c.index_mut-items.ensures.value _ _ c.self.invariant
 
 pub returns : goal.returns
 returns g c = (
-  (refl, λ w. spot_writes _ _ c.args.self.now c.args.spot _ w c.self.view_is c.requires.spot c.index_mut-items.ensures.value _ c.requires.position),
+  (refl, λ w. spot_writes _ _ c.args.self.now c.args.spot _ w c.self.view_is c.requires c.index_mut-items.ensures.value _ refl),
   record {
     writes_back = tt;
-    value = ap (λ i. slice_get (items c.args.self.now) i) (sym c.requires.position) ∙ spot_reads _ _ c.args.self.now c.args.spot _ _ c.self.view_is c.requires.spot c.index_mut-items.ensures.value c.index_mut.ensures.value;
+    value = spot_reads _ _ c.args.self.now c.args.spot _ _ c.self.view_is c.requires c.index_mut-items.ensures.value c.index_mut.ensures.value;
   },
 )
