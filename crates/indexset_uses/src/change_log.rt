@@ -1,10 +1,12 @@
 //! A change log: what a copy of a tree elsewhere needs to be told.
-ghost use Rattle.std.specs.Prelude.{◌≡◌, ◌≤◌, length, true, Some, IfOk, IfErr, OnErr};
+ghost use Rattle.std.specs.Prelude.{◌≡◌, ◌≤◌, length, true, Some, IfOk, IfErr, OnErr, OnOk};
 ghost use Rattle.std.specs.Ordering.{nat_cmp};
-ghost use Rattle.indexset.specs.Words.{IsNumberedFrom, joined, put, replay, without};
+ghost use Rattle.indexset.specs.Words.{IsNumberedFrom, joined, put, replay, value_of, without};
 
+use indexset::base::pair::Pair;
 use indexset::base::refusal::{Refusal, Refused};
 use indexset::cdc::change::ChangeEvent;
+use indexset::concurrent::map::BTreeMap;
 use indexset::concurrent::set::BTreeSet;
 
 /// A logged set of numbers.
@@ -42,4 +44,17 @@ pub fn take(tree: &mut Numbers, value: u64) -> Result<Vec<ChangeEvent<u64>>, Ref
 {
     let (_, events) = tree.remove_cdc(&value)?;
     Ok(events)
+}
+
+/// A logged map of prices by item.
+pub type Quotes = BTreeMap<u64, u64, Vec<Pair<u64, u64>>>;
+
+/// Sets the price of an item, and tells the one that is found for it, as it then always is.
+pub fn quote(quotes: &mut Quotes, item: u64, price: u64) -> Result<Option<u64>, Refused<(u64, u64)>>
+    ensures now { OnOk result (value_of nat_cmp (joined quotes.new.nodes) item ≡ Some price) }
+    ensures told { IfOk result (λ told. told ≡ Some price) }
+    ensures same { OnErr result (quotes.new ≡ quotes.old) }
+{
+    quotes.insert(item, price)?;
+    Ok(quotes.get(&item).map(|pair| pair.value))
 }

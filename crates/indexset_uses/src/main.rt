@@ -81,5 +81,7 @@ fn show_changes(rt: &HostRuntime) -> Result<()> {
     println!(rt; "holds 20: {}", change_log::hold(&mut tree, 20)?)?;
     let events = change_log::take(&mut tree, 10)?;
     println!(rt; "take 10: {} events", events.len())?;
+    let mut quotes = change_log::Quotes::with_maximum_node_size(rt.alloc(), 2);
+    println!(rt; "quote of 3: {:?}", change_log::quote(&mut quotes, 3, 80)?)?;
     Ok(())
 }
