@@ -1,13 +1,12 @@
 -- What a removal by place takes out of lawful nodes.
-use Rattle.std.proofs.Common.{◌≡◌, ℕ, ◌+◌, ◌<◌, ◌≤◌, true, false, List, length, Result, Ok, Err, IfOk, IfErr, Ordering, Some, slice_get, refl, ap, sym, ◌∙◌, subst, arith}
+use Rattle.std.proofs.Common.{◌≡◌, ℕ, ◌+◌, ◌<◌, List, length, Ok, Err, Ordering, Some, slice_get, refl, ap, sym, ◌∙◌, subst, arith}
 use Rattle.std.specs.Cmp.{IsTotalOrder}
-use Rattle.std.specs.List.{All}
 use Rattle.std.proofs.lemmas.Bool.{false≢true}
 use Rattle.std.proofs.lemmas.Cmp.{tied_itself}
 use Rattle.std.proofs.lemmas.Option.{slice_get_within}
-use Rattle.indexset_core.specs.Nodes.{joined, node_at, node_lengths, IsLawful}
+use Rattle.indexset_core.specs.Nodes.{joined, node_at, IsLawful}
 use Rattle.indexset_core.specs.Order.{without}
-use Rattle.indexset_core.specs.Parted.{IsParted, less_count}
+use Rattle.indexset_core.specs.Parted.{less_count}
 use Rattle.indexset_core.proofs.CallerLemmas.{equal_read, get_in_node, places_order, rank-slice_get}
 use Rattle.indexset_log.specs.Edits.{with_taken}
 use Rattle.indexset_log.specs.Located.{located, IsFoundIn}

@@ -1,13 +1,10 @@
 -- Numbers that stay below the next one.
-use Rattle.std.proofs.Common.{◌≡◌, ℕ, zero, suc, ◌+◌, ◌<◌, ◌≤◌, max, true, false, cond, if◌then◌else◌, Bool, List, [], ◌∷◌, ◌++◌, find, Ordering, Option, Some, None, is_none, insert, get_or, length, refl, ap, sym, subst, arith}
-use Rattle.std.specs.Option.{option_map, unwrap_or}
+use Rattle.std.proofs.Common.{◌≡◌, ℕ, zero, suc, ◌<◌, ◌≤◌, true, false, cond, Bool, List, [], ◌∷◌, ◌++◌, find, Ordering, Some, None, insert, refl, subst, arith}
+use Rattle.std.specs.Option.{option_map}
 use Rattle.std.specs.Ordering.{is_eq, is_gt, is_lt}
-use Rattle.std.specs.List.{All}
-use Rattle.std.specs.declared.cmp.Ordering.TheVariants.{Less, Equal, Greater}
 use Rattle.std.proofs.lemmas.List.Elements.{All-append, All-cons, All-filter, All-head, All-nil, All-tail, All-weaker}
 use Rattle.std.proofs.lemmas.Option.{none-some, same_Some}
 use Rattle.indexset_core.specs.declared.multipair.MultiPair.{MultiPair}
-use Rattle.indexset_core.specs.MultiPairs.{numbered_pair}
 use Rattle.indexset_core.specs.Nodes.{joined}
 use Rattle.indexset_core.specs.Order.{above, below, put, without}
 use Rattle.indexset_multi.specs.Attach.{free_number}

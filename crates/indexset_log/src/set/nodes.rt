@@ -1,6 +1,7 @@
 //! The nodes of a set.
-ghost use Rattle.std.specs.Prelude.{◌≡◌, ◌≤◌, length, List, map};
-ghost use Rattle.std.specs.Iterator.{at_most};
+ghost use Rattle.std.specs.Prelude.{◌≡◌, ◌≤◌, length, List, map, IfSome, Some};
+ghost use Rattle.std.specs.Iterator.{UpTo, at_most};
+ghost use Rattle.std.specs.Iterator.SizeHint.{IsWithinCount};
 ghost use Rattle.std.specs.Map.Iter.{TakesFirst, TakesLast, ShowsInOrder, ShowsInReverse, deref};
 ghost use Rattle.indexset_core.specs.Nodes.{joined};
 
@@ -37,7 +38,11 @@ impl<'a, Node> Iterator for Nodes<'a, Node> {
         self.rest.next()
     }
 
-    fn size_hint(&self) -> (usize, Option<usize>) {
+    fn size_hint(&self) -> (usize, Option<usize>)
+        ensures lower { IsWithinCount result.0 (at_most (length self.now)) }
+        ensures upper { IfSome result.1 (UpTo (at_most (length self.now))) }
+        ensures exact { result ≡ (length self.now, Some (length self.now)) }
+    {
         let len = self.len();
         (len, Some(len))
     }

@@ -1,6 +1,7 @@
 //! The pairs of a key, or between two bounds on keys.
-ghost use Rattle.std.specs.Prelude.{◌≡◌, IsTrue, length};
-ghost use Rattle.std.specs.Iterator.{at_most};
+ghost use Rattle.std.specs.Prelude.{◌≡◌, IsTrue, length, IfSome, Some};
+ghost use Rattle.std.specs.Iterator.{UpTo, at_most};
+ghost use Rattle.std.specs.Iterator.SizeHint.{IsWithinCount};
 ghost use Rattle.std.specs.List.{count_by};
 ghost use Rattle.std.specs.Map.Iter.{TakesFirst, TakesLast, ShowsInOrder, ShowsInReverse, deref};
 ghost use Rattle.std.specs.Ordering.{is_le, nat_cmp, ordering_then};
@@ -53,7 +54,11 @@ impl<'a, K: Ord + Clone + Drop, V: Eq + Clone + Drop, Node: NodeLike<MultiPair<K
         Some((&pair.key, &pair.value))
     }
 
-    fn size_hint(&self) -> (usize, Option<usize>) {
+    fn size_hint(&self) -> (usize, Option<usize>)
+        ensures lower { IsWithinCount result.0 (at_most (length self.now)) }
+        ensures upper { IfSome result.1 (UpTo (at_most (length self.now))) }
+        ensures exact { result ≡ (length self.now, Some (length self.now)) }
+    {
         self.rest.size_hint()
     }
 }
@@ -120,7 +125,11 @@ impl<'a, K: Ord + Clone + Drop, V: Eq + Clone + Drop, Node: NodeLike<MultiPair<K
         Some((&pair.key, &pair.discriminator, &pair.value))
     }
 
-    fn size_hint(&self) -> (usize, Option<usize>) {
+    fn size_hint(&self) -> (usize, Option<usize>)
+        ensures lower { IsWithinCount result.0 (at_most (length self.now)) }
+        ensures upper { IfSome result.1 (UpTo (at_most (length self.now))) }
+        ensures exact { result ≡ (length self.now, Some (length self.now)) }
+    {
         self.rest.size_hint()
     }
 }

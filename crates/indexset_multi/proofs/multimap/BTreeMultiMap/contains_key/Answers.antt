@@ -1,4 +1,4 @@
-use Rattle.std.proofs.Common.{◌≡◌, ◌∙◌}
+use Rattle.std.proofs.Common.{◌∙◌}
 use Rattle.indexset_core.specs.MultiPairs.{by_number}
 use Rattle.indexset_multi.proofs.Searches.{lawful_keys, ok_found}
 use Rattle.indexset_multi.proofs.multimap.BTreeMultiMap.contains_key.Goals as goal

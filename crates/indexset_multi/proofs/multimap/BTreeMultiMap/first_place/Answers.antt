@@ -1,4 +1,3 @@
-use Rattle.std.proofs.Common.{◌≡◌}
 use Rattle.indexset_core.specs.MultiPairs.{by_number}
 use Rattle.indexset_multi.proofs.Searches.{lawful_keys, ok_item, ok_place}
 use Rattle.indexset_multi.proofs.multimap.BTreeMultiMap.first_place.Goals as goal

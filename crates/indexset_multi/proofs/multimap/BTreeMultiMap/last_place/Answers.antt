@@ -1,4 +1,4 @@
-use Rattle.std.proofs.Common.{◌≡◌, ◌-◌, List, [], ◌∷◌, ◌++◌, length, map, ap, sym, ◌∙◌}
+use Rattle.std.proofs.Common.{◌≡◌, ◌-◌, [], ◌∷◌, ◌++◌, length, map, ap, sym, ◌∙◌}
 use Rattle.indexset_multi.proofs.Searches.{last_place}
 use Rattle.indexset_multi.proofs.multimap.BTreeMultiMap.last_place.Goals as goal
 

@@ -1,5 +1,4 @@
 use Rattle.std.proofs.Common.{◌≡◌, ap}
-use Rattle.indexset_core.specs.MultiPairs.{by_number}
 use Rattle.indexset_core.specs.Nodes.{joined}
 use Rattle.indexset_core.proofs.CallerLemmas.{keyed_range_is, keyed_range_order}
 use Rattle.indexset_multi.proofs.Searches.{lawful_keys}

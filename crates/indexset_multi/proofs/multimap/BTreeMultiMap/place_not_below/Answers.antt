@@ -1,4 +1,3 @@
-use Rattle.std.proofs.Common.{◌≡◌}
 use Rattle.indexset_core.specs.MultiPairs.{by_number}
 use Rattle.indexset_multi.proofs.Searches.{err_before, lawful_keys, ok_before}
 use Rattle.indexset_multi.proofs.multimap.BTreeMultiMap.place_not_below.Goals as goal

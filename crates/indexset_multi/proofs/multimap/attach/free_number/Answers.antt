@@ -1,4 +1,4 @@
-use Rattle.std.proofs.Common.{◌≡◌, ◌+◌, ◌<◌, length, arith}
+use Rattle.std.proofs.Common.{◌<◌, length, arith}
 use Rattle.indexset_multi.proofs.Free.{free_more, greatest_more}
 use Rattle.indexset_multi.proofs.multimap.attach.free_number.Goals as goal
 
