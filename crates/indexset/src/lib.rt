@@ -20,6 +20,11 @@ pub mod cdc {
     pub use indexset_log::change;
 }
 
+/// A copy kept elsewhere that follows a tree by its events. (In the Rust crate a helper of the tests.)
+pub mod replica {
+    pub use indexset_replica::{Replica, laws};
+}
+
 pub use indexset_map::{
     BTreeMap, CursorMap, Entry, IntoIterMap, IntoKeys, IntoValues, IterMap, IterMut, Keys,
     OccupiedEntry, RangeMap, RangeMut, VacantEntry, Values, ValuesMut,

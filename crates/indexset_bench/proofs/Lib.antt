@@ -7,10 +7,6 @@ pub mod Meanings
 pub mod PairChanges
 pub mod PairMeanings
 pub mod Pieces
-pub mod ReplicaAttach
-pub mod ReplicaEdits
-pub mod ReplicaNodes
-pub mod ReplicaSteps
 pub mod Runs
 pub mod Spellings
 pub mod Written

@@ -9,7 +9,6 @@ pub mod PairCommand
 pub mod PairText
 pub mod Pairs
 pub mod Reading
-pub mod Replica
 pub mod Reply
 pub mod Run
 pub mod SetRun

@@ -14,9 +14,9 @@ mod pair_text;
 mod pairs;
 mod perform;
 mod program;
-pub mod replica;
 mod reply;
 pub mod set_run;
 
 pub use fault::RunFault;
+pub use indexset_replica::Replica;
 pub use program::run;

@@ -57,7 +57,7 @@ fn take_piece<R: BufRead>(reader: &mut R, line: &mut Vec<u8>) -> Result<Option<P
     ensures ok { IfOk result (TakesPiece (R.remaining reader.old) (R.remaining reader.new)
         line.old.items line.new.items) }
     ensures unread { OnErr result (Keeps (R.remaining reader.old) (R.remaining reader.new)) }
-    ensures err { OnErr result (line.new.items ≡ line.old.items) }
+    ensures unchanged { OnErr result (line.new.items ≡ line.old.items) }
     ensures fault { IfErr result (λ fault. (fault ≡ RunFault.Memory) ⊎ (fault ≡ RunFault.Read)) }
 
     // Memory is not told where the line had room for all that the reader had left.

@@ -105,7 +105,7 @@ fn answer<K: Ord + Clone + Drop, V: Clone + Drop>(
     ensures size { map.new.size ≡ map.old.size }
     ensures refusal { IfErr result (λ e. e ≡ Refusal.Memory) }
     ensures untold { OnErr result (replies.new.items ≡ replies.old.items) }
-    ensures err { OnErr result (map.new.pairs ≡ map.old.pairs) }
+    ensures unchanged { OnErr result (map.new.pairs ≡ map.old.pairs) }
 {
     replies.reserve(1)?;
     let reply = act(map, command)?;
@@ -124,7 +124,7 @@ fn act<K: Ord + Clone + Drop, V: Clone + Drop>(
     ensures ok { OnOk result (map.new.pairs ≡ map_after K.cmp map.old.pairs command) }
     ensures size { map.new.size ≡ map.old.size }
     ensures refusal { IfErr result (λ e. e ≡ Refusal.Memory) }
-    ensures err { OnErr result (map.new.pairs ≡ map.old.pairs) }
+    ensures unchanged { OnErr result (map.new.pairs ≡ map.old.pairs) }
 {
     let reply = match command {
         MapCommand::Insert(key, value) => match map.insert(key, value) {

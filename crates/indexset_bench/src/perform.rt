@@ -14,7 +14,7 @@ pub fn perform(set: &mut BTreeSet<u64>, command: Option<Command>) -> Result<Repl
     ensures ok { OnOk result (items set.new ≡ contents_after (items set.old) command) }
     ensures refusal { IfErr result (λ e. e ≡ Refusal.Memory) }
     ensures only_new { OnErr result (AddsNew (items set.old) command) }
-    ensures err { OnErr result (items set.new ≡ items set.old) }
+    ensures unchanged { OnErr result (items set.new ≡ items set.old) }
 {
     let reply = match command {
         Some(Command::Add(n)) => match set.insert(n) {

@@ -109,7 +109,7 @@ fn answer<T: Ord + Clone + Drop>(
     ensures size { set.new.size ≡ set.old.size }
     ensures refusal { IfErr result (λ e. e ≡ Refusal.Memory) }
     ensures untold { OnErr result (replies.new.items ≡ replies.old.items) }
-    ensures err { OnErr result (items set.new ≡ items set.old) }
+    ensures unchanged { OnErr result (items set.new ≡ items set.old) }
 {
     replies.reserve(1)?;
     let reply = act(set, command)?;
@@ -127,7 +127,7 @@ fn act<T: Ord + Clone + Drop>(
     ensures ok { OnOk result (items set.new ≡ set_after T.cmp (items set.old) command) }
     ensures size { set.new.size ≡ set.old.size }
     ensures refusal { IfErr result (λ e. e ≡ Refusal.Memory) }
-    ensures err { OnErr result (items set.new ≡ items set.old) }
+    ensures unchanged { OnErr result (items set.new ≡ items set.old) }
 {
     let reply = match command {
         SetCommand::Insert(v) => match set.insert(v) {

@@ -4,9 +4,14 @@ use Rattle.std.specs.List.{All, position_or_len}
 use Rattle.std.specs.Option.{option_map_or}
 use Rattle.std.specs.Ordering.{is_lt, is_eq}
 use Rattle.std.specs.declared.cmp.Ordering.{Ordering}
+use Rattle.std.specs.declared.vec.Vec.{Vec}
 use Rattle.indexset_core.specs.Order.{IsAscending}
 
 module _ {X : Type 0} where
+  -- what each `Vec` holds
+  abbrev pub vec_items : {Z : Type 0} → List (Vec X Z) → List (List X)
+  vec_items vs = map (λ v. v.items) vs
+
   -- the nodes, one after another
   abbrev pub joined : List (List X) → List X
   joined [] = []

@@ -1,7 +1,7 @@
 -- The numbers by which refusals are known, and their texts.
 use Rattle.std.specs.Prelude.{ℕ, List, codes}
 use Rattle.indexset_core.specs.declared.refusal.Refusal.{Refusal}
-use Rattle.indexset_core.specs.declared.refusal.Refusal.TheVariants.{Memory, Numbers, Empty, TooLarge, Unsorted, Overlaps, PairNumber, Gap, NoSuchNode, IndexOutside, ValueDiffers, WouldBeEmpty, OutOfOrder, BadSplit}
+use Rattle.indexset_core.specs.declared.refusal.Refusal.TheVariants.{Memory, Numbers, Empty, TooLarge, Unsorted, Overlaps, PairNumber, Gap, NoSuchNode, IndexOutside, ValueDiffers, WouldBeEmpty, OutOfOrder, BadSplit, NotNeighbours}
 
 -- its number
 abbrev pub number_of : Refusal → ℕ
@@ -19,6 +19,7 @@ number_of ValueDiffers = 14
 number_of WouldBeEmpty = 15
 number_of OutOfOrder = 16
 number_of BadSplit = 17
+number_of NotNeighbours = 18
 
 -- its text
 abbrev pub message_of : Refusal → List ℕ
@@ -36,3 +37,4 @@ message_of ValueDiffers = codes "another item stands at the event's index"
 message_of WouldBeEmpty = codes "the event would empty a node"
 message_of OutOfOrder = codes "the event would break the order"
 message_of BadSplit = codes "the event would cut off an empty part"
+message_of NotNeighbours = codes "the event's nodes are not neighbours"

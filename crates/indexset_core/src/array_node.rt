@@ -1,5 +1,5 @@
 //! A node of fixed capacity.
-ghost use Rattle.std.specs.Prelude.{◌≡◌, ◌/◌, length, take, drop, false};
+ghost use Rattle.std.specs.Prelude.{◌≡◌, ◌+◌, ◌-◌, ◌≤◌, ◌++◌, length, take, drop, false};
 
 use crate::node::NodeLike;
 use crate::probe::Probe;
@@ -79,6 +79,15 @@ impl<T: Ord + Default + Drop, const N: usize> NodeLike<T> for ArrayNode<T, N> {
         Ok(())
     }
 
+    fn reserve(&mut self, _count: usize) -> Result<(), Refusal> {
+        Ok(())
+    }
+
+    fn absorb(&mut self, next: Self) {
+        let mut rest = next.items;
+        move_tail(&mut rest, 0, &mut self.items);
+    }
+
     fn insert_at(&mut self, index: usize, value: T) {
         self.items.insert(index, value);
     }
@@ -122,8 +131,10 @@ impl<T: Ord + Default + Drop, const N: usize> NodeLike<T> for ArrayNode<T, N> {
     }
 
     fn halve(&mut self) -> Result<Self, Refusal> {
-        let items = halve_items(&mut self.items);
-        Ok(ArrayNode { items })
+        let half = self.items.len() / 2;
+        let mut rest = ArrayVec::new();
+        move_tail(&mut self.items, half, &mut rest);
+        Ok(ArrayNode { items: rest })
     }
 
     fn first_not_less<P: Probe<T>>(&self, probe: &mut P) -> usize {
@@ -135,15 +146,18 @@ impl<T: Ord + Default + Drop, const N: usize> NodeLike<T> for ArrayNode<T, N> {
     }
 }
 
-/// Keeps the first half of the items, and answers the rest.
-fn halve_items<T: Default + Drop, const N: usize>(items: &mut ArrayVec<T, N>) -> ArrayVec<T, N>
-    ensures left { items.new.items ≡ take (length items.old.items / 2) items.old.items }
-    ensures right { result.items ≡ drop (length items.old.items / 2) items.old.items }
+/// Moves the items from an index on behind those of another list that has room for them.
+fn move_tail<T: Default + Drop, const N: usize>(
+    items: &mut ArrayVec<T, N>,
+    index: usize,
+    other: &mut ArrayVec<T, N>,
+)
+    requires within { index ≤ length items.old.items }
+    requires room { length other.old.items + (length items.old.items - index) ≤ N }
+    ensures left { items.new.items ≡ take index items.old.items }
+    ensures moved { other.new.items ≡ other.old.items ++ drop index items.old.items }
 {
-    let half = items.len() / 2;
-    let mut rest = ArrayVec::new();
-    for item in items.drain(half..) {
-        rest.push(item);
+    for item in items.drain(index..) {
+        other.push(item);
     }
-    rest
 }

@@ -11,7 +11,7 @@ pub fn halve_node<T>(node: &mut Vec<T>) -> Result<Vec<T>, Refusal>
     ensures right { IfOk result (λ rest. rest.items ≡ drop (length node.old.items / 2) node.old.items) }
     ensures right_room { IfOk result (λ rest. length node.old.items ≤ vec_capacity rest) }
     ensures refusal { IfErr result (λ e. e ≡ Refusal.Memory) }
-    ensures err { OnErr result (node.new.items ≡ node.old.items) }
+    ensures unchanged { OnErr result (node.new.items ≡ node.old.items) }
 {
     let half = node.len() / 2;
     let mut rest = node.split_off(half)?;

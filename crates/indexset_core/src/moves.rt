@@ -30,6 +30,7 @@ pub fn move_tail<T: Drop>(items: &mut Vec<T>, index: usize, other: &mut Vec<T>)
     ensures left { items.new.items ≡ take index items.old.items }
     ensures moved { other.new.items ≡ other.old.items ++ drop index items.old.items }
     ensures capacity { vec_capacity items.new ≡ vec_capacity items.old }
+    ensures other_capacity { vec_capacity other.new ≡ vec_capacity other.old }
 {
     for item in items.drain(index..) {
         other.push_reserved(item);

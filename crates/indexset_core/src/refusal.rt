@@ -36,12 +36,14 @@ pub enum Refusal {
     OutOfOrder,
     /// The event would cut a node at its start or at or past its end.
     BadSplit,
+    /// The second node that the event names does not follow the first directly.
+    NotNeighbours,
 }
 
 impl Refusal {
     ghost use Rattle.indexset_core.specs.Refusal.{number_of};
 
-    /// The number by which this refusal is known, from 1 to 17; 8 to 10 are not in use.
+    /// The number by which this refusal is known, from 1 to 18; 8 to 10 are not in use.
     pub fn number(self) -> u8
         ensures { result ≡ number_of self }
     {
@@ -60,6 +62,7 @@ impl Refusal {
             Refusal::WouldBeEmpty => 15,
             Refusal::OutOfOrder => 16,
             Refusal::BadSplit => 17,
+            Refusal::NotNeighbours => 18,
         }
     }
 }
@@ -86,6 +89,7 @@ impl fmt::Display for Refusal {
             Refusal::WouldBeEmpty => "the event would empty a node",
             Refusal::OutOfOrder => "the event would break the order",
             Refusal::BadSplit => "the event would cut off an empty part",
+            Refusal::NotNeighbours => "the event's nodes are not neighbours",
         })
     }
 }

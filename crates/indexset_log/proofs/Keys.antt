@@ -16,9 +16,9 @@ use Rattle.indexset_log.specs.Keys.{key_removal_events}
 use Rattle.indexset_log.specs.Located.{located, IsFoundIn}
 use Rattle.indexset_log.specs.Places.{items_before}
 use Rattle.indexset_log.specs.Edits.{with_taken}
-use Rattle.indexset_log.specs.Table.{taking_events}
+use Rattle.indexset_log.specs.Table.{taking_count, taking_events}
 use Rattle.indexset_log.proofs.Places.{IsEnd, found_at, end_at, end_found, end_position, gap_at, end_offset, end_read, gap_found, gap_position}
-use Rattle.indexset_log.proofs.Takes.{found_events, taken_contents, taking_one}
+use Rattle.indexset_log.proofs.Takes.{found_events, taken_contents, taking_length}
 use Rattle.indexset_log.proofs.Views.{lawful_ascends, lawful_filled}
 
 module _ {K V : Type 0} {cmp : K → K → Ordering} {size : ℕ} {ns : List (List (Pair K V))} (o : IsTotalOrder cmp) (law : IsLawful (by_key cmp) size ns) (k : K) where
@@ -35,13 +35,13 @@ module _ {K V : Type 0} {cmp : K → K → Ordering} {size : ℕ} {ns : List (Li
   -- the pair x of the key goes from the place
   pub record KeyTaken (p : ℕ × ℕ) (x : Pair K V) : Type 0 where
     pub pair_is : pair_of cmp (joined ns) k ≡ Some x
-    pub events : key_removal_events cmp ns k ≡ taking_events (node_at ns p.0) p.1 x
-    pub contents : joined (with_taken ns p.0 p.1) ≡ without_key cmp (joined ns) k
+    pub events : key_removal_events cmp size ns k ≡ taking_events size ns p.0 p.1 x
+    pub contents : joined (with_taken size ns p.0 p.1) ≡ without_key cmp (joined ns) k
 
   -- there is no pair of the key
   pub record NoKey : Type 0 where
     pub pair_is : pair_of cmp (joined ns) k ≡ None
-    pub events : key_removal_events cmp ns k ≡ []
+    pub events : key_removal_events cmp size ns k ≡ []
     pub contents : joined ns ≡ without_key cmp (joined ns) k
 
   module _ {r : Result (ℕ × ℕ) (ℕ × ℕ)} (e : r ≡ located answer ns) {p : ℕ × ℕ} where
@@ -67,14 +67,14 @@ module _ {K V : Type 0} {cmp : K → K → Ordering} {size : ℕ} {ns : List (Li
             contents = taken_contents (pairs_total cmp o) law p.0 p.1 found.node_in here answer same;
           }
 
-      -- the removal gives one event
-      pub key_one : length (key_removal_events cmp ns k) ≡ 1
-      key_one =
+      -- how many events the removal gives
+      pub key_count : length (key_removal_events cmp size ns k) ≡ taking_count size ns p.0 p.1
+      key_count =
           let n = node_at ns p.0 in
           let some : 1 ≤ length n = omega (arith, key_offset) in
           let x = first_of n some in
           let taken = key_taken (slice_get-get_or n p.1 x key_offset) in
-          ap (λ l. length l) taken.events ∙ taking_one n p.1 (get_or n p.1 x)
+          ap (λ l. length l) taken.events ∙ taking_length size ns p.0 p.1 (get_or n p.1 x)
         where
           first_of : (l : List (Pair K V)) → 1 ≤ length l → Pair K V
           first_of [] some = absurd (omega arith)

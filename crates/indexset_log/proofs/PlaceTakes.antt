@@ -56,11 +56,11 @@ module _ {T : Type 0} (cmp : T → T → Ordering) (o : IsTotalOrder cmp) (size 
             absurd (false≢true (sym at.equal ∙ (equal_read answer (joined ns) _ x (rw before_it in_all) ∙ rw (tied_itself o x) refl)))
       ] refl
 
-  pub place_events : removal_events cmp ns x ≡ taking_events (node_at ns p.0) p.1 x
+  pub place_events : removal_events cmp size ns x ≡ taking_events size ns p.0 p.1 x
   place_events = found_events o law found_there here
 
-  pub place_contents : (s : ℕ) (after : List (List T)) → replay cmp ns (numbered_from s (taking_events (node_at ns p.0) p.1 x)) ≡ Some after → joined after ≡ without cmp (joined ns) x
+  pub place_contents : (s : ℕ) (after : List (List T)) → replay cmp ns (numbered_from s (taking_events size ns p.0 p.1 x)) ≡ Some after → joined after ≡ without cmp (joined ns) x
   place_contents s after h =
       let replayed = taken_replay o law p.0 p.1 node_in here s in
-      let same : with_taken ns p.0 p.1 ≡ after = cc in
+      let same : with_taken size ns p.0 p.1 ≡ after = cc in
       ap joined (sym same) ∙ found_contents o law found_there here

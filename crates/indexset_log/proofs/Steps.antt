@@ -1,20 +1,21 @@
 -- One event acts at one node.
-use Rattle.std.proofs.Common.{◌≡◌, suc, ◌+◌, ◌≤◌, Bool, true, false, if◌then◌else◌, List, [], ◌∷◌, ◌++◌, ◌&&◌, length, get_or, take, drop, insert, remove, ltb, leb, Option, Some, None, Ordering, refl, ap, sym, subst, arith, append_assoc, length-append}
+use Rattle.std.proofs.Common.{◌≡◌, suc, ◌+◌, ◌≤◌, Bool, true, false, if◌then◌else◌, List, [], ◌∷◌, ◌++◌, ◌&&◌, length, get_or, take, drop, set, insert, remove, ltb, leb, Option, Some, None, Ordering, refl, ap, sym, ◌∙◌, subst, arith, append_assoc, length-append}
 use Rattle.std.specs.declared.cmp.Ordering.TheVariants.{Less}
 use Rattle.std.specs.List.{position, position_or_len, splice}
 use Rattle.std.specs.Ordering.{is_eq}
 use Rattle.std.specs.Cmp.{IsTotalOrder}
 use Rattle.std.proofs.lemmas.Cmp.{tied_itself}
-use Rattle.std.proofs.lemmas.Bool.{lt-ltb, le-leb}
+use Rattle.std.proofs.lemmas.Bool.{eq-eqb, lt-ltb, le-leb}
 use Rattle.std.proofs.lemmas.List.{append-nil}
 use Rattle.std.proofs.Math.Seq.{take-append_seam, drop-append_seam, drop-append-add, get_or-append_seam}
 use Rattle.indexset_log.specs.declared.change.ChangeEventUnassigned.{ChangeEventUnassigned}
-use Rattle.indexset_log.specs.declared.change.ChangeEventUnassigned.TheVariants.{InsertAt, RemoveAt, CreateNode, RemoveNode, SplitNode}
-use Rattle.indexset_core.specs.Nodes.{joined}
+use Rattle.indexset_log.specs.declared.change.ChangeEventUnassigned.TheVariants.{InsertAt, RemoveAt, CreateNode, RemoveNode, SplitNode, MergeNodes}
+use Rattle.indexset_core.specs.Nodes.{joined, node_at}
 use Rattle.indexset_core.proofs.CallerLemmas.{joined-append}
+use Rattle.indexset_log.specs.Joining.{with_joined}
 use Rattle.indexset_log.specs.Nodes.{last_of, is_filled}
 use Rattle.indexset_log.specs.Replay.{has_name, node_named, at_named, reaches, edit, step_plain}
-use Rattle.indexset_log.proofs.Ups.{Each, each-append, each-left, each-right, each-map, each_last, ends_by, last_any, filled-append, Up, up-between, up_drop, up_cross, up_put, Ruled, greater, filled_length, ruled_tested}
+use Rattle.indexset_log.proofs.Ups.{Each, each-append, each-left, each-right, each-map, each_last, ends_by, last_any, filled-append, Up, up-between, up_drop, up_cross, up_put, Ruled, greater, filled_length, length_filled, ruled_tested}
 
 -- the first place that passes, by the parts around it
 pub place_at : {X : Type 0} (p : X → Bool) (b : List X) (n : X) (a : List X) → Each (λ x. p x ≡ false) b → p n ≡ true → position_or_len p (b ++ n ∷ a) ≡ length b
@@ -36,6 +37,20 @@ position_at p b n a hb hn =
 
 pub splice_at : {T : Type 0} (b : List T) (n : T) (a parts : List T) → splice (b ++ n ∷ a) (length b) (length b + 1) parts ≡ b ++ (parts ++ a)
 splice_at b n a parts = rw (take-append_seam b (n ∷ a), drop-append-add b (n ∷ a) 1) refl
+
+-- a node and the one after it, by the parts around them
+pub second_at : {T : Type 0} (b : List (List T)) (l r : List T) (a : List (List T)) → node_at (b ++ l ∷ r ∷ a) (length b + 1) ≡ r
+second_at b l r a = subst (λ q. node_at q (length b + 1) ≡ r) (append_assoc b (l ∷ []) (r ∷ a)) (rw (← length-append b (l ∷ [])) (get_or-append_seam (b ++ l ∷ []) r a []))
+
+pub set_second : {X : Type 0} (b : List X) (l r : X) (a : List X) (m : X) → set (b ++ l ∷ r ∷ a) (length b + 1) m ≡ b ++ l ∷ m ∷ a
+set_second {X = X} b l r a m = subst (λ k. set (b ++ l ∷ r ∷ a) k m ≡ b ++ l ∷ m ∷ a) {x = suc (length b)} {y = length b + 1} (omega arith) (after b)
+  where
+    after : (b : List X) → set (b ++ l ∷ r ∷ a) (suc (length b)) m ≡ b ++ l ∷ m ∷ a
+    after [] = refl
+    after (c ∷ b) = rw (after b) refl
+
+pub joined_seam : {T : Type 0} (b : List (List T)) (l r : List T) (a : List (List T)) → with_joined (b ++ l ∷ r ∷ a) (length b) ≡ b ++ (l ++ r) ∷ a
+joined_seam b l r a = rw (get_or-append_seam b l (r ∷ a) [], second_at b l r a, take-append_seam b (l ∷ r ∷ a), drop-append-add b (l ∷ r ∷ a) 2) refl
 
 -- an edit in a node, by the parts around it
 pub insert_at : {T : Type 0} (l r : List T) (v : T) → insert (l ++ r) (length l) v ≡ l ++ v ∷ r
@@ -164,3 +179,19 @@ module _ {T : Type 0} (cmp : T → T → Ordering) (o : IsTotalOrder cmp) where
         let low : ltb 0 (length l) ≡ true = lt-ltb _ _ (omega arith) in
         let high : ltb (length l) (length (l ++ r)) ≡ true = lt-ltb _ _ (rw (length-append l r) (omega arith)) in
         (now, edit_step _ _ _ (named_parts b (l ++ r) a d (λ n. if ltb 0 (length l) && ltb (length l) (length n) then Some (take (length l) n ∷ drop (length l) n ∷ []) else None) (l ∷ r ∷ []) h (rw (low, high, take-append_seam l r, drop-append_seam l r) refl)) now)
+
+    -- a node and the one after it made one
+    pub merge_step : (l r : List T) (d e : T) → Ruled cmp (b ++ l ∷ r ∷ a) → At b (l ++ r) a × (step_plain cmp (b ++ l ∷ r ∷ a) (MergeNodes (last_of l d) (last_of r e)) ≡ Some (b ++ (l ++ r) ∷ a))
+    merge_step l r d e h =
+        let first = ruled_at b l (r ∷ a) h in
+        let after : Each (λ c. is_filled c ≡ true) (r ∷ a) = first.after in
+        let now : At b (l ++ r) a = record {
+          before = first.before;
+          here = length_filled (l ++ r) (omega (arith, length-append l r, filled_length l first.here));
+          after = after.1;
+          up = rw (append_assoc l r (joined a)) first.up;
+        } in
+        let regrouped : (b ++ l ∷ []) ++ r ∷ a ≡ b ++ l ∷ r ∷ a = append_assoc b (l ∷ []) (r ∷ a) in
+        let second = ruled_at (b ++ l ∷ []) r a (subst (Ruled cmp) (sym regrouped) h) in
+        let next : node_named cmp (b ++ l ∷ r ∷ a) (last_of r e) ≡ Some (length b + 1) = subst (λ q. node_named cmp q (last_of r e) ≡ Some (length b + 1)) regrouped (named_at (b ++ l ∷ []) r a e second ∙ ap Some (length-append b (l ∷ []))) in
+        (now, edit_step _ _ _ (rw (named_at b l (r ∷ a) d first, next, eq-eqb (length b + 1) (length b + 1) refl, joined_seam b l r a) refl) (at_ruled b (l ++ r) a now))

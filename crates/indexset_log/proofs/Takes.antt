@@ -1,27 +1,30 @@
 -- What a removal makes of lawful nodes.
-use Rattle.std.proofs.Common.{◌≡◌, ℕ, zero, suc, ◌+◌, ◌-◌, ◌<◌, ◌≤◌, ◌||◌, Bool, true, false, not, if◌then◌else◌, List, [], ◌∷◌, ◌++◌, length, set, remove, filter, slice_get, eqb, Option, Some, None, is_some, Ordering, refl, ap, sym, ◌∙◌, subst, arith, append_assoc, length-append, map}
+use Rattle.std.proofs.Common.{◌≡◌, ℕ, zero, suc, ◌+◌, ◌-◌, ◌/◌, ◌<◌, ◌≤◌, ◌||◌, Bool, true, false, not, if◌then◌else◌, List, [], ◌∷◌, ◌++◌, length, get_or, set, remove, filter, slice_get, eqb, Option, Some, None, is_some, Result, Ok, Err, IfOk, OnOk, Ordering, refl, ap, sym, ◌∙◌, subst, arith, append_assoc, length-append, map}
 use Rattle.std.specs.Cmp.{IsTotalOrder}
 use Rattle.std.specs.List.{list_any}
+use Rattle.std.specs.Option.{option_map_or}
 use Rattle.std.specs.Ordering.{is_eq}
-use Rattle.std.proofs.lemmas.Bool.{false≢true, eq-eqb, ne_eqb, eqb-true, eqb-false}
+use Rattle.std.proofs.lemmas.Bool.{false≢true, eqb-true, eqb-false}
 use Rattle.std.specs.declared.cmp.Ordering.TheVariants.{Less, Equal}
 use Rattle.std.proofs.lemmas.Cmp.{alike_right, tied_itself}
-use Rattle.std.proofs.lemmas.List.{append-nil, nil_from_length}
+use Rattle.std.proofs.lemmas.List.{append-nil, get_or_append_left, nil_from_length}
 use Rattle.std.proofs.lemmas.List.Folds.{list_any-append}
 use Rattle.std.proofs.Math.Seq.{set-append_seam}
 use Rattle.std.proofs.lemmas.Option.{get_or_from_slice_get, slice_get-get_or}
 use Rattle.indexset_core.specs.Nodes.{joined, node_at, IsLawful}
-use Rattle.indexset_core.specs.Order.{without, equal_element}
+use Rattle.indexset_core.specs.Order.{IsAscending, without, equal_element}
 use Rattle.indexset_core.proofs.CallerLemmas.{is_some-find, joined-append, found_has_equal, found_rank, parted_by_item, offset-le}
 use Rattle.indexset_log.specs.declared.change.ChangeEvent.{ChangeEvent}
-use Rattle.indexset_log.specs.declared.change.ChangeEventUnassigned.TheVariants.{RemoveNode, RemoveAt}
+use Rattle.indexset_log.specs.declared.change.ChangeEventUnassigned.{ChangeEventUnassigned}
 use Rattle.indexset_log.specs.Tree.{IsTree}
 use Rattle.indexset_log.specs.Edits.{with_taken}
 use Rattle.indexset_log.specs.Located.{IsFoundIn}
+use Rattle.indexset_log.specs.Joining.{join_after, with_joined, without_item}
 use Rattle.indexset_log.specs.Nodes.{is_filled, last_of}
-use Rattle.indexset_log.specs.Replay.{replay, replay_plain, numbered_from, assigned}
-use Rattle.indexset_log.specs.Table.{target, taking_events, removal_events, removing_events}
-use Rattle.indexset_log.proofs.Ups.{Each, each-append, each-left, each-right, each-map, Up, up-right, up-between, Ruled, parts-without, length_filled, ascends, lawful_from, lawful_ruled, lawful_bounded}
+use Rattle.indexset_log.specs.Replay.{replay, replay_plain, step_plain, numbered_from, assigned}
+use Rattle.indexset_log.specs.Table.{count_with, joining_event, target, taking_count, taking_event, taking_events, removal_events}
+use Rattle.indexset_log.proofs.Joins.{JoinedAfter, JoinedPair, after_from, joins, pair_up}
+use Rattle.indexset_log.proofs.Ups.{last_any, last_answer, last-append, Each, each-append, each-left, each-right, each-map, Up, up-right, up-between, Ruled, parts-without, length_filled, ascends, lawful_from, lawful_ruled, lawful_bounded}
 use Rattle.indexset_log.proofs.Steps.{At, at_ruled, ruled_at, remove_step, remove_node_step, remove_at}
 use Rattle.indexset_log.proofs.Theorem.{length-numbered, numbered_replay, up_node}
 
@@ -31,19 +34,35 @@ at_place {X = X} P f [] k x e = let none : (let n : Option X = None in n) ≡ So
 at_place P f (y ∷ ys) zero x e = let same : y ≡ x = cc in subst (λ z. P (y ∷ ys) 0 z) same (f [] y ys)
 at_place P f (y ∷ ys) (suc k) x e = at_place (λ q j. P (y ∷ q) (suc j)) (λ b z a. f (y ∷ b) z a) ys k x e
 
-pub taking_one : {T : Type 0} (n : List T) (i : ℕ) (x : T) → length (taking_events n i x) ≡ 1
-taking_one n i x = elim (eqb (length n) 1) as (λ t. length (if t then RemoveNode x ∷ [] else RemoveAt (last_of n x) x i ∷ []) ≡ 1) [
-  | true ↦ refl
-  | false ↦ refl
-]
+-- one event, and a second where nodes are joined
+pub taking_length : {T : Type 0} (size : ℕ) (ns : List (List T)) (k i : ℕ) (x : T) → length (taking_events size ns k i x) ≡ taking_count size ns k i
+taking_length size ns k i x =
+    elim (join_after size ns k i) as (λ j. length (taking_event (node_at ns k) i x ∷ option_map_or (λ p. joining_event (without_item ns k i) x p ∷ []) j []) ≡ count_with j) [
+      | None ↦ refl
+      | Some j ↦ refl
+    ]
 
-pub one_told : {T : Type 0} (n : List T) (i : ℕ) (x : T) (s : ℕ) (items : List (ChangeEvent T)) → items ≡ numbered_from s (taking_events n i x) → length items ≤ 3
-one_told n i x s items told = omega (arith, ap (λ l. length l) told, length-numbered s (taking_events n i x), taking_one n i x)
+pub two_at_most : {T : Type 0} (size : ℕ) (ns : List (List T)) (k i : ℕ) → taking_count size ns k i ≤ 2
+two_at_most size ns k i =
+    elim (join_after size ns k i) as (λ j. count_with j ≤ 2) [
+      | None ↦ omega arith
+      | Some j ↦ omega arith
+    ]
+
+pub some_taken : {T : Type 0} (size : ℕ) (ns : List (List T)) (k i : ℕ) → 1 ≤ taking_count size ns k i
+some_taken size ns k i =
+    elim (join_after size ns k i) as (λ j. 1 ≤ count_with j) [
+      | None ↦ omega arith
+      | Some j ↦ omega arith
+    ]
+
+pub taking_few : {T : Type 0} (size : ℕ) (ns : List (List T)) (k i : ℕ) (x : T) (s : ℕ) (items : List (ChangeEvent T)) → items ≡ numbered_from s (taking_events size ns k i x) → length items ≤ 3
+taking_few size ns k i x s items told = omega (arith, ap (λ l. length l) told, length-numbered s (taking_events size ns k i x), taking_length size ns k i x, two_at_most size ns k i)
 
 module _ {T : Type 0} (cmp : T → T → Ordering) (o : IsTotalOrder cmp) (size : ℕ) where
-  -- the events lead to the nodes without the item, which are lawful, and it alone is gone
+  -- the event leads to the nodes without the item, which are lawful, and it alone is gone
   pub record Taken (ns : List (List T)) (k : ℕ) (n : List T) (i : ℕ) (x : T) : Type 0 where
-    pub replayed : replay_plain cmp ns (taking_events n i x) ≡ Some (if eqb (length n) 1 then remove ns k else set ns k (remove n i))
+    pub stepped : step_plain cmp ns (taking_event n i x) ≡ Some (if eqb (length n) 1 then remove ns k else set ns k (remove n i))
     pub ruled : Ruled cmp (if eqb (length n) 1 then remove ns k else set ns k (remove n i))
     pub small : Each (λ n. length n ≤ size) (if eqb (length n) 1 then remove ns k else set ns k (remove n i))
     pub front : List T
@@ -67,7 +86,7 @@ module _ {T : Type 0} (cmp : T → T → Ordering) (o : IsTotalOrder cmp) (size 
             let did = remove_node_step cmp o b a (x ∷ []) x (subst (λ n. At cmp o b n a) (sym whole) at) in
             let gone = remove_at b (l ++ x ∷ r) a in
             record {
-              replayed = rw (e, gone) (subst (λ n. replay_plain cmp (b ++ n ∷ a) (taking_events (x ∷ []) 0 x) ≡ Some (b ++ a)) whole (rw did.1 refl));
+              stepped = rw (e, gone) (subst (λ n. step_plain cmp (b ++ n ∷ a) (taking_event (x ∷ []) 0 x) ≡ Some (b ++ a)) whole did.1);
               ruled = rw (e, gone) did.0;
               small = rw (e, gone) (each-append _ b a before rest.1);
               front = joined b ++ l;
@@ -81,7 +100,7 @@ module _ {T : Type 0} (cmp : T → T → Ordering) (o : IsTotalOrder cmp) (size 
             let did = remove_step cmp o b a l x r x at full in
             let made : set (b ++ (l ++ x ∷ r) ∷ a) (length b) (remove (l ++ x ∷ r) (length l)) ≡ b ++ (l ++ r) ∷ a = rw (remove_at l x r) (set-append_seam b (l ++ x ∷ r) a (l ++ r)) in
             record {
-              replayed = rw (e, made, did.1) refl;
+              stepped = rw (e, made) did.1;
               ruled = rw (e, made) (at_ruled cmp o b (l ++ r) a did.0);
               small = rw (e, made) (each-append _ b ((l ++ r) ∷ a) before (omega (arith, length-append l r, long, rest.0), rest.1));
               front = joined b ++ l;
@@ -105,50 +124,91 @@ module _ {T : Type 0} {cmp : T → T → Ordering} {size : ℕ} {ns : List (List
     did : Taken cmp o size ns k (node_at ns k) i x
     did = taken cmp o size ns k (node_at ns k) (slice_get-get_or ns k [] inside) i x here (lawful_ruled cmp size ns law) (lawful_bounded cmp size ns law)
 
-    pub taken_tree : {most len : ℕ} → IsTree cmp most ns size len → IsTree cmp most (with_taken ns k i) size (len - 1)
-    taken_tree t =
+    -- the events lead to the nodes after, which are lawful, by where two of them are joined
+    pub record Out (join : Option ℕ) : Type 0 where
+      pub replayed : replay_plain cmp ns (taking_event (node_at ns k) i x ∷ option_map_or (λ j. joining_event (without_item ns k i) x j ∷ []) join []) ≡ Some (option_map_or (with_joined (without_item ns k i)) join (without_item ns k i))
+      pub ruled : Ruled cmp (option_map_or (with_joined (without_item ns k i)) join (without_item ns k i))
+      pub small : Each (λ n. length n ≤ size) (option_map_or (with_joined (without_item ns k i)) join (without_item ns k i))
+      pub same : joined (option_map_or (with_joined (without_item ns k i)) join (without_item ns k i)) ≡ joined (without_item ns k i)
+
+    pub out : Out (join_after size ns k i)
+    out =
+        let d = did in
+        elim (join_after size ns k i) as (λ join. join_after size ns k i ≡ join → Out join) [
+          | None ↦ λ e. record { replayed = rw d.stepped refl; ruled = d.ruled; small = d.small; same = refl }
+          | Some j ↦ λ e.
+              let after = after_from size ns k i j e in
+              let pair : JoinedPair (size / 2) (without_item ns k i) k j = subst (λ q. JoinedPair (size / 2) q k j) (sym after.without) after.pair in
+              let one = joins cmp o size x (without_item ns k i) j pair.next_in (omega (arith, pair.few)) d.ruled d.small in
+              record { replayed = rw d.stepped (rw one.stepped refl); ruled = one.ruled; small = one.small; same = one.same }
+        ] refl
+
+    tree_left : (after : List (List T)) → Ruled cmp after → Each (λ n. length n ≤ size) after → joined after ≡ joined (without_item ns k i) → {most len : ℕ} → IsTree cmp most ns size len → IsTree cmp most after size (len - 1)
+    tree_left after ruled small same t =
         let d = did in
         let before = ap (λ q. length q) d.was ∙ length-append d.front (x ∷ d.back) in
-        let after = ap (λ q. length q) d.left ∙ length-append d.front d.back in
-        record { lawful = lawful_from cmp size _ d.ruled d.small; two = t.two; within = t.within; counted = omega (arith, t.counted, before, after) }
+        let left = ap (λ q. length q) (same ∙ d.left) ∙ length-append d.front d.back in
+        record { lawful = lawful_from cmp size after ruled small; two = t.two; within = t.within; counted = omega (arith, t.counted, before, left) }
 
-    pub taken_replay : (s : ℕ) → replay cmp ns (numbered_from s (taking_events (node_at ns k) i x)) ≡ Some (with_taken ns k i)
-    taken_replay s = let d = did in numbered_replay cmp ns s (taking_events (node_at ns k) i x) ∙ d.replayed
+    pub lone_tree : {most len : ℕ} → IsTree cmp most ns size len → IsTree cmp most (without_item ns k i) size (len - 1)
+    lone_tree t = let d = did in tree_left (without_item ns k i) d.ruled d.small refl t
+
+    pub taken_tree : {most len : ℕ} → IsTree cmp most ns size len → IsTree cmp most (with_taken size ns k i) size (len - 1)
+    taken_tree t = let r = out in tree_left (with_taken size ns k i) r.ruled r.small r.same t
+
+    -- the nodes where two are joined
+    pub join_tree : {most len j : ℕ} → join_after size ns k i ≡ Some j → IsTree cmp most ns size len → IsTree cmp most (with_joined (without_item ns k i) j) size (len - 1)
+    join_tree {most = most} {len = len} e t = subst (λ q. IsTree cmp most (option_map_or (with_joined (without_item ns k i)) q (without_item ns k i)) size (len - 1)) e (taken_tree t)
+
+    pub join_up : {j : ℕ} → JoinedAfter size ns k i j → IsAscending cmp (node_at (set ns k (remove (node_at ns k) i)) j ++ node_at (set ns k (remove (node_at ns k) i)) (j + 1))
+    join_up {j = j} joins =
+        let d = did in
+        let pair : JoinedPair (size / 2) (set ns k (remove (node_at ns k) i)) k j = joins.pair in
+        pair_up cmp _ j pair.next_in (subst (Ruled cmp) joins.without d.ruled)
+
+    pub taken_replay : (s : ℕ) → replay cmp ns (numbered_from s (taking_events size ns k i x)) ≡ Some (with_taken size ns k i)
+    taken_replay s = let r = out in numbered_replay cmp ns s (taking_events size ns k i x) ∙ r.replayed
 
     -- what goes is all that equals the item
-    pub taken_contents : (answer : T → Ordering) → (λ y. cmp y x) ≡ answer → joined (with_taken ns k i) ≡ filter (λ y. not (is_eq (answer y))) (joined ns)
+    pub taken_contents : (answer : T → Ordering) → (λ y. cmp y x) ≡ answer → joined (with_taken size ns k i) ≡ filter (λ y. not (is_eq (answer y))) (joined ns)
     unfolding without
     taken_contents answer same =
         let d = did in
+        let r = out in
         let rule = lawful_ruled cmp size ns law in
         let up : Up cmp (d.front ++ x ∷ d.back) = subst (Up cmp) d.was rule.up in
         let rest : Up cmp (x ∷ d.back) = up-right cmp d.front (x ∷ d.back) up in
         let low = each-map _ _ (λ y (h : Each (λ z. cmp y z ≡ Less) (x ∷ d.back)). h.0) d.front (up-between cmp d.front (x ∷ d.back) up) in
-        d.left ∙ (sym (parts-without cmp o d.front (x ∷ []) d.back x low (tied_itself o x, tt) rest.0) ∙ rw (← d.was) (ap (λ a. filter (λ y. not (is_eq (a y))) (joined ns)) same))
+        r.same ∙ (d.left ∙ (sym (parts-without cmp o d.front (x ∷ []) d.back x low (tied_itself o x, tt) rest.0) ∙ rw (← d.was) (ap (λ a. filter (λ y. not (is_eq (a y))) (joined ns)) same)))
 
   -- the removal of the item that equals v, at its place
   module _ {v : T} {k i : ℕ} (f : IsFoundIn cmp ns v k i) where
-    pub found_events : {x : T} → slice_get (node_at ns k) i ≡ Some x → removal_events cmp ns v ≡ taking_events (node_at ns k) i x
-    unfolding removal_events removing_events
+    pub found_events : {x : T} → slice_get (node_at ns k) i ≡ Some x → removal_events cmp size ns v ≡ taking_events size ns k i x
+    unfolding removal_events
     found_events {x} here =
         let n = node_at ns k in
         let parted = parted_by_item cmp o n (ascends cmp n (up_node cmp ns k (lawful_ruled cmp size ns law))) v in
         rw (← f.node_is, found_has_equal cmp n v i f.here, found_rank cmp n v i f.here parted, get_or_from_slice_get n i x v here) refl
 
-    pub found_one : length (removal_events cmp ns v) ≡ 1
-    found_one = ap (λ q. length q) (found_events (slice_get-get_or (node_at ns k) i v f.here.inside)) ∙ taking_one (node_at ns k) i _
+    pub found_count : length (removal_events cmp size ns v) ≡ taking_count size ns k i
+    found_count = ap (λ q. length q) (found_events (slice_get-get_or (node_at ns k) i v f.here.inside)) ∙ taking_length size ns k i _
 
-    pub found_contents : {x : T} → slice_get (node_at ns k) i ≡ Some x → joined (with_taken ns k i) ≡ without cmp (joined ns) v
+    pub found_contents : {x : T} → slice_get (node_at ns k) i ≡ Some x → joined (with_taken size ns k i) ≡ without cmp (joined ns) v
     unfolding without
     found_contents {x} here =
         let e : cmp x v ≡ Equal = subst (λ y. cmp y v ≡ Equal) (get_or_from_slice_get (node_at ns k) i x x here) (f.here.equal x) in
         taken_contents k i f.node_in here (λ y. cmp y v) (λ j y. alike_right o x v y e j)
 
+-- where a removal succeeds, its events lead to the nodes after
+pub replay_if_ok : {T E : Type 0} {cmp : T → T → Ordering} {size : ℕ} {ns : List (List T)} → IsTotalOrder cmp → IsLawful cmp size ns → (after : List (List T)) (k i s : ℕ) → k < length ns → (r : Result T E) → IfOk r (λ x. slice_get (node_at ns k) i ≡ Some x) → OnOk r (after ≡ with_taken size ns k i) → IfOk r (λ x. replay cmp ns (numbered_from s (taking_events size ns k i x)) ≡ Some after)
+replay_if_ok o law after k i s inside (Ok x) here same = rw same (taken_replay o law k i inside here s)
+replay_if_ok o law after k i s inside (Err e) here same = tt
+
 -- the removal of an item that equals none
 module _ {T : Type 0} (cmp : T → T → Ordering) (ns : List (List T)) (v : T) (none : equal_element cmp (joined ns) v ≡ None) where
-  pub absent_events : removal_events cmp ns v ≡ []
-  unfolding removal_events removing_events
-  absent_events = rw (any_in (λ x. is_eq (cmp x v)) ns (target cmp ns v) (sym (is_some-find (λ x. is_eq (cmp x v)) (joined ns)) ∙ ap is_some none)) refl
+  pub absent_events : (size : ℕ) → removal_events cmp size ns v ≡ []
+  unfolding removal_events
+  absent_events size = rw (any_in (λ x. is_eq (cmp x v)) ns (target cmp ns v) (sym (is_some-find (λ x. is_eq (cmp x v)) (joined ns)) ∙ ap is_some none)) refl
     where
       neither : (a b : Bool) → (a || b) ≡ false → (a ≡ false) × (b ≡ false)
       neither true b h = absurd (false≢true (sym h))
@@ -170,13 +230,45 @@ module _ {T : Type 0} (cmp : T → T → Ordering) (ns : List (List T)) (v : T) 
         | false ↦ λ e. rw e (ap (λ q. x ∷ q) (unmatched l (rw e at h)))
       ] refl
 
--- the events as the code writes them
-module _ {T : Type 0} (s : ℕ) (n : List T) (i : ℕ) (x value : T) (items : List (ChangeEvent T)) (same : value ≡ x) where
-  pub only_written : length n ≡ 1 → items ≡ assigned s (RemoveNode value) ∷ [] → items ≡ numbered_from s (taking_events n i x)
-  only_written one made = made ∙ rw (eq-eqb (length n) 1 one, same) refl
+pub some_read : {T : Type 0} (l : List T) (i : ℕ) → i < length l → (x : T) × (slice_get l i ≡ Some x)
+some_read [] i lt = absurd (omega arith)
+some_read (x ∷ xs) zero lt = (x, refl)
+some_read (x ∷ xs) (suc i) lt = some_read xs i (omega arith)
 
-  pub one_written : (name : T) → (length n ≡ 1 → ⊥) → name ≡ last_of n x → items ≡ assigned s (RemoveAt name value i) ∷ [] → items ≡ numbered_from s (taking_events n i x)
-  one_written name more last made = made ∙ rw (ne_eqb (length n) 1 more, same, last) refl
+-- the events as the code adds them
+module _ {T : Type 0} (s size : ℕ) (ns : List (List T)) (k i : ℕ) (x : T) {e : ChangeEventUnassigned T} {items : List (ChangeEvent T)} (first : e ≡ taking_event (node_at ns k) i x) where
+  pub one_added : join_after size ns k i ≡ None → items ≡ assigned s e ∷ [] → items ≡ numbered_from s (taking_events size ns k i x)
+  one_added none made = made ∙ rw (first, none) refl
+
+  pub both_added : {j : ℕ} {f : ChangeEventUnassigned T} → join_after size ns k i ≡ Some j → f ≡ joining_event (without_item ns k i) x j → items ≡ assigned s e ∷ assigned (s + 1) f ∷ [] → items ≡ numbered_from s (taking_events size ns k i x)
+  both_added some second made = made ∙ rw (first, some, second) refl
+
+-- the last of the items but one
+module _ {T : Type 0} (n : List T) (i : ℕ) (x d : T) (inside : i < length n) where
+  pub last_end : 2 ≤ length n → i ≡ length n - 1 → x ≡ get_or n (i - 1) x → last_of (remove n i) d ≡ x
+  last_end two end is =
+      let there = some_read n i inside in
+      at_place (λ q j y. 2 ≤ length q → j ≡ length q - 1 → x ≡ get_or q (j - 1) x → last_of (remove q j) d ≡ x)
+      (λ l y r two end is.
+      let long = length-append l (y ∷ r) in
+      let none : r ≡ [] = nil_from_length r (omega (arith, long)) in
+      let full = length_filled l (omega (arith, long)) in
+      let read : x ≡ get_or l (length l - 1) x = is ∙ get_or_append_left l (y ∷ r) x (length l - 1) (omega (arith, long)) in
+      rw (remove_at l y r, none, append-nil l) (last_any l d x full ∙ (last_answer l x ∙ sym read)))
+      n i there.0 there.1 two end is
+
+  pub last_stays : (i ≡ length n - 1 → ⊥) → x ≡ get_or n (length n - 1) x → last_of (remove n i) d ≡ x
+  last_stays inner is =
+      let there = some_read n i inside in
+      at_place (λ q j y. (j ≡ length q - 1 → ⊥) → x ≡ get_or q (length q - 1) x → last_of (remove q j) d ≡ x)
+      (λ l y r inner is.
+      let long = length-append l (y ∷ r) in
+      let full = length_filled r (some_left (length r) (λ none. inner (omega (arith, long)))) in
+      rw (remove_at l y r) (last-append l r d d full ∙ (last_any r d y full ∙ (sym (last-append l (y ∷ r) x x refl) ∙ (last_answer (l ++ y ∷ r) x ∙ sym is)))))
+      n i there.0 there.1 inner is
+    where
+      some_left : (k : ℕ) → (k ≡ 0 → ⊥) → 1 ≤ k
+      some_left k h = grind arith
 
 pub map_remove : {X Y : Type 0} (f : X → Y) (xs : List X) (k : ℕ) → map f (remove xs k) ≡ remove (map f xs) k
 map_remove f [] zero = refl

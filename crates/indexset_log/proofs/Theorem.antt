@@ -1,17 +1,17 @@
 -- Replay of the numbered events of the table, from any lawful nodes.
-use Rattle.std.proofs.Common.{◌≡◌, ℕ, zero, suc, ◌+◌, ◌≤◌, true, false, if◌then◌else◌, List, [], ◌∷◌, ◌++◌, length, get_or, Option, Some, None, Ordering, option_and_then, refl, ap, ◌∙◌, subst, arith, ◌-◌, set, map, Result, Ok, Err, OnOk}
+use Rattle.std.proofs.Common.{◌≡◌, ℕ, zero, suc, ◌+◌, ◌≤◌, true, false, if◌then◌else◌, List, [], ◌∷◌, ◌++◌, length, get_or, Option, Some, None, Ordering, option_and_then, ◌||◌, refl, ap, sym, ◌∙◌, subst, arith, ◌-◌, set, map, Result, Ok, Err, OnOk}
 use Rattle.std.proofs.lemmas.List.{map-set}
 use Rattle.std.proofs.lemmas.Bool.{false≢true}
-use Rattle.std.specs.List.{slice_get}
+use Rattle.std.specs.List.{list_any, slice_get}
 use Rattle.std.proofs.lemmas.Option.{get_or_from_slice_get, slice_get-get_or}
 use Rattle.indexset_log.specs.Table.{put_events, target_events, node_events, replace_events}
 use Rattle.indexset_log.specs.declared.change.ChangeEvent.{ChangeEvent}
 use Rattle.indexset_log.specs.declared.change.ChangeEventUnassigned.{ChangeEventUnassigned}
-use Rattle.indexset_log.specs.declared.change.ChangeEventUnassigned.TheVariants.{InsertAt, RemoveAt, CreateNode, RemoveNode, SplitNode}
+use Rattle.indexset_log.specs.declared.change.ChangeEventUnassigned.TheVariants.{InsertAt, RemoveAt, CreateNode, RemoveNode, SplitNode, MergeNodes}
 use Rattle.indexset_core.specs.Nodes.{joined, IsLawful}
 use Rattle.indexset_log.specs.Nodes.{are_nodes, last_of, is_filled}
 use Rattle.indexset_core.specs.Nodes.{IsNodeList}
-use Rattle.indexset_log.specs.Replay.{edit, step, step_plain, replay_plain, replay, numbered_from, assigned, unassigned, event_number, IsNumberedFrom}
+use Rattle.indexset_log.specs.Replay.{earlier_replay, is_joining, edit, step, step_plain, replay_plain, replay, numbered_from, assigned, unassigned, event_number, IsNumberedFrom}
 use Rattle.indexset_log.proofs.Ups.{tested_nodes, last_answer, Up, up-left, up-right, Ruled, lawful_from}
 
 number_off : {T : Type 0} (s : ℕ) (e : ChangeEventUnassigned T) → unassigned (assigned s e) ≡ e
@@ -20,6 +20,7 @@ number_off s (RemoveAt m v i) = refl
 number_off s (CreateNode m) = refl
 number_off s (RemoveNode m) = refl
 number_off s (SplitNode m k) = refl
+number_off s (MergeNodes m w) = refl
 
 number_on : {T : Type 0} (s : ℕ) (e : ChangeEventUnassigned T) → event_number (assigned s e) ≡ s
 number_on s (InsertAt m v i) = refl
@@ -27,6 +28,7 @@ number_on s (RemoveAt m v i) = refl
 number_on s (CreateNode m) = refl
 number_on s (RemoveNode m) = refl
 number_on s (SplitNode m k) = refl
+number_on s (MergeNodes m w) = refl
 
 numbered_rest : {T : Type 0} (cmp : T → T → Ordering) (s : ℕ) (es : List (ChangeEventUnassigned T)) (r : Option (List (List T))) → ((ns : List (List T)) → replay cmp ns (numbered_from (s + 1) es) ≡ replay_plain cmp ns es) → option_and_then (λ ns. replay cmp ns (numbered_from (s + 1) es)) r ≡ option_and_then (λ ns. replay_plain cmp ns es) r
 numbered_rest cmp s es None h = refl
@@ -97,6 +99,19 @@ replay_rest cmp a b (Some ns) h = h ns
 pub replay-append : {T : Type 0} (cmp : T → T → Ordering) (ns : List (List T)) (a b : List (ChangeEvent T)) → replay cmp ns (a ++ b) ≡ option_and_then (λ r. replay cmp r b) (replay cmp ns a)
 replay-append cmp ns [] b = refl
 replay-append cmp ns (e ∷ a) b = replay_rest cmp a b (step cmp ns e) (λ r. replay-append cmp r a b)
+
+-- a list with no joining event
+earlier_rest : {T : Type 0} (cmp : T → T → Ordering) (es : List (ChangeEvent T)) (o : Option (List (List T))) → ((ns : List (List T)) → earlier_replay cmp ns es ≡ replay cmp ns es) → option_and_then (λ r. earlier_replay cmp r es) o ≡ option_and_then (λ r. replay cmp r es) o
+earlier_rest cmp es None h = refl
+earlier_rest cmp es (Some ns) h = h ns
+
+pub earlier_same : {T : Type 0} (cmp : T → T → Ordering) (ns : List (List T)) (es : List (ChangeEvent T)) → list_any is_joining es ≡ false → earlier_replay cmp ns es ≡ replay cmp ns es
+earlier_same cmp ns [] none = refl
+earlier_same cmp ns (e ∷ es) none =
+    elim (is_joining e) as (λ b. is_joining e ≡ b → (b || list_any is_joining es) ≡ false → option_and_then (λ r. earlier_replay cmp r es) (if b then None else step cmp ns e) ≡ option_and_then (λ r. replay cmp r es) (step cmp ns e)) [
+      | true ↦ λ is h. absurd (false≢true (sym h))
+      | false ↦ λ is h. earlier_rest cmp es (step cmp ns e) (λ r. earlier_same cmp r es h)
+    ] refl none
 
 pub numbers_off : {T : Type 0} (s : ℕ) (es : List (ChangeEventUnassigned T)) → map unassigned (numbered_from s es) ≡ es
 numbers_off s [] = refl

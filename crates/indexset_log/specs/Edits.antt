@@ -1,9 +1,11 @@
 -- What calls make of the nodes.
-use Rattle.std.specs.Prelude.{ℕ, ◌+◌, ◌/◌, length, List, [], ◌∷◌, if◌then◌else◌, ◌==◌, take, drop, set, remove}
+use Rattle.std.specs.Prelude.{ℕ, ◌+◌, ◌/◌, length, List, [], ◌∷◌, if◌then◌else◌, ◌==◌, take, drop, set}
 use Rattle.std.specs.declared.cmp.Ordering.{Ordering}
 use Rattle.std.specs.List.{splice}
+use Rattle.std.specs.Option.{option_map_or}
 use Rattle.indexset_core.specs.Nodes.{joined, node_at}
 use Rattle.indexset_core.specs.Order.{put, has_equal}
+use Rattle.indexset_log.specs.Joining.{with_joined, without_item, join_after}
 use Rattle.indexset_log.specs.Nodes.{is_filled}
 use Rattle.indexset_log.specs.Table.{target}
 
@@ -14,9 +16,9 @@ module _ {T : Type 0} where
       let half = length (node_at ns k) / 2 in
       splice ns k (k + 1) (take half (node_at ns k) ∷ drop half (node_at ns k) ∷ [])
 
-  -- the nodes without the item at place i of the node at place k: an emptied node goes too
-  abbrev pub with_taken : List (List T) → ℕ → ℕ → List (List T)
-  with_taken ns k i = if length (node_at ns k) == 1 then remove ns k else set ns k (remove (node_at ns k) i)
+  -- the nodes after the item at place i of the node at place k is taken out: small neighbours are joined
+  abbrev pub with_taken : ℕ → List (List T) → ℕ → ℕ → List (List T)
+  with_taken size ns k i = option_map_or (with_joined (without_item ns k i)) (join_after size ns k i) (without_item ns k i)
 
   -- the nodes with v put into its target
   abbrev pub put_into_target : (T → T → Ordering) → List (List T) → T → List (List T)

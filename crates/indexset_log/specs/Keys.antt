@@ -1,5 +1,5 @@
 -- What a map's calls tell, by key.
-use Rattle.std.specs.Prelude.{List, []}
+use Rattle.std.specs.Prelude.{ℕ, List, []}
 use Rattle.std.specs.Option.{option_map_or}
 use Rattle.std.specs.declared.cmp.Ordering.{Ordering}
 use Rattle.indexset_core.specs.declared.pair.Pair.{Pair}
@@ -10,5 +10,5 @@ use Rattle.indexset_log.specs.Table.{removal_events}
 
 module _ {K V : Type 0} where
   -- the events of the removal of the pair of the key, where there is one
-  unfoldable pub key_removal_events : (K → K → Ordering) → List (List (Pair K V)) → K → List (ChangeEventUnassigned (Pair K V))
-  key_removal_events cmp ns k = option_map_or (λ p. removal_events (by_key cmp) ns p) (pair_of cmp (joined ns) k) []
+  unfoldable pub key_removal_events : (K → K → Ordering) → ℕ → List (List (Pair K V)) → K → List (ChangeEventUnassigned (Pair K V))
+  key_removal_events cmp size ns k = option_map_or (λ p. removal_events (by_key cmp) size ns p) (pair_of cmp (joined ns) k) []

@@ -1,5 +1,5 @@
 -- What an event does to a list of nodes.
-use Rattle.std.specs.Prelude.{◌≡◌, ℕ, ◌+◌, ◌<◌, length, Bool, not, List, [], ◌∷◌, ◌&&◌, if◌then◌else◌, ltb, leb, get_or, take, drop, insert, remove, position, Option, Some, None, option_map, option_and_then}
+use Rattle.std.specs.Prelude.{◌≡◌, ℕ, ◌+◌, ◌<◌, length, Bool, true, false, not, List, [], ◌∷◌, ◌&&◌, if◌then◌else◌, ltb, leb, ◌==◌, get_or, take, drop, insert, remove, position, Option, Some, None, option_map, option_and_then}
 use Rattle.std.specs.declared.cmp.Ordering.{Ordering}
 use Rattle.std.specs.Ordering.{is_eq}
 use Rattle.std.specs.List.{position_or_len, HoldsAt, splice}
@@ -9,6 +9,7 @@ use Rattle.indexset_log.specs.declared.change.ChangeEvent.TheVariants as numbere
 use Rattle.indexset_log.specs.declared.change.ChangeEventUnassigned.{ChangeEventUnassigned}
 use Rattle.indexset_log.specs.declared.change.ChangeEventUnassigned.TheVariants as plain
 use Rattle.indexset_core.specs.Nodes.{ends_less, node_at}
+use Rattle.indexset_log.specs.Joining.{with_joined}
 use Rattle.indexset_log.specs.Nodes.{is_filled, last_of, are_nodes}
 
 -- the node's last item equals m
@@ -34,6 +35,7 @@ edit cmp ns (plain.RemoveAt m v i) = at_named cmp ns m (λ n. if (leb 2 (length 
 edit cmp ns (plain.CreateNode m) = Some (insert ns (position_or_len (reaches cmp m) ns) (m ∷ []))
 edit cmp ns (plain.RemoveNode m) = at_named cmp ns m (λ n. Some [])
 edit cmp ns (plain.SplitNode m k) = at_named cmp ns m (λ n. if ltb 0 k && ltb k (length n) then Some (take k n ∷ drop k n ∷ []) else None)
+edit cmp ns (plain.MergeNodes m w) = option_and_then (λ p. option_and_then (λ q. if q == p + 1 then Some (with_joined ns p) else None) (node_named cmp ns w)) (node_named cmp ns m)
 
 -- only what leaves a list of nodes is a step
 unfoldable pub step_plain : {T : Type 0} → (T → T → Ordering) → List (List T) → ChangeEventUnassigned T → Option (List (List T))
@@ -50,6 +52,7 @@ unassigned (numbered.RemoveAt id m v i) = plain.RemoveAt m v i
 unassigned (numbered.CreateNode id m) = plain.CreateNode m
 unassigned (numbered.RemoveNode id m) = plain.RemoveNode m
 unassigned (numbered.SplitNode id m k) = plain.SplitNode m k
+unassigned (numbered.MergeNodes id m w) = plain.MergeNodes m w
 
 abbrev pub event_id : {T : Type 0} → ChangeEvent T → Id
 event_id (numbered.InsertAt id m v i) = id
@@ -57,6 +60,7 @@ event_id (numbered.RemoveAt id m v i) = id
 event_id (numbered.CreateNode id m) = id
 event_id (numbered.RemoveNode id m) = id
 event_id (numbered.SplitNode id m k) = id
+event_id (numbered.MergeNodes id m w) = id
 
 abbrev pub with_id : {T : Type 0} → Id → ChangeEventUnassigned T → ChangeEvent T
 with_id s (plain.InsertAt m v i) = numbered.InsertAt s m v i
@@ -64,6 +68,7 @@ with_id s (plain.RemoveAt m v i) = numbered.RemoveAt s m v i
 with_id s (plain.CreateNode m) = numbered.CreateNode s m
 with_id s (plain.RemoveNode m) = numbered.RemoveNode s m
 with_id s (plain.SplitNode m k) = numbered.SplitNode s m k
+with_id s (plain.MergeNodes m w) = numbered.MergeNodes s m w
 
 abbrev pub event_number : {T : Type 0} → ChangeEvent T → ℕ
 event_number e = (event_id e).0
@@ -78,6 +83,20 @@ step cmp ns e = step_plain cmp ns (unassigned e)
 abbrev pub replay : {T : Type 0} → (T → T → Ordering) → List (List T) → List (ChangeEvent T) → Option (List (List T))
 replay cmp ns [] = Some ns
 replay cmp ns (e ∷ es) = option_and_then (λ r. replay cmp r es) (step cmp ns e)
+
+-- the event joins nodes
+abbrev pub is_joining : {T : Type 0} → ChangeEvent T → Bool
+is_joining (numbered.InsertAt id m v i) = false
+is_joining (numbered.RemoveAt id m v i) = false
+is_joining (numbered.CreateNode id m) = false
+is_joining (numbered.RemoveNode id m) = false
+is_joining (numbered.SplitNode id m k) = false
+is_joining (numbered.MergeNodes id m w) = true
+
+-- replay by the events that there were before nodes were joined
+abbrev pub earlier_replay : {T : Type 0} → (T → T → Ordering) → List (List T) → List (ChangeEvent T) → Option (List (List T))
+earlier_replay cmp ns [] = Some ns
+earlier_replay cmp ns (e ∷ es) = option_and_then (λ r. earlier_replay cmp r es) (if is_joining e then None else step cmp ns e)
 
 -- the events numbered from s on
 abbrev pub numbered_from : {T : Type 0} → ℕ → List (ChangeEventUnassigned T) → List (ChangeEvent T)

@@ -1,11 +1,13 @@
 -- The events of a change, without numbers.
-use Rattle.std.specs.Prelude.{ℕ, ◌+◌, ◌-◌, ◌/◌, length, Bool, List, [], ◌∷◌, ◌++◌, if◌then◌else◌, ◌==◌, get_or, take, drop}
+use Rattle.std.specs.Prelude.{ℕ, ◌+◌, ◌-◌, ◌/◌, length, Bool, List, [], ◌∷◌, ◌++◌, if◌then◌else◌, ◌==◌, get_or, take, drop, Option, Some, None}
 use Rattle.std.specs.declared.cmp.Ordering.{Ordering}
 use Rattle.std.specs.Ordering.{is_gt}
+use Rattle.std.specs.Option.{option_map_or}
 use Rattle.indexset_core.specs.Order.{rank, has_equal}
 use Rattle.indexset_log.specs.declared.change.ChangeEventUnassigned.{ChangeEventUnassigned}
-use Rattle.indexset_log.specs.declared.change.ChangeEventUnassigned.TheVariants.{InsertAt, RemoveAt, CreateNode, RemoveNode, SplitNode}
+use Rattle.indexset_log.specs.declared.change.ChangeEventUnassigned.TheVariants.{InsertAt, RemoveAt, CreateNode, RemoveNode, SplitNode, MergeNodes}
 use Rattle.indexset_core.specs.Nodes.{joined, node_at, node_for}
+use Rattle.indexset_log.specs.Joining.{without_item, join_after}
 use Rattle.indexset_log.specs.Nodes.{is_filled, last_of}
 
 -- the place of the first node whose last item is not below v, else of the last node
@@ -53,16 +55,30 @@ put_events cmp size ns v = if is_filled ns then target_events cmp size (node_at 
 unfoldable pub checked_put_events : {T : Type 0} → (T → T → Ordering) → ℕ → List (List T) → T → List (ChangeEventUnassigned T)
 checked_put_events cmp size ns v = if has_equal cmp (joined ns) v then [] else put_events cmp size ns v
 
--- removal, removal of an only item: the item x at place i of a node goes
-abbrev pub taking_events : {T : Type 0} → List T → ℕ → T → List (ChangeEventUnassigned T)
-taking_events n i x = if length n == 1 then RemoveNode x ∷ [] else RemoveAt (last_of n x) x i ∷ []
+-- removal, removal of an only item: the item x at place i of the node n goes
+abbrev pub taking_event : {T : Type 0} → List T → ℕ → T → ChangeEventUnassigned T
+taking_event n i x = if length n == 1 then RemoveNode x else RemoveAt (last_of n x) x i
 
--- the removal of the item equal to v from a node: nothing changes where there is none
-unfoldable pub removing_events : {T : Type 0} → (T → T → Ordering) → List T → T → List (ChangeEventUnassigned T)
-removing_events cmp n v =
+-- joining: the node at place j and the one after it become one, each named by its last item
+abbrev pub joining_event : {T : Type 0} → List (List T) → T → ℕ → ChangeEventUnassigned T
+joining_event ns d j = MergeNodes (last_of (node_at ns j) d) (last_of (node_at ns (j + 1)) d)
+
+-- the item x at place i of the node at place k is taken out: small neighbours are joined
+abbrev pub taking_events : {T : Type 0} → ℕ → List (List T) → ℕ → ℕ → T → List (ChangeEventUnassigned T)
+taking_events size ns k i x = taking_event (node_at ns k) i x ∷ option_map_or (λ j. joining_event (without_item ns k i) x j ∷ []) (join_after size ns k i) []
+
+-- how many events that gives, by where nodes are joined
+abbrev pub count_with : Option ℕ → ℕ
+count_with None = 1
+count_with (Some j) = 2
+
+abbrev pub taking_count : {T : Type 0} → ℕ → List (List T) → ℕ → ℕ → ℕ
+taking_count size ns k i = count_with (join_after size ns k i)
+
+-- a removal: nothing changes where no item equals v
+unfoldable pub removal_events : {T : Type 0} → (T → T → Ordering) → ℕ → List (List T) → T → List (ChangeEventUnassigned T)
+removal_events cmp size ns v =
+    let k = target cmp ns v in
+    let n = node_at ns k in
     let i = rank cmp n v in
-    if has_equal cmp n v then taking_events n i (get_or n i v) else []
-
--- a removal
-unfoldable pub removal_events : {T : Type 0} → (T → T → Ordering) → List (List T) → T → List (ChangeEventUnassigned T)
-removal_events cmp ns v = removing_events cmp (node_at ns (target cmp ns v)) v
+    if has_equal cmp n v then taking_events size ns k i (get_or n i v) else []

@@ -1,9 +1,10 @@
 //! What is done to the nodes.
-ghost use Rattle.std.specs.Prelude.{◌≡◌, ◌+◌, ◌/◌, ◌<◌, ◌≤◌, Bool, true, false, IsTrue, [], vec_len, vec_capacity, length, map, set, cond, if◌then◌else◌, min, sum_by, Option, IfOk, OnOk, IfErr, OnErr, is_err};
+ghost use Rattle.std.specs.Prelude.{◌≡◌, ◌+◌, ◌/◌, ◌<◌, ◌≤◌, ◌++◌, Bool, true, false, IsTrue, [], vec_len, vec_capacity, length, map, set, cond, if◌then◌else◌, min, sum_by, Option, Some, nat_le, ◌⊎◌, remove, slice_get, IfOk, OnOk, IfErr, OnErr, is_err};
 ghost use Rattle.std.specs.List.{HoldsAt};
 ghost use Rattle.indexset_core.specs.Nodes.{joined, node_at};
 ghost use Rattle.indexset_core.specs.Order.{IsAscending, IsFoundAt, IsGapFor, put, equal_element};
 ghost use Rattle.indexset_log.specs.Edits.{with_halved};
+ghost use Rattle.indexset_log.specs.Joining.{with_joined};
 ghost use Rattle.indexset_log.specs.Table.{half_of};
 
 use crate::aim::Aim;
@@ -36,7 +37,7 @@ pub(crate) fn halve_at<T: Ord + Drop, Node: NodeLike<T>>(
     ensures left_room { OnOk result (HoldsAt (λ n. length (Node.list n) < Node.room n) nodes.new.items place) }
     ensures right_room { OnOk result (HoldsAt (λ n. length (Node.list n) < Node.room n) nodes.new.items (place + 1)) }
     ensures refusal { IfErr result (λ e. e ≡ Refusal.Memory) }
-    ensures err { OnErr result (map Node.list nodes.new.items ≡ map Node.list nodes.old.items) }
+    ensures unchanged { OnErr result (map Node.list nodes.new.items ≡ map Node.list nodes.old.items) }
 {
     nodes.reserve(1)?;
     let node = &mut nodes[place];
@@ -61,7 +62,7 @@ pub(crate) fn make_room<T: Ord + Drop, Node: NodeLike<T>>(
     ensures place { IfOk result (λ place. place ≡ aim.now.node + cond aim.now.right 1 0) }
     ensures room { IfOk result (λ place. is_err aim.now.at ≡ true → HoldsAt (λ n. length (Node.list n) < Node.room n) nodes.new.items place) }
     ensures refusal { IfErr result (λ e. e ≡ Refusal.Memory) }
-    ensures err { OnErr result (map Node.list nodes.new.items ≡ map Node.list nodes.old.items) }
+    ensures unchanged { OnErr result (map Node.list nodes.new.items ≡ map Node.list nodes.old.items) }
 {
     if aim.full {
         halve_at(nodes, aim.node)?;
@@ -110,6 +111,45 @@ pub(crate) fn first_node<T: Ord + Drop, Node: NodeLike<T>>(
 {
     nodes.reserve(1)?;
     Node::with_capacity(*nodes.allocator(), 1)
+}
+
+/// Whether two nodes of these lengths hold no more than `most` items together.
+pub(crate) fn fit_together(left: usize, right: usize, most: usize) -> bool
+    ensures { result ≡ nat_le (left + right) most }
+{
+    left <= most && right <= most - left
+}
+
+/// Takes out the item at a place, and makes the node at `left` and the one after it one: the item is in
+/// either. Room is asked for first, and a refused call leaves the items as they are.
+pub(crate) fn take_and_join<T: Ord + Drop, Node: NodeLike<T>>(
+    nodes: &mut Vec<Node>,
+    node: usize,
+    offset: usize,
+    left: usize,
+) -> Result<T, Refusal>
+    requires place { left + 1 < length nodes.old.items }
+    requires node { (node ≡ left) ⊎ (node ≡ left + 1) }
+    requires offset { offset < length (node_at (map Node.list nodes.old.items) node) }
+    requires most { length (node_at (map Node.list nodes.old.items) left) + length (node_at (map Node.list nodes.old.items) (left + 1)) ≤ Node.most }
+    requires order { IsAscending T.cmp (node_at (set (map Node.list nodes.old.items) node (remove (node_at (map Node.list nodes.old.items) node) offset)) left ++ node_at (set (map Node.list nodes.old.items) node (remove (node_at (map Node.list nodes.old.items) node) offset)) (left + 1)) }
+    ensures item { IfOk result (λ item. slice_get (node_at (map Node.list nodes.old.items) node) offset ≡ Some item) }
+    ensures nodes { OnOk result (map Node.list nodes.new.items ≡ with_joined (set (map Node.list nodes.old.items) node (remove (node_at (map Node.list nodes.old.items) node) offset)) left) }
+    ensures refusal { IfErr result (λ e. e ≡ Refusal.Memory) }
+    ensures unchanged { OnErr result (map Node.list nodes.new.items ≡ map Node.list nodes.old.items) }
+{
+    let more = nodes[left + 1].len();
+    let first = &mut nodes[left];
+    first.reserve(more)?;
+    let mut next = nodes.remove(left + 1);
+    let first = &mut nodes[left];
+    let item = if node == left {
+        first.remove_at(offset)
+    } else {
+        next.remove_at(offset)
+    };
+    first.absorb(next);
+    Ok(item)
 }
 
 /// How many items the nodes hold.

@@ -7,7 +7,7 @@ use Rattle.std.specs.declared.cmp.PartialEq as eq
 use Rattle.std.specs.declared.cmp.PartialOrd as partial
 use Rattle.indexset_core.specs.declared.pair.Pair.{Pair}
 use Rattle.indexset_core.specs.Pairs.{pair, entry_of, set_value_at, valued}
-use Rattle.indexset_map.specs.declared.map.iter_mut.IterMut.{IterMut}
+use Rattle.indexset_map.specs.declared.iter_mut.IterMut.{IterMut}
 use Rattle.indexset_map.specs.Contents.{Contents, with_pairs, with_value_at}
 use Rattle.indexset_map.specs.Walk.{HasWritten, IsSpan, after_first, written}
 use Rattle.indexset_map.proofs.ContentsLemmas.{set_cons}

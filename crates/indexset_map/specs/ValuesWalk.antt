@@ -6,9 +6,9 @@ use Rattle.std.specs.declared.cmp.PartialEq as eq
 use Rattle.std.specs.declared.cmp.PartialOrd as partial
 use mir.Syntax.{named}
 use Rattle.indexset_map.specs.Walk.{after_first, before_last}
-use Rattle.indexset_map.specs.declared.map.iter_mut.IterMut.{IterMut}
-use Rattle.indexset_map.specs.declared.map.values_mut.ValuesMut.{ValuesMut}
-use Rattle.indexset_map.specs.contracts.map.values_mut.ValuesMut.{the_row}
+use Rattle.indexset_map.specs.declared.iter_mut.IterMut.{IterMut}
+use Rattle.indexset_map.specs.declared.values_mut.ValuesMut.{ValuesMut}
+use Rattle.indexset_map.specs.contracts.values_mut.ValuesMut.{the_row}
 
 module _ {K V : Type 0} {g : ord.Ghosts K} {g' : eq.Ghosts K} {g'' : partial.Ghosts K} where
   -- the walk over the pairs at the same positions

@@ -6,8 +6,8 @@ use Rattle.indexset_core.specs.MultiPairs.{by_number}
 use Rattle.indexset_core.specs.Nodes.{joined, node_at, IsLawful}
 use Rattle.indexset_log.specs.declared.change.ChangeEventUnassigned.{ChangeEventUnassigned}
 use Rattle.indexset_log.specs.Replay.{replay, numbered_from}
-use Rattle.indexset_log.specs.Table.{taking_events}
-use Rattle.indexset_log.proofs.CallerLemmas.{place_contents, place_events, taking_one}
+use Rattle.indexset_log.specs.Table.{taking_count, taking_events}
+use Rattle.indexset_log.proofs.CallerLemmas.{place_contents, place_events, taking_length}
 use Rattle.indexset_multi.specs.Keys.{AreNumberedBelow, without_pair}
 use Rattle.indexset_multi.specs.Places.{item_at, IsItemPlace}
 use Rattle.indexset_multi.specs.Tree.{MultiTree, pair_removal_events}
@@ -22,11 +22,11 @@ some_read (x ∷ xs) (suc i) lt = some_read xs i (omega arith)
 module _ {K V : Type 0} (cmp : K → K → Ordering) where
   -- the events that the contract names for the removal of the pair at a place
   abbrev place_removal : MultiTree K V → Option (ℕ × ℕ) → List (ChangeEventUnassigned (MultiPair K V))
-  place_removal m place = pair_removal_events cmp m.nodes (item_at m.nodes place)
+  place_removal m place = pair_removal_events cmp m.size m.nodes (item_at m.nodes place)
 
   -- a removal from nodes ns, whose first event has the number s, made a map m hold the nodes after
-  pub record Taken (ns : List (List (MultiPair K V))) (s : ℕ) (m : MultiTree K V) (place : Option (ℕ × ℕ)) (p : ℕ × ℕ) (x : MultiPair K V) (after : List (List (MultiPair K V))) : Type 0 where
-    pub told : numbered_from s (taking_events (node_at ns p.0) p.1 x) ≡ numbered_from m.next (place_removal m place)
+  pub record Taken (size : ℕ) (ns : List (List (MultiPair K V))) (s : ℕ) (m : MultiTree K V) (place : Option (ℕ × ℕ)) (p : ℕ × ℕ) (x : MultiPair K V) (after : List (List (MultiPair K V))) : Type 0 where
+    pub told : numbered_from s (taking_events size ns p.0 p.1 x) ≡ numbered_from m.next (place_removal m place)
     pub replayed : replay (by_number cmp) m.nodes (numbered_from m.next (place_removal m place)) ≡ Some after
     pub contents : joined after ≡ without_pair cmp (joined m.nodes) (item_at m.nodes place)
     pub below : (n : ℕ) → AreNumberedBelow n (joined ns) → AreNumberedBelow n (joined after)
@@ -42,20 +42,20 @@ module _ {K V : Type 0} (cmp : K → K → Ordering) where
       item : item_at ns place ≡ Some x
       item = rw is here
 
-      events : pair_removal_events cmp ns (item_at ns place) ≡ taking_events (node_at ns p.0) p.1 x
+      events : pair_removal_events cmp size ns (item_at ns place) ≡ taking_events size ns p.0 p.1 x
       events = rw item (place_events (by_number cmp) (numbers_total cmp o) size ns law p inside.0 x here)
 
-      pub taken : {after : List (List (MultiPair K V))} → replay (by_number cmp) ns (numbered_from next (taking_events (node_at ns p.0) p.1 x)) ≡ Some after → Taken ns next m place p x after
+      pub taken : {after : List (List (MultiPair K V))} → replay (by_number cmp) ns (numbered_from next (taking_events size ns p.0 p.1 x)) ≡ Some after → Taken size ns next m place p x after
       taken {after = after} h =
           let left = place_contents (by_number cmp) (numbers_total cmp o) size ns law p inside.0 x here next after h in
-          subst (λ (t : MultiTree K V). Taken ns next t place p x after) seen (record {
+          subst (λ (t : MultiTree K V). Taken size ns next t place p x after) seen (record {
             told = ap (numbered_from next) (sym events);
             replayed = rw events h;
             contents = rw item left;
             below = λ n below. rw left (below_without (by_number cmp) n (joined ns) x below);
           })
 
-    pub taken_one : length (place_removal m place) ≡ 1
-    taken_one =
+    pub taken_count : length (place_removal m place) ≡ taking_count size ns p.0 p.1
+    taken_count =
         let there = some_read (node_at ns p.0) p.1 inside.1 in
-        subst (λ (t : MultiTree K V). length (place_removal t place) ≡ 1) seen (ap (λ l. length l) (events there.1) ∙ taking_one (node_at ns p.0) p.1 there.0)
+        subst (λ (t : MultiTree K V). length (place_removal t place) ≡ taking_count size ns p.0 p.1) seen (ap (λ l. length l) (events there.1) ∙ taking_length size ns p.0 p.1 there.0)

@@ -21,8 +21,8 @@ pub record MultiTree (K V : Type 0) : Type 0 where
   pub pair_next : ℕ
 
 -- the events of the removal of the pair that is named, where one is
-abbrev pub pair_removal_events : {K V : Type 0} → (K → K → Ordering) → List (List (MultiPair K V)) → Option (MultiPair K V) → List (ChangeEventUnassigned (MultiPair K V))
-pair_removal_events cmp ns pair = option_map_or (λ p. removal_events (by_number cmp) ns p) pair []
+abbrev pub pair_removal_events : {K V : Type 0} → (K → K → Ordering) → ℕ → List (List (MultiPair K V)) → Option (MultiPair K V) → List (ChangeEventUnassigned (MultiPair K V))
+pair_removal_events cmp size ns pair = option_map_or (λ p. removal_events (by_number cmp) size ns p) pair []
 
 module _ {K V : Type 0} (cmp : K → K → Ordering) (eq : V → V → Bool) where
   module _ (m : MultiTree K V) (k : K) (w : V) where

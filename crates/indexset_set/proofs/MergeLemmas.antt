@@ -4,8 +4,8 @@ use Rattle.std.specs.declared.cmp.Ordering.TheVariants.{Less, Equal, Greater}
 use Rattle.std.specs.Ordering.{match_ordering}
 use Rattle.std.specs.List.{cons_option}
 use Rattle.std.proofs.lemmas.Bool.{false≢true}
-use Rattle.indexset_set.specs.declared.set.algebra.merge.Side.{Side}
-use Rattle.indexset_set.specs.declared.set.algebra.merge.Side.TheVariants.{Left, Right, Both}
+use Rattle.indexset_set.specs.declared.algebra.merge.Side.{Side}
+use Rattle.indexset_set.specs.declared.algebra.merge.Side.TheVariants.{Left, Right, Both}
 use Rattle.indexset_set.specs.Merge.{read, merged, merged_from, of_left, of_right, of_either, of_both, of_left_alone}
 
 -- what holds of merged lists where either has ended, and where an item comes before merged ones

@@ -10,8 +10,8 @@ use Rattle.std.proofs.lemmas.List.Kept.{AllPairs-cons}
 use Rattle.std.proofs.lemmas.Bool.{false≢true}
 use Rattle.indexset_core.specs.Order.{IsAscending, below, above, has_equal, keep, put}
 use Rattle.std.specs.List.{cons_option}
-use Rattle.indexset_set.specs.declared.set.algebra.merge.Side.{Side}
-use Rattle.indexset_set.specs.declared.set.algebra.merge.Side.TheVariants.{Left, Right, Both}
+use Rattle.indexset_set.specs.declared.algebra.merge.Side.{Side}
+use Rattle.indexset_set.specs.declared.algebra.merge.Side.TheVariants.{Left, Right, Both}
 use Rattle.indexset_set.specs.Merge.{read, merged, of_either, of_both, of_left_alone, of_one_alone}
 use Rattle.indexset_set.specs.SetAlgebra.{union, intersection, difference, symmetric_difference}
 use Rattle.indexset_set.proofs.MergeLemmas.{merged_by, read_all, read_none}

@@ -3,8 +3,8 @@ use Rattle.std.specs.Prelude.{List, [], ◌∷◌, map, Option, Some, None}
 use Rattle.std.specs.List.{filter_map}
 use Rattle.std.specs.Ordering.{match_ordering}
 use Rattle.std.specs.declared.cmp.Ordering.{Ordering}
-use Rattle.indexset_set.specs.declared.set.algebra.merge.Side.{Side}
-use Rattle.indexset_set.specs.declared.set.algebra.merge.Side.TheVariants.{Left, Right, Both}
+use Rattle.indexset_set.specs.declared.algebra.merge.Side.{Side}
+use Rattle.indexset_set.specs.declared.algebra.merge.Side.TheVariants.{Left, Right, Both}
 
 abbrev pub map_side : {X Y : Type 0} → (X → Y) → Side X → Side Y
 map_side f (Left x) = Left (f x)

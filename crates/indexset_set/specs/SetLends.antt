@@ -8,7 +8,7 @@ use Rattle.indexset_core.specs.declared.pair.Pair.{Pair}
 use Rattle.indexset_core.specs.Pairs.{by_key}
 use Rattle.indexset_set.specs.SetPairs.{with_value_at}
 use Rattle.indexset_core.specs.contracts.pair.Pair as pair
-use Rattle.indexset_set.specs.contracts.set.BTreeSet.{the_row}
+use Rattle.indexset_set.specs.contracts.BTreeSet.{the_row}
 
 abbrev pub pairs_row : (K V : RattleType) → OrdMembers K.Denot → RattleType
 pairs_row K V o = the_row (pair.the_row K V) (record { cmp = by_key o.cmp }) (record { eq = λ p q. o.eq p.key q.key }) (record { partial_cmp = λ p q. o.partial_cmp p.key q.key })

@@ -5,9 +5,9 @@ use Rattle.std.proofs.lemmas.List.Elements.{All-cons, All-nil, All-append, All-w
 use Rattle.std.proofs.lemmas.List.Sums.{sum_by-append}
 use Rattle.std.specs.List.{All}
 use Rattle.std.specs.declared.vec.Vec.{Vec}
-use Rattle.indexset_core.specs.Nodes.{joined, node_lengths}
+use Rattle.indexset_core.specs.Nodes.{joined, node_lengths, vec_items}
 use Rattle.indexset_core.proofs.CallerLemmas.{joined-append}
-use Rattle.indexset_spine.specs.Cut.{IsCut, IsSpine, vec_items}
+use Rattle.indexset_spine.specs.Cut.{IsCut, IsSpine}
 
 -- where there is an item, no node is empty
 each_filled : (ls : List ℕ) (size : ℕ) → IsCut ls size → 0 < sum ls → All (λ n. 1 ≤ n) ls

@@ -9,8 +9,8 @@ use Rattle.std.specs.Vec.{with_item}
 use Rattle.indexset_spine.specs.declared.spot.Spot.{Spot}
 use Rattle.indexset_core.proofs.CallerLemmas.{length-joined, node_lengths-set}
 use Rattle.indexset_spine.proofs.VecNodes.{length-vec_items, vec_items-set, node_read, item_read}
-use Rattle.indexset_core.specs.Nodes.{joined, node_lengths}
-use Rattle.indexset_spine.specs.Cut.{Cut, cut, with_item_at, IsCut, IsSpine, IsIndexed, items, set_joined, vec_items, IsItemSpot, position_of}
+use Rattle.indexset_core.specs.Nodes.{joined, node_lengths, vec_items}
+use Rattle.indexset_spine.specs.Cut.{Cut, cut, with_item_at, IsCut, IsSpine, IsIndexed, items, set_joined, IsItemSpot, position_of}
 
 -- n numbers above 0 add up to n at least
 sum-filled : (ls : List ℕ) → All (λ n. 1 ≤ n) ls → length ls ≤ sum ls

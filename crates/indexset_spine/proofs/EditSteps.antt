@@ -8,8 +8,8 @@ use Rattle.std.specs.Option.{IfSome}
 use Rattle.std.specs.Vec.{vec_len, vec_capacity}
 use Rattle.std.specs.declared.vec.Vec.{Vec}
 use Rattle.indexset_spine.specs.declared.spot.Spot.{Spot}
-use Rattle.indexset_core.specs.Nodes.{node_at}
-use Rattle.indexset_spine.specs.Cut.{Cut, cut, vec_items, IsSpot, IsItemSpot, with_inserted, parts_with}
+use Rattle.indexset_core.specs.Nodes.{node_at, vec_items}
+use Rattle.indexset_spine.specs.Cut.{Cut, cut, IsSpot, IsItemSpot, with_inserted, parts_with}
 use Rattle.indexset_spine.specs.Edits.{with_item_in, with_halved}
 use Rattle.indexset_spine.proofs.VecNodes.{length-vec_items, vec_items-set, vec_items-splice, node_read}
 

@@ -5,8 +5,8 @@ use Rattle.std.proofs.lemmas.List.Edits.{length-between}
 use Rattle.std.specs.List.{between}
 use Rattle.std.specs.declared.vec.Vec.{Vec}
 use Rattle.indexset_spine.specs.declared.spot.Spot.{Spot}
-use Rattle.indexset_core.specs.Nodes.{joined, node_at}
-use Rattle.indexset_spine.specs.Cut.{vec_items, IsSpot, position_of}
+use Rattle.indexset_core.specs.Nodes.{joined, node_at, vec_items}
+use Rattle.indexset_spine.specs.Cut.{IsSpot, position_of}
 use Rattle.indexset_spine.proofs.VecNodes.{length-vec_items}
 use Rattle.indexset_core.proofs.CallerLemmas.{between_in, between_across, places_order, offset-le}
 use Rattle.indexset_spine.proofs.VecNodes.{node_read}

@@ -4,8 +4,7 @@ use Rattle.std.specs.declared.vec.Vec.{Vec}
 use Rattle.std.proofs.Math.ListN.{get_or-map}
 use Rattle.std.proofs.lemmas.List.{length-map, length-take, get_or-drop, get_or-take, take_more}
 use Rattle.std.proofs.lemmas.List.Sums.{sum_by_more_le}
-use Rattle.indexset_core.specs.Nodes.{node_lengths}
-use Rattle.indexset_spine.specs.Cut.{vec_items}
+use Rattle.indexset_core.specs.Nodes.{node_lengths, vec_items}
 use Rattle.indexset_spine.proofs.VecNodes.{node_read}
 
 module _ {X Z : Type 0} where

@@ -5,9 +5,9 @@ use Rattle.std.proofs.lemmas.Slice.{between_is}
 use Rattle.std.specs.List.{between}
 use Rattle.std.specs.declared.vec.Vec.{Vec}
 use Rattle.indexset_spine.specs.declared.spot.Spot.{Spot}
-use Rattle.indexset_core.specs.Nodes.{joined, node_at, node_lengths}
+use Rattle.indexset_core.specs.Nodes.{joined, node_at, node_lengths, vec_items}
 use Rattle.indexset_core.proofs.CallerLemmas.{joined-append, length-joined-more, length-joined-mono, length-joined-take, offset-le}
-use Rattle.indexset_spine.specs.Cut.{Cut, cut, items, vec_items, IsCut, IsSpot, IsItemSpot, position_of}
+use Rattle.indexset_spine.specs.Cut.{Cut, cut, items, IsCut, IsSpot, IsItemSpot, position_of}
 use Rattle.indexset_spine.proofs.CutEdits.{node_filled}
 use Rattle.indexset_spine.proofs.IterLemmas.{between-vec_items}
 use Rattle.indexset_spine.proofs.VecNodes.{length-vec_items, node_read}

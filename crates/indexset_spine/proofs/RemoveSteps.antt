@@ -8,8 +8,8 @@ use Rattle.std.specs.List.{remove}
 use Rattle.std.specs.Vec.{with_item}
 use Rattle.std.specs.declared.vec.Vec.{Vec}
 use Rattle.indexset_spine.specs.declared.spot.Spot.{Spot}
-use Rattle.indexset_core.specs.Nodes.{node_at, joined}
-use Rattle.indexset_spine.specs.Cut.{Cut, cut, vec_items, IsItemSpot, without_item, with_replaced, position_of}
+use Rattle.indexset_core.specs.Nodes.{node_at, joined, vec_items}
+use Rattle.indexset_spine.specs.Cut.{Cut, cut, IsItemSpot, without_item, with_replaced, position_of}
 use Rattle.indexset_spine.specs.Edits.{without_emptied}
 use Rattle.indexset_spine.proofs.VecNodes.{vec_items-set}
 use Rattle.indexset_spine.proofs.CutEdits.{item_at_spot}

@@ -7,8 +7,8 @@ use Rattle.std.proofs.lemmas.List.Edits.{swap_is}
 use Rattle.std.specs.List.{All}
 use Rattle.std.specs.List.Retain.{RetainsInTurn}
 use Rattle.std.specs.declared.vec.Vec.{Vec}
-use Rattle.indexset_core.specs.Nodes.{joined, node_lengths}
-use Rattle.indexset_spine.specs.Cut.{IsCut, IsSpine, vec_items}
+use Rattle.indexset_core.specs.Nodes.{joined, node_lengths, vec_items}
+use Rattle.indexset_spine.specs.Cut.{IsCut, IsSpine}
 use Rattle.indexset_spine.specs.Edits.{RetainsTo, RetainsEach, RetainsNodes, or_one_empty, without_all_emptied}
 use Rattle.indexset_spine.proofs.CutEdits.{spine_of}
 use Rattle.indexset_spine.proofs.CutSplits.{joined_all_emptied, cut_all_emptied}

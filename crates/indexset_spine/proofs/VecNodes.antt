@@ -4,9 +4,8 @@ use Rattle.std.proofs.lemmas.List.{get_or-take}
 use Rattle.std.proofs.Common.{◌∙◌}
 use Rattle.std.specs.List.{splice}
 use Rattle.std.specs.declared.vec.Vec.{Vec}
-use Rattle.indexset_core.specs.Nodes.{joined}
+use Rattle.indexset_core.specs.Nodes.{joined, vec_items}
 use Rattle.indexset_core.proofs.CallerLemmas as nodes
-use Rattle.indexset_spine.specs.Cut.{vec_items}
 
 module _ {X Z : Type 0} where
   pub length-vec_items : (vs : List (Vec X Z)) → length (vec_items vs) ≡ length vs

@@ -2,7 +2,6 @@
 use Rattle.std.specs.Prelude.{◌≡◌, ℕ, ◌+◌, ◌-◌, ◌/◌, ◌<◌, ◌≤◌, ◌==◌, ◌&&◌, true, List, [], ◌∷◌, length, map, sum, take, drop, refl, slice_set, insert, remove, if◌then◌else◌, nat_lt}
 use Rattle.std.specs.List.{All, splice}
 use Rattle.std.specs.Coded.{Coded, code_by, coded×, coded_ℕ, coded_list}
-use Rattle.std.specs.declared.vec.Vec.{Vec}
 use Rattle.indexset_core.specs.Nodes.{joined, node_at}
 use Rattle.indexset_spine.specs.declared.spot.Spot.{Spot}
 
@@ -42,10 +41,6 @@ module _ {X : Type 0} where
   -- the items
   abbrev pub items : Cut X → List X
   items s = joined s.nodes
-
-  -- what each `Vec` holds
-  abbrev pub vec_items : {Z : Type 0} → List (Vec X Z) → List (List X)
-  vec_items vs = map (λ v. v.items) vs
 
   -- a spot between items or at one: the node is there, and the offset is at most its length
   pub record IsSpot (ns : List (List X)) (s : Spot) : Type 0 where

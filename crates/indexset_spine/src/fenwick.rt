@@ -1,7 +1,6 @@
 //! A Fenwick index: lengths, kept as sums that are quick to add up, to search and to change.
 ghost use Rattle.std.specs.Prelude.{◌≡◌, ◌+◌, ◌-◌, ◌<◌, ◌≤◌, ◌^◌, [], ◌∷◌, ◌++◌, length, sum, take, slice_index, slice_set, IfOk, IfErr, OnOk};
-ghost use Rattle.indexset_core.specs.Nodes.{node_lengths};
-ghost use Rattle.indexset_spine.specs.Cut.{vec_items};
+ghost use Rattle.indexset_core.specs.Nodes.{node_lengths, vec_items};
 
 pub mod cells;
 pub mod laws;

@@ -3,8 +3,7 @@ ghost use Rattle.std.specs.Prelude.{◌≡◌, length, List, Some, IfSome};
 ghost use Rattle.std.specs.Iterator.{at_most, UpTo};
 ghost use Rattle.std.specs.Iterator.SizeHint.{IsWithinCount};
 ghost use Rattle.std.specs.Map.Iter.{TakesFirst, TakesLast};
-ghost use Rattle.indexset_core.specs.Nodes.{joined};
-ghost use Rattle.indexset_spine.specs.Cut.{vec_items};
+ghost use Rattle.indexset_core.specs.Nodes.{joined, vec_items};
 
 mod traits;
 
@@ -25,7 +24,7 @@ impl<T> Model for IntoIter<T> {
     ghost use Rattle.std.specs.Prelude.{◌≡◌, List, ◌++◌, length};
     ghost use Rattle.std.specs.Vec.Iter.{into_iter_items};
     ghost use Rattle.indexset_core.specs.Nodes.{joined};
-    ghost use Rattle.indexset_spine.specs.Cut.{vec_items};
+    ghost use Rattle.indexset_core.specs.Nodes.{vec_items};
 
     ghost Value = { List T };
 

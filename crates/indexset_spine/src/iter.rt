@@ -4,8 +4,8 @@ ghost use Rattle.std.specs.List.{between};
 ghost use Rattle.std.specs.Iterator.{at_most, UpTo};
 ghost use Rattle.std.specs.Iterator.SizeHint.{IsWithinCount};
 ghost use Rattle.std.specs.Map.Iter.{TakesFirst, TakesLast, deref};
-ghost use Rattle.indexset_core.specs.Nodes.{joined};
-ghost use Rattle.indexset_spine.specs.Cut.{vec_items, IsSpot, position_of};
+ghost use Rattle.indexset_core.specs.Nodes.{joined, vec_items};
+ghost use Rattle.indexset_spine.specs.Cut.{IsSpot, position_of};
 
 pub mod runs;
 mod traits;
@@ -26,7 +26,7 @@ pub struct Iter<'a, T> {
 impl<'a, T> Model for Iter<'a, T> {
     ghost use Rattle.std.specs.Prelude.{◌≡◌, List, ◌++◌, length};
     ghost use Rattle.indexset_core.specs.Nodes.{joined};
-    ghost use Rattle.indexset_spine.specs.Cut.{vec_items};
+    ghost use Rattle.indexset_core.specs.Nodes.{vec_items};
 
     ghost Value = { List T };
 

@@ -1,7 +1,7 @@
 //! The lengths of nodes, added up: by an index, or one by one.
 ghost use Rattle.std.specs.Prelude.{◌≡◌, ◌^◌, ◌+◌, ◌<◌, ◌≤◌, length, sum, slice_index, MatchOption};
-ghost use Rattle.indexset_core.specs.Nodes.{joined};
-ghost use Rattle.indexset_spine.specs.Cut.{vec_items, IsSpot, position_of};
+ghost use Rattle.indexset_core.specs.Nodes.{joined, vec_items};
+ghost use Rattle.indexset_spine.specs.Cut.{IsSpot, position_of};
 ghost use Rattle.indexset_spine.specs.Fenwick.{prefix_sum};
 
 use crate::fenwick::Fenwick;
@@ -24,7 +24,7 @@ pub(crate) fn node_and_offset(index: &Fenwick, position: usize) -> Option<(usize
 }
 
 /// How many items the nodes hold.
-pub(crate) fn total_in<T>(nodes: &[Vec<T>]) -> usize
+pub(crate) fn count_items<T>(nodes: &[Vec<T>]) -> usize
     requires { length (joined (vec_items nodes.now)) < 2 ^ 64 }
     ensures { result ≡ length (joined (vec_items nodes.now)) }
 {
@@ -46,5 +46,5 @@ pub(crate) fn distance_in<T>(nodes: &[Vec<T>], start: &Spot, end: &Spot) -> usiz
     if end.node < start.node {
         return 0;
     }
-    total_in(&nodes[start.node..end.node]) + end.offset - start.offset
+    count_items(&nodes[start.node..end.node]) + end.offset - start.offset
 }

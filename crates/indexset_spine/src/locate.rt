@@ -3,8 +3,7 @@ ghost use Rattle.std.specs.Prelude.{◌≡◌, ◌+◌, ◌<◌, ◌≤◌, IsTr
 ghost use Rattle.std.specs.List.{All};
 ghost use Rattle.indexset_core.specs.Digits.{digits};
 ghost use Rattle.indexset_core.specs.Parted.{IsParted, less_count};
-ghost use Rattle.indexset_core.specs.Nodes.{ends_less, equal_at, joined, node_lengths, node_for};
-ghost use Rattle.indexset_spine.specs.Cut.{vec_items};
+ghost use Rattle.indexset_core.specs.Nodes.{ends_less, equal_at, joined, node_lengths, node_for, vec_items};
 
 use indexset_core::probe::Probe;
 use indexset_core::search;

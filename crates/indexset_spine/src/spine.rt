@@ -6,8 +6,8 @@ ghost use Rattle.std.specs.List.{between};
 ghost use Rattle.std.specs.Map.Iter.{ShowsInOrder, ShowsInReverse, GivesInOrder, GivesInReverse, deref};
 ghost use Rattle.indexset_core.specs.Digits.{digits};
 ghost use Rattle.indexset_core.specs.Parted.{IsParted, less_count};
-ghost use Rattle.indexset_core.specs.Nodes.{node_at, node_for, equal_at, node_lengths};
-ghost use Rattle.indexset_spine.specs.Cut.{items, vec_items, IsCut, IsSpot, IsItemSpot, position_of};
+ghost use Rattle.indexset_core.specs.Nodes.{node_at, node_for, equal_at, node_lengths, vec_items};
+ghost use Rattle.indexset_spine.specs.Cut.{items, IsCut, IsSpot, IsItemSpot, position_of};
 
 mod append;
 mod ends;
@@ -40,7 +40,8 @@ pub struct Spine<T> {
 
 impl<T> Model for Spine<T> {
     ghost use Rattle.indexset_core.specs.Nodes.{node_lengths};
-    ghost use Rattle.indexset_spine.specs.Cut.{Cut, cut, cut_code, vec_items, IsIndexed};
+    ghost use Rattle.indexset_spine.specs.Cut.{Cut, cut, cut_code, IsIndexed};
+    ghost use Rattle.indexset_core.specs.Nodes.{vec_items};
 
     ghost Value = { Cut T };
 

@@ -23,7 +23,7 @@ pub fn write_seven(m: &mut BTreeMap<u8, u32>, key: u8)
 /// Counts a word.
 pub fn count_word(counts: &mut BTreeMap<u8, u32>, word: u8) -> Result<(), Refused<(u8, u32)>>
     ensures ok { OnOk result (counts.new.pairs ≡ counted counts.old.pairs word) }
-    ensures err { OnErr result (counts.new ≡ counts.old) }
+    ensures unchanged { OnErr result (counts.new ≡ counts.old) }
 {
     let entry = counts.entry(word).and_modify(
         |n: &mut u32|

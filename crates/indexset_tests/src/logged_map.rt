@@ -1,6 +1,6 @@
 //! Worked examples of the logged map, over either node type.
 
-use indexset_bench::replica::Replica;
+use indexset_replica::Replica;
 use indexset_core::array_node::ArrayNode;
 use indexset_core::node::NodeLike;
 use indexset_core::pair::Pair;

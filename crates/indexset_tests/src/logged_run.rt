@@ -5,7 +5,7 @@ use indexset_bench::logged::map::{LoggedMapCommand, LoggedMapReply};
 use indexset_bench::logged::multimap::{LoggedMultiCommand, LoggedMultiReply};
 use indexset_bench::logged::set::{LoggedSetCommand, LoggedSetReply};
 use indexset_bench::logged_run::run_logged;
-use indexset_bench::replica::Replica;
+use indexset_replica::Replica;
 use indexset_core::array_node::ArrayNode;
 use indexset_core::multipair::MultiPair;
 use indexset_core::node::NodeLike;

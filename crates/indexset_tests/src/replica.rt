@@ -1,7 +1,7 @@
 //! Worked examples of a replica: events that arrive, and events that are refused.
 
 use crate::tagged::Tagged;
-use indexset_bench::replica::{Replica, laws};
+use indexset_replica::{Replica, laws};
 use indexset_core::refusal::Refusal;
 use indexset_log::change::{ChangeEvent, Id};
 use std::alloc::{AllocError, Global};

@@ -14,8 +14,8 @@ use indexset_core::pair::Pair;
 use indexset_core::refusal::Refusal;
 
 impl<K: Ord + Clone + Drop, V: Clone + Drop, Node: NodeLike<Pair<K, V>>> BTreeMap<K, V, Node> {
-    /// Takes out the pair of a key, where there is one, and tells the events. A refused call changes
-    /// nothing.
+    /// Takes out the pair of a key, where there is one, and tells the events: a node that is left small
+    /// is joined with a small neighbour. A refused call changes nothing.
     pub fn remove_cdc(
         &mut self,
         key: &K,
@@ -25,15 +25,15 @@ impl<K: Ord + Clone + Drop, V: Clone + Drop, Node: NodeLike<Pair<K, V>>> BTreeMa
         ensures answer { IfOk result (λ r. r.0 ≡ option_map entry_of (pair_of K.cmp (joined self.old.nodes) key.now)) }
         ensures contents { OnOk result (joined self.new.nodes ≡ without_key K.cmp (joined self.old.nodes) key.now) }
         ensures gone { OnOk result (has_key K.cmp (joined self.new.nodes) key.now ≡ false) }
-        ensures events { IfOk result (λ r. r.1.items ≡ numbered_from self.old.next (key_removal_events K.cmp self.old.nodes key.now)) }
+        ensures events { IfOk result (λ r. r.1.items ≡ numbered_from self.old.next (key_removal_events K.cmp self.old.size self.old.nodes key.now)) }
         ensures numbered { IfOk result (λ r. IsNumberedFrom self.old.next r.1.items) }
         ensures replay { IfOk result (λ r. replay (by_key K.cmp) self.old.nodes r.1.items ≡ Some self.new.nodes) }
         ensures few { IfOk result (λ r. length r.1.items ≤ 3) }
         ensures size { self.new.size ≡ self.old.size }
-        ensures next { OnOk result (self.new.next ≡ self.old.next + length (key_removal_events K.cmp self.old.nodes key.now)) }
-        ensures fits { OnOk result (self.old.next + length (key_removal_events K.cmp self.old.nodes key.now) ≤ u64.MAX) }
-        ensures refusal { IfErr result (λ e. e ≡ refusal_for self.old.next (length (key_removal_events K.cmp self.old.nodes key.now))) }
-        ensures no_event { key_removal_events K.cmp self.old.nodes key.now ≡ [] → IsOk result }
+        ensures next { OnOk result (self.new.next ≡ self.old.next + length (key_removal_events K.cmp self.old.size self.old.nodes key.now)) }
+        ensures fits { OnOk result (self.old.next + length (key_removal_events K.cmp self.old.size self.old.nodes key.now) ≤ u64.MAX) }
+        ensures refusal { IfErr result (λ e. e ≡ refusal_for self.old.next (length (key_removal_events K.cmp self.old.size self.old.nodes key.now))) }
+        ensures no_event { key_removal_events K.cmp self.old.size self.old.nodes key.now ≡ [] → IsOk result }
         ensures unchanged { OnErr result (self.new ≡ self.old) }
     {
         match self.locate(key) {
@@ -47,15 +47,17 @@ impl<K: Ord + Clone + Drop, V: Clone + Drop, Node: NodeLike<Pair<K, V>>> BTreeMa
     }
 
     /// Takes out the pair of a key, where there is one. It uses up as many numbers as `remove_cdc`, and
-    /// is refused only where they don't fit. It takes no memory.
+    /// is refused where they don't fit. It takes memory only where it joins two nodes.
     pub fn remove(&mut self, key: &K) -> Result<Option<(K, V)>, Refusal>
         ensures answer { IfOk result (λ entry. entry ≡ option_map entry_of (pair_of K.cmp (joined self.old.nodes) key.now)) }
         ensures contents { OnOk result (joined self.new.nodes ≡ without_key K.cmp (joined self.old.nodes) key.now) }
         ensures gone { OnOk result (has_key K.cmp (joined self.new.nodes) key.now ≡ false) }
-        ensures replay { OnOk result (replay (by_key K.cmp) self.old.nodes (numbered_from self.old.next (key_removal_events K.cmp self.old.nodes key.now)) ≡ Some self.new.nodes) }
+        ensures replay { OnOk result (replay (by_key K.cmp) self.old.nodes (numbered_from self.old.next (key_removal_events K.cmp self.old.size self.old.nodes key.now)) ≡ Some self.new.nodes) }
         ensures size { self.new.size ≡ self.old.size }
-        ensures next { OnOk result (self.new.next ≡ self.old.next + length (key_removal_events K.cmp self.old.nodes key.now)) }
-        ensures refusal { IfErr result (λ e. (e ≡ Refusal.Numbers) × (u64.MAX < self.old.next + length (key_removal_events K.cmp self.old.nodes key.now))) }
+        ensures next { OnOk result (self.new.next ≡ self.old.next + length (key_removal_events K.cmp self.old.size self.old.nodes key.now)) }
+        ensures fits { OnOk result (self.old.next + length (key_removal_events K.cmp self.old.size self.old.nodes key.now) ≤ u64.MAX) }
+        ensures refusal { IfErr result (λ e. e ≡ refusal_for self.old.next (length (key_removal_events K.cmp self.old.size self.old.nodes key.now))) }
+        ensures no_memory { length (key_removal_events K.cmp self.old.size self.old.nodes key.now) ≤ 1 → self.old.next + length (key_removal_events K.cmp self.old.size self.old.nodes key.now) ≤ u64.MAX → IsOk result }
         ensures unchanged { OnErr result (self.new ≡ self.old) }
     {
         match self.locate(key) {

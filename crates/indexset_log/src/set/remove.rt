@@ -1,34 +1,38 @@
 //! Calls that take items out.
-ghost use Rattle.std.specs.Prelude.{◌≡◌, ◌+◌, ◌<◌, ◌≤◌, [], length, slice_get, Some, false, IfOk, OnOk, IfErr, OnErr, IsOk, IfSome};
+ghost use Rattle.std.specs.Prelude.{◌≡◌, ℕ, ◌+◌, ◌/◌, ◌<◌, ◌≤◌, [], length, set, remove, slice_get, Some, None, false, IfOk, OnOk, IfErr, OnErr, IsOk, IfSome};
 ghost use Rattle.indexset_core.specs.Nodes.{joined, node_at};
 ghost use Rattle.indexset_core.specs.Order.{equal_element, has_equal, without};
 ghost use Rattle.indexset_log.specs.Edits.{with_taken};
+ghost use Rattle.indexset_log.specs.Joining.{are_small, join_after, with_joined, without_item};
+ghost use Rattle.indexset_log.specs.Nodes.{last_of};
 ghost use Rattle.indexset_log.specs.Replay.{replay, numbered_from, IsNumberedFrom};
-ghost use Rattle.indexset_log.specs.Table.{taking_events, removal_events};
+ghost use Rattle.indexset_log.specs.Table.{count_with, joining_event, taking_count, taking_event, taking_events, removal_events};
 ghost use Rattle.indexset_log.specs.Tree.{refusal_for};
 
 use super::BTreeSet;
 use crate::change::{ChangeEvent, ChangeEventUnassigned};
 use crate::log::Log;
+use crate::nodes::{fit_together, take_and_join};
 use indexset_core::node::NodeLike;
 use indexset_core::refusal::Refusal;
 
 impl<T: Ord + Clone + Drop, Node: NodeLike<T>> BTreeSet<T, Node> {
-    /// Takes out the equal item, and tells the events. A refused call changes nothing.
+    /// Takes out the equal item, and tells the events: a node that is left small is joined with a small
+    /// neighbour. A refused call changes nothing.
     pub fn remove_cdc(&mut self, value: &T) -> Result<(Option<T>, Vec<ChangeEvent<T>>), Refusal>
         requires clones { (x y : T) → T.is_clone x y → y ≡ x }
         ensures answer { IfOk result (λ r. r.0 ≡ equal_element T.cmp (joined self.old.nodes) value.now) }
         ensures contents { OnOk result (joined self.new.nodes ≡ without T.cmp (joined self.old.nodes) value.now) }
         ensures gone { OnOk result (has_equal T.cmp (joined self.new.nodes) value.now ≡ false) }
-        ensures events { IfOk result (λ r. r.1.items ≡ numbered_from self.old.next (removal_events T.cmp self.old.nodes value.now)) }
+        ensures events { IfOk result (λ r. r.1.items ≡ numbered_from self.old.next (removal_events T.cmp self.old.size self.old.nodes value.now)) }
         ensures numbered { IfOk result (λ r. IsNumberedFrom self.old.next r.1.items) }
         ensures replay { IfOk result (λ r. replay T.cmp self.old.nodes r.1.items ≡ Some self.new.nodes) }
         ensures few { IfOk result (λ r. length r.1.items ≤ 3) }
         ensures size { self.new.size ≡ self.old.size }
-        ensures next { OnOk result (self.new.next ≡ self.old.next + length (removal_events T.cmp self.old.nodes value.now)) }
-        ensures fits { OnOk result (self.old.next + length (removal_events T.cmp self.old.nodes value.now) ≤ u64.MAX) }
-        ensures refusal { IfErr result (λ e. e ≡ refusal_for self.old.next (length (removal_events T.cmp self.old.nodes value.now))) }
-        ensures no_event { removal_events T.cmp self.old.nodes value.now ≡ [] → IsOk result }
+        ensures next { OnOk result (self.new.next ≡ self.old.next + length (removal_events T.cmp self.old.size self.old.nodes value.now)) }
+        ensures fits { OnOk result (self.old.next + length (removal_events T.cmp self.old.size self.old.nodes value.now) ≤ u64.MAX) }
+        ensures refusal { IfErr result (λ e. e ≡ refusal_for self.old.next (length (removal_events T.cmp self.old.size self.old.nodes value.now))) }
+        ensures no_event { removal_events T.cmp self.old.size self.old.nodes value.now ≡ [] → IsOk result }
         ensures unchanged { OnErr result (self.new ≡ self.old) }
     {
         match self.find(value) {
@@ -40,7 +44,8 @@ impl<T: Ord + Clone + Drop, Node: NodeLike<T>> BTreeSet<T, Node> {
         }
     }
 
-    /// Takes out the item at a place, and tells the events. A refused call changes nothing.
+    /// Takes out the item at a place, and tells the events: a node that is left small is joined with a
+    /// small neighbour. A refused call changes nothing.
     pub fn remove_at_cdc(
         &mut self,
         node: usize,
@@ -50,85 +55,247 @@ impl<T: Ord + Clone + Drop, Node: NodeLike<T>> BTreeSet<T, Node> {
         requires node { node < length self.old.nodes }
         requires offset { offset < length (node_at self.old.nodes node) }
         ensures item { IfOk result (λ r. slice_get (node_at self.old.nodes node) offset ≡ Some r.0) }
-        ensures nodes { OnOk result (self.new.nodes ≡ with_taken self.old.nodes node offset) }
-        ensures events { IfOk result (λ r. r.1.items ≡ numbered_from self.old.next (taking_events (node_at self.old.nodes node) offset r.0)) }
+        ensures nodes { OnOk result (self.new.nodes ≡ with_taken self.old.size self.old.nodes node offset) }
+        ensures events { IfOk result (λ r. r.1.items ≡ numbered_from self.old.next (taking_events self.old.size self.old.nodes node offset r.0)) }
         ensures numbered { IfOk result (λ r. IsNumberedFrom self.old.next r.1.items) }
         ensures replay { IfOk result (λ r. replay T.cmp self.old.nodes r.1.items ≡ Some self.new.nodes) }
         ensures few { IfOk result (λ r. length r.1.items ≤ 3) }
         ensures size { self.new.size ≡ self.old.size }
-        ensures next { OnOk result (self.new.next ≡ self.old.next + 1) }
-        ensures fits { OnOk result (self.old.next + 1 ≤ u64.MAX) }
-        ensures refusal { IfErr result (λ e. e ≡ refusal_for self.old.next 1) }
-        ensures unchanged { OnErr result (self.new ≡ self.old) }
-    {
-        if self.next == u64::MAX {
-            return Err(Refusal::Numbers);
-        }
-        let events = self.removal_log(node, offset)?;
-        Ok((self.take_out(node, offset), events))
-    }
-
-    /// Takes out the equal item. It uses up as many numbers as `remove_cdc`, and is refused only where
-    /// they don't fit. It takes no memory.
-    pub fn remove(&mut self, value: &T) -> Result<Option<T>, Refusal>
-        ensures answer { IfOk result (λ item. item ≡ equal_element T.cmp (joined self.old.nodes) value.now) }
-        ensures contents { OnOk result (joined self.new.nodes ≡ without T.cmp (joined self.old.nodes) value.now) }
-        ensures gone { OnOk result (has_equal T.cmp (joined self.new.nodes) value.now ≡ false) }
-        ensures replay { OnOk result (replay T.cmp self.old.nodes (numbered_from self.old.next (removal_events T.cmp self.old.nodes value.now)) ≡ Some self.new.nodes) }
-        ensures size { self.new.size ≡ self.old.size }
-        ensures next { OnOk result (self.new.next ≡ self.old.next + length (removal_events T.cmp self.old.nodes value.now)) }
-        ensures refusal { IfErr result (λ e. (e ≡ Refusal.Numbers) × (u64.MAX < self.old.next + length (removal_events T.cmp self.old.nodes value.now))) }
+        ensures next { OnOk result (self.new.next ≡ self.old.next + taking_count self.old.size self.old.nodes node offset) }
+        ensures fits { OnOk result (self.old.next + taking_count self.old.size self.old.nodes node offset ≤ u64.MAX) }
+        ensures refusal { IfErr result (λ e. e ≡ refusal_for self.old.next (taking_count self.old.size self.old.nodes node offset)) }
         ensures unchanged { OnErr result (self.new ≡ self.old) }
     {
         // The nodes are lawful.
         let _nodes = &self.nodes;
+        let join = self.join_after(node);
+        self.check_removal(join)?;
+        let events = self.removal_log(node, offset, join)?;
+        let item = self.take(node, offset, join)?;
+        Ok((item, events))
+    }
+
+    /// Takes out the equal item. It uses up as many numbers as `remove_cdc`, and is refused where they
+    /// don't fit. It takes memory only where it joins two nodes.
+    pub fn remove(&mut self, value: &T) -> Result<Option<T>, Refusal>
+        ensures answer { IfOk result (λ item. item ≡ equal_element T.cmp (joined self.old.nodes) value.now) }
+        ensures contents { OnOk result (joined self.new.nodes ≡ without T.cmp (joined self.old.nodes) value.now) }
+        ensures gone { OnOk result (has_equal T.cmp (joined self.new.nodes) value.now ≡ false) }
+        ensures replay { OnOk result (replay T.cmp self.old.nodes (numbered_from self.old.next (removal_events T.cmp self.old.size self.old.nodes value.now)) ≡ Some self.new.nodes) }
+        ensures size { self.new.size ≡ self.old.size }
+        ensures next { OnOk result (self.new.next ≡ self.old.next + length (removal_events T.cmp self.old.size self.old.nodes value.now)) }
+        ensures fits { OnOk result (self.old.next + length (removal_events T.cmp self.old.size self.old.nodes value.now) ≤ u64.MAX) }
+        ensures refusal { IfErr result (λ e. e ≡ refusal_for self.old.next (length (removal_events T.cmp self.old.size self.old.nodes value.now))) }
+        ensures no_memory { length (removal_events T.cmp self.old.size self.old.nodes value.now) ≤ 1 → self.old.next + length (removal_events T.cmp self.old.size self.old.nodes value.now) ≤ u64.MAX → IsOk result }
+        ensures unchanged { OnErr result (self.new ≡ self.old) }
+    {
+        // The counter is a u64, so no number is wanting where none is used up.
+        let _next = self.next;
         match self.find(value) {
             Some((node, offset)) => Ok(Some(self.remove_at(node, offset)?)),
             None => Ok(None),
         }
     }
 
-    /// Takes out the item at a place. It uses up one number, and is refused only where none is left.
-    /// It takes no memory.
+    /// Takes out the item at a place. It uses up as many numbers as `remove_at_cdc`, and is refused where
+    /// they don't fit. It takes memory only where it joins two nodes.
     pub fn remove_at(&mut self, node: usize, offset: usize) -> Result<T, Refusal>
         requires node { node < length self.old.nodes }
         requires offset { offset < length (node_at self.old.nodes node) }
         ensures item { IfOk result (λ item. slice_get (node_at self.old.nodes node) offset ≡ Some item) }
-        ensures nodes { OnOk result (self.new.nodes ≡ with_taken self.old.nodes node offset) }
-        ensures replay { IfOk result (λ item. replay T.cmp self.old.nodes (numbered_from self.old.next (taking_events (node_at self.old.nodes node) offset item)) ≡ Some self.new.nodes) }
+        ensures nodes { OnOk result (self.new.nodes ≡ with_taken self.old.size self.old.nodes node offset) }
+        ensures replay { IfOk result (λ item. replay T.cmp self.old.nodes (numbered_from self.old.next (taking_events self.old.size self.old.nodes node offset item)) ≡ Some self.new.nodes) }
         ensures size { self.new.size ≡ self.old.size }
-        ensures next { OnOk result (self.new.next ≡ self.old.next + 1) }
-        ensures refusal { IfErr result (λ e. (e ≡ Refusal.Numbers) × (u64.MAX < self.old.next + 1)) }
+        ensures next { OnOk result (self.new.next ≡ self.old.next + taking_count self.old.size self.old.nodes node offset) }
+        ensures fits { OnOk result (self.old.next + taking_count self.old.size self.old.nodes node offset ≤ u64.MAX) }
+        ensures refusal { IfErr result (λ e. e ≡ refusal_for self.old.next (taking_count self.old.size self.old.nodes node offset)) }
+        ensures no_memory { taking_count self.old.size self.old.nodes node offset ≡ 1 → self.old.next + 1 ≤ u64.MAX → IsOk result }
         ensures unchanged { OnErr result (self.new ≡ self.old) }
     {
-        if self.next == u64::MAX {
+        // The nodes are lawful.
+        let _nodes = &self.nodes;
+        let join = self.join_after(node);
+        self.check_removal(join)?;
+        self.take(node, offset, join)
+    }
+
+    // The first of the two nodes that are joined once a node has lost an item, whichever it is.
+    fn join_after(&self, node: usize) -> Option<usize>
+        requires { node < length self.now.nodes }
+        ensures { (i : ℕ) → i < length (node_at self.now.nodes node) → result ≡ join_after self.now.size self.now.nodes node i }
+    {
+        if self.nodes[node].len() == 1 {
+            return None;
+        }
+        if self.are_small(node, node) {
+            return Some(node);
+        }
+        if node > 0 && self.are_small(node - 1, node) {
+            return Some(node - 1);
+        }
+        None
+    }
+
+    // Whether the node at `left` and the one after it are few items together, once a node has lost one.
+    fn are_small(&self, left: usize, node: usize) -> bool
+        requires left { left < length self.now.nodes }
+        requires node { node < length self.now.nodes }
+        ensures { (i : ℕ) → i < length (node_at self.now.nodes node) → result ≡ are_small (self.now.size / 2) (set self.now.nodes node (remove (node_at self.now.nodes node) i)) left }
+    {
+        let count = self.nodes.len();
+        left + 1 < count
+            && fit_together(
+                self.length_without(left, node),
+                self.length_without(left + 1, node),
+                self.size / 2,
+            )
+    }
+
+    // The length of the node at a place, once a node has lost an item.
+    fn length_without(&self, place: usize, node: usize) -> usize
+        requires place { place < length self.now.nodes }
+        requires node { node < length self.now.nodes }
+        ensures { (i : ℕ) → i < length (node_at self.now.nodes node) → result ≡ length (node_at (set self.now.nodes node (remove (node_at self.now.nodes node) i)) place) }
+    {
+        let length = self.nodes[place].len();
+        if place == node { length - 1 } else { length }
+    }
+
+    // Whether there are numbers for the events of a removal.
+    fn check_removal(&self, join: Option<usize>) -> Result<(), Refusal>
+        ensures fits { OnOk result (self.now.next + count_with join ≤ u64.MAX) }
+        ensures memory { OnOk result (refusal_for self.now.next (count_with join) ≡ Refusal.Memory) }
+        ensures refusal { IfErr result (λ e. e ≡ refusal_for self.now.next (count_with join)) }
+        ensures short { OnErr result (u64.MAX < self.now.next + count_with join) }
+    {
+        if removal_count(join) > u64::MAX - self.next {
             return Err(Refusal::Numbers);
         }
-        Ok(self.take_out(node, offset))
+        Ok(())
     }
 
     // The events of a removal.
-    fn removal_log(&self, node: usize, offset: usize) -> Result<Vec<ChangeEvent<T>>, Refusal>
+    fn removal_log(
+        &self,
+        node: usize,
+        offset: usize,
+        join: Option<usize>,
+    ) -> Result<Vec<ChangeEvent<T>>, Refusal>
         requires clones { (x y : T) → T.is_clone x y → y ≡ x }
         requires node { node < length self.now.nodes }
         requires offset { offset < length (node_at self.now.nodes node) }
-        requires number { self.now.next < u64.MAX }
-        ensures events { IfOk result (λ events. IfSome (slice_get (node_at self.now.nodes node) offset) (λ x. events.items ≡ numbered_from self.now.next (taking_events (node_at self.now.nodes node) offset x))) }
+        requires join { join ≡ join_after self.now.size self.now.nodes node offset }
+        requires numbers { self.now.next + count_with join ≤ u64.MAX }
+        ensures events { IfOk result (λ events. IfSome (slice_get (node_at self.now.nodes node) offset) (λ x. events.items ≡ numbered_from self.now.next (taking_events self.now.size self.now.nodes node offset x))) }
         ensures refusal { IfErr result (λ e. e ≡ Refusal.Memory) }
     {
         let mut log = Log::new(*self.nodes.allocator(), self.next);
+        log.add(self.taking_event(node, offset)?)?;
+        match join {
+            Some(left) => {
+                log.add(self.joining_event(left, node, offset)?)?;
+                Ok(log.events)
+            }
+            None => Ok(log.events),
+        }
+    }
+
+    // The event of the item at a place that goes.
+    fn taking_event(&self, node: usize, offset: usize) -> Result<ChangeEventUnassigned<T>, Refusal>
+        requires clones { (x y : T) → T.is_clone x y → y ≡ x }
+        requires node { node < length self.now.nodes }
+        requires offset { offset < length (node_at self.now.nodes node) }
+        ensures event { IfOk result (λ event. IfSome (slice_get (node_at self.now.nodes node) offset) (λ x. event ≡ taking_event (node_at self.now.nodes node) offset x)) }
+        ensures refusal { IfErr result (λ e. e ≡ Refusal.Memory) }
+    {
         let items = self.nodes[node].iter().as_slice();
         let value = items[offset].clone()?;
         if items.len() == 1 {
-            log.add(ChangeEventUnassigned::RemoveNode { max_value: value })?;
-        } else {
-            log.add(ChangeEventUnassigned::RemoveAt {
-                max_value: items[items.len() - 1].clone()?,
-                value,
-                index: offset,
-            })?;
+            return Ok(ChangeEventUnassigned::RemoveNode { max_value: value });
         }
-        Ok(log.events)
+        Ok(ChangeEventUnassigned::RemoveAt {
+            max_value: items[items.len() - 1].clone()?,
+            value,
+            index: offset,
+        })
+    }
+
+    // The event of the node at `left` and the one after it that are joined once the item at a place is gone.
+    fn joining_event(
+        &self,
+        left: usize,
+        node: usize,
+        offset: usize,
+    ) -> Result<ChangeEventUnassigned<T>, Refusal>
+        requires clones { (x y : T) → T.is_clone x y → y ≡ x }
+        requires node { node < length self.now.nodes }
+        requires offset { offset < length (node_at self.now.nodes node) }
+        requires join { join_after self.now.size self.now.nodes node offset ≡ Some left }
+        ensures event { IfOk result (λ event. (d : T) → event ≡ joining_event (without_item self.now.nodes node offset) d left) }
+        ensures refusal { IfErr result (λ e. e ≡ Refusal.Memory) }
+    {
+        // A usize counts the nodes.
+        let _count = self.nodes.len();
+        Ok(ChangeEventUnassigned::MergeNodes {
+            max_value: self.last_without(left, node, offset).clone()?,
+            next_max_value: self.last_without(left + 1, node, offset).clone()?,
+        })
+    }
+
+    // The last item of a node once the item at a place, in a node of two or more, is gone.
+    fn last_without(&self, place: usize, node: usize, offset: usize) -> &T
+        requires place { place < length self.now.nodes }
+        requires node { node < length self.now.nodes }
+        requires offset { offset < length (node_at self.now.nodes node) }
+        requires two { 2 ≤ length (node_at self.now.nodes node) }
+        ensures { (d : T) → last_of (node_at (without_item self.now.nodes node offset) place) d ≡ result.now }
+    {
+        let items = self.nodes[place].iter().as_slice();
+        if place == node {
+            last_but(items, offset)
+        } else {
+            &items[items.len() - 1]
+        }
+    }
+
+    // Takes out the item at a place, and joins the nodes named. A refused call changes nothing.
+    fn take(&mut self, node: usize, offset: usize, join: Option<usize>) -> Result<T, Refusal>
+        requires node { node < length self.old.nodes }
+        requires offset { offset < length (node_at self.old.nodes node) }
+        requires join { join ≡ join_after self.old.size self.old.nodes node offset }
+        requires numbers { self.old.next + count_with join ≤ u64.MAX }
+        ensures item { IfOk result (λ item. slice_get (node_at self.old.nodes node) offset ≡ Some item) }
+        ensures nodes { OnOk result (self.new.nodes ≡ with_taken self.old.size self.old.nodes node offset) }
+        ensures size { self.new.size ≡ self.old.size }
+        ensures next { OnOk result (self.new.next ≡ self.old.next + count_with join) }
+        ensures refusal { IfErr result (λ e. e ≡ Refusal.Memory) }
+        ensures no_memory { join ≡ None → IsOk result }
+        ensures unchanged { OnErr result (self.new ≡ self.old) }
+    {
+        match join {
+            Some(left) => self.take_joining(node, offset, left),
+            None => Ok(self.take_out(node, offset)),
+        }
+    }
+
+    // Takes out the item at a place, and makes the node at `left` and the one after it one. A refused
+    // call changes nothing.
+    fn take_joining(&mut self, node: usize, offset: usize, left: usize) -> Result<T, Refusal>
+        requires node { node < length self.old.nodes }
+        requires offset { offset < length (node_at self.old.nodes node) }
+        requires join { join_after self.old.size self.old.nodes node offset ≡ Some left }
+        requires numbers { self.old.next + 2 ≤ u64.MAX }
+        ensures item { IfOk result (λ item. slice_get (node_at self.old.nodes node) offset ≡ Some item) }
+        ensures nodes { OnOk result (self.new.nodes ≡ with_joined (without_item self.old.nodes node offset) left) }
+        ensures size { self.new.size ≡ self.old.size }
+        ensures next { OnOk result (self.new.next ≡ self.old.next + 2) }
+        ensures refusal { IfErr result (λ e. e ≡ Refusal.Memory) }
+        ensures unchanged { OnErr result (self.new ≡ self.old) }
+    {
+        let item = take_and_join(&mut self.nodes, node, offset, left)?;
+        self.next += 2;
+        self.len -= 1;
+        Ok(item)
     }
 
     // Takes out the item at a place, and a node that it leaves empty.
@@ -137,7 +304,7 @@ impl<T: Ord + Clone + Drop, Node: NodeLike<T>> BTreeSet<T, Node> {
         requires offset { offset < length (node_at self.old.nodes node) }
         requires number { self.old.next < u64.MAX }
         ensures item { slice_get (node_at self.old.nodes node) offset ≡ Some result }
-        ensures nodes { self.new.nodes ≡ with_taken self.old.nodes node offset }
+        ensures nodes { self.new.nodes ≡ without_item self.old.nodes node offset }
         ensures size { self.new.size ≡ self.old.size }
         ensures next { self.new.next ≡ self.old.next + 1 }
     {
@@ -148,5 +315,29 @@ impl<T: Ord + Clone + Drop, Node: NodeLike<T>> BTreeSet<T, Node> {
             return emptied.remove_at(offset);
         }
         self.nodes[node].remove_at(offset)
+    }
+}
+
+// How many events a removal gives.
+fn removal_count(join: Option<usize>) -> u64
+    ensures { result ≡ count_with join }
+{
+    match join {
+        Some(_) => 2,
+        None => 1,
+    }
+}
+
+// The last of the other items.
+fn last_but<T>(items: &[T], index: usize) -> &T
+    requires index { index < length items.now }
+    requires two { 2 ≤ length items.now }
+    ensures { (d : T) → last_of (remove items.now index) d ≡ result.now }
+{
+    let last = items.len() - 1;
+    if index == last {
+        &items[last - 1]
+    } else {
+        &items[last]
     }
 }

@@ -30,16 +30,16 @@ impl<K: Ord + Clone + Drop, V: Eq + Clone + Drop, Node: NodeLike<MultiPair<K, V>
         requires values { (x y : V) → V.is_clone x y → y ≡ x }
         ensures answer { IfOk result (λ r. r.0 ≡ option_map entry_of (first_pair K.cmp (joined self.old.nodes) key.now)) }
         ensures contents { OnOk result (joined self.new.nodes ≡ without_pair K.cmp (joined self.old.nodes) (first_pair K.cmp (joined self.old.nodes) key.now)) }
-        ensures events { IfOk result (λ r. r.1.items ≡ numbered_from self.old.next (pair_removal_events K.cmp self.old.nodes (first_pair K.cmp (joined self.old.nodes) key.now))) }
+        ensures events { IfOk result (λ r. r.1.items ≡ numbered_from self.old.next (pair_removal_events K.cmp self.old.size self.old.nodes (first_pair K.cmp (joined self.old.nodes) key.now))) }
         ensures numbered { IfOk result (λ r. IsNumberedFrom self.old.next r.1.items) }
         ensures replay { IfOk result (λ r. replay (by_number K.cmp) self.old.nodes r.1.items ≡ Some self.new.nodes) }
         ensures few { IfOk result (λ r. length r.1.items ≤ 3) }
         ensures size { self.new.size ≡ self.old.size }
-        ensures next { OnOk result (self.new.next ≡ self.old.next + length (pair_removal_events K.cmp self.old.nodes (first_pair K.cmp (joined self.old.nodes) key.now))) }
+        ensures next { OnOk result (self.new.next ≡ self.old.next + length (pair_removal_events K.cmp self.old.size self.old.nodes (first_pair K.cmp (joined self.old.nodes) key.now))) }
         ensures pair_next { self.new.pair_next ≡ self.old.pair_next }
-        ensures fits { OnOk result (self.old.next + length (pair_removal_events K.cmp self.old.nodes (first_pair K.cmp (joined self.old.nodes) key.now)) ≤ u64.MAX) }
-        ensures refusal { IfErr result (λ e. e ≡ refusal_for self.old.next (length (pair_removal_events K.cmp self.old.nodes (first_pair K.cmp (joined self.old.nodes) key.now)))) }
-        ensures no_event { pair_removal_events K.cmp self.old.nodes (first_pair K.cmp (joined self.old.nodes) key.now) ≡ [] → IsOk result }
+        ensures fits { OnOk result (self.old.next + length (pair_removal_events K.cmp self.old.size self.old.nodes (first_pair K.cmp (joined self.old.nodes) key.now)) ≤ u64.MAX) }
+        ensures refusal { IfErr result (λ e. e ≡ refusal_for self.old.next (length (pair_removal_events K.cmp self.old.size self.old.nodes (first_pair K.cmp (joined self.old.nodes) key.now)))) }
+        ensures no_event { pair_removal_events K.cmp self.old.size self.old.nodes (first_pair K.cmp (joined self.old.nodes) key.now) ≡ [] → IsOk result }
         ensures unchanged { OnErr result (self.new ≡ self.old) }
     {
         let place = self.first_place(key);
@@ -47,15 +47,17 @@ impl<K: Ord + Clone + Drop, V: Eq + Clone + Drop, Node: NodeLike<MultiPair<K, V>
     }
 
     /// Takes out the first pair of a key, where there is one. It uses up as many numbers as
-    /// `remove_some_cdc`, and is refused only where they don't fit. It takes no memory.
+    /// `remove_some_cdc`, and is refused where they don't fit. It takes memory only where it joins two nodes.
     pub fn remove_some(&mut self, key: &K) -> Result<Option<(K, V)>, Refusal>
         ensures answer { IfOk result (λ entry. entry ≡ option_map entry_of (first_pair K.cmp (joined self.old.nodes) key.now)) }
         ensures contents { OnOk result (joined self.new.nodes ≡ without_pair K.cmp (joined self.old.nodes) (first_pair K.cmp (joined self.old.nodes) key.now)) }
-        ensures replay { OnOk result (replay (by_number K.cmp) self.old.nodes (numbered_from self.old.next (pair_removal_events K.cmp self.old.nodes (first_pair K.cmp (joined self.old.nodes) key.now))) ≡ Some self.new.nodes) }
+        ensures replay { OnOk result (replay (by_number K.cmp) self.old.nodes (numbered_from self.old.next (pair_removal_events K.cmp self.old.size self.old.nodes (first_pair K.cmp (joined self.old.nodes) key.now))) ≡ Some self.new.nodes) }
         ensures size { self.new.size ≡ self.old.size }
-        ensures next { OnOk result (self.new.next ≡ self.old.next + length (pair_removal_events K.cmp self.old.nodes (first_pair K.cmp (joined self.old.nodes) key.now))) }
+        ensures next { OnOk result (self.new.next ≡ self.old.next + length (pair_removal_events K.cmp self.old.size self.old.nodes (first_pair K.cmp (joined self.old.nodes) key.now))) }
         ensures pair_next { self.new.pair_next ≡ self.old.pair_next }
-        ensures refusal { IfErr result (λ e. (e ≡ Refusal.Numbers) × (u64.MAX < self.old.next + length (pair_removal_events K.cmp self.old.nodes (first_pair K.cmp (joined self.old.nodes) key.now)))) }
+        ensures fits { OnOk result (self.old.next + length (pair_removal_events K.cmp self.old.size self.old.nodes (first_pair K.cmp (joined self.old.nodes) key.now)) ≤ u64.MAX) }
+        ensures refusal { IfErr result (λ e. e ≡ refusal_for self.old.next (length (pair_removal_events K.cmp self.old.size self.old.nodes (first_pair K.cmp (joined self.old.nodes) key.now)))) }
+        ensures no_memory { length (pair_removal_events K.cmp self.old.size self.old.nodes (first_pair K.cmp (joined self.old.nodes) key.now)) ≤ 1 → self.old.next + length (pair_removal_events K.cmp self.old.size self.old.nodes (first_pair K.cmp (joined self.old.nodes) key.now)) ≤ u64.MAX → IsOk result }
         ensures unchanged { OnErr result (self.new ≡ self.old) }
     {
         let place = self.first_place(key);
@@ -73,16 +75,16 @@ impl<K: Ord + Clone + Drop, V: Eq + Clone + Drop, Node: NodeLike<MultiPair<K, V>
         requires values { (x y : V) → V.is_clone x y → y ≡ x }
         ensures answer { IfOk result (λ r. r.0 ≡ option_map entry_of (equal_pair K.cmp V.eq (joined self.old.nodes) key.now value.now)) }
         ensures contents { OnOk result (joined self.new.nodes ≡ without_pair K.cmp (joined self.old.nodes) (equal_pair K.cmp V.eq (joined self.old.nodes) key.now value.now)) }
-        ensures events { IfOk result (λ r. r.1.items ≡ numbered_from self.old.next (pair_removal_events K.cmp self.old.nodes (equal_pair K.cmp V.eq (joined self.old.nodes) key.now value.now))) }
+        ensures events { IfOk result (λ r. r.1.items ≡ numbered_from self.old.next (pair_removal_events K.cmp self.old.size self.old.nodes (equal_pair K.cmp V.eq (joined self.old.nodes) key.now value.now))) }
         ensures numbered { IfOk result (λ r. IsNumberedFrom self.old.next r.1.items) }
         ensures replay { IfOk result (λ r. replay (by_number K.cmp) self.old.nodes r.1.items ≡ Some self.new.nodes) }
         ensures few { IfOk result (λ r. length r.1.items ≤ 3) }
         ensures size { self.new.size ≡ self.old.size }
-        ensures next { OnOk result (self.new.next ≡ self.old.next + length (pair_removal_events K.cmp self.old.nodes (equal_pair K.cmp V.eq (joined self.old.nodes) key.now value.now))) }
+        ensures next { OnOk result (self.new.next ≡ self.old.next + length (pair_removal_events K.cmp self.old.size self.old.nodes (equal_pair K.cmp V.eq (joined self.old.nodes) key.now value.now))) }
         ensures pair_next { self.new.pair_next ≡ self.old.pair_next }
-        ensures fits { OnOk result (self.old.next + length (pair_removal_events K.cmp self.old.nodes (equal_pair K.cmp V.eq (joined self.old.nodes) key.now value.now)) ≤ u64.MAX) }
-        ensures refusal { IfErr result (λ e. e ≡ refusal_for self.old.next (length (pair_removal_events K.cmp self.old.nodes (equal_pair K.cmp V.eq (joined self.old.nodes) key.now value.now)))) }
-        ensures no_event { pair_removal_events K.cmp self.old.nodes (equal_pair K.cmp V.eq (joined self.old.nodes) key.now value.now) ≡ [] → IsOk result }
+        ensures fits { OnOk result (self.old.next + length (pair_removal_events K.cmp self.old.size self.old.nodes (equal_pair K.cmp V.eq (joined self.old.nodes) key.now value.now)) ≤ u64.MAX) }
+        ensures refusal { IfErr result (λ e. e ≡ refusal_for self.old.next (length (pair_removal_events K.cmp self.old.size self.old.nodes (equal_pair K.cmp V.eq (joined self.old.nodes) key.now value.now)))) }
+        ensures no_event { pair_removal_events K.cmp self.old.size self.old.nodes (equal_pair K.cmp V.eq (joined self.old.nodes) key.now value.now) ≡ [] → IsOk result }
         ensures unchanged { OnErr result (self.new ≡ self.old) }
     {
         let place = self.equal_place(key, value);
@@ -90,15 +92,17 @@ impl<K: Ord + Clone + Drop, V: Eq + Clone + Drop, Node: NodeLike<MultiPair<K, V>
     }
 
     /// Takes out the first pair of a key whose value is equal, where there is one. It uses up as many
-    /// numbers as `remove_cdc`, and is refused only where they don't fit. It takes no memory.
+    /// numbers as `remove_cdc`, and is refused where they don't fit. It takes memory only where it joins two nodes.
     pub fn remove(&mut self, key: &K, value: &V) -> Result<Option<(K, V)>, Refusal>
         ensures answer { IfOk result (λ entry. entry ≡ option_map entry_of (equal_pair K.cmp V.eq (joined self.old.nodes) key.now value.now)) }
         ensures contents { OnOk result (joined self.new.nodes ≡ without_pair K.cmp (joined self.old.nodes) (equal_pair K.cmp V.eq (joined self.old.nodes) key.now value.now)) }
-        ensures replay { OnOk result (replay (by_number K.cmp) self.old.nodes (numbered_from self.old.next (pair_removal_events K.cmp self.old.nodes (equal_pair K.cmp V.eq (joined self.old.nodes) key.now value.now))) ≡ Some self.new.nodes) }
+        ensures replay { OnOk result (replay (by_number K.cmp) self.old.nodes (numbered_from self.old.next (pair_removal_events K.cmp self.old.size self.old.nodes (equal_pair K.cmp V.eq (joined self.old.nodes) key.now value.now))) ≡ Some self.new.nodes) }
         ensures size { self.new.size ≡ self.old.size }
-        ensures next { OnOk result (self.new.next ≡ self.old.next + length (pair_removal_events K.cmp self.old.nodes (equal_pair K.cmp V.eq (joined self.old.nodes) key.now value.now))) }
+        ensures next { OnOk result (self.new.next ≡ self.old.next + length (pair_removal_events K.cmp self.old.size self.old.nodes (equal_pair K.cmp V.eq (joined self.old.nodes) key.now value.now))) }
         ensures pair_next { self.new.pair_next ≡ self.old.pair_next }
-        ensures refusal { IfErr result (λ e. (e ≡ Refusal.Numbers) × (u64.MAX < self.old.next + length (pair_removal_events K.cmp self.old.nodes (equal_pair K.cmp V.eq (joined self.old.nodes) key.now value.now)))) }
+        ensures fits { OnOk result (self.old.next + length (pair_removal_events K.cmp self.old.size self.old.nodes (equal_pair K.cmp V.eq (joined self.old.nodes) key.now value.now)) ≤ u64.MAX) }
+        ensures refusal { IfErr result (λ e. e ≡ refusal_for self.old.next (length (pair_removal_events K.cmp self.old.size self.old.nodes (equal_pair K.cmp V.eq (joined self.old.nodes) key.now value.now)))) }
+        ensures no_memory { length (pair_removal_events K.cmp self.old.size self.old.nodes (equal_pair K.cmp V.eq (joined self.old.nodes) key.now value.now)) ≤ 1 → self.old.next + length (pair_removal_events K.cmp self.old.size self.old.nodes (equal_pair K.cmp V.eq (joined self.old.nodes) key.now value.now)) ≤ u64.MAX → IsOk result }
         ensures unchanged { OnErr result (self.new ≡ self.old) }
     {
         let place = self.equal_place(key, value);
@@ -134,16 +138,16 @@ impl<K: Ord + Clone + Drop, V: Eq + Clone + Drop, Node: NodeLike<MultiPair<K, V>
         requires place { IsItemPlace self.old.nodes place }
         ensures answer { IfOk result (λ r. r.0 ≡ option_map entry_of (item_at self.old.nodes place)) }
         ensures contents { OnOk result (joined self.new.nodes ≡ without_pair K.cmp (joined self.old.nodes) (item_at self.old.nodes place)) }
-        ensures events { IfOk result (λ r. r.1.items ≡ numbered_from self.old.next (pair_removal_events K.cmp self.old.nodes (item_at self.old.nodes place))) }
+        ensures events { IfOk result (λ r. r.1.items ≡ numbered_from self.old.next (pair_removal_events K.cmp self.old.size self.old.nodes (item_at self.old.nodes place))) }
         ensures numbered { IfOk result (λ r. IsNumberedFrom self.old.next r.1.items) }
         ensures replay { IfOk result (λ r. replay (by_number K.cmp) self.old.nodes r.1.items ≡ Some self.new.nodes) }
         ensures few { IfOk result (λ r. length r.1.items ≤ 3) }
         ensures size { self.new.size ≡ self.old.size }
-        ensures next { OnOk result (self.new.next ≡ self.old.next + length (pair_removal_events K.cmp self.old.nodes (item_at self.old.nodes place))) }
+        ensures next { OnOk result (self.new.next ≡ self.old.next + length (pair_removal_events K.cmp self.old.size self.old.nodes (item_at self.old.nodes place))) }
         ensures pair_next { self.new.pair_next ≡ self.old.pair_next }
-        ensures fits { OnOk result (self.old.next + length (pair_removal_events K.cmp self.old.nodes (item_at self.old.nodes place)) ≤ u64.MAX) }
-        ensures refusal { IfErr result (λ e. e ≡ refusal_for self.old.next (length (pair_removal_events K.cmp self.old.nodes (item_at self.old.nodes place)))) }
-        ensures no_event { pair_removal_events K.cmp self.old.nodes (item_at self.old.nodes place) ≡ [] → IsOk result }
+        ensures fits { OnOk result (self.old.next + length (pair_removal_events K.cmp self.old.size self.old.nodes (item_at self.old.nodes place)) ≤ u64.MAX) }
+        ensures refusal { IfErr result (λ e. e ≡ refusal_for self.old.next (length (pair_removal_events K.cmp self.old.size self.old.nodes (item_at self.old.nodes place)))) }
+        ensures no_event { pair_removal_events K.cmp self.old.size self.old.nodes (item_at self.old.nodes place) ≡ [] → IsOk result }
         ensures unchanged { OnErr result (self.new ≡ self.old) }
     {
         // A set says here what it is.
@@ -164,16 +168,19 @@ impl<K: Ord + Clone + Drop, V: Eq + Clone + Drop, Node: NodeLike<MultiPair<K, V>
         requires { IsItemPlace self.old.nodes place }
         ensures answer { IfOk result (λ entry. entry ≡ option_map entry_of (item_at self.old.nodes place)) }
         ensures contents { OnOk result (joined self.new.nodes ≡ without_pair K.cmp (joined self.old.nodes) (item_at self.old.nodes place)) }
-        ensures replay { OnOk result (replay (by_number K.cmp) self.old.nodes (numbered_from self.old.next (pair_removal_events K.cmp self.old.nodes (item_at self.old.nodes place))) ≡ Some self.new.nodes) }
+        ensures replay { OnOk result (replay (by_number K.cmp) self.old.nodes (numbered_from self.old.next (pair_removal_events K.cmp self.old.size self.old.nodes (item_at self.old.nodes place))) ≡ Some self.new.nodes) }
         ensures size { self.new.size ≡ self.old.size }
-        ensures next { OnOk result (self.new.next ≡ self.old.next + length (pair_removal_events K.cmp self.old.nodes (item_at self.old.nodes place))) }
+        ensures next { OnOk result (self.new.next ≡ self.old.next + length (pair_removal_events K.cmp self.old.size self.old.nodes (item_at self.old.nodes place))) }
         ensures pair_next { self.new.pair_next ≡ self.old.pair_next }
-        ensures refusal { IfErr result (λ e. (e ≡ Refusal.Numbers) × (u64.MAX < self.old.next + length (pair_removal_events K.cmp self.old.nodes (item_at self.old.nodes place)))) }
+        ensures fits { OnOk result (self.old.next + length (pair_removal_events K.cmp self.old.size self.old.nodes (item_at self.old.nodes place)) ≤ u64.MAX) }
+        ensures refusal { IfErr result (λ e. e ≡ refusal_for self.old.next (length (pair_removal_events K.cmp self.old.size self.old.nodes (item_at self.old.nodes place)))) }
+        ensures no_memory { length (pair_removal_events K.cmp self.old.size self.old.nodes (item_at self.old.nodes place)) ≤ 1 → self.old.next + length (pair_removal_events K.cmp self.old.size self.old.nodes (item_at self.old.nodes place)) ≤ u64.MAX → IsOk result }
         ensures unchanged { OnErr result (self.new ≡ self.old) }
     {
         // A set says here what it is.
         let _nodes = self.set.node_count();
         let _size = self.set.maximum_node_size();
+        let _next = self.set.events_issued();
         match place {
             Some((node, offset)) => {
                 let pair = self.set.remove_at(node, offset)?;

@@ -20,8 +20,8 @@ impl<T> Spine<T> {
         ensures size { self.new.size ≡ self.old.size }
         ensures other_size { other.new.size ≡ other.old.size }
         ensures refusal { IfErr result (λ e. e ≡ Refusal.Memory) }
-        ensures err { OnErr result (self.new ≡ self.old) }
-        ensures other_err { OnErr result (other.new ≡ other.old) }
+        ensures unchanged { OnErr result (self.new ≡ self.old) }
+        ensures other_unchanged { OnErr result (other.new ≡ other.old) }
     {
         let len = self.len.checked_add(other.len).ok_or(Refusal::Memory)?;
         let first = self.nodes.len();

@@ -1,8 +1,8 @@
 //! Calls that insert an item.
 ghost use Rattle.std.specs.Prelude.{◌≡◌, ◌+◌, ◌^◌, ◌<◌, ◌≤◌, IfOk, OnOk, IfErr, OnErr, IfSome, length, sum, drop, insert, slice_get, vec_len, vec_capacity};
 ghost use Rattle.std.specs.List.{HoldsAt};
-ghost use Rattle.indexset_core.specs.Nodes.{node_at, node_lengths};
-ghost use Rattle.indexset_spine.specs.Cut.{items, vec_items, IsSpot, position_of, with_inserted, without_item, first_spot};
+ghost use Rattle.indexset_core.specs.Nodes.{node_at, node_lengths, vec_items};
+ghost use Rattle.indexset_spine.specs.Cut.{items, IsSpot, position_of, with_inserted, without_item, first_spot};
 ghost use Rattle.indexset_spine.specs.Edits.{with_item_in, with_halved};
 
 use super::Spine;
@@ -21,7 +21,7 @@ impl<T: Drop> Spine<T> {
         ensures items { OnOk result (items self.new ≡ insert (items self.old) (position_of self.old.nodes spot) value) }
         ensures size { self.new.size ≡ self.old.size }
         ensures given_back { IfErr result (λ e. (e.value ≡ value) × (e.cause ≡ Refusal.Memory)) }
-        ensures err { OnErr result (self.new ≡ self.old) }
+        ensures unchanged { OnErr result (self.new ≡ self.old) }
     {
         if self.len == usize::MAX {
             return Err(Refused {
@@ -51,8 +51,8 @@ impl<T: Drop> Spine<T> {
         ensures size { self.new.size ≡ self.old.size }
         ensures other_size { other.new.size ≡ other.old.size }
         ensures refusal { IfErr result (λ e. e ≡ Refusal.Memory) }
-        ensures err { OnErr result (self.new ≡ self.old) }
-        ensures other_err { OnErr result (other.new ≡ other.old) }
+        ensures unchanged { OnErr result (self.new ≡ self.old) }
+        ensures other_unchanged { OnErr result (other.new ≡ other.old) }
     {
         if self.len == usize::MAX {
             return Err(Refusal::Memory);
@@ -90,7 +90,7 @@ fn make_room<T>(
     ensures index { index.new.lengths ≡ node_lengths (vec_items nodes.new.items) }
     ensures sum { sum index.new.lengths ≡ sum index.old.lengths }
     ensures refusal { IfErr result (λ e. e ≡ Refusal.Memory) }
-    ensures err { OnErr result (vec_items nodes.new.items ≡ vec_items nodes.old.items) }
+    ensures unchanged { OnErr result (vec_items nodes.new.items ≡ vec_items nodes.old.items) }
 {
     if nodes[spot.node].len() < size {
         nodes[spot.node].reserve(1)?;
@@ -111,7 +111,7 @@ fn halve_at<T>(nodes: &mut Vec<Vec<T>>, spot: Spot) -> Result<Spot, Refusal>
     ensures nodes { IfOk result (λ to. (value : T) → with_item_in (vec_items nodes.new.items) to value ≡ with_inserted (length (node_at (vec_items nodes.old.items) spot.node)) (vec_items nodes.old.items) spot value) }
     ensures halved { OnOk result (vec_items nodes.new.items ≡ with_halved (vec_items nodes.old.items) spot.node) }
     ensures refusal { IfErr result (λ e. e ≡ Refusal.Memory) }
-    ensures err { OnErr result (vec_items nodes.new.items ≡ vec_items nodes.old.items) }
+    ensures unchanged { OnErr result (vec_items nodes.new.items ≡ vec_items nodes.old.items) }
 {
     nodes.reserve(1)?;
     let node = &mut nodes[spot.node];

@@ -1,6 +1,6 @@
 //! Calls that make a spine, and `clear`.
 ghost use Rattle.std.specs.Prelude.{◌≡◌, ◌≤◌, [], ◌∷◌, IfOk, IfErr};
-ghost use Rattle.indexset_spine.specs.Cut.{vec_items};
+ghost use Rattle.indexset_core.specs.Nodes.{vec_items};
 
 use super::Spine;
 use crate::fenwick::Fenwick;

@@ -1,7 +1,7 @@
 //! Calls that take an item out, or write another over it.
 ghost use Rattle.std.specs.Prelude.{◌≡◌, ◌<◌, false, Some, length, remove, slice_get, slice_set};
-ghost use Rattle.indexset_core.specs.Nodes.{node_at, node_lengths};
-ghost use Rattle.indexset_spine.specs.Cut.{items, vec_items, IsItemSpot, position_of, without_item, with_replaced};
+ghost use Rattle.indexset_core.specs.Nodes.{node_at, node_lengths, vec_items};
+ghost use Rattle.indexset_spine.specs.Cut.{items, IsItemSpot, position_of, without_item, with_replaced};
 ghost use Rattle.indexset_spine.specs.Edits.{without_emptied};
 
 use super::Spine;

@@ -2,7 +2,8 @@
 ghost use Rattle.std.specs.Prelude.{◌≡◌, ◌==◌, ◌<◌, ◌≤◌, not, length, take};
 ghost use Rattle.std.specs.Fn.{CalledAtMut};
 ghost use Rattle.std.specs.List.Retain.{RetainsInTurn};
-ghost use Rattle.indexset_spine.specs.Cut.{items, vec_items};
+ghost use Rattle.indexset_spine.specs.Cut.{items};
+ghost use Rattle.indexset_core.specs.Nodes.{vec_items};
 ghost use Rattle.indexset_spine.specs.Edits.{RetainsTo, RetainsNodes};
 
 use super::Spine;
@@ -18,7 +19,7 @@ impl<T: Drop> Spine<T> {
         ensures size { self.new.size ≡ self.old.size }
     {
         retain_nodes(&mut self.nodes, f);
-        self.len = lengths::total_in(self.nodes.as_slice());
+        self.len = lengths::count_items(self.nodes.as_slice());
         // There is room for as many lengths as there were.
         let _count = self.index.len();
         self.index.rebuild(self.nodes.as_slice());

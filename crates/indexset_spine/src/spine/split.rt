@@ -1,6 +1,7 @@
 //! A spine split in two.
 ghost use Rattle.std.specs.Prelude.{◌≡◌, ◌≤◌, IfOk, OnOk, IfErr, OnErr, length, take, drop};
-ghost use Rattle.indexset_spine.specs.Cut.{items, vec_items, IsSpot, position_of};
+ghost use Rattle.indexset_spine.specs.Cut.{items, IsSpot, position_of};
+ghost use Rattle.indexset_core.specs.Nodes.{vec_items};
 ghost use Rattle.indexset_spine.specs.Edits.{left_nodes, right_nodes};
 
 use super::Spine;
@@ -23,7 +24,7 @@ impl<T: Drop> Spine<T> {
         ensures size { self.new.size ≡ self.old.size }
         ensures right_size { IfOk result (λ s. s.size ≡ self.old.size) }
         ensures refusal { IfErr result (λ e. e ≡ Refusal.Memory) }
-        ensures err { OnErr result (self.new ≡ self.old) }
+        ensures unchanged { OnErr result (self.new ≡ self.old) }
     {
         let left = self.position(&spot);
         let alloc = *self.nodes.allocator();
@@ -49,7 +50,7 @@ fn split_nodes<T: Drop>(nodes: &mut Vec<Vec<T>>, spot: Spot) -> Result<Vec<Vec<T
     ensures left { OnOk result (vec_items nodes.new.items ≡ left_nodes (vec_items nodes.old.items) spot) }
     ensures right { IfOk result (λ rest. vec_items rest.items ≡ right_nodes (vec_items nodes.old.items) spot) }
     ensures refusal { IfErr result (λ e. e ≡ Refusal.Memory) }
-    ensures err { OnErr result (vec_items nodes.new.items ≡ vec_items nodes.old.items) }
+    ensures unchanged { OnErr result (vec_items nodes.new.items ≡ vec_items nodes.old.items) }
 {
     let alloc = *nodes.allocator();
     let mut right = Vec::with_capacity(alloc, nodes.len() - spot.node)?;
@@ -67,7 +68,7 @@ fn take_back<T>(node: &mut Vec<T>, offset: usize) -> Result<Vec<T>, Refusal>
     ensures front { OnOk result (node.new.items ≡ take offset node.old.items) }
     ensures back { IfOk result (λ back. back.items ≡ drop offset node.old.items) }
     ensures refusal { IfErr result (λ e. e ≡ Refusal.Memory) }
-    ensures err { OnErr result (node.new.items ≡ node.old.items) }
+    ensures unchanged { OnErr result (node.new.items ≡ node.old.items) }
 {
     if offset == 0 {
         let empty = Vec::new(*node.allocator());

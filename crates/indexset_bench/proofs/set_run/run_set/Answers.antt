@@ -19,7 +19,7 @@ returns-in-Err-clause-replies g c = rw c.in-Err.ensures.untold (replies_to_first
 
 pub returns-in-Err-clause-contents : goal.returns-in-Err-clause-contents
 returns-in-Err-clause-contents g c =
-    rw (c.in-Err.ensures.untold, c.in-Err.ensures.err) (held_after_first c.loop-command.invariant.so_far)
+    rw (c.in-Err.ensures.untold, c.in-Err.ensures.unchanged) (held_after_first c.loop-command.invariant.so_far)
 
 pub returns-in-Err-clause-fewer : goal.returns-in-Err-clause-fewer
 returns-in-Err-clause-fewer g c =

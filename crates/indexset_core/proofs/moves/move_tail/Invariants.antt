@@ -8,5 +8,6 @@ invariant-loop-item g l = record {
   finite : (goal.iterator-loop-item g).is_finite l.item-iterator;
   keeps : DrainKeeps l.initial.item-iterator l.item-iterator;
   moved : l.other.items ++ drain_items l.item-iterator ≡ l.initial.other.items ++ drain_items l.initial.item-iterator;
+  same : vec_capacity l.other ≡ vec_capacity l.initial.other;
   room : vec_len l.other + length (drain_items l.item-iterator) ≤ vec_capacity l.other;
 }

@@ -7,10 +7,10 @@ use Rattle.indexset_log.proofs.Puts.{halved_view}
 use Rattle.indexset_log.proofs.Views.{node_is}
 use Rattle.indexset_log.proofs.nodes.halve_at.Goals as goal
 
-pub returns-in_err-right-clause-err : goal.returns-in_err-right-clause-err
-returns-in_err-right-clause-err g c =
+pub returns-in_err-right-clause-unchanged : goal.returns-in_err-right-clause-unchanged
+returns-in_err-right-clause-unchanged g c =
     let list = g.Node.NodeLike.list in
-    let kept : map list (set c.reserve.new.self.items c.args.place c.halve.new.self) ≡ map list c.args.nodes.now.items = rw c.reserve.ensures.items (map-set_same list c.args.nodes.now.items c.args.place c.halve.new.self c.index_mut-node.result.now (c.in_err-right.ensures.err ∙ ap list (rw c.reserve.ensures.items at c.index_mut-node.ensures.value))) in
+    let kept : map list (set c.reserve.new.self.items c.args.place c.halve.new.self) ≡ map list c.args.nodes.now.items = rw c.reserve.ensures.items (map-set_same list c.args.nodes.now.items c.args.place c.halve.new.self c.index_mut-node.result.now (c.in_err-right.ensures.unchanged ∙ ap list (rw c.reserve.ensures.items at c.index_mut-node.ensures.value))) in
     on_err _ kept
 
 pub returns-clause-nodes : goal.returns-clause-nodes

@@ -4,8 +4,8 @@ use Rattle.indexset_core.proofs.CallerLemmas.{on_err}
 use Rattle.indexset_log.proofs.nodes.make_room.Goals as goal
 use Rattle.indexset_log.proofs.nodes.make_room.Goals.{then-is_err+in_ok-reserve_one, else-is_err}
 
-pub returns-in_err-reserve_one-clause-err : goal.returns-in_err-reserve_one-clause-err
-returns-in_err-reserve_one-clause-err g c =
+pub returns-in_err-reserve_one-clause-unchanged : goal.returns-in_err-reserve_one-clause-unchanged
+returns-in_err-reserve_one-clause-unchanged g c =
     let list = g.Node.NodeLike.list in
     let kept : map list (set c.args.nodes.now.items c.args.aim.now.node c.reserve_one.new.self) ≡ map list c.args.nodes.now.items = map-set_same list c.args.nodes.now.items c.args.aim.now.node c.reserve_one.new.self c.index_mut-node.result.now (c.in_err-reserve_one.ensures.list ∙ ap list c.index_mut-node.ensures.value) in
     on_err _ kept

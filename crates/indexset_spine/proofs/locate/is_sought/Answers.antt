@@ -1,7 +1,6 @@
 use Rattle.std.proofs.Common.{◌≡◌, ◌+◌, ◌<◌, arith, false, length, ap, sym, ◌∙◌}
 use Rattle.std.specs.List.{HoldsAt}
-use Rattle.indexset_core.specs.Nodes.{ends_less, node_for}
-use Rattle.indexset_spine.specs.Cut.{vec_items}
+use Rattle.indexset_core.specs.Nodes.{ends_less, node_for, vec_items}
 use Rattle.indexset_spine.proofs.SpineReads.{sought}
 use Rattle.indexset_spine.proofs.VecNodes.{node_read}
 use Rattle.indexset_spine.proofs.locate.is_sought.Goals.{else-k-nodes-2-via-then-k-nodes-2+else-ends_less, else-k-nodes-2-via-else-k-nodes-2}

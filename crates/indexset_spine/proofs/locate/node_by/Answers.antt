@@ -1,5 +1,5 @@
 use Rattle.std.proofs.Common.{◌≡◌, ◌-◌, length, [], arith, ◌∙◌}
-use Rattle.indexset_spine.specs.Cut.{vec_items}
+use Rattle.indexset_core.specs.Nodes.{vec_items}
 use Rattle.indexset_spine.proofs.VecNodes.{length-vec_items}
 use Rattle.indexset_core.proofs.CallerLemmas.{digits-left, digits-mono, digits-right, node_found, ends_until}
 use Rattle.indexset_spine.proofs.SpineReads.{node_some, node_ends}

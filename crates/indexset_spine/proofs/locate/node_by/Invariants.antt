@@ -1,8 +1,7 @@
 use Rattle.std.proofs.Common.{◌-◌, ◌≡◌, ◌+◌, ◌<◌, ◌≤◌, length, true, false}
 use Rattle.std.specs.List.{AllWithin, HoldsAt}
 use Rattle.indexset_core.specs.Digits.{digits}
-use Rattle.indexset_core.specs.Nodes.{ends_less}
-use Rattle.indexset_spine.specs.Cut.{vec_items}
+use Rattle.indexset_core.specs.Nodes.{ends_less, vec_items}
 use Rattle.indexset_spine.proofs.locate.node_by.Given as goal
 
 abbrev pub invariant-loop-low : goal.invariant-loop-low

@@ -1,35 +1,50 @@
-use Rattle.std.proofs.Common.{length, refl, arith, ap, ◌∙◌}
+use Rattle.std.proofs.Common.{rules, ◌≡◌, ◌+◌, ◌≤◌, length, IfErr, refl, arith, ap, subst, ◌∙◌}
+use Rattle.std.below.core.specs.declared.int.u64.TheConstants.{MAX}
 use Rattle.std.proofs.lemmas.Grind.{common_steps}
 use Rattle.indexset_core.specs.Nodes.{joined}
 use Rattle.indexset_core.specs.Pairs.{has_key}
 use Rattle.indexset_core.proofs.CallerLemmas.{key_gone}
-use Rattle.indexset_log.proofs.Keys.{key_one, key_taken, no_key}
+use Rattle.indexset_log.specs.Edits.{with_taken}
+use Rattle.indexset_log.specs.Replay.{numbered_from}
+use Rattle.indexset_log.specs.Table.{taking_count, taking_events}
+use Rattle.indexset_log.specs.Tree.{refusal_for}
+use Rattle.indexset_log.proofs.Keys.{key_count, key_taken, no_key}
+use Rattle.indexset_log.proofs.Takes.{some_taken}
 use Rattle.indexset_log.proofs.map.BTreeMap.remove_cdc.Goals as goal
 
 pub returns-in_err-pair-in-Ok-clause-refusal : goal.returns-in_err-pair-in-Ok-clause-refusal
 returns-in_err-pair-in-Ok-clause-refusal g c =
-    rw (key_one g.met.K.Ord.total c.locate.ensures.lawful c.args.key.now c.locate.ensures.place c.in-Ok.is) (grind (arith, common_steps))
+    let refused = subst (λ t. c.in_err-pair-in-Ok.field-0.0 ≡ refusal_for t.next (taking_count t.size t.nodes c.in-Ok.node c.in-Ok.offset)) c.self.view_is c.in_err-pair-in-Ok.ensures.refusal in
+    let told : IfErr c.from_residual.result (λ e. e ≡ c.in_err-pair-in-Ok.field-0.0) = search rules in
+    rw (key_count g.met.K.Ord.total c.locate.ensures.lawful c.args.key.now c.locate.ensures.place c.in-Ok.is) (subst (λ r. IfErr c.from_residual.result (λ e. e ≡ r)) refused told)
 
 pub returns-in_err-pair-in-Ok-clause-no_event : goal.returns-in_err-pair-in-Ok-clause-no_event
 returns-in_err-pair-in-Ok-clause-no_event g c =
-    λ none. absurd (omega (arith, key_one g.met.K.Ord.total c.locate.ensures.lawful c.args.key.now c.locate.ensures.place c.in-Ok.is, ap (λ l. length l) none))
+    λ none. absurd (omega (arith, key_count g.met.K.Ord.total c.locate.ensures.lawful c.args.key.now c.locate.ensures.place c.in-Ok.is, some_taken c.args.self.now.size c.args.self.now.nodes c.in-Ok.node c.in-Ok.offset, ap (λ l. length l) none))
 
 pub returns-in_ok-pair-in-Ok : goal.returns-in_ok-pair-in-Ok
 returns-in_ok-pair-in-Ok g c =
-    let done = rw c.self.view_is at c.in_ok-pair-in-Ok.ensures in
-    let taken = key_taken g.met.K.Ord.total c.locate.ensures.lawful c.args.key.now c.locate.ensures.place c.in-Ok.is done.item in
-    let one = key_one g.met.K.Ord.total c.locate.ensures.lawful c.args.key.now c.locate.ensures.place c.in-Ok.is in
+    let done = c.in_ok-pair-in-Ok.ensures in
+    let item = rw c.self.view_is at done.item in
+    let k = c.in-Ok.node in
+    let i = c.in-Ok.offset in
+    let nodes = subst (λ t. c.remove_at_cdc.new.self.nodes ≡ with_taken t.size t.nodes k i) c.self.view_is done.nodes in
+    let events = subst (λ t. c.in_ok-pair-in-Ok.events.items ≡ numbered_from t.next (taking_events t.size t.nodes k i c.in_ok-pair-in-Ok.pair)) c.self.view_is done.events in
+    let next = subst (λ t. c.remove_at_cdc.new.self.next ≡ t.next + taking_count t.size t.nodes k i) c.self.view_is done.next in
+    let fits = subst (λ t. t.next + taking_count t.size t.nodes k i ≤ MAX) c.self.view_is done.fits in
+    let taken = key_taken g.met.K.Ord.total c.locate.ensures.lawful c.args.key.now c.locate.ensures.place c.in-Ok.is item in
+    let count = key_count g.met.K.Ord.total c.locate.ensures.lawful c.args.key.now c.locate.ensures.place c.in-Ok.is in
     record {
       answer = rw taken.pair_is refl;
-      contents = ap joined done.nodes ∙ taken.contents;
-      gone = ap (λ l. has_key g.K.Ord.cmp l c.args.key.now) (ap joined done.nodes ∙ taken.contents) ∙ key_gone g.K.Ord.cmp (joined c.args.self.now.nodes) c.args.key.now;
-      events = rw taken.events done.events;
-      numbered = done.numbered;
-      replay = done.replay;
+      contents = ap joined nodes ∙ taken.contents;
+      gone = ap (λ l. has_key g.K.Ord.cmp l c.args.key.now) (ap joined nodes ∙ taken.contents) ∙ key_gone g.K.Ord.cmp (joined c.args.self.now.nodes) c.args.key.now;
+      events = rw taken.events events;
+      numbered = rw c.self.view_is at done.numbered;
+      replay = rw c.self.view_is at done.replay;
       few = done.few;
-      size = done.size;
-      next = rw one done.next;
-      fits = rw one done.fits;
+      size = rw c.self.view_is at done.size;
+      next = rw count next;
+      fits = rw count fits;
       refusal = tt;
       no_event = λ _. refl;
       unchanged = tt;

@@ -1,16 +1,24 @@
 use Rattle.std.proofs.Common.{arith, ap, sym, refl, ◌∙◌}
+use Rattle.std.proofs.lemmas.Bool.{false≢true}
 use Rattle.std.proofs.lemmas.Grind.{common_steps}
 use Rattle.indexset_core.specs.Nodes.{joined}
 use Rattle.indexset_core.specs.Order.{has_equal}
 use Rattle.indexset_core.proofs.CallerLemmas.{has_none}
-use Rattle.indexset_log.proofs.Takes.{found_events, found_one, found_contents, absent_events, absent_contents}
+use Rattle.indexset_log.proofs.Takes.{found_events, found_count, found_contents, some_taken, absent_events, absent_contents}
 use Rattle.indexset_log.proofs.Trees.{held}
 use Rattle.indexset_log.proofs.set.BTreeSet.remove.Goals as goal
 
 pub returns-in_err-remove_at-in-Some-clause-refusal : goal.returns-in_err-remove_at-in-Some-clause-refusal
 returns-in_err-remove_at-in-Some-clause-refusal g c =
     let t = held g.Node.NodeLike.list c.self.inside.nodes.items c.self.view_is c.self.invariant in
-    rw (found_one g.met.T.Ord.total t.rule.lawful c.in-Some.ensures) (grind (arith, common_steps))
+    rw (found_count g.met.T.Ord.total t.rule.lawful c.in-Some.ensures) (grind (arith, common_steps))
+
+pub returns-in_err-remove_at-in-Some-clause-no_memory : goal.returns-in_err-remove_at-in-Some-clause-no_memory
+returns-in_err-remove_at-in-Some-clause-no_memory g c =
+    let t = held g.Node.NodeLike.list c.self.inside.nodes.items c.self.view_is c.self.invariant in
+    let count = found_count g.met.T.Ord.total t.rule.lawful c.in-Some.ensures in
+    let some = some_taken c.args.self.now.size c.args.self.now.nodes c.in-Some.node c.in-Some.offset in
+    λ few fits. absurd (false≢true (c.in_err-remove_at-in-Some.ensures.no_memory (omega (arith, count, few, some)) (omega (arith, count, fits, some))))
 
 pub returns-in_ok-remove_at-in-Some : goal.returns-in_ok-remove_at-in-Some
 returns-in_ok-remove_at-in-Some g c =
@@ -23,14 +31,17 @@ returns-in_ok-remove_at-in-Some g c =
       gone = ap (λ l. has_equal g.T.Ord.cmp l c.args.value.now) (ap joined done.nodes ∙ found_contents g.met.T.Ord.total t.rule.lawful found done.item) ∙ has_none g.T.Ord.cmp (joined c.args.self.now.nodes) c.args.value.now;
       replay = rw (found_events g.met.T.Ord.total t.rule.lawful found done.item) done.replay;
       size = done.size;
-      next = rw (found_one g.met.T.Ord.total t.rule.lawful found) done.next;
+      next = rw (found_count g.met.T.Ord.total t.rule.lawful found) done.next;
+      fits = rw (found_count g.met.T.Ord.total t.rule.lawful found) done.fits;
       refusal = tt;
+      no_memory = λ _ _. refl;
       unchanged = tt;
     }
 
 pub returns-in-None : goal.returns-in-None
 returns-in-None g c =
-    let events = absent_events g.T.Ord.cmp c.args.self.now.nodes c.args.value.now c.in-None.ensures in
+    let t = held g.Node.NodeLike.list c.self.inside.nodes.items c.self.view_is c.self.invariant in
+    let events = absent_events g.T.Ord.cmp c.args.self.now.nodes c.args.value.now c.in-None.ensures c.args.self.now.size in
     record {
       answer = sym c.in-None.ensures;
       contents = absent_contents g.T.Ord.cmp c.args.self.now.nodes c.args.value.now c.in-None.ensures;
@@ -38,6 +49,8 @@ returns-in-None g c =
       replay = rw events refl;
       size = refl;
       next = rw events (omega arith);
+      fits = rw events (omega (arith, t.numbered));
       refusal = tt;
+      no_memory = λ _ _. refl;
       unchanged = tt;
     }

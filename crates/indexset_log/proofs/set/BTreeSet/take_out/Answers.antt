@@ -1,7 +1,7 @@
 use Rattle.std.proofs.Common.{length, remove, arith, ap, ◌∙◌}
 use Rattle.std.proofs.lemmas.Bool.{eq-eqb, ne_eqb}
 use Rattle.indexset_core.specs.Nodes.{node_at}
-use Rattle.indexset_log.proofs.Takes.{taken_tree, map_remove, some_joined}
+use Rattle.indexset_log.proofs.Takes.{lone_tree, map_remove, some_joined}
 use Rattle.indexset_log.proofs.Theorem.{set_view}
 use Rattle.indexset_log.proofs.Trees.{held, node_held}
 use Rattle.indexset_log.proofs.set.BTreeSet.take_out.Goals as goal
@@ -20,7 +20,7 @@ returns-then-len-eq1-clause-nodes g c =
 pub invariant_of-self : goal.invariant_of-self
 invariant_of-self g c =
     let t = held g.Node.NodeLike.list c.self.inside.nodes.items c.self.view_is c.self.invariant in
-    rw (returns-then-len-eq1-clause-nodes g c, t.sized) (taken_tree g.met.T.Ord.total t.rule.lawful c.args.node c.args.offset c.requires.node (rw (node_held t c.args.node c.requires.node c.remove-emptied.ensures.value) at c.remove_at.ensures.value) t.rule)
+    rw (returns-then-len-eq1-clause-nodes g c, t.sized) (lone_tree g.met.T.Ord.total t.rule.lawful c.args.node c.args.offset c.requires.node (rw (node_held t c.args.node c.requires.node c.remove-emptied.ensures.value) at c.remove_at.ensures.value) t.rule)
 
 pub returns-clause-nodes : goal.returns-clause-nodes
 returns-clause-nodes g c =
@@ -32,4 +32,4 @@ returns-clause-nodes g c =
 pub invariant_of-self-2 : goal.invariant_of-self-2
 invariant_of-self-2 g c =
     let t = held g.Node.NodeLike.list c.self.inside.nodes.items c.self.view_is c.self.invariant in
-    rw (returns-clause-nodes g c, t.sized) (taken_tree g.met.T.Ord.total t.rule.lawful c.args.node c.args.offset c.requires.node (rw (node_held t c.args.node c.requires.node c.index_mut.ensures.value) at c.remove_at-2.ensures.value) t.rule)
+    rw (returns-clause-nodes g c, t.sized) (lone_tree g.met.T.Ord.total t.rule.lawful c.args.node c.args.offset c.requires.node (rw (node_held t c.args.node c.requires.node c.index_mut.ensures.value) at c.remove_at-2.ensures.value) t.rule)

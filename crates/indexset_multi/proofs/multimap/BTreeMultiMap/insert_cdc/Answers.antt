@@ -1,5 +1,6 @@
-use Rattle.std.proofs.Common.{◌≡◌, ap, arith}
+use Rattle.std.proofs.Common.{◌≡◌, ap, subst, sym, arith}
 use Rattle.std.proofs.lemmas.Grind.{common_steps}
+use Rattle.indexset_multi.specs.Keys.{AreNumberedBelow}
 use Rattle.indexset_multi.proofs.multimap.BTreeMultiMap.insert_cdc.Goals as goal
 
 pub returns-in_err-old-clause-refusal : goal.returns-in_err-old-clause-refusal
@@ -16,3 +17,16 @@ pub returns-clause-numbered : goal.returns-clause-numbered
 returns-clause-numbered g c =
     let next : c.self.inside.set.next ≡ c.args.self.now.next = ap (λ t. t.next) c.self.view_is in
     rw (← next) c.in_ok-old.ensures.numbered
+
+pub invariant_of-self-2 : goal.invariant_of-self-2
+invariant_of-self-2 g c =
+    let same : c.self.inside.set.nodes ≡ c.args.self.now.nodes = ap (λ t. t.nodes) c.self.view_is in
+    let made = rw same at c.in_ok-old.ensures.contents in
+    subst (AreNumberedBelow c.in_ok-pair.pair_next) (sym made) c.in_ok-pair.ensures.numbers
+
+pub returns-clause-next : goal.returns-clause-next
+returns-clause-next g c =
+    let same : c.self.inside.set.nodes ≡ c.args.self.now.nodes = ap (λ t. t.nodes) c.self.view_is in
+    let size : c.self.inside.set.size ≡ c.args.self.now.size = ap (λ t. t.size) c.self.view_is in
+    let next : c.self.inside.set.next ≡ c.args.self.now.next = ap (λ t. t.next) c.self.view_is in
+    rw (c.in_ok-pair.ensures.pair, same, size, next) at c.in_ok-old.ensures.next

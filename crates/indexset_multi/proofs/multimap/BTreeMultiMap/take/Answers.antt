@@ -1,13 +1,15 @@
-use Rattle.std.proofs.Common.{◌≡◌, ap, arith}
-use Rattle.std.proofs.lemmas.Grind.{common_steps}
-use Rattle.indexset_multi.proofs.Takes.{taken, taken_one}
+use Rattle.std.proofs.Common.{rules, ◌≡◌, IfErr, subst, ap, arith}
+use Rattle.std.proofs.lemmas.Bool.{false≢true}
+use Rattle.indexset_log.proofs.CallerLemmas.{some_taken}
+use Rattle.indexset_multi.proofs.Takes.{taken, taken_count}
 use Rattle.indexset_multi.proofs.multimap.BTreeMultiMap.take.Goals as goal
 
 pub returns-in_err-pair-in-Some-clause-refusal : goal.returns-in_err-pair-in-Some-clause-refusal
 returns-in_err-pair-in-Some-clause-refusal g c =
-    let one = taken_one g.K.Ord.cmp g.met.K.Ord.total c.self.view_is c.node_count-nodes.ensures.lawful c.in-Some.is c.requires in
+    let count = taken_count g.K.Ord.cmp g.met.K.Ord.total c.self.view_is c.node_count-nodes.ensures.lawful c.in-Some.is c.requires in
     let next : c.self.inside.set.next ≡ c.args.self.now.next = ap (λ m. m.next) c.self.view_is in
-    rw (one, ← next) (grind (arith, common_steps))
+    let told : IfErr c.from_residual.result (λ e. e ≡ c.in_err-pair-in-Some.field-0.0) = search rules in
+    rw (count, ← next) (subst (λ r. IfErr c.from_residual.result (λ e. e ≡ r)) c.in_err-pair-in-Some.ensures.refusal told)
 
 pub invariant_of-self-in-Some : goal.invariant_of-self-in-Some
 invariant_of-self-in-Some g c =
@@ -29,6 +31,19 @@ returns-in_ok-pair-in-Some-clause-replay g c =
 
 pub returns-in_ok-pair-in-Some-clause-next : goal.returns-in_ok-pair-in-Some-clause-next
 returns-in_ok-pair-in-Some-clause-next g c =
-    let one = taken_one g.K.Ord.cmp g.met.K.Ord.total c.self.view_is c.node_count-nodes.ensures.lawful c.in-Some.is c.requires in
+    let count = taken_count g.K.Ord.cmp g.met.K.Ord.total c.self.view_is c.node_count-nodes.ensures.lawful c.in-Some.is c.requires in
     let next : c.self.inside.set.next ≡ c.args.self.now.next = ap (λ m. m.next) c.self.view_is in
-    rw (one, ← next) c.in_ok-pair-in-Some.ensures.next
+    rw (count, ← next) c.in_ok-pair-in-Some.ensures.next
+
+pub returns-in_ok-pair-in-Some-clause-fits : goal.returns-in_ok-pair-in-Some-clause-fits
+returns-in_ok-pair-in-Some-clause-fits g c =
+    let count = taken_count g.K.Ord.cmp g.met.K.Ord.total c.self.view_is c.node_count-nodes.ensures.lawful c.in-Some.is c.requires in
+    let next : c.self.inside.set.next ≡ c.args.self.now.next = ap (λ m. m.next) c.self.view_is in
+    rw (count, ← next) c.in_ok-pair-in-Some.ensures.fits
+
+pub returns-in_err-pair-in-Some-clause-no_memory : goal.returns-in_err-pair-in-Some-clause-no_memory
+returns-in_err-pair-in-Some-clause-no_memory g c =
+    let count = taken_count g.K.Ord.cmp g.met.K.Ord.total c.self.view_is c.node_count-nodes.ensures.lawful c.in-Some.is c.requires in
+    let next : c.self.inside.set.next ≡ c.args.self.now.next = ap (λ m. m.next) c.self.view_is in
+    let some = some_taken c.self.inside.set.size c.self.inside.set.nodes c.in-Some.node c.in-Some.offset in
+    λ few fits. absurd (false≢true (c.in_err-pair-in-Some.ensures.no_memory (omega (arith, count, few, some)) (omega (arith, count, fits, some, next))))

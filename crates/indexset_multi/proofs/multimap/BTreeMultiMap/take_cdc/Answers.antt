@@ -1,18 +1,21 @@
-use Rattle.std.proofs.Common.{◌≡◌, ◌∙◌, ap, length, arith}
-use Rattle.std.proofs.lemmas.Grind.{common_steps}
-use Rattle.indexset_multi.proofs.Takes.{taken, taken_one}
+use Rattle.std.proofs.Common.{rules, Some, ◌≡◌, IfErr, subst, ◌∙◌, ap, length, arith}
+use Rattle.indexset_core.specs.MultiPairs.{by_number}
+use Rattle.indexset_log.specs.Replay.{replay}
+use Rattle.indexset_log.proofs.CallerLemmas.{some_taken}
+use Rattle.indexset_multi.proofs.Takes.{taken, taken_count}
 use Rattle.indexset_multi.proofs.multimap.BTreeMultiMap.take_cdc.Goals as goal
 
 pub returns-in_err-pair-in-Some-clause-refusal : goal.returns-in_err-pair-in-Some-clause-refusal
 returns-in_err-pair-in-Some-clause-refusal g c =
-    let one = taken_one g.K.Ord.cmp g.met.K.Ord.total c.self.view_is c.node_count-nodes.ensures.lawful c.in-Some.is c.requires.place in
+    let count = taken_count g.K.Ord.cmp g.met.K.Ord.total c.self.view_is c.node_count-nodes.ensures.lawful c.in-Some.is c.requires.place in
     let next : c.self.inside.set.next ≡ c.args.self.now.next = ap (λ m. m.next) c.self.view_is in
-    rw (one, ← next) (grind (arith, common_steps))
+    let told : IfErr c.from_residual.result (λ e. e ≡ c.in_err-pair-in-Some.field-0.0) = search rules in
+    rw (count, ← next) (subst (λ r. IfErr c.from_residual.result (λ e. e ≡ r)) c.in_err-pair-in-Some.ensures.refusal told)
 
 pub returns-in_err-pair-in-Some-clause-no_event : goal.returns-in_err-pair-in-Some-clause-no_event
 returns-in_err-pair-in-Some-clause-no_event g c =
-    let one = taken_one g.K.Ord.cmp g.met.K.Ord.total c.self.view_is c.node_count-nodes.ensures.lawful c.in-Some.is c.requires.place in
-    λ none. absurd (omega (arith, one, ap (λ l. length l) none))
+    let count = taken_count g.K.Ord.cmp g.met.K.Ord.total c.self.view_is c.node_count-nodes.ensures.lawful c.in-Some.is c.requires.place in
+    λ none. absurd (omega (arith, count, some_taken c.self.inside.set.size c.self.inside.set.nodes c.in-Some.node c.in-Some.offset, ap (λ l. length l) none))
 
 pub invariant_of-self-in-Some : goal.invariant_of-self-in-Some
 invariant_of-self-in-Some g c =
@@ -39,12 +42,17 @@ returns-in_ok-pair-in-Some-clause-numbered g c =
 
 pub returns-in_ok-pair-in-Some-clause-next : goal.returns-in_ok-pair-in-Some-clause-next
 returns-in_ok-pair-in-Some-clause-next g c =
-    let one = taken_one g.K.Ord.cmp g.met.K.Ord.total c.self.view_is c.node_count-nodes.ensures.lawful c.in-Some.is c.requires.place in
+    let count = taken_count g.K.Ord.cmp g.met.K.Ord.total c.self.view_is c.node_count-nodes.ensures.lawful c.in-Some.is c.requires.place in
     let next : c.self.inside.set.next ≡ c.args.self.now.next = ap (λ m. m.next) c.self.view_is in
-    rw (one, ← next) c.in_ok-pair-in-Some.ensures.next
+    rw (count, ← next) c.in_ok-pair-in-Some.ensures.next
 
 pub returns-in_ok-pair-in-Some-clause-fits : goal.returns-in_ok-pair-in-Some-clause-fits
 returns-in_ok-pair-in-Some-clause-fits g c =
-    let one = taken_one g.K.Ord.cmp g.met.K.Ord.total c.self.view_is c.node_count-nodes.ensures.lawful c.in-Some.is c.requires.place in
+    let count = taken_count g.K.Ord.cmp g.met.K.Ord.total c.self.view_is c.node_count-nodes.ensures.lawful c.in-Some.is c.requires.place in
     let next : c.self.inside.set.next ≡ c.args.self.now.next = ap (λ m. m.next) c.self.view_is in
-    rw (one, ← next) c.in_ok-pair-in-Some.ensures.fits
+    rw (count, ← next) c.in_ok-pair-in-Some.ensures.fits
+
+pub returns-in_ok-pair-in-Some-clause-replay : goal.returns-in_ok-pair-in-Some-clause-replay
+returns-in_ok-pair-in-Some-clause-replay g c =
+    let nodes : c.self.inside.set.nodes ≡ c.args.self.now.nodes = ap (λ m. m.nodes) c.self.view_is in
+    subst (λ ns. replay (by_number g.K.Ord.cmp) ns c.in_ok-pair-in-Some.events.items ≡ Some c.remove_at_cdc.new.self.nodes) nodes c.in_ok-pair-in-Some.ensures.replay

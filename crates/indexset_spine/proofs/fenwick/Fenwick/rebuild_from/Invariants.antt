@@ -1,6 +1,5 @@
 use Rattle.std.proofs.Common.{◌≡◌, ◌+◌, take}
-use Rattle.indexset_core.specs.Nodes.{node_lengths}
-use Rattle.indexset_spine.specs.Cut.{vec_items}
+use Rattle.indexset_core.specs.Nodes.{node_lengths, vec_items}
 use Rattle.indexset_spine.proofs.fenwick.Fenwick.rebuild_from.Given as goal
 
 abbrev pub invariant-loop-node : goal.invariant-loop-node

@@ -1,8 +1,7 @@
 use Rattle.std.proofs.Common.{◌≡◌, ◌++◌, ap, ◌∙◌, length, arith}
 use Rattle.std.proofs.lemmas.List.{nil_from_length}
 use Rattle.std.specs.Vec.Iter.{into_iter_items}
-use Rattle.indexset_core.specs.Nodes.{joined}
-use Rattle.indexset_spine.specs.Cut.{vec_items}
+use Rattle.indexset_core.specs.Nodes.{joined, vec_items}
 use Rattle.indexset_spine.proofs.IterLemmas.{back_turn}
 use Rattle.indexset_spine.proofs.into_iter.IntoIterDoubleEndedIterator.next_back.Goals as goal
 

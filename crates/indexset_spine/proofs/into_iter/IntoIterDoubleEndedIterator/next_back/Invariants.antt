@@ -1,7 +1,6 @@
 use Rattle.std.proofs.Common.{◌≡◌, ◌++◌, length}
 use Rattle.std.specs.Vec.Iter.{into_iter_items, into_iter_len}
-use Rattle.indexset_core.specs.Nodes.{joined}
-use Rattle.indexset_spine.specs.Cut.{vec_items}
+use Rattle.indexset_core.specs.Nodes.{joined, vec_items}
 use Rattle.indexset_spine.proofs.into_iter.IntoIterDoubleEndedIterator.next_back.Given as goal
 
 abbrev pub invariant-loop-last : goal.invariant-loop-last

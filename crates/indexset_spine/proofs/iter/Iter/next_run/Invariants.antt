@@ -1,6 +1,5 @@
 use Rattle.std.proofs.Common.{◌≡◌, [], ◌++◌, length}
-use Rattle.indexset_core.specs.Nodes.{joined}
-use Rattle.indexset_spine.specs.Cut.{vec_items}
+use Rattle.indexset_core.specs.Nodes.{joined, vec_items}
 use Rattle.indexset_spine.proofs.iter.Iter.next_run.Given as goal
 
 abbrev pub invariant-loop-run : goal.invariant-loop-run

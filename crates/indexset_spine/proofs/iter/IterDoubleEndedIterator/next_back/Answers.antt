@@ -1,7 +1,6 @@
 use Rattle.std.proofs.Common.{◌++◌, ap, ◌∙◌}
 use Rattle.std.proofs.lemmas.List.{nil_from_length}
-use Rattle.indexset_core.specs.Nodes.{joined}
-use Rattle.indexset_spine.specs.Cut.{vec_items}
+use Rattle.indexset_core.specs.Nodes.{joined, vec_items}
 use Rattle.indexset_spine.proofs.IterLemmas.{back_turn}
 use Rattle.indexset_spine.proofs.iter.IterDoubleEndedIterator.next_back.Goals as goal
 

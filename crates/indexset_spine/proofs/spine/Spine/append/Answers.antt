@@ -1,6 +1,5 @@
 use Rattle.std.proofs.Common.{◌≡◌, ◌+◌, ◌∙◌, ap, arith, rules}
-use Rattle.indexset_core.specs.Nodes.{joined, node_lengths}
-use Rattle.indexset_spine.specs.Cut.{vec_items}
+use Rattle.indexset_core.specs.Nodes.{joined, node_lengths, vec_items}
 use Rattle.indexset_spine.proofs.CutLemmas.{spine_len}
 use Rattle.indexset_spine.proofs.CutJoins.{spine_joined, lengths_joined, items_joined}
 use Rattle.indexset_spine.proofs.spine.Spine.append.Goals as goal

@@ -1,6 +1,5 @@
 use Rattle.std.proofs.Common.{◌∙◌, ap, sum, arith}
-use Rattle.indexset_core.specs.Nodes.{node_lengths}
-use Rattle.indexset_spine.specs.Cut.{vec_items}
+use Rattle.indexset_core.specs.Nodes.{node_lengths, vec_items}
 use Rattle.indexset_spine.proofs.spine.Spine.clone.Goals as goal
 
 pub rebuild-requires-clause-fits : goal.rebuild-requires-clause-fits

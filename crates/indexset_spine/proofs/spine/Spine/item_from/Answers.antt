@@ -1,5 +1,5 @@
 use Rattle.std.proofs.Common.{sym, ◌∙◌, add-one}
-use Rattle.indexset_spine.specs.Cut.{vec_items}
+use Rattle.indexset_core.specs.Nodes.{vec_items}
 use Rattle.indexset_spine.proofs.SpotLemmas.{joined_at, joined_next, later_filled}
 use Rattle.indexset_spine.proofs.spine.Spine.item_from.Goals as goal
 

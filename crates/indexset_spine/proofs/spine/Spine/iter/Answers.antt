@@ -1,7 +1,7 @@
 use Rattle.std.proofs.Common.{sym, ◌∙◌}
 use Rattle.std.specs.Map.Iter.{deref}
 use Rattle.std_collections.proofs.IterRuns.{shows_in_order, shows_in_reverse}
-use Rattle.indexset_spine.specs.Cut.{vec_items}
+use Rattle.indexset_core.specs.Nodes.{vec_items}
 use Rattle.indexset_core.proofs.CallerLemmas.{length-joined}
 use Rattle.indexset_spine.proofs.spine.Spine.iter.Goals as goal
 

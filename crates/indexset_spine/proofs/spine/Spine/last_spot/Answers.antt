@@ -1,7 +1,6 @@
 use Rattle.std.proofs.Common.{◌≡◌, ◌+◌, ◌-◌, ◌<◌, [], refl, arith, ap, length}
-use Rattle.indexset_core.specs.Nodes.{joined}
+use Rattle.indexset_core.specs.Nodes.{joined, vec_items}
 use Rattle.indexset_core.proofs.CallerLemmas.{length-joined}
-use Rattle.indexset_spine.specs.Cut.{vec_items}
 use Rattle.indexset_spine.proofs.CutLemmas.{spine_len}
 use Rattle.indexset_spine.proofs.PartLemmas.{last_filled, last_spot_in}
 use Rattle.indexset_spine.proofs.VecNodes.{length-vec_items, node_read}

@@ -1,5 +1,5 @@
 use Rattle.std.proofs.Common.{length, arith}
-use Rattle.indexset_spine.specs.Cut.{vec_items}
+use Rattle.indexset_core.specs.Nodes.{vec_items}
 use Rattle.std.proofs.lemmas.List.{length-map}
 use Rattle.indexset_spine.proofs.VecNodes.{length-vec_items}
 use Rattle.indexset_spine.proofs.CutLemmas.{few_nodes, spine_len}

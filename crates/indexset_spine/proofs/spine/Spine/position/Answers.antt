@@ -1,6 +1,7 @@
 use Rattle.std.proofs.Common.{arith, ap, length}
 use Rattle.indexset_core.proofs.CallerLemmas.{offset-le}
-use Rattle.indexset_spine.specs.Cut.{position_of, vec_items}
+use Rattle.indexset_spine.specs.Cut.{position_of}
+use Rattle.indexset_core.specs.Nodes.{vec_items}
 use Rattle.indexset_spine.proofs.CutLemmas.{spine_len}
 use Rattle.indexset_spine.proofs.IndexLemmas.{count-lengths, prefix-joined}
 use Rattle.indexset_spine.proofs.spine.Spine.position.Goals as goal

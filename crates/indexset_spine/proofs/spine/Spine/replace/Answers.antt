@@ -1,6 +1,6 @@
 use Rattle.std.proofs.Common.{◌∙◌, ap, slice_set, sym}
-use Rattle.indexset_core.specs.Nodes.{joined}
-use Rattle.indexset_spine.specs.Cut.{vec_items, position_of, with_replaced}
+use Rattle.indexset_core.specs.Nodes.{joined, vec_items}
+use Rattle.indexset_spine.specs.Cut.{position_of, with_replaced}
 use Rattle.indexset_spine.proofs.CutEdits.{joined_replaced, node_lengths-replaced, spine_replaced}
 use Rattle.indexset_spine.proofs.RemoveSteps.{respot_writes, item_read}
 use Rattle.indexset_spine.proofs.spine.Spine.replace.Goals as goal

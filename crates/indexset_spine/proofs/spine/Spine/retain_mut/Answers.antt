@@ -1,15 +1,14 @@
 use Rattle.std.proofs.Common.{length, sum, ap, arith, ◌∙◌}
 use Rattle.std.specs.Fn.{CalledAtMut}
-use Rattle.indexset_core.specs.Nodes.{node_lengths}
+use Rattle.indexset_core.specs.Nodes.{node_lengths, vec_items}
 use Rattle.indexset_core.proofs.CallerLemmas.{length-joined}
-use Rattle.indexset_spine.specs.Cut.{vec_items}
 use Rattle.indexset_spine.proofs.IndexLemmas.{count-lengths, retained_few}
 use Rattle.indexset_spine.proofs.VecNodes.{length-vec_items}
 use Rattle.indexset_spine.proofs.RetainSteps.{nodes_joined, nodes_shorter, nodes_spine}
 use Rattle.indexset_spine.proofs.spine.Spine.retain_mut.Goals as goal
 
-pub total_in-self-inside-requires : goal.total_in-self-inside-requires
-total_in-self-inside-requires g c =
+pub count_items-self-inside-requires : goal.count_items-self-inside-requires
+count_items-self-inside-requires g c =
     let few = nodes_shorter (CalledAtMut g.F.FnMut) _ _ _ c.retain_nodes.ensures in
     rw c.as_slice.ensures.value (omega (arith, few, c.self.invariant.is_spine.total_is, length-joined (vec_items c.self.inside.nodes.items)))
 
@@ -30,7 +29,7 @@ rebuild-requires-clause-fits g c =
 pub invariant_of-self : goal.invariant_of-self
 invariant_of-self g c = record {
   is_spine =
-      nodes_spine (CalledAtMut g.F.FnMut) _ _ _ c.retain_nodes.ensures c.self.inside.size c.total_in-self-inside.result c.self.invariant.is_spine.is_cut (rw c.as_slice.ensures.value at c.total_in-self-inside.ensures);
+      nodes_spine (CalledAtMut g.F.FnMut) _ _ _ c.retain_nodes.ensures c.self.inside.size c.count_items-self-inside.result c.self.invariant.is_spine.is_cut (rw c.as_slice.ensures.value at c.count_items-self-inside.ensures);
   index_is = c.rebuild.ensures.lengths ∙ ap (λ v. node_lengths (vec_items v)) c.as_slice-2.ensures.value;
 }
 

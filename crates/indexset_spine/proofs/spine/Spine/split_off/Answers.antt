@@ -1,6 +1,6 @@
 use Rattle.std.proofs.Common.{List, ◌∙◌, ap, sym, arith, sum, length, take, drop}
-use Rattle.indexset_core.specs.Nodes.{joined, node_lengths}
-use Rattle.indexset_spine.specs.Cut.{Cut, items, vec_items, position_of}
+use Rattle.indexset_core.specs.Nodes.{joined, node_lengths, vec_items}
+use Rattle.indexset_spine.specs.Cut.{Cut, items, position_of}
 use Rattle.indexset_spine.proofs.CutEdits.{position_below}
 use Rattle.indexset_spine.proofs.CutSplits.{joined_left, joined_right, spine_left, spine_right}
 use Rattle.indexset_spine.proofs.EditSteps.{spot_in}

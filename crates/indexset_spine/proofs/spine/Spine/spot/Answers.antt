@@ -1,6 +1,7 @@
 use Rattle.std.proofs.Common.{length, sum, refl, arith, ap}
 use Rattle.indexset_core.proofs.CallerLemmas.{length-joined}
-use Rattle.indexset_spine.specs.Cut.{items, vec_items}
+use Rattle.indexset_spine.specs.Cut.{items}
+use Rattle.indexset_core.specs.Nodes.{vec_items}
 use Rattle.indexset_spine.proofs.IndexLemmas.{spot_found}
 use Rattle.indexset_spine.proofs.spine.Spine.spot.Goals as goal
 

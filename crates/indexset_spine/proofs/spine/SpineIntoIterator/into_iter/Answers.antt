@@ -1,6 +1,7 @@
 use Rattle.std.proofs.Common.{sym, ◌∙◌, ap}
 use Rattle.std_collections.proofs.IterRuns.{gives_in_order, gives_in_reverse}
-use Rattle.indexset_spine.specs.Cut.{vec_items, items}
+use Rattle.indexset_spine.specs.Cut.{items}
+use Rattle.indexset_core.specs.Nodes.{vec_items}
 use Rattle.indexset_core.proofs.CallerLemmas.{length-joined}
 use Rattle.indexset_spine.proofs.spine.SpineIntoIterator.into_iter.Goals as goal
 

@@ -1,5 +1,5 @@
 use Rattle.std.proofs.Common.{◌∙◌, ap}
-use Rattle.indexset_spine.specs.Cut.{vec_items}
+use Rattle.indexset_core.specs.Nodes.{vec_items}
 use Rattle.indexset_core.proofs.CallerLemmas.{on_err}
 use Rattle.indexset_spine.proofs.EditSteps.{IsHalved, lists_kept, right_puts, left_puts, right_room, left_room, halved_lists}
 use Rattle.indexset_spine.proofs.spine.insert.halve_at.Given.{Over}
@@ -13,11 +13,11 @@ halved g c =
     let ok = c.in_ok-right.ensures {u = tt} in
     record { same = ap vec_items e; node_in = rw e c.requires.spot.node_in; node = c.index_mut-node.ensures.value; left = ok.left; right = ok.right }
 
-pub returns-in_err-right-clause-err : goal.returns-in_err-right-clause-err
-returns-in_err-right-clause-err g c =
+pub returns-in_err-right-clause-unchanged : goal.returns-in_err-right-clause-unchanged
+returns-in_err-right-clause-unchanged g c =
     let e = c.reserve.ensures.items in
     on_err c.from_residual-in_err-right.result
-    (lists_kept c.reserve.new.self.items _ _ c.halve_node.new.node (rw e c.requires.spot.node_in) c.index_mut-node.ensures.value (c.in_err-right.ensures {u = tt}).err ∙ ap vec_items e)
+    (lists_kept c.reserve.new.self.items _ _ c.halve_node.new.node (rw e c.requires.spot.node_in) c.index_mut-node.ensures.value (c.in_err-right.ensures {u = tt}).unchanged ∙ ap vec_items e)
 
 pub returns-then-half-spot-clause-room : goal.returns-then-half-spot-clause-room
 returns-then-half-spot-clause-room g c =

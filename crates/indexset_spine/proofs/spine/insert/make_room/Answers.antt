@@ -1,14 +1,13 @@
 use Rattle.std.proofs.Common.{List, ◌∙◌, arith, ap, sym, sum, take, length}
-use Rattle.indexset_core.specs.Nodes.{node_lengths}
-use Rattle.indexset_spine.specs.Cut.{vec_items}
+use Rattle.indexset_core.specs.Nodes.{node_lengths, vec_items}
 use Rattle.indexset_core.proofs.CallerLemmas.{on_err}
 use Rattle.indexset_spine.proofs.EditSteps.{lists_kept, room_puts, node_len, inserted_full}
 use Rattle.indexset_spine.proofs.IndexLemmas.{count-lengths, halved_keeps, halved_sum}
 use Rattle.indexset_spine.proofs.VecNodes.{length-vec_items}
 use Rattle.indexset_spine.proofs.spine.insert.make_room.Goals as goal
 
-pub returns-in_err-reserve-clause-err : goal.returns-in_err-reserve-clause-err
-returns-in_err-reserve-clause-err g c =
+pub returns-in_err-reserve-clause-unchanged : goal.returns-in_err-reserve-clause-unchanged
+returns-in_err-reserve-clause-unchanged g c =
     on_err c.from_residual.result (lists_kept _ _ _ _ c.requires.spot.node_in c.index_mut.ensures.value c.reserve.ensures.items)
 
 pub returns-in_err-reserve-clause-index : goal.returns-in_err-reserve-clause-index

@@ -1,5 +1,5 @@
 use Rattle.std.proofs.Common.{◌≡◌, ◌≤◌, length, take, vec_len, vec_capacity}
-use Rattle.indexset_spine.specs.Cut.{vec_items}
+use Rattle.indexset_core.specs.Nodes.{vec_items}
 use Rattle.indexset_spine.proofs.spine.make.clone_nodes.Given as goal
 
 abbrev pub invariant-loop-node : goal.invariant-loop-node

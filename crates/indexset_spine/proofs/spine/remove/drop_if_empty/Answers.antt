@@ -1,6 +1,6 @@
 use Rattle.std.proofs.Common.{◌∙◌, ap, sym, arith}
 use Rattle.std.proofs.lemmas.Bool.Decides.{nat_tests}
-use Rattle.indexset_spine.specs.Cut.{vec_items}
+use Rattle.indexset_core.specs.Nodes.{vec_items}
 use Rattle.indexset_spine.proofs.VecNodes.{length-vec_items}
 use Rattle.indexset_spine.proofs.EditSteps.{node_len}
 use Rattle.indexset_spine.proofs.RemoveSteps.{vec_items-remove, emptied_goes, only_stays, filled_stays}

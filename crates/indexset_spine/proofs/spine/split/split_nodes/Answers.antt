@@ -1,14 +1,14 @@
 use Rattle.std.proofs.Common.{◌∙◌, ap}
-use Rattle.indexset_spine.specs.Cut.{vec_items}
+use Rattle.indexset_core.specs.Nodes.{vec_items}
 use Rattle.indexset_spine.specs.Edits.{without_emptied, left_nodes, right_nodes}
 use Rattle.indexset_core.proofs.CallerLemmas.{on_err}
 use Rattle.indexset_spine.proofs.EditSteps.{lists_kept}
 use Rattle.indexset_spine.proofs.SplitSteps.{left_lists, right_lists}
 use Rattle.indexset_spine.proofs.spine.split.split_nodes.Goals as goal
 
-pub returns-in_err-back-clause-err : goal.returns-in_err-back-clause-err
-returns-in_err-back-clause-err g c =
-    on_err c.from_residual-in_err-back.result (lists_kept c.args.nodes.now.items _ _ c.take_back.new.node c.requires.node_in c.index_mut.ensures.value (c.in_err-back.ensures {u = tt}).err)
+pub returns-in_err-back-clause-unchanged : goal.returns-in_err-back-clause-unchanged
+returns-in_err-back-clause-unchanged g c =
+    on_err c.from_residual-in_err-back.result (lists_kept c.args.nodes.now.items _ _ c.take_back.new.node c.requires.node_in c.index_mut.ensures.value (c.in_err-back.ensures {u = tt}).unchanged)
 
 pub returns-clause-left : goal.returns-clause-left
 unfolding left_nodes

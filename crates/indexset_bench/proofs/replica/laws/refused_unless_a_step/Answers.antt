@@ -1,6 +1,0 @@
-use Rattle.indexset_log.proofs.CallerLemmas.{nodes_ruled}
-use Rattle.indexset_bench.proofs.ReplicaSteps.{refusal_law}
-use Rattle.indexset_bench.proofs.replica.laws.refused_unless_a_step.Goals as goal
-
-pub returns : goal.returns
-returns g c = λ ns next e nodes. refusal_law g.T.Ord.cmp ns next e g.met.T.Ord.total (nodes_ruled g.T.Ord.cmp ns nodes)

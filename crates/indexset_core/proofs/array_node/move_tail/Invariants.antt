@@ -1,0 +1,12 @@
+use Rattle.std.proofs.Common.{◌≡◌, ◌≤◌, ◌+◌, ◌++◌, length}
+use Rattle.arrayvec.specs.Iter.{drain_items, DrainKeeps}
+use Rattle.indexset_core.proofs.array_node.move_tail.Given as goal
+
+abbrev pub invariant-loop-item : goal.invariant-loop-item
+invariant-loop-item g l = record {
+  callable : (goal.iterator-loop-item g).can_next l.item-iterator;
+  finite : (goal.iterator-loop-item g).is_finite l.item-iterator;
+  keeps : DrainKeeps l.initial.item-iterator l.item-iterator;
+  moved : l.other.items ++ drain_items l.item-iterator ≡ l.initial.other.items ++ drain_items l.initial.item-iterator;
+  room : length l.other.items + length (drain_items l.item-iterator) ≤ g.row.N;
+}

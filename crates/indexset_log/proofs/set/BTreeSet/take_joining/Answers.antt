@@ -1,0 +1,31 @@
+use Rattle.std.proofs.Common.{arith}
+use Rattle.indexset_core.specs.Nodes.{node_at}
+use Rattle.indexset_log.proofs.Joins.{after_from, few_before}
+use Rattle.indexset_log.proofs.Takes.{join_tree, join_up, some_joined, some_read}
+use Rattle.indexset_log.proofs.Trees.{held}
+use Rattle.indexset_log.proofs.set.BTreeSet.take_joining.Goals as goal
+
+pub take_and_join-requires-clause-most : goal.take_and_join-requires-clause-most
+take_and_join-requires-clause-most g c =
+    let t = held g.Node.NodeLike.list c.self.inside.nodes.items c.self.view_is c.self.invariant in
+    let after = after_from c.args.self.now.size c.args.self.now.nodes c.args.node c.args.offset c.args.left c.requires.join in
+    rw t.same (omega (arith, few_before c.args.self.now.size c.args.self.now.nodes c.args.node c.args.offset c.args.left c.requires.offset after t.rule.two, t.rule.within))
+
+pub take_and_join-requires-clause-order : goal.take_and_join-requires-clause-order
+take_and_join-requires-clause-order g c =
+    let t = held g.Node.NodeLike.list c.self.inside.nodes.items c.self.view_is c.self.invariant in
+    let after = after_from c.args.self.now.size c.args.self.now.nodes c.args.node c.args.offset c.args.left c.requires.join in
+    let x = some_read (node_at c.args.self.now.nodes c.args.node) c.args.offset c.requires.offset in
+    rw t.same (join_up g.met.T.Ord.total t.rule.lawful c.args.node c.args.offset c.requires.node x.1 after)
+
+pub overflow_sub-self : goal.overflow_sub-self
+overflow_sub-self g c =
+    let t = held g.Node.NodeLike.list c.self.inside.nodes.items c.self.view_is c.self.invariant in
+    omega (arith, t.rule.counted, some_joined c.args.self.now.nodes c.args.node c.args.offset c.requires.node c.requires.offset)
+
+pub invariant_of-self-2 : goal.invariant_of-self-2
+invariant_of-self-2 g c =
+    let t = held g.Node.NodeLike.list c.self.inside.nodes.items c.self.view_is c.self.invariant in
+    let after = after_from c.args.self.now.size c.args.self.now.nodes c.args.node c.args.offset c.args.left c.requires.join in
+    let x = some_read (node_at c.args.self.now.nodes c.args.node) c.args.offset c.requires.offset in
+    rw (c.in_ok-item.ensures.nodes, t.same, t.sized, ← after.without) (join_tree g.met.T.Ord.total t.rule.lawful c.args.node c.args.offset c.requires.node x.1 c.requires.join t.rule)

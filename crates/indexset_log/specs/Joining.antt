@@ -1,0 +1,29 @@
+-- Joining of small neighbours.
+use Rattle.std.specs.Prelude.{ℕ, ◌+◌, ◌-◌, ◌/◌, ◌<◌, Bool, ◌&&◌, if◌then◌else◌, nat_lt, nat_le, ◌==◌, List, [], ◌∷◌, ◌++◌, length, set, remove, Option, Some, None}
+use Rattle.std.specs.List.{splice}
+use Rattle.indexset_core.specs.Nodes.{node_at}
+
+module _ {T : Type 0} where
+  -- the node at place j and the one after it hold at most h items together
+  abbrev pub are_small : ℕ → List (List T) → ℕ → Bool
+  are_small h ns j = nat_lt (j + 1) (length ns) && nat_le (length (node_at ns j) + length (node_at ns (j + 1))) h
+
+  -- the first of the two nodes that are joined where the node at place k has lost an item: it and the one after it, else the one before it and it
+  abbrev pub join_place : ℕ → List (List T) → ℕ → Option ℕ
+  join_place h ns k = if are_small h ns k then Some k else if nat_lt 0 k && are_small h ns (k - 1) then Some (k - 1) else None
+
+  -- the node at place j and the one after it made one
+  abbrev pub with_joined : List (List T) → ℕ → List (List T)
+  with_joined ns j = splice ns j (j + 2) ((node_at ns j ++ node_at ns (j + 1)) ∷ [])
+
+  -- the nodes without the item at place i of the node at place k: an emptied node goes too
+  abbrev pub without_item : List (List T) → ℕ → ℕ → List (List T)
+  without_item ns k i = if length (node_at ns k) == 1 then remove ns k else set ns k (remove (node_at ns k) i)
+
+  -- the first of the two nodes that are joined once that item is gone: an emptied node has none
+  abbrev pub join_after : ℕ → List (List T) → ℕ → ℕ → Option ℕ
+  join_after size ns k i = if length (node_at ns k) == 1 then None else join_place (size / 2) (without_item ns k i) k
+
+  -- any two neighbours hold more than h items together
+  abbrev pub IsSpaced : ℕ → List (List T) → Type 0
+  IsSpaced h ns = (j : ℕ) → j + 1 < length ns → h < length (node_at ns j) + length (node_at ns (j + 1))

@@ -1,0 +1,13 @@
+use Rattle.std.proofs.Common.{true, rules, refl}
+use Rattle.std.specs.Iterator.{Drains}
+use Rattle.std.proofs.iter.runs.Made.{run, to_end}
+use Rattle.indexset_map.proofs.BTreeMap.from_iter.Goals as goal
+
+-- the loop's calls are a whole run of the iterator
+pub returns-clause-inserted : goal.returns-clause-inserted
+returns-clause-inserted g c =
+    let steps = g.I.IntoIter.Iterator.next_gives in
+    let rest = c.into_iter-rest.result in
+    let came = c.loop-key.yielded in
+    let drains : Drains steps rest came = (c.next.new.self, (c.loop-key.key-iterator, search rules, (c.in-None.ensures {u = tt}).steps)) in
+    (rest, c.into_iter-rest.ensures.into_iter_gives, (run steps rest came true (to_end steps rest came drains), refl, refl, c.loop-key.invariant.inserted))

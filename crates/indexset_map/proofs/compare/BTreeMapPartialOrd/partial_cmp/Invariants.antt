@@ -1,0 +1,12 @@
+-- What is left compares as the whole does.
+use Rattle.std.proofs.Common.{◌≡◌, length}
+use Rattle.std.specs.Cmp.Lexicographic.{slice_partial_cmp}
+use Rattle.std.specs.Ordering.{partial_ordering_then}
+use Rattle.indexset_map.proofs.compare.BTreeMapPartialOrd.partial_cmp.Given as goal
+
+abbrev pub invariant-loop-key : goal.invariant-loop-key
+invariant-loop-key g l = slice_partial_cmp (λ p q. partial_ordering_then (g.K.PartialOrd.partial_cmp p.key q.key) (g.V.PartialOrd.partial_cmp p.value q.value)) l.left l.right
+    ≡ slice_partial_cmp (λ p q. partial_ordering_then (g.K.PartialOrd.partial_cmp p.key q.key) (g.V.PartialOrd.partial_cmp p.value q.value)) l.initial.left l.initial.right
+
+abbrev pub decreases-loop-key : goal.decreases-loop-key
+decreases-loop-key g l = length l.left

@@ -1,0 +1,7 @@
+use Rattle.indexset_map.proofs.entry.OccupiedEntry.remove_entry.Goals as goal
+
+pub returns-clause-pair : goal.returns-clause-pair
+returns-clause-pair g c = c.pop_index.ensures.value
+
+pub returns-clause-removed : goal.returns-clause-removed
+returns-clause-removed g c = c.pop_index.ensures.rest

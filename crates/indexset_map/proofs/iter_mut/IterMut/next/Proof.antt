@@ -1,0 +1,100 @@
+-- The next pair is lent as an `Option`, which the borrow checker does not cover. First `ready` is asked, of the walk lent again for a lifetime within the old one; then `next_pair` lends the pair as it is.
+use Rattle.indexset_set.proofs.LentPairs.{proved, leaves, Some-of, none_of, a_type, named, dcons, dnil, Val, vptr, vstruct, vcons, vnil, of_list, inst_fn, SProp, emp, id⊢, sep, wand, apply∗, ftrue, flft, fdead, fres, Lft, GName, Item, ‵, raw, ◌⊛◌, some, later, at_ret, ◌$◌, ◌∵◌, !, qed, by, move, keep, drop, split, split3, join, fsplit, fsplit3, fjoin, pick, use0, use1, use2, use3, feq_l, await, rewrite, stop, addr, lit, of_opd, no_more, and_then, first, branches, skips, exec, returns, returns_within, enter, alloc_all, pass_all, free_all, look_at, get, through, sets, lands_as, env, agg, live, tables, fact, fact_i, ◌⊑◌, Lfts, no, LentAgain, lends_again, comes_back, lft_new, lft_end, lft-common, common, mem-append_left, mem-append_right, full_share, RattleType, owns, types_at, plain, named_lft, RefMutOf, bool, MutRef, ShrRef, MutBor, mut_vals, mut_Tells, nothing, only, peeks, heard, Is, shows, param, bounded, Tuple, lasts, triple_of, calls_at, framed, Stays, stay_dropped, walk_of, Goes-spent_ref, after, is_true, is_false, is_low}
+use Rattle.std.proofs.Common.{◌≡◌, ℕ, ◌<◌, Bool, [], ◌∷◌, ◌++◌, Option, Some, None, slice_get, if◌then◌else◌, refl, sym, ap, ◌∙◌, lit<, nat_lt}
+use Rattle.std.specs.Option.{option_map}
+use base.Share
+use denote.Follow.{follows, follows_by}
+use Rattle.indexset_map.specs.contracts.iter_mut.IterMut.ready as r
+use Rattle.indexset_map.proofs.iter_mut.IterMut.ready.Met as ready
+use Rattle.std.specs.contracts.option.Option as OP
+use Rattle.indexset_core.specs.Pairs.{entry_of}
+use Rattle.indexset_map.specs.Walk.{after_first}
+use Rattle.indexset_map.specs.contracts.iter_mut.IterMut as walk
+use Rattle.indexset_map.specs.contracts.iter_mut.IterMut.next_pair as g
+use Rattle.indexset_map.proofs.iter_mut.IterMut.next_pair.Met as theirs
+use Rattle.indexset_map.specs.contracts.iter_mut.IterMut.next.{ended, clauses}
+use Rattle.indexset_map.specs.contracts.iter_mut.IterMut.next.Key.{name as #self}
+use Rattle.indexset_map.proofs.iter_mut.IterMut.next.Statement.{statement}
+use Rattle.indexset_map.proofs.iter_mut.IterMut.next.Code as code
+
+pub next_spec : {M : Type 1} → statement M
+unfolding follows_by
+next_spec 𝓤 𝓛 𝓜 𝓡 wired X Y LX LY o₀ d₀ o₁ d₁ o₂ d₂ o₃ d₃ m₀ m₁ m₂ m₃ =
+    let H = 𝓛.H in let 𝓣 = tables 𝓤 H 𝓜 𝓡 𝓡.env in let K : RattleType = param 0 X in let V : RattleType = param 1 Y in let En = ended X Y o₀ d₀ o₁ d₁ o₂ d₂ o₃ d₃ in
+    let inst = bounded (a_type ∷ a_type ∷ []) (X, (Y, tt)) (dcons d₀ (dcons d₁ (dcons d₂ (dcons d₃ dnil)))) in let fn = inst_fn inst code.function in let c = clauses X Y o₀ d₀ o₁ d₁ o₂ d₂ o₃ d₃ 𝓛 𝓜.mem 𝓡.returns in
+    let RowAt : Lfts 4 → RattleType = λ κs. walk.the_row (named_lft 4 1 tt κs) K V o₀ o₂ o₃ o₁ in
+    let G = triple_of 𝓛 (g.signature X Y o₀ d₀ o₁ d₁ o₂ d₂ o₃ d₃) (g.spec X Y o₀ d₀ o₁ d₁ o₂ d₂ o₃ d₃ 𝓛 𝓜.mem 𝓡.returns) in
+    let met = theirs.met 𝓤 𝓛 𝓜 𝓡 (code.calls-indexset_map::iter_mut::IterMut::next_pair 𝓡.env wired) X Y LX LY o₀ d₀ o₁ d₁ o₂ d₂ o₃ d₃ m₀ m₁ m₂ m₃ in
+    let Rd = triple_of 𝓛 (r.signature X Y o₀ d₀ o₁ d₁ o₂ d₂ o₃ d₃) (r.spec X Y o₀ d₀ o₁ d₁ o₂ d₂ o₃ d₃ 𝓛 𝓜.mem 𝓡.returns) in
+    let metR = ready.met 𝓤 𝓛 𝓜 𝓡 (code.calls-indexset_map::iter_mut::IterMut::ready 𝓡.env wired) X Y LX LY o₀ d₀ o₁ d₁ o₂ d₂ o₃ d₃ m₀ m₁ m₂ m₃ in
+    let hs : Stays En.signature.params En.kept = (stay_dropped (RefMutOf (0 ∷ []) tt (plain RowAt) (λ _. tt)) no, tt) in
+    proved 𝓛 En hs c 𝓜 𝓡 (Goes-spent_ref 𝓛 4 (0 ∷ []) tt (plain RowAt), tt)
+    (#self inst) fn (code.unfolded 𝓤 H 𝓜 𝓡 wired (X, (Y, tt)) d₀ d₁ d₂ d₃)
+    (λ κs. (mut_vals, tt)) (λ κs. (mut_Tells (named 0) κs.0 (RowAt κs), tt)) (λ κs qs bounds a gh are.
+    let Row : RattleType = RowAt κs in
+    let s = a.0 in let b : ℕ = s.ref_ptr.0 in let o : ℕ = s.ref_ptr.1 in let κ : Lft = κs.0 in let q = qs.0 in
+    let found : Option (X.Denot × Y.Denot) = option_map entry_of (slice_get s.now.map.now.pairs s.now.front) in
+    let Lent : RattleType = Tuple (ShrRef (named 0) κs.0 K ∷ MutRef (named 0) κs.0 V ∷ []) in let OL : RattleType = OP.the_row Lent in
+    let κ₁ : Lft = κs.1.0 in let q₁ = qs.1.0 in let rest : Item 𝓤 = ‵ (flft κs.1.1.0 qs.1.1.0) ⊛ ‵ (flft κs.1.1.1.0 qs.1.1.1.0) ⊛ ‵ ftrue in let others : Item 𝓤 = ‵ (flft κ₁ q₁) ⊛ rest in let tokens : Item 𝓤 = ‵ (flft κ q) ⊛ others in
+    let Ref = λ (κ' : Lft) (x : MutBor Row.Denot). (MutRef (named 0) κ' Row).own_val x (mut_vals s) in
+    let y : (walk_of 𝓛 En hs c).Ghost = ((κs, qs, bounds, a, (mut_vals s, tt)), gh) in let Post : Val → SProp 𝓤 = (walk_of 𝓛 En hs c).post y in
+    let inK : Type 0 = κs.1.1.0 ⊑ X.lives in let inV : Type 0 = κs.1.1.1.0 ⊑ Y.lives in let Low : Type 0 = s.now.front < s.now.back in
+    qed 𝓛 ((tokens ⊛ ‵ (owns (types_at En.signature.params κs) a y.0.4)) ∷ raw (fact 𝓤 inK) ∷ raw (fact 𝓤 inV) ∷ ‵ ftrue ∷ []) ∵
+    move ! (1 ∷ 2 ∷ 3 ∷ []) $ heard ! inK (λ lk. heard ! inV (λ lv. drop ! $ split ! $ move ! (1 ∷ []) $ fsplit ! $ move ! (1 ∷ []) $ drop ! $
+    -- [self; the tokens]
+    enter ! 𝓣.C 𝓣.Λ fn (vptr b o ∷ []) Post $ alloc_all ! (λ l. pass_all ! refl ((tt, tt), tt) $ let Ev = env fn.locals l in
+    sets ! (addr ! (through ! refl (stop !))) refl (tt, tt) $ move ! (1 ∷ []) $ split ! $ move ! (1 ∷ []) $ split ! $
+    -- [the token of κ₁; the rest of the tokens; the token of κ; self]
+    use1 𝓛 (‵ (flft κ₁ (Share.left q₁)) ⊛ ‵ (flft κ₁ (Share.right q₁))) (𝓛.lfts.lft_split κ₁ q₁) $ split ! $
+    lft_new ! tt (λ α. let ν : Lft = (α ∷ []) ++ κ₁ in let t = (common full_share (Share.left q₁)).0 in let Both = sep 𝓤 (𝓛.A.lft (α ∷ []) full_share) (𝓛.A.lft κ₁ (Share.left q₁)) in
+    use2 𝓛 (‵ (flft ν t) ⊛ raw (wand 𝓤 (𝓛.A.lft ν t) Both)) (lft-common 𝓛 (α ∷ []) κ₁ full_share (Share.left q₁)) $ split ! $ move ! (5 ∷ 4 ∷ []) $
+    use2 𝓛 (later (some (λ (δ : GName). ‵ (Ref ν (record s { ghost_name = δ })) ⊛ ‵ (LentAgain Row κ ν q s.ghost_name b o δ s.now)))) (lends_again 𝓛 Row (named 0) κ ν q s.ghost_name b o (named 0) s.now) $ await ! tt $ pick ! (λ δ. split ! $
+    -- [the loan; what the lender keeps; the token of ν; what gives it back; the other half of κ₁'s; the rest of the tokens]
+    let x : Rd.Ghost = (((ν, κs.1), (t, (Share.right q₁, qs.1.1)), ((λ a m. mem-append_right (α ∷ []) m), ((λ a m. mem-append_right (α ∷ []) (bounds.1.1.1.0 a m)), ((λ a m. mem-append_right (α ∷ []) (bounds.1.1.1.1.0 a m)), (bounds.1.1.1.0, (bounds.1.1.1.1.0, tt))))), (record s { ghost_name = δ }, tt), (mut_vals s, tt)), tt) in
+    nothing ! $ move ! (1 ∷ 0 ∷ []) $ fjoin ! $ move ! (4 ∷ 5 ∷ []) $ join ! $ move ! (3 ∷ 0 ∷ []) $ join ! $ join ! $
+    nothing ! $ use0 𝓛 (raw (fact 𝓤 inV)) (fact_i 𝓤 inV (emp 𝓤) lv) $ join ! $ use0 𝓛 (raw (fact 𝓤 inK)) (fact_i 𝓤 inK (emp 𝓤) lk) $ join ! $
+    move ! (1 ∷ 0 ∷ []) $ use2 𝓛 (raw (Rd.pre x)) (id⊢ 𝓤 _) $
+    calls_at ! (framed 𝓤 H 𝓜 𝓣) Rd metR x (and_then ! (get ! refl) (no_more !)) (λ w.
+    use1 𝓛 (later (some (λ (has : Bool). ((‵ (flft ν t) ⊛ ‵ (flft κ₁ (Share.right q₁)) ⊛ rest) ⊛ ‵ (bool.own_val has (w ∷ []))) ⊛ some (λ (ws : Row.Denot × Unit {0}). ‵ (lasts (r.ended X Y o₀ d₀ o₁ d₁ o₂ d₂ o₃ d₃) x.0.0 x.0.3 ws) ⊛ raw (fact 𝓤 ((has ≡ nat_lt s.now.front s.now.back) × (ws.0 ≡ s.now))))))) (id⊢ 𝓤 _) $
+    await ! tt $ pick ! (λ has. split ! $ split ! $ split ! $ move ! (0 ∷ 5 ∷ []) $
+    use2 𝓛 (‵ (flft (α ∷ []) full_share) ⊛ ‵ (flft κ₁ (Share.left q₁))) (apply∗ 𝓤 (𝓛.A.lft ν t) Both) $ split ! $ lft_end ! tt $ use1 𝓛 (‵ (fdead ν)) (𝓛.lfts.dead-incl ν (α ∷ []) (λ a m. mem-append_left κ₁ m)) $
+    move ! (2 ∷ []) $ split ! $ move ! (3 ∷ 0 ∷ []) $ use2 𝓛 (‵ (flft κ₁ q₁)) (𝓛.lfts.lft_join κ₁ q₁) $ join ! $ move ! (1 ∷ 0 ∷ []) $
+    move ! (2 ∷ []) $ feq_l ! (λ is_has. lands_as ! (ap only is_has) refl (tt, tt) $
+    move ! (2 ∷ []) $ pick ! (λ us. split ! $ move ! (1 ∷ []) $ heard ! _ (λ told. fsplit ! $ fsplit ! $
+    rewrite ! 0 (λ (m : Row.Denot). ‵ (fres δ (Row.coded.code m))) told.1 refl $
+    -- [the loan's last value; its borrow; nothing; α is over; the other tokens; what the lender keeps]
+    move ! (3 ∷ 5 ∷ 0 ∷ []) $ use3 𝓛 (later (‵ (Ref κ s) ⊛ ‵ (flft κ q))) (comes_back 𝓛 Row (named 0) κ ν q s.ghost_name b o δ s.now s.now) $ await ! tt $ split ! $
+    -- [self; the token of κ; its borrow; nothing; the other tokens]
+    move ! (2 ∷ []) $ drop ! $ move ! (2 ∷ []) $ drop ! $ move ! (1 ∷ 2 ∷ []) $ join ! $ move ! (1 ∷ 0 ∷ []) $
+    sets ! (of_opd ! (get ! refl)) refl (tt, tt) $ first ! $ branches ! (get ! refl)
+    (λ t. let z : G.Ghost = ((κs, qs, bounds, (s, tt), (mut_vals s, tt)), tt) in
+    sets ! (addr ! (through ! refl (stop !))) refl (tt, tt) $
+    nothing ! $ move ! (1 ∷ 0 ∷ []) $ fjoin ! $ move ! (1 ∷ 0 ∷ []) $ join ! $
+    use0 𝓛 (raw (fact 𝓤 Low)) (fact_i 𝓤 Low (emp 𝓤) (is_low s.now.front s.now.back has told.0 (is_true has t))) $ use0 𝓛 (raw (fact 𝓤 inV)) (fact_i 𝓤 inV (emp 𝓤) lv) $ join ! $ use0 𝓛 (raw (fact 𝓤 inK)) (fact_i 𝓤 inK (emp 𝓤) lk) $ join ! $
+    move ! (1 ∷ 0 ∷ []) $ use2 𝓛 (raw (G.pre z)) (id⊢ 𝓤 _) $
+    calls_at ! (framed 𝓤 H 𝓜 𝓣) G met z (and_then ! (get ! refl) (no_more !)) (λ v.
+    use1 𝓛 (later (some (λ (r : Lent.Denot). (tokens ⊛ ‵ (Lent.own_val r (v ∷ []))) ⊛ some (λ (ws : Unit {0} × Unit {0}). ‵ (lasts (g.ended X Y o₀ d₀ o₁ d₁ o₂ d₂ o₃ d₃) κs (s, tt) ws)
+    ⊛ ‵ (follows Row V s.ghost_name r.1.ghost_name (after_first s.now)) ⊛ raw (fact 𝓤 (found ≡ Some (r.0.now, r.1.now))))))) (id⊢ 𝓤 _) $
+    await ! tt $ pick ! (λ r. split ! $ split ! $ move ! (1 ∷ []) $
+    -- [the pair; the tokens; what the call ensures]
+    peeks ! Lent (Is Lent) (shows 𝓛 Lent) r (v ∷ []) (λ is. let pair : Val = vstruct (vcons (vptr r.0.ref_ptr.0 r.0.ref_ptr.1) (vcons (vptr r.1.ref_ptr.0 r.1.ref_ptr.1) vnil)) in
+    let e : v ≡ pair = ap only (is.1.0 ∙ (λ j. vstruct (of_list (is.1.1.0.0 j ++ (is.1.1.1.0.0 j ++ []))) ∷ [])) in
+    let Told : Type 0 = Some (r.0.now, r.1.now) ≡ (if nat_lt s.now.front s.now.back then found else None) in
+    rewrite ! 0 (λ (u : Val). ‵ (Lent.own_val r (u ∷ []))) e refl $ use1 𝓛 (‵ (OL.own_val (Some r) (live 1 (of_list (pair ∷ [])) ∷ []))) (Some-of 𝓛 Lent r pair) $
+    move ! (2 ∷ []) $ pick ! (λ ws. split3 ! $ drop ! $ move ! (1 ∷ []) $ heard ! _ (λ value.
+    -- [what follows; the result; the tokens]
+    lands_as ! e refl (tt, (tt, (tt, tt))) $
+    sets ! (agg ! (and_then ! (lit ! tt) (and_then ! (get ! refl) (no_more !)))) refl (tt, (record { fits = lit< tt }, ((tt, (tt, tt)), tt))) $
+    use0 𝓛 (raw (fact 𝓤 Told)) (fact_i 𝓤 Told (emp 𝓤) (sym value ∙ ap (λ (h : Bool). if h then found else None) (sym (is_true has t) ∙ told.0))) $
+    move ! (1 ∷ 0 ∷ []) $ join ! $ nothing ! $ nothing ! $ fjoin ! $
+    returns_within ! Post refl (look_at ! 0 refl) $ free_all ! refl $ keep ! (3 ∷ 0 ∷ 2 ∷ 1 ∷ []) $
+    by ! (leaves 𝓛 En hs c y (live 1 (of_list (pair ∷ []))) (Some r) (tt, tt) (tt, tt))))))))
+    (λ f. let Told : Type 0 = None ≡ (if nat_lt s.now.front s.now.back then found else None) in
+    skips ! $ exec ! 𝓣.C 𝓣.Λ Ev (after 4 fn.body) (at_ret Ev Post) $
+    sets ! (agg ! (and_then ! (lit ! tt) (no_more !))) refl (tt, (record { fits = lit< tt }, tt)) $
+    fsplit3 ! $ drop ! $ use1 𝓛 (‵ (fres s.ghost_name (Row.coded.code s.now))) (𝓛.names.obs-res s.ghost_name (Row.coded.code s.now)) $
+    returns ! (look_at ! 0 refl) $ free_all ! refl $ keep ! (0 ∷ 2 ∷ []) $
+    use0 𝓛 (‵ (OL.own_val None (live 0 vnil ∷ []))) (none_of 𝓛 Lent) $
+    use0 𝓛 (raw (fact 𝓤 Told)) (fact_i 𝓤 Told (emp 𝓤) (ap (λ (h : Bool). if h then found else None) (sym (is_false has f) ∙ told.0))) $
+    move ! (2 ∷ 0 ∷ []) $ join ! $ nothing ! $ nothing ! $ fjoin ! $
+    keep ! (3 ∷ 0 ∷ 2 ∷ 1 ∷ []) $ by ! (leaves 𝓛 En hs c y (live 0 vnil) None (tt, tt) (tt, tt))))))))))))))

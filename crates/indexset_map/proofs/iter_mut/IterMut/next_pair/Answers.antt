@@ -1,0 +1,10 @@
+use Rattle.std.proofs.Common.{refl}
+use Rattle.indexset_map.specs.Walk.{still_within}
+use Rattle.indexset_map.proofs.WalkLemmas.{same_after}
+use Rattle.indexset_map.proofs.iter_mut.IterMut.next_pair.Goals as goal
+
+pub invariant_of-self-lent : goal.invariant_of-self-lent
+invariant_of-self-lent g c = λ w. (still_within c.args.self.now c.args.self.now.front w, tt)
+
+pub returns : goal.returns
+returns g c = ((refl, λ w. same_after c.args.self.now w _), record { writes_back = tt; value = c.pair_at_mut.ensures.value })

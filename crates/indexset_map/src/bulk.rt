@@ -1,0 +1,41 @@
+//! Calls that move many pairs at once.
+ghost use Rattle.std.specs.Prelude.{◌≡◌, ◌<◌, [], IfOk, OnOk, IfErr, OnErr, length};
+ghost use Rattle.indexset_core.specs.Pairs.{by_key, pairs_below, pairs_from};
+ghost use Rattle.indexset_set.specs.SetAlgebra.{put_all, MovesSome};
+
+use super::BTreeMap;
+use indexset_core::refusal::Refusal;
+
+impl<K: Ord + Drop, V: Drop> BTreeMap<K, V> {
+    /// Takes out the pairs whose keys are not below the key, as a map of the same node size. A refused
+    /// call changes nothing.
+    pub fn split_off(&mut self, key: &K) -> Result<Self, Refusal>
+        ensures below { OnOk result (self.new.pairs ≡ pairs_below K.cmp self.old.pairs key.now) }
+        ensures rest { IfOk result (λ m. m.pairs ≡ pairs_from K.cmp self.old.pairs key.now) }
+        ensures size { self.new.size ≡ self.old.size }
+        ensures rest_size { IfOk result (λ m. m.size ≡ self.old.size) }
+        ensures refusal { IfErr result (λ e. e ≡ Refusal.Memory) }
+        ensures unchanged { OnErr result (self.new ≡ self.old) }
+    {
+        // A map says here that its keys ascend, so the rank cuts them at the key.
+        let _len = self.len();
+        let place = self.rank(key);
+        let set = self.set.split_off_index(place)?;
+        Ok(BTreeMap { set })
+    }
+
+    /// Puts the pairs of another map in their places, first to last, each for the pair of an equal key
+    /// where there is one, and takes them out of the other. A refused call has moved some first pairs
+    /// and leaves the others.
+    pub fn append(&mut self, other: &mut Self) -> Result<(), Refusal>
+        ensures ok { OnOk result (self.new.pairs ≡ put_all (by_key K.cmp) self.old.pairs other.old.pairs) }
+        ensures emptied { OnOk result (other.new.pairs ≡ []) }
+        ensures size { self.new.size ≡ self.old.size }
+        ensures other_size { other.new.size ≡ other.old.size }
+        ensures refusal { IfErr result (λ e. e ≡ Refusal.Memory) }
+        ensures err { OnErr result (MovesSome (by_key K.cmp) self.old.pairs other.old.pairs self.new.pairs other.new.pairs) }
+        ensures some_left { OnErr result (0 < length other.new.pairs) }
+    {
+        self.set.append(&mut other.set)
+    }
+}

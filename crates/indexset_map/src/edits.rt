@@ -1,0 +1,105 @@
+//! Calls that put a pair, take one out, or choose which stay.
+ghost use Rattle.std.specs.Prelude.{◌≡◌, ◌-◌, ◌<◌, ◌++◌, true, false, Some, None, IfOk, OnOk, IfErr, OnErr, IsOk, MatchOption, length, map, take, drop, slice_get};
+ghost use Rattle.std.specs.Option.{option_map, option_to_list};
+ghost use Rattle.std.specs.List.Retain.{RetainsInTurn};
+ghost use Rattle.indexset_core.specs.Pairs.{CalledOnPair, entry_of, has_key, pair_of, value_of};
+ghost use Rattle.indexset_map.specs.Contents.{no_pairs, with_put, without_at, without_pair};
+
+use super::BTreeMap;
+use indexset_core::pair::Pair;
+use indexset_core::refusal::{Refusal, Refused};
+use std::mem;
+
+impl<K: Ord + Drop, V: Drop> BTreeMap<K, V> {
+    /// Makes a value that of a key. Where the key is there, the stored one stays, the old value is the
+    /// answer, and no memory is taken. A refused call hands both back and changes nothing.
+    pub fn insert(&mut self, key: K, value: V) -> Result<Option<V>, Refused<(K, V)>>
+        ensures old { IfOk result (λ o. o ≡ value_of K.cmp self.old.pairs key) }
+        ensures ok { OnOk result (self.new ≡ with_put K.cmp self.old key value) }
+        ensures there { OnOk result (value_of K.cmp self.new.pairs key ≡ Some value) }
+        ensures no_memory { has_key K.cmp self.old.pairs key ≡ true → IsOk result }
+        ensures given_back { IfErr result (λ e. (e.value ≡ (key, value)) × (e.cause ≡ Refusal.Memory)) }
+        ensures unchanged { OnErr result (self.new ≡ self.old) }
+    {
+        match self.find(&key) {
+            Ok(i) => Ok(Some(mem::replace(self.value_at_mut(i), value))),
+            Err(_) => {
+                self.put(key, value)?;
+                Ok(None)
+            }
+        }
+    }
+
+    /// Takes out the pair of a key, where there is one. It takes no memory.
+    pub fn remove_entry(&mut self, key: &K) -> Option<(K, V)>
+        ensures value { result ≡ option_map entry_of (pair_of K.cmp self.old.pairs key.now) }
+        ensures rest { self.new ≡ without_pair K.cmp self.old key.now }
+        ensures gone { has_key K.cmp self.new.pairs key.now ≡ false }
+        ensures no_value { value_of K.cmp self.new.pairs key.now ≡ None }
+    {
+        match self.find(key) {
+            Ok(i) => Some(self.pop_index(i)),
+            Err(_) => None,
+        }
+    }
+
+    /// Takes out the pair of a key, and answers its value, where there is one. It takes no memory.
+    pub fn remove(&mut self, key: &K) -> Option<V>
+        ensures value { result ≡ value_of K.cmp self.old.pairs key.now }
+        ensures rest { self.new ≡ without_pair K.cmp self.old key.now }
+        ensures gone { has_key K.cmp self.new.pairs key.now ≡ false }
+        ensures no_value { value_of K.cmp self.new.pairs key.now ≡ None }
+    {
+        let (_, value) = self.remove_entry(key)?;
+        Some(value)
+    }
+
+    /// Takes out the pair of the least key, where there is one. It takes no memory.
+    pub fn pop_first(&mut self) -> Option<(K, V)>
+        ensures value { result ≡ option_map entry_of (slice_get self.old.pairs 0) }
+        ensures rest { self.new.pairs ≡ drop 1 self.old.pairs }
+        ensures whole { map entry_of self.old.pairs ≡ option_to_list result ++ map entry_of self.new.pairs }
+        ensures nodes { MatchOption result (self.new ≡ self.old) (λ _. self.new ≡ without_at self.old 0) }
+    {
+        let Pair { key, value } = self.set.pop_first()?;
+        Some((key, value))
+    }
+
+    /// Takes out the pair of the greatest key, where there is one. It takes no memory.
+    pub fn pop_last(&mut self) -> Option<(K, V)>
+        ensures value { result ≡ option_map entry_of (slice_get self.old.pairs (length self.old.pairs - 1)) }
+        ensures rest { self.new.pairs ≡ take (length self.old.pairs - 1) self.old.pairs }
+        ensures whole { map entry_of self.old.pairs ≡ map entry_of self.new.pairs ++ option_to_list result }
+        ensures nodes { MatchOption result (self.new ≡ self.old) (λ _. self.new ≡ without_at self.old (length self.old.pairs - 1)) }
+    {
+        let Pair { key, value } = self.set.pop_last()?;
+        Some((key, value))
+    }
+
+    /// Takes out the pair at a position. It takes no memory.
+    pub fn pop_index(&mut self, i: usize) -> (K, V)
+        requires { i < length self.old.pairs }
+        ensures value { option_map entry_of (slice_get self.old.pairs i) ≡ Some result }
+        ensures rest { self.new ≡ without_at self.old i }
+    {
+        let Pair { key, value } = self.set.pop_index(i);
+        (key, value)
+    }
+
+    /// Takes out all pairs, and keeps one empty node. It takes no memory.
+    pub fn clear(&mut self)
+        ensures empty { self.new ≡ no_pairs self.old.size }
+    {
+        self.set.clear();
+    }
+
+    /// Asks the closure once a pair, in order, and keeps the pairs for which it answered true, with the
+    /// values that it left. It takes no memory.
+    pub fn retain<F: FnMut(&K, &mut V) -> bool>(&mut self, f: F)
+        requires { F.IsAlwaysCallable f }
+        ensures kept { RetainsInTurn (CalledOnPair F.FnMut) f self.old.pairs self.new.pairs }
+        ensures size { self.new.size ≡ self.old.size }
+    {
+        self.set.retain_pairs(f);
+    }
+}

@@ -1,0 +1,61 @@
+//! Walks that lend the values between two bounds on keys, or between two positions, one at a time.
+ghost use Rattle.std.specs.Prelude.{◌≡◌, IsTrue, length, min};
+ghost use Rattle.std.specs.Range.Bound.{bound_map, end_index, start_index};
+ghost use Rattle.indexset_core.specs.Bounds.{are_ordered, in_positions, is_within};
+ghost use Rattle.indexset_core.specs.Pairs.{pairs_within};
+
+use super::BTreeMap;
+use super::iter_mut::IterMut;
+use indexset_set::range::{end_position, first_position};
+use std::ops::Bound;
+
+/// The pairs of a part of a map that are left, each value to write, from both ends.
+pub type RangeMut<'a, K, V> = IterMut<'a, K, V>;
+
+impl<K: Ord, V> BTreeMap<K, V> {
+    ghost use Rattle.indexset_map.specs.Walk.{IsSpan, walk_back, walk_front, walk_map, walk_rest};
+
+    /// The pairs whose keys satisfy both bounds, in order, each value to write. The start must not be
+    /// past the end, nor at it where both are excluded, which `bounds_are_ordered` of the core tests.
+    ///
+    /// ```
+    /// // Adds a hundred to the balances of the names from B on that are below Cheryl.
+    /// let mut walk = map.range_mut((Bound::Included(&"B"), Bound::Excluded(&"Cheryl")));
+    /// while walk.has_next() {
+    ///     let (_, balance) = walk.next_pair();
+    ///     *balance = balance.saturating_add(100);
+    /// }
+    /// ```
+    pub fn range_mut(&mut self, range: (Bound<&K>, Bound<&K>)) -> RangeMut<'_, K, V>
+        requires { IsTrue (are_ordered K.cmp (bound_map (λ k. k.now) range.0) (bound_map (λ k. k.now) range.1)) }
+        ensures same_map { (walk_map result).ghost_name ≡ self.entry.ghost_name }
+        ensures unchanged { (walk_map result).now ≡ self.old }
+        ensures rest { walk_rest result ≡ pairs_within K.cmp self.old.pairs (bound_map (λ k. k.now) range.entry.0) (bound_map (λ k. k.now) range.entry.1) }
+        ensures span { IsSpan (λ p. is_within K.cmp (bound_map (λ k. k.now) range.entry.0) (bound_map (λ k. k.now) range.entry.1) p.key) self.old.pairs (walk_front result) (walk_back result) }
+    {
+        // A map says here that its keys ascend, so the two positions cut out the range.
+        let _len = self.len();
+        let from = self.start_position(range.0);
+        let to = self.end_position(range.1);
+        self.range_mut_idx((Bound::Included(from), Bound::Excluded(to)))
+    }
+
+    /// The pairs at the positions that satisfy both bounds, in order, each value to write. There is none
+    /// where the bounds are the wrong way round, and positions past the end have none.
+    pub fn range_mut_idx(&mut self, range: (Bound<usize>, Bound<usize>)) -> RangeMut<'_, K, V>
+        ensures same_map { (walk_map result).ghost_name ≡ self.entry.ghost_name }
+        ensures unchanged { (walk_map result).now ≡ self.old }
+        ensures rest { walk_rest result ≡ in_positions self.old.pairs range.0 range.1 }
+        ensures front { walk_front result ≡ min (start_index range.0) (walk_back result) }
+        ensures back { walk_back result ≡ min (end_index range.1 (length self.old.pairs)) (length self.old.pairs) }
+    {
+        let len = self.len();
+        let back = end_position(range.1, len);
+        let front = first_position(range.0, len).min(back);
+        IterMut {
+            map: self,
+            front,
+            back,
+        }
+    }
+}

@@ -1,0 +1,4 @@
+pub mod ReplicaAttach
+pub mod ReplicaEdits
+pub mod ReplicaNodes
+pub mod ReplicaSteps

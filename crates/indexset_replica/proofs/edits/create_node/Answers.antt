@@ -1,0 +1,31 @@
+use Rattle.std.proofs.Common.{[], ◌∷◌, map, insert, refl, sym, ◌∙◌}
+use Rattle.std.proofs.lemmas.Result.{err_from_is_err_and}
+use Rattle.indexset_log.specs.declared.change.ChangeEventUnassigned.TheVariants.{CreateNode}
+use Rattle.indexset_log.proofs.CallerLemmas.{map_insert}
+use Rattle.indexset_replica.specs.Replica.{IsEdit}
+use Rattle.indexset_replica.proofs.ReplicaEdits.{create_disorder, create_edit}
+use Rattle.indexset_replica.proofs.edits.create_node.Given.{Over}
+use Rattle.indexset_replica.proofs.edits.create_node.Goals as goal
+use Rattle.indexset_replica.proofs.edits.create_node.Goals.{After-room_for_node_of}
+
+-- what the new node makes of the nodes
+created : (g : Over) (c : After-room_for_node_of g) → let ns = map (λ v. v.items) c.args.nodes.now.items in let v = c.args.value.now in IsEdit g.T.Ord.cmp ns (CreateNode v) (insert ns c.first_reaching-place.result (v ∷ []))
+created g c =
+    let place = rw c.as_slice.ensures.value at c.first_reaching-place.ensures.place in
+    let good = rw c.as_slice-2.ensures.value at (sym c.fits_before.ensures ∙ c.if-not-fits_before.false) in
+    create_edit g.T.Ord.cmp _ c.args.value.now c.first_reaching-place.result place good
+
+pub returns-then-not-fits_before-clause-refusal : goal.returns-then-not-fits_before-clause-refusal
+returns-then-not-fits_before-clause-refusal g c =
+    let place = rw c.as_slice.ensures.value at c.first_reaching-place.ensures.place in
+    let bad = rw c.as_slice-2.ensures.value at (sym c.fits_before.ensures ∙ c.if-not-fits_before.true) in
+    rw (create_disorder g.T.Ord.cmp _ c.args.value.now c.first_reaching-place.result place bad) refl
+
+pub returns-in_err-node-clause-refusal : goal.returns-in_err-node-clause-refusal
+returns-in_err-node-clause-refusal g c =
+    let p = err_from_is_err_and c.from_residual.result c.from_residual.ensures.1 in
+    rw (p.1, (created g (goal.at.returns-in_err-node-clause-refusal g c).After-room_for_node_of).fits) (p.2 ∙ c.in_err-node.ensures.refusal)
+
+pub returns-clause-done : goal.returns-clause-done
+returns-clause-done g c =
+    rw (c.insert_item.ensures.items, c.room_for_node_of.ensures.nodes, map_insert (λ v. v.items) c.args.nodes.now.items c.first_reaching-place.result c.in_ok-node.node, c.in_ok-node.ensures.node) (created g (goal.at.returns-clause-done g c).After-room_for_node_of)

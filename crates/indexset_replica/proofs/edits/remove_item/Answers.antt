@@ -1,0 +1,42 @@
+use Rattle.std.proofs.Common.{◌<◌, length, refl, arith, sym, ◌∙◌}
+use Rattle.std.proofs.lemmas.List.{map-set}
+use Rattle.std.proofs.lemmas.Result.{err_from_is_err_and}
+use Rattle.indexset_replica.proofs.ReplicaEdits.{absent_remove, remove_differs, remove_edit, remove_empty, remove_outside}
+use Rattle.indexset_replica.proofs.edits.remove_item.Goals as goal
+
+pub returns-in_err-place-clause-refusal : goal.returns-in_err-place-clause-refusal
+returns-in_err-place-clause-refusal g c =
+    let p = err_from_is_err_and c.from_residual.result c.from_residual.ensures.1 in
+    let absent = rw c.as_slice.ensures.value at c.in_err-place.ensures.absent in
+    rw (p.1, absent_remove g.T.Ord.cmp _ c.args.name.now absent c.args.value.now c.args.index) (p.2 ∙ c.in_err-place.ensures.refusal)
+
+pub returns-then-index-len-clause-refusal : goal.returns-then-index-len-clause-refusal
+returns-then-index-len-clause-refusal g c =
+    let named = rw c.as_slice.ensures.value at c.in_ok-place.ensures.named in
+    let n = c.index_mut-node.result.now in
+    rw (remove_outside g.T.Ord.cmp (λ v. v.items) c.args.nodes.now.items c.args.name.now c.in_ok-place.place named n c.index_mut-node.ensures.value c.args.value.now c.args.index (omega (arith, n.ok.0))) refl
+
+pub returns-then-is_ne-clause-refusal : goal.returns-then-is_ne-clause-refusal
+returns-then-is_ne-clause-refusal g c =
+    let named = rw c.as_slice.ensures.value at c.in_ok-place.ensures.named in
+    let n = c.index_mut-node.result.now in
+    let inside : c.args.index < length n.items = omega (arith, n.ok.0) in
+    let other = rw c.cmp.ensures at (sym c.is_ne.ensures ∙ c.if-is_ne.true) in
+    rw (remove_differs g.T.Ord.cmp (λ v. v.items) c.args.nodes.now.items c.args.name.now c.in_ok-place.place named n c.index_mut-node.ensures.value c.args.value.now c.args.index inside c.index.result.now c.index.ensures other) refl
+
+pub returns-then-len-eq1-clause-refusal : goal.returns-then-len-eq1-clause-refusal
+returns-then-len-eq1-clause-refusal g c =
+    let named = rw c.as_slice.ensures.value at c.in_ok-place.ensures.named in
+    let n = c.index_mut-node.result.now in
+    let inside : c.args.index < length n.items = omega (arith, n.ok.0) in
+    let same = rw c.cmp.ensures at (sym c.is_ne.ensures ∙ c.if-is_ne.false) in
+    rw (remove_empty g.T.Ord.cmp (λ v. v.items) c.args.nodes.now.items c.args.name.now c.in_ok-place.place named n c.index_mut-node.ensures.value c.args.value.now c.args.index inside c.index.result.now c.index.ensures same (omega (arith, n.ok.0))) refl
+
+pub returns-clause-done : goal.returns-clause-done
+returns-clause-done g c =
+    let named = rw c.as_slice.ensures.value at c.in_ok-place.ensures.named in
+    let n = c.index_mut-node.result.now in
+    let inside : c.args.index < length n.items = omega (arith, n.ok.0) in
+    let same = rw c.cmp.ensures at (sym c.is_ne.ensures ∙ c.if-is_ne.false) in
+    rw (map-set (λ v. v.items) c.args.nodes.now.items c.in_ok-place.place c.remove_item.new.items, c.remove_item.ensures.items)
+    (remove_edit g.T.Ord.cmp (λ v. v.items) c.args.nodes.now.items c.args.name.now c.in_ok-place.place named n c.index_mut-node.ensures.value c.args.value.now c.args.index inside c.index.result.now c.index.ensures same (λ one. omega (arith, n.ok.0, one)))

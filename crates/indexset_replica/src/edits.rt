@@ -1,0 +1,164 @@
+//! The change that an event makes to a replica's nodes.
+ghost use Rattle.std.specs.Prelude.{◌≡◌, ◌<◌, [], ◌∷◌, IfOk, OnOk, IfErr, OnErr, unwrap_or, vec_len, vec_capacity};
+ghost use Rattle.indexset_core.specs.Nodes.{IsNodeList, vec_items};
+ghost use Rattle.indexset_replica.specs.Replica.{IsEdit, misfit};
+ghost use Rattle.indexset_log.specs.Replay.{unassigned};
+ghost use Rattle.indexset_log.specs.declared.change.ChangeEventUnassigned.TheVariants.{InsertAt, RemoveAt, CreateNode, RemoveNode, SplitNode};
+
+use super::places::{first_reaching, fits_at, fits_before, place_named};
+use indexset_core::moves;
+use indexset_core::refusal::Refusal;
+use indexset_log::change::ChangeEvent;
+
+/// Makes the event's change, whatever its number.
+pub(super) fn carry_out<T: Ord + Clone + Drop>(
+    nodes: &mut Vec<Vec<T>>,
+    event: &ChangeEvent<T>,
+) -> Result<(), Refusal>
+    requires clones { (x y : T) → T.is_clone x y → y ≡ x }
+    requires nodes { IsNodeList T.cmp (vec_items nodes.old.items) }
+    ensures done { OnOk result (IsEdit T.cmp (vec_items nodes.old.items) (unassigned event.now) (vec_items nodes.new.items)) }
+    ensures refusal { IfErr result (λ e. e ≡ unwrap_or (misfit T.cmp (vec_items nodes.old.items) (unassigned event.now)) Refusal.Memory) }
+    ensures unchanged { OnErr result (vec_items nodes.new.items ≡ vec_items nodes.old.items) }
+{
+    match event {
+        ChangeEvent::InsertAt {
+            max_value,
+            value,
+            index,
+            ..
+        } => insert_item(nodes, max_value, value, *index),
+        ChangeEvent::RemoveAt {
+            max_value,
+            value,
+            index,
+            ..
+        } => remove_item(nodes, max_value, value, *index),
+        ChangeEvent::CreateNode { max_value, .. } => create_node(nodes, max_value),
+        ChangeEvent::RemoveNode { max_value, .. } => remove_node(nodes, max_value),
+        ChangeEvent::SplitNode {
+            max_value,
+            split_index,
+            ..
+        } => split_node(nodes, max_value, *split_index),
+    }
+}
+
+// Puts an item into the node named.
+fn insert_item<T: Ord + Clone + Drop>(
+    nodes: &mut Vec<Vec<T>>,
+    name: &T,
+    value: &T,
+    index: usize,
+) -> Result<(), Refusal>
+    requires clones { (x y : T) → T.is_clone x y → y ≡ x }
+    requires nodes { IsNodeList T.cmp (vec_items nodes.old.items) }
+    ensures done { OnOk result (IsEdit T.cmp (vec_items nodes.old.items) (InsertAt name.now value.now index) (vec_items nodes.new.items)) }
+    ensures refusal { IfErr result (λ e. e ≡ unwrap_or (misfit T.cmp (vec_items nodes.old.items) (InsertAt name.now value.now index)) Refusal.Memory) }
+    ensures unchanged { OnErr result (vec_items nodes.new.items ≡ vec_items nodes.old.items) }
+{
+    let place = place_named(nodes.as_slice(), name)?;
+    if index > nodes[place].len() {
+        return Err(Refusal::IndexOutside);
+    }
+    if !fits_at(nodes.as_slice(), place, index, value) {
+        return Err(Refusal::OutOfOrder);
+    }
+    let item = value.clone()?;
+    let node = &mut nodes[place];
+    node.reserve(1)?;
+    moves::insert_item(node, index, item);
+    Ok(())
+}
+
+// Takes the item out of the node named.
+fn remove_item<T: Ord + Clone + Drop>(
+    nodes: &mut Vec<Vec<T>>,
+    name: &T,
+    value: &T,
+    index: usize,
+) -> Result<(), Refusal>
+    requires { IsNodeList T.cmp (vec_items nodes.old.items) }
+    ensures done { OnOk result (IsEdit T.cmp (vec_items nodes.old.items) (RemoveAt name.now value.now index) (vec_items nodes.new.items)) }
+    ensures refusal { IfErr result (λ e. e ≡ unwrap_or (misfit T.cmp (vec_items nodes.old.items) (RemoveAt name.now value.now index)) Refusal.Memory) }
+    ensures unchanged { OnErr result (vec_items nodes.new.items ≡ vec_items nodes.old.items) }
+{
+    let place = place_named(nodes.as_slice(), name)?;
+    let node = &mut nodes[place];
+    if index >= node.len() {
+        return Err(Refusal::IndexOutside);
+    }
+    if node[index].cmp(value).is_ne() {
+        return Err(Refusal::ValueDiffers);
+    }
+    if node.len() == 1 {
+        return Err(Refusal::WouldBeEmpty);
+    }
+    moves::remove_item(node, index);
+    Ok(())
+}
+
+// Makes a node of this item alone.
+fn create_node<T: Ord + Clone + Drop>(nodes: &mut Vec<Vec<T>>, value: &T) -> Result<(), Refusal>
+    requires clones { (x y : T) → T.is_clone x y → y ≡ x }
+    requires nodes { IsNodeList T.cmp (vec_items nodes.old.items) }
+    ensures done { OnOk result (IsEdit T.cmp (vec_items nodes.old.items) (CreateNode value.now) (vec_items nodes.new.items)) }
+    ensures refusal { IfErr result (λ e. e ≡ unwrap_or (misfit T.cmp (vec_items nodes.old.items) (CreateNode value.now)) Refusal.Memory) }
+    ensures unchanged { OnErr result (vec_items nodes.new.items ≡ vec_items nodes.old.items) }
+{
+    let place = first_reaching(nodes.as_slice(), value);
+    if !fits_before(nodes.as_slice(), place, value) {
+        return Err(Refusal::OutOfOrder);
+    }
+    let node = room_for_node_of(nodes, value)?;
+    moves::insert_item(nodes, place, node);
+    Ok(())
+}
+
+// Room for one more node, and a node of this item alone.
+fn room_for_node_of<T: Clone + Drop>(nodes: &mut Vec<Vec<T>>, value: &T) -> Result<Vec<T>, Refusal>
+    requires clones { (x y : T) → T.is_clone x y → y ≡ x }
+    ensures nodes { nodes.new.items ≡ nodes.old.items }
+    ensures room { OnOk result (vec_len nodes.new < vec_capacity nodes.new) }
+    ensures node { IfOk result (λ node. node.items ≡ value.now ∷ []) }
+    ensures refusal { IfErr result (λ e. e ≡ Refusal.Memory) }
+{
+    nodes.reserve(1)?;
+    let mut node = Vec::with_capacity(*nodes.allocator(), 1)?;
+    node.push_reserved(value.clone()?);
+    Ok(node)
+}
+
+// Takes out the node named.
+fn remove_node<T: Ord + Clone + Drop>(nodes: &mut Vec<Vec<T>>, name: &T) -> Result<(), Refusal>
+    requires { IsNodeList T.cmp (vec_items nodes.old.items) }
+    ensures done { OnOk result (IsEdit T.cmp (vec_items nodes.old.items) (RemoveNode name.now) (vec_items nodes.new.items)) }
+    ensures refusal { IfErr result (λ e. e ≡ unwrap_or (misfit T.cmp (vec_items nodes.old.items) (RemoveNode name.now)) Refusal.Memory) }
+    ensures unchanged { OnErr result (vec_items nodes.new.items ≡ vec_items nodes.old.items) }
+{
+    let place = place_named(nodes.as_slice(), name)?;
+    moves::remove_item(nodes, place);
+    Ok(())
+}
+
+// Cuts the node named: its first items, and the rest.
+fn split_node<T: Ord + Clone + Drop>(
+    nodes: &mut Vec<Vec<T>>,
+    name: &T,
+    split_index: usize,
+) -> Result<(), Refusal>
+    requires { IsNodeList T.cmp (vec_items nodes.old.items) }
+    ensures done { OnOk result (IsEdit T.cmp (vec_items nodes.old.items) (SplitNode name.now split_index) (vec_items nodes.new.items)) }
+    ensures refusal { IfErr result (λ e. e ≡ unwrap_or (misfit T.cmp (vec_items nodes.old.items) (SplitNode name.now split_index)) Refusal.Memory) }
+    ensures unchanged { OnErr result (vec_items nodes.new.items ≡ vec_items nodes.old.items) }
+{
+    let place = place_named(nodes.as_slice(), name)?;
+    if split_index == 0 || split_index >= nodes[place].len() {
+        return Err(Refusal::BadSplit);
+    }
+    nodes.reserve(1)?;
+    let node = &mut nodes[place];
+    let rest = node.split_off(split_index)?;
+    moves::insert_item(nodes, place + 1, rest);
+    Ok(())
+}

@@ -1,0 +1,133 @@
+//! Where nodes and items stand in a replica.
+ghost use Rattle.std.specs.Prelude.{◌≡◌, ◌+◌, ◌<◌, ◌≤◌, Some, None, not, [], ◌∷◌, length, take, drop, insert, IfOk, OnOk, IfErr};
+ghost use Rattle.std.specs.Option.{option_copied};
+ghost use Rattle.std.specs.List.{All, position_or_len, splice};
+ghost use Rattle.indexset_core.specs.Nodes.{joined, node_at, node_lengths, IsNodeList, vec_items};
+ghost use Rattle.indexset_replica.specs.Replica.{first_item, is_between, last_item};
+ghost use Rattle.indexset_log.specs.Attach.{attach_index, attach_refusal};
+ghost use Rattle.indexset_log.specs.Nodes.{is_ascending};
+ghost use Rattle.indexset_log.specs.Replay.{has_name, node_named, reaches};
+
+use indexset_core::refusal::Refusal;
+
+/// The place of the first node whose last item is not below the value, or the number of nodes.
+pub(super) fn first_reaching<T: Ord>(nodes: &[Vec<T>], value: &T) -> usize
+    requires { IsNodeList T.cmp (vec_items nodes.now) }
+    ensures place { result ≡ position_or_len (reaches T.cmp value.now) (vec_items nodes.now) }
+    ensures within { result ≤ length nodes.now }
+{
+    nodes.partition_point(|node| ends_less(node.as_slice(), value))
+}
+
+/// Whether the last item is below the value.
+fn ends_less<T: Ord>(node: &[T], value: &T) -> bool
+    ensures { result ≡ not (reaches T.cmp value.now node.now) }
+{
+    match node.last() {
+        Some(last) => last.cmp(value).is_lt(),
+        None => false,
+    }
+}
+
+/// The place of the node whose last item equals the name.
+pub(super) fn place_named<T: Ord>(nodes: &[Vec<T>], name: &T) -> Result<usize, Refusal>
+    requires { IsNodeList T.cmp (vec_items nodes.now) }
+    ensures named { IfOk result (λ place. node_named T.cmp (vec_items nodes.now) name.now ≡ Some place) }
+    ensures absent { IfErr result (λ e. node_named T.cmp (vec_items nodes.now) name.now ≡ None) }
+    ensures refusal { IfErr result (λ e. e ≡ Refusal.NoSuchNode) }
+{
+    let place = first_reaching(nodes, name);
+    if place < nodes.len() && is_named(nodes[place].as_slice(), name) {
+        Ok(place)
+    } else {
+        Err(Refusal::NoSuchNode)
+    }
+}
+
+/// Whether the last item equals the name.
+fn is_named<T: Ord>(node: &[T], name: &T) -> bool
+    ensures { result ≡ has_name T.cmp name.now node.now }
+{
+    match node.last() {
+        Some(last) => last.cmp(name).is_eq(),
+        None => false,
+    }
+}
+
+/// Where a whole node goes among the nodes, if it may.
+pub(super) fn place_of_node<T: Ord>(nodes: &[Vec<T>], node: &[T]) -> Result<usize, Refusal>
+    requires { IsNodeList T.cmp (vec_items nodes.now) }
+    ensures place { IfOk result (λ place. place ≡ attach_index T.cmp (vec_items nodes.now) node.now) }
+    ensures within { IfOk result (λ place. place ≤ length nodes.now) }
+    ensures nodes { IfOk result (λ place. IsNodeList T.cmp (insert (vec_items nodes.now) place node.now)) }
+    ensures good { OnOk result (attach_refusal T.cmp (length node.now) (vec_items nodes.now) node.now ≡ None) }
+    ensures refusal { IfErr result (λ e. attach_refusal T.cmp (length node.now) (vec_items nodes.now) node.now ≡ Some e) }
+{
+    let Some(first) = node.first() else {
+        return Err(Refusal::Empty);
+    };
+    if !node.is_sorted_by(|item, next| item.cmp(next).is_lt()) {
+        return Err(Refusal::Unsorted);
+    }
+    let place = first_reaching(nodes, first);
+    if let Some(next) = item_from(nodes, place) {
+        if !node[node.len() - 1].cmp(next).is_lt() {
+            return Err(Refusal::Overlaps);
+        }
+    }
+    Ok(place)
+}
+
+/// The last item of the nodes before a place.
+fn item_before<T>(nodes: &[Vec<T>], place: usize) -> Option<&T>
+    requires filled { All (λ n. 1 ≤ n) (node_lengths (vec_items nodes.now)) }
+    requires place { place ≤ length nodes.now }
+    ensures { option_copied result ≡ last_item (joined (take place (vec_items nodes.now))) }
+{
+    nodes[..place].last()?.last()
+}
+
+/// The first item of the nodes from a place on.
+fn item_from<T>(nodes: &[Vec<T>], place: usize) -> Option<&T>
+    requires { All (λ n. 1 ≤ n) (node_lengths (vec_items nodes.now)) }
+    ensures { option_copied result ≡ first_item (joined (drop place (vec_items nodes.now))) }
+{
+    nodes.get(place)?.first()
+}
+
+/// Whether the nodes ascend with the value at an index of the node at a place.
+pub(super) fn fits_at<T: Ord>(nodes: &[Vec<T>], place: usize, index: usize, value: &T) -> bool
+    requires nodes { IsNodeList T.cmp (vec_items nodes.now) }
+    requires place { place < length nodes.now }
+    requires index { index ≤ length (node_at (vec_items nodes.now) place) }
+    ensures { result ≡ is_ascending T.cmp (joined (splice (vec_items nodes.now) place (place + 1) (insert (node_at (vec_items nodes.now) place) index value.now ∷ []))) }
+{
+    let node = nodes[place].as_slice();
+    let before = node[..index].last().or(item_before(nodes, place));
+    let after = node[index..].first().or(item_from(nodes, place + 1));
+    is_between(before, value, after)
+}
+
+/// Whether the nodes ascend with the value as a node before the one at a place.
+pub(super) fn fits_before<T: Ord>(nodes: &[Vec<T>], place: usize, value: &T) -> bool
+    requires nodes { IsNodeList T.cmp (vec_items nodes.now) }
+    requires place { place ≤ length nodes.now }
+    ensures { result ≡ is_ascending T.cmp (joined (insert (vec_items nodes.now) place (value.now ∷ []))) }
+{
+    is_between(item_before(nodes, place), value, item_from(nodes, place))
+}
+
+/// Whether the value is above the item before it and below the item after it, where there are such.
+fn is_between<T: Ord>(before: Option<&T>, value: &T, after: Option<&T>) -> bool
+    ensures { result ≡ is_between T.cmp (option_copied before.entry) value.now (option_copied after.entry) }
+{
+    let above = match before {
+        Some(item) => item.cmp(value).is_lt(),
+        None => true,
+    };
+    let below = match after {
+        Some(item) => value.cmp(item).is_lt(),
+        None => true,
+    };
+    above && below
+}

@@ -1,0 +1,11 @@
+use Rattle.std.proofs.Common.{◌∙◌, length, ap, min}
+use Rattle.std.specs.Range.Bound.{start_index, end_index}
+use Rattle.indexset_spine.specs.Cut.{items}
+use Rattle.indexset_set.proofs.SetRangeLemmas.{clipped}
+use Rattle.indexset_set.proofs.BTreeSet.range_idx.Goals as goal
+
+pub returns-clause-rest : goal.returns-clause-rest
+returns-clause-rest g c =
+    let to = rw c.len-len.ensures.value at c.end_position-to.ensures in
+    let from = c.min-from.ensures ∙ ap (λ n. min n c.end_position-to.result) (rw c.len-len.ensures.value at c.first_position.ensures) in
+    rw (← c.self.view_is) (c.of.ensures ∙ c.iter_between.ensures.rest ∙ clipped _ (start_index c.args.range.0) (end_index c.args.range.1 (length (items c.self.inside.spine))) _ _ (rw (← c.self.view_is) at to) (rw (← c.self.view_is) at from))

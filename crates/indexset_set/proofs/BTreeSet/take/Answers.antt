@@ -1,0 +1,33 @@
+use Rattle.std.proofs.Common.{refl, sym, ◌∙◌}
+use Rattle.indexset_core.proofs.CallerLemmas.{found_equal, found_has_equal, found_without, gap_equal, gap_has_equal, gap_without, has_none, remove_ascending}
+use Rattle.indexset_set.proofs.SetNodeLemmas.{without_there, without_none}
+use Rattle.indexset_set.proofs.BTreeSet.take.Goals as goal
+
+pub invariant_of-self : goal.invariant_of-self
+invariant_of-self g c =
+    let there = rw c.if-spot.true at c.locate-spot.ensures.found in
+    rw c.remove.ensures.items (remove_ascending g.T.Ord.cmp _ _ there.inside c.self.invariant)
+
+pub returns-then-spot : goal.returns-then-spot
+returns-then-spot g c =
+    let there = rw c.if-spot.true at c.locate-spot.ensures.found in
+    let rest = c.remove.ensures.items ∙ sym (found_without _ _ _ _ g.met.T.Ord.total c.self.invariant there) in
+    rw (← c.self.view_is) (record {
+      value = sym (found_equal _ _ _ _ there ∙ c.remove.ensures.value);
+      rest = rest;
+      gone = rw rest (has_none g.T.Ord.cmp _ _);
+      nodes = without_there g.T.Ord.cmp c.self.inside.spine c.args.value.now c.locate-spot.result _ c.locate-spot.ensures.place (found_has_equal _ _ _ _ there) c.remove.ensures.nodes;
+      size = c.remove.ensures.size;
+    })
+
+pub returns-else-spot : goal.returns-else-spot
+returns-else-spot g c =
+    let gap = rw c.if-spot.false at c.locate-spot.ensures.gap in
+    let absent = gap_has_equal _ _ _ _ gap in
+    rw (← c.self.view_is) (record {
+      value = sym (gap_equal _ _ _ _ gap);
+      rest = sym (gap_without _ _ _ _ gap);
+      gone = absent;
+      nodes = sym (without_none g.T.Ord.cmp c.self.inside.spine c.args.value.now absent);
+      size = refl;
+    })

@@ -1,6 +1,0 @@
-use Rattle.std.specs.Map.Iter.{deref}
-use Rattle.indexset_set.proofs.SetAlgebraLemmas.{disjoint_told}
-use Rattle.indexset_set.proofs.set.BTreeSet.is_disjoint.Goals as goal
-
-pub returns : goal.returns
-returns g c = disjoint_told g.T.Ord.cmp deref _ _ _ _ c.next.result c.is_none.result c.intersection.ensures.rest c.next.ensures.steps c.is_none.ensures

@@ -1,7 +1,0 @@
-use Rattle.indexset_set.proofs.SetEndLemmas.{last_greatest}
-use Rattle.indexset_set.proofs.set.BTreeSet.last.Goals as goal
-
-pub returns-clause-greatest : goal.returns-clause-greatest
-returns-clause-greatest g c =
-    let taken = rw c.iter.ensures.rest at c.next_back.ensures.steps in
-    rw (← c.self.view_is) (last_greatest g.T.Ord.cmp g.met.T.Ord.total _ c.self.invariant c.next_back.result c.next_back.new.self taken)

@@ -1,0 +1,98 @@
+//! Two walks merged into one, whose items tell which of the two lists has them.
+ghost use Rattle.std.specs.Prelude.{◌≡◌, ◌<◌, ◌↔◌, IsTrue, length};
+ghost use Rattle.std.specs.Iterator.{at_most};
+ghost use Rattle.std.specs.Map.Iter.{TakesFirst, deref};
+ghost use Rattle.indexset_set.specs.Merge.{map_side, merged, of_left, of_right, read};
+
+use indexset_spine::iter::Iter;
+use std::cmp::Ordering;
+use std::marker::Model;
+
+/// An item of two merged lists: of one list alone, or of both, from each its own.
+#[derive(Clone, Copy)]
+pub(crate) enum Side<X> {
+    Left(X),
+    Right(X),
+    Both(X, X),
+}
+
+/// What is left of two lists, merged.
+#[derive(Debug, Drop)]
+pub(crate) struct Merge<'a, T: Ord> {
+    // The next item of each list, and what follows it there.
+    next_left: Option<&'a T>,
+    next_right: Option<&'a T>,
+    left: Iter<'a, T>,
+    right: Iter<'a, T>,
+}
+
+impl<'a, T: Ord> Model for Merge<'a, T> {
+    ghost use Rattle.std.specs.Prelude.{◌≡◌, List, [], IfNone};
+    ghost use Rattle.std.specs.Option.{option_copied};
+    ghost use Rattle.std.specs.List.{cons_option};
+    ghost use Rattle.indexset_set.specs.declared.algebra.merge.Side.{Side};
+
+    ghost Value = { List (Side T) };
+
+    ghost use Rattle.indexset_set.specs.Merge.{merged};
+
+    ghost view = { λ m. merged T.cmp (cons_option (option_copied m.next_left) m.left) (cons_option (option_copied m.next_right) m.right) };
+
+    ghost invariant = { λ m. IfNone m.next_left (m.left ≡ []) × IfNone m.next_right (m.right ≡ []) };
+}
+
+impl<'a, T: Ord> Merge<'a, T> {
+    /// The items of both lists.
+    pub(crate) fn new(mut left: Iter<'a, T>, mut right: Iter<'a, T>) -> Self
+        ensures { result ≡ merged T.cmp left.entry right.entry }
+    {
+        Merge {
+            next_left: left.next(),
+            next_right: right.next(),
+            left,
+            right,
+        }
+    }
+
+    /// Whether an item of the left list is left.
+    pub(crate) fn has_left(&self) -> bool
+        ensures { IsTrue result ↔ (0 < length (read of_left self.now)) }
+    {
+        self.next_left.is_some()
+    }
+
+    /// Whether an item of the right list is left.
+    pub(crate) fn has_right(&self) -> bool
+        ensures { IsTrue result ↔ (0 < length (read of_right self.now)) }
+    {
+        self.next_right.is_some()
+    }
+}
+
+impl<'a, T: Ord> Iterator for Merge<'a, T> {
+    type Item = Side<&'a T>;
+
+    ghost next_gives = { TakesFirst (map_side deref) };
+
+    ghost remaining = { λ m. at_most (length m) };
+
+    fn next(&mut self) -> Option<Side<&'a T>> {
+        let next = match (self.next_left, self.next_right) {
+            (None, None) => return None,
+            (Some(x), None) => Side::Left(x),
+            (None, Some(y)) => Side::Right(y),
+            (Some(x), Some(y)) => match x.cmp(y) {
+                Ordering::Less => Side::Left(x),
+                Ordering::Equal => Side::Both(x, y),
+                Ordering::Greater => Side::Right(y),
+            },
+        };
+        if !matches!(next, Side::Right(_)) {
+            self.next_left = self.left.next();
+        }
+        if !matches!(next, Side::Left(_)) {
+            self.next_right = self.right.next();
+        }
+        Some(next)
+    }
+}

@@ -1,0 +1,88 @@
+//! Calls that add an element or take one out.
+ghost use Rattle.std.specs.Prelude.{◌≡◌, [], ◌∷◌, true, false, not, IfOk, OnOk, IfErr, OnErr, IsOk};
+ghost use Rattle.indexset_spine.specs.Cut.{items};
+ghost use Rattle.indexset_core.specs.Order.{has_equal, keep, put, without, equal_element};
+ghost use Rattle.indexset_set.specs.SetNodes.{nodes_kept, nodes_put, nodes_without};
+
+use super::BTreeSet;
+use super::lookup::{locate, locate_from_end};
+use indexset_core::refusal::{Refusal, Refused};
+
+impl<T: Ord + Drop> BTreeSet<T> {
+    /// Adds a value: true, or false where an equal element is there. That one stays, the value is let
+    /// go, and no memory is taken. A refused call hands the value back and changes nothing.
+    pub fn insert(&mut self, value: T) -> Result<bool, Refused<T>>
+        ensures added { IfOk result (λ b. b ≡ not (has_equal T.cmp (items self.old) value)) }
+        ensures ok { OnOk result (items self.new ≡ keep T.cmp (items self.old) value) }
+        ensures there { OnOk result (has_equal T.cmp (items self.new) value ≡ true) }
+        ensures nodes { OnOk result (self.new.nodes ≡ nodes_kept T.cmp self.old value) }
+        ensures same { has_equal T.cmp (items self.old) value ≡ true → self.new ≡ self.old }
+        ensures size { self.new.size ≡ self.old.size }
+        ensures no_memory { has_equal T.cmp (items self.old) value ≡ true → IsOk result }
+        ensures given_back { IfErr result (λ e. (e.value ≡ value) × (e.cause ≡ Refusal.Memory)) }
+        ensures unchanged { OnErr result (self.new ≡ self.old) }
+    {
+        let spot = locate_from_end(&self.spine, &value);
+        if spot.found {
+            return Ok(false);
+        }
+        self.spine.insert(spot, value)?;
+        Ok(true)
+    }
+
+    /// Puts a value in place of the element equal to it, answers that one, and takes no memory; or adds
+    /// the value where there is none. A refused call hands the value back and changes nothing.
+    pub fn replace(&mut self, value: T) -> Result<Option<T>, Refused<T>>
+        ensures old { IfOk result (λ o. o ≡ equal_element T.cmp (items self.old) value) }
+        ensures ok { OnOk result (items self.new ≡ put T.cmp (items self.old) value) }
+        ensures there { OnOk result (has_equal T.cmp (items self.new) value ≡ true) }
+        ensures nodes { OnOk result (self.new.nodes ≡ nodes_put T.cmp self.old value) }
+        ensures size { self.new.size ≡ self.old.size }
+        ensures no_memory { has_equal T.cmp (items self.old) value ≡ true → IsOk result }
+        ensures given_back { IfErr result (λ e. (e.value ≡ value) × (e.cause ≡ Refusal.Memory)) }
+        ensures unchanged { OnErr result (self.new ≡ self.old) }
+    {
+        let spot = locate(&self.spine, &value);
+        if spot.found {
+            return Ok(Some(self.spine.replace(spot, value)));
+        }
+        self.spine.insert(spot, value)?;
+        Ok(None)
+    }
+
+    /// Takes out the element equal to the value, where there is one. It takes no memory.
+    pub fn take(&mut self, value: &T) -> Option<T>
+        ensures value { result ≡ equal_element T.cmp (items self.old) value.now }
+        ensures rest { items self.new ≡ without T.cmp (items self.old) value.now }
+        ensures gone { has_equal T.cmp (items self.new) value.now ≡ false }
+        ensures nodes { self.new.nodes ≡ nodes_without T.cmp self.old value.now }
+        ensures size { self.new.size ≡ self.old.size }
+    {
+        let spot = locate(&self.spine, value);
+        if spot.found {
+            Some(self.spine.remove(spot))
+        } else {
+            None
+        }
+    }
+
+    /// Takes out the element equal to the value: true, or false where there is none. It takes no
+    /// memory.
+    pub fn remove(&mut self, value: &T) -> bool
+        ensures removed { result ≡ has_equal T.cmp (items self.old) value.now }
+        ensures rest { items self.new ≡ without T.cmp (items self.old) value.now }
+        ensures gone { has_equal T.cmp (items self.new) value.now ≡ false }
+        ensures nodes { self.new.nodes ≡ nodes_without T.cmp self.old value.now }
+        ensures size { self.new.size ≡ self.old.size }
+    {
+        self.take(value).is_some()
+    }
+
+    /// Takes out all elements, and keeps one empty node. It takes no memory.
+    pub fn clear(&mut self)
+        ensures empty { self.new.nodes ≡ [] ∷ [] }
+        ensures size { self.new.size ≡ self.old.size }
+    {
+        self.spine.clear();
+    }
+}
