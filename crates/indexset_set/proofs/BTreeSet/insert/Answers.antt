@@ -16,7 +16,7 @@ returns-then-spot g c =
       size = refl;
       no_memory = λ _. refl;
       given_back = tt;
-      err = tt;
+      unchanged = tt;
     })
 
 pub invariant_of-self-2 : goal.invariant_of-self-2
@@ -42,5 +42,5 @@ returns g c =
       size = c.insert.ensures.size;
       no_memory = λ _. refl;
       given_back = tt;
-      err = tt;
+      unchanged = tt;
     })

@@ -20,7 +20,7 @@ returns-then-spot g c =
       size = c.replace.ensures.size;
       no_memory = λ _. refl;
       given_back = tt;
-      err = tt;
+      unchanged = tt;
     })
 
 pub invariant_of-self-2 : goal.invariant_of-self-2
@@ -45,5 +45,5 @@ returns g c =
       size = c.insert.ensures.size;
       no_memory = λ _. refl;
       given_back = tt;
-      err = tt;
+      unchanged = tt;
     })
