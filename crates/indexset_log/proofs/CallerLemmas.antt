@@ -4,6 +4,8 @@ pub use Rattle.indexset_log.proofs.PlaceTakes.{place_contents, place_events}
 pub use Rattle.indexset_log.proofs.Places.{IsEnd, end_at, end_found, end_node, end_offset, ends_equal, ends_gap, gap_at, gap_found, last_before, located_end, place_le}
 pub use Rattle.indexset_log.proofs.Puts.{halved_view}
 pub use Rattle.indexset_log.proofs.Replays.{not_reaching, over_rest, reaching}
+pub use Rattle.indexset_log.proofs.Spaced.{few_nodes}
+pub use Rattle.indexset_log.proofs.SpacedKept.{put_spaced, taken_spaced}
 pub use Rattle.indexset_log.proofs.Steps.{At, at_ruled, create_step, edit_step, insert_at, place_at, place_none, position_at, reached, remove_at, remove_node_step, remove_step, ruled_at, splice_at, split_step, unnamed}
 pub use Rattle.indexset_log.proofs.Takes.{at_place, map_remove, some_taken, taking_length}
 pub use Rattle.indexset_log.proofs.Theorem.{last_some, length-numbered, numbered_is, up_node}

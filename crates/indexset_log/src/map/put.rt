@@ -1,9 +1,10 @@
 //! Calls that put pairs in.
-ghost use Rattle.std.specs.Prelude.{◌≡◌, ◌+◌, ◌≤◌, length, true, Some, IfOk, OnOk, IfErr, OnErr, IsOk, IfSome, is_none};
+ghost use Rattle.std.specs.Prelude.{◌≡◌, ◌+◌, ◌/◌, ◌≤◌, length, true, Some, IfOk, OnOk, IfErr, OnErr, IsOk, IfSome, is_none};
 ghost use Rattle.indexset_core.specs.Nodes.{joined};
 ghost use Rattle.indexset_core.specs.Order.{put, keep};
 ghost use Rattle.indexset_core.specs.Pairs.{by_key, has_key, pair, value_of};
 ghost use Rattle.indexset_log.specs.Edits.{with_put, with_checked_put};
+ghost use Rattle.indexset_log.specs.Joining.{IsSpaced};
 ghost use Rattle.indexset_log.specs.Replay.{replay, numbered_from, IsNumberedFrom};
 ghost use Rattle.indexset_log.specs.Table.{put_events, checked_put_events};
 ghost use Rattle.indexset_log.specs.Tree.{refusal_for};
@@ -34,6 +35,7 @@ impl<K: Ord + Clone + Drop, V: Clone + Drop, Node: NodeLike<Pair<K, V>>> BTreeMa
         ensures replay { IfOk result (λ r. replay (by_key K.cmp) self.old.nodes r.1.items ≡ Some self.new.nodes) }
         ensures few { IfOk result (λ r. length r.1.items ≤ 3) }
         ensures size { self.new.size ≡ self.old.size }
+        ensures spaced { IsSpaced (self.old.size / 2) self.old.nodes → IsSpaced (self.new.size / 2) self.new.nodes }
         ensures next { OnOk result (self.new.next ≡ self.old.next + length (put_events (by_key K.cmp) self.old.size self.old.nodes (pair key value))) }
         ensures fits { OnOk result (self.old.next + length (put_events (by_key K.cmp) self.old.size self.old.nodes (pair key value)) ≤ u64.MAX) }
         ensures refusal { IfErr result (λ e. e.cause ≡ refusal_for self.old.next (length (put_events (by_key K.cmp) self.old.size self.old.nodes (pair key value)))) }
@@ -62,6 +64,7 @@ impl<K: Ord + Clone + Drop, V: Clone + Drop, Node: NodeLike<Pair<K, V>>> BTreeMa
         ensures replay { OnOk result (replay (by_key K.cmp) self.old.nodes (numbered_from self.old.next (checked_put_events (by_key K.cmp) self.old.size self.old.nodes (pair key value))) ≡ Some self.new.nodes) }
         ensures few { IfOk result (λ r. IfSome r (λ events. length events.items ≤ 3)) }
         ensures size { self.new.size ≡ self.old.size }
+        ensures spaced { IsSpaced (self.old.size / 2) self.old.nodes → IsSpaced (self.new.size / 2) self.new.nodes }
         ensures next { OnOk result (self.new.next ≡ self.old.next + length (checked_put_events (by_key K.cmp) self.old.size self.old.nodes (pair key value))) }
         ensures fits { OnOk result (self.old.next + length (checked_put_events (by_key K.cmp) self.old.size self.old.nodes (pair key value)) ≤ u64.MAX) }
         ensures refusal { IfErr result (λ e. e.cause ≡ refusal_for self.old.next (length (checked_put_events (by_key K.cmp) self.old.size self.old.nodes (pair key value)))) }
@@ -82,6 +85,7 @@ impl<K: Ord + Clone + Drop, V: Clone + Drop, Node: NodeLike<Pair<K, V>>> BTreeMa
         ensures nodes { OnOk result (self.new.nodes ≡ with_put (by_key K.cmp) self.old.size self.old.nodes (pair key value)) }
         ensures replay { OnOk result (replay (by_key K.cmp) self.old.nodes (numbered_from self.old.next (put_events (by_key K.cmp) self.old.size self.old.nodes (pair key value))) ≡ Some self.new.nodes) }
         ensures size { self.new.size ≡ self.old.size }
+        ensures spaced { IsSpaced (self.old.size / 2) self.old.nodes → IsSpaced (self.new.size / 2) self.new.nodes }
         ensures next { OnOk result (self.new.next ≡ self.old.next + length (put_events (by_key K.cmp) self.old.size self.old.nodes (pair key value))) }
         ensures refusal { IfErr result (λ e. e.cause ≡ refusal_for self.old.next (length (put_events (by_key K.cmp) self.old.size self.old.nodes (pair key value)))) }
         ensures given_back { IfErr result (λ e. e.value ≡ (key, value)) }
@@ -100,6 +104,7 @@ impl<K: Ord + Clone + Drop, V: Clone + Drop, Node: NodeLike<Pair<K, V>>> BTreeMa
         ensures nodes { OnOk result (self.new.nodes ≡ with_checked_put (by_key K.cmp) self.old.size self.old.nodes (pair key value)) }
         ensures replay { OnOk result (replay (by_key K.cmp) self.old.nodes (numbered_from self.old.next (checked_put_events (by_key K.cmp) self.old.size self.old.nodes (pair key value))) ≡ Some self.new.nodes) }
         ensures size { self.new.size ≡ self.old.size }
+        ensures spaced { IsSpaced (self.old.size / 2) self.old.nodes → IsSpaced (self.new.size / 2) self.new.nodes }
         ensures next { OnOk result (self.new.next ≡ self.old.next + length (checked_put_events (by_key K.cmp) self.old.size self.old.nodes (pair key value))) }
         ensures refusal { IfErr result (λ e. e.cause ≡ refusal_for self.old.next (length (checked_put_events (by_key K.cmp) self.old.size self.old.nodes (pair key value)))) }
         ensures no_event { has_key K.cmp (joined self.old.nodes) key ≡ true → IsOk result }

@@ -1,9 +1,10 @@
 //! Calls that take pairs out.
-ghost use Rattle.std.specs.Prelude.{◌≡◌, ◌+◌, ◌<◌, ◌≤◌, [], length, Some, false, IfOk, OnOk, IfErr, OnErr, IsOk};
+ghost use Rattle.std.specs.Prelude.{◌≡◌, ◌+◌, ◌/◌, ◌<◌, ◌≤◌, [], length, Some, false, IfOk, OnOk, IfErr, OnErr, IsOk};
 ghost use Rattle.std.specs.Option.{option_map};
 ghost use Rattle.indexset_core.specs.Nodes.{joined};
 ghost use Rattle.indexset_core.specs.Pairs.{by_key, entry_of, has_key, pair_of, without_key};
 ghost use Rattle.indexset_log.specs.Keys.{key_removal_events};
+ghost use Rattle.indexset_log.specs.Joining.{IsSpaced};
 ghost use Rattle.indexset_log.specs.Replay.{replay, numbered_from, IsNumberedFrom};
 ghost use Rattle.indexset_log.specs.Tree.{refusal_for};
 
@@ -30,6 +31,7 @@ impl<K: Ord + Clone + Drop, V: Clone + Drop, Node: NodeLike<Pair<K, V>>> BTreeMa
         ensures replay { IfOk result (λ r. replay (by_key K.cmp) self.old.nodes r.1.items ≡ Some self.new.nodes) }
         ensures few { IfOk result (λ r. length r.1.items ≤ 3) }
         ensures size { self.new.size ≡ self.old.size }
+        ensures spaced { IsSpaced (self.old.size / 2) self.old.nodes → IsSpaced (self.new.size / 2) self.new.nodes }
         ensures next { OnOk result (self.new.next ≡ self.old.next + length (key_removal_events K.cmp self.old.size self.old.nodes key.now)) }
         ensures fits { OnOk result (self.old.next + length (key_removal_events K.cmp self.old.size self.old.nodes key.now) ≤ u64.MAX) }
         ensures refusal { IfErr result (λ e. e ≡ refusal_for self.old.next (length (key_removal_events K.cmp self.old.size self.old.nodes key.now))) }
@@ -54,6 +56,7 @@ impl<K: Ord + Clone + Drop, V: Clone + Drop, Node: NodeLike<Pair<K, V>>> BTreeMa
         ensures gone { OnOk result (has_key K.cmp (joined self.new.nodes) key.now ≡ false) }
         ensures replay { OnOk result (replay (by_key K.cmp) self.old.nodes (numbered_from self.old.next (key_removal_events K.cmp self.old.size self.old.nodes key.now)) ≡ Some self.new.nodes) }
         ensures size { self.new.size ≡ self.old.size }
+        ensures spaced { IsSpaced (self.old.size / 2) self.old.nodes → IsSpaced (self.new.size / 2) self.new.nodes }
         ensures next { OnOk result (self.new.next ≡ self.old.next + length (key_removal_events K.cmp self.old.size self.old.nodes key.now)) }
         ensures fits { OnOk result (self.old.next + length (key_removal_events K.cmp self.old.size self.old.nodes key.now) ≤ u64.MAX) }
         ensures refusal { IfErr result (λ e. e ≡ refusal_for self.old.next (length (key_removal_events K.cmp self.old.size self.old.nodes key.now))) }

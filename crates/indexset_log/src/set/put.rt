@@ -1,9 +1,10 @@
 //! Calls that put items in.
-ghost use Rattle.std.specs.Prelude.{◌≡◌, ◌==◌, ◌+◌, ◌≤◌, [], ◌++◌, cond, length, Some, None, IfOk, OnOk, IfErr, OnErr, IsOk, IfSome, is_none, not, true};
+ghost use Rattle.std.specs.Prelude.{◌≡◌, ◌==◌, ◌+◌, ◌/◌, ◌≤◌, [], ◌++◌, cond, length, Some, None, IfOk, OnOk, IfErr, OnErr, IsOk, IfSome, is_none, not, true};
 ghost use Rattle.indexset_core.specs.Nodes.{joined};
 ghost use Rattle.indexset_core.specs.Order.{IsAscending, IsFoundAt, IsGapFor, put, keep, has_equal, equal_element};
 ghost use Rattle.indexset_log.specs.Aim.{IsAim, IsAimed, count_for, is_present};
 ghost use Rattle.indexset_log.specs.Edits.{with_put, with_checked_put};
+ghost use Rattle.indexset_log.specs.Joining.{IsSpaced};
 ghost use Rattle.indexset_log.specs.Replay.{replay, numbered_from, IsNumberedFrom};
 ghost use Rattle.indexset_log.specs.Table.{put_events, checked_put_events, halving_events, node_events};
 ghost use Rattle.indexset_log.specs.Tree.{refusal_for};
@@ -33,6 +34,7 @@ impl<T: Ord + Clone + Drop, Node: NodeLike<T>> BTreeSet<T, Node> {
         ensures replay { IfOk result (λ r. replay T.cmp self.old.nodes r.1.items ≡ Some self.new.nodes) }
         ensures few { IfOk result (λ r. length r.1.items ≤ 3) }
         ensures size { self.new.size ≡ self.old.size }
+        ensures spaced { IsSpaced (self.old.size / 2) self.old.nodes → IsSpaced (self.new.size / 2) self.new.nodes }
         ensures next { OnOk result (self.new.next ≡ self.old.next + length (put_events T.cmp self.old.size self.old.nodes value)) }
         ensures fits { OnOk result (self.old.next + length (put_events T.cmp self.old.size self.old.nodes value) ≤ u64.MAX) }
         ensures refusal { IfErr result (λ e. e.cause ≡ refusal_for self.old.next (length (put_events T.cmp self.old.size self.old.nodes value))) }
@@ -57,6 +59,7 @@ impl<T: Ord + Clone + Drop, Node: NodeLike<T>> BTreeSet<T, Node> {
         ensures replay { OnOk result (replay T.cmp self.old.nodes (numbered_from self.old.next (checked_put_events T.cmp self.old.size self.old.nodes value)) ≡ Some self.new.nodes) }
         ensures few { IfOk result (λ r. IfSome r (λ events. length events.items ≤ 3)) }
         ensures size { self.new.size ≡ self.old.size }
+        ensures spaced { IsSpaced (self.old.size / 2) self.old.nodes → IsSpaced (self.new.size / 2) self.new.nodes }
         ensures next { OnOk result (self.new.next ≡ self.old.next + length (checked_put_events T.cmp self.old.size self.old.nodes value)) }
         ensures fits { OnOk result (self.old.next + length (checked_put_events T.cmp self.old.size self.old.nodes value) ≤ u64.MAX) }
         ensures refusal { IfErr result (λ e. e.cause ≡ refusal_for self.old.next (length (checked_put_events T.cmp self.old.size self.old.nodes value))) }
@@ -85,6 +88,7 @@ impl<T: Ord + Clone + Drop, Node: NodeLike<T>> BTreeSet<T, Node> {
         ensures nodes { OnOk result (self.new.nodes ≡ with_put T.cmp self.old.size self.old.nodes value) }
         ensures replay { OnOk result (replay T.cmp self.old.nodes (numbered_from self.old.next (put_events T.cmp self.old.size self.old.nodes value)) ≡ Some self.new.nodes) }
         ensures size { self.new.size ≡ self.old.size }
+        ensures spaced { IsSpaced (self.old.size / 2) self.old.nodes → IsSpaced (self.new.size / 2) self.new.nodes }
         ensures next { OnOk result (self.new.next ≡ self.old.next + length (put_events T.cmp self.old.size self.old.nodes value)) }
         ensures refusal { IfErr result (λ e. e.cause ≡ refusal_for self.old.next (length (put_events T.cmp self.old.size self.old.nodes value))) }
         ensures given_back { IfErr result (λ e. e.value ≡ value) }
@@ -104,6 +108,7 @@ impl<T: Ord + Clone + Drop, Node: NodeLike<T>> BTreeSet<T, Node> {
         ensures nodes { OnOk result (self.new.nodes ≡ with_checked_put T.cmp self.old.size self.old.nodes value) }
         ensures replay { OnOk result (replay T.cmp self.old.nodes (numbered_from self.old.next (checked_put_events T.cmp self.old.size self.old.nodes value)) ≡ Some self.new.nodes) }
         ensures size { self.new.size ≡ self.old.size }
+        ensures spaced { IsSpaced (self.old.size / 2) self.old.nodes → IsSpaced (self.new.size / 2) self.new.nodes }
         ensures next { OnOk result (self.new.next ≡ self.old.next + length (checked_put_events T.cmp self.old.size self.old.nodes value)) }
         ensures refusal { IfErr result (λ e. e.cause ≡ refusal_for self.old.next (length (checked_put_events T.cmp self.old.size self.old.nodes value))) }
         ensures no_event { has_equal T.cmp (joined self.old.nodes) value ≡ true → IsOk result }
@@ -148,6 +153,7 @@ impl<T: Ord + Clone + Drop, Node: NodeLike<T>> BTreeSet<T, Node> {
         ensures replay { OnOk result (replay T.cmp self.old.nodes (numbered_from self.old.next (put_events T.cmp self.old.size self.old.nodes value)) ≡ Some self.new.nodes) }
         ensures few { IfOk result (λ r. length r.1.items ≤ 3) }
         ensures size { self.new.size ≡ self.old.size }
+        ensures spaced { IsSpaced (self.old.size / 2) self.old.nodes → IsSpaced (self.new.size / 2) self.new.nodes }
         ensures next { OnOk result (self.new.next ≡ self.old.next + length (put_events T.cmp self.old.size self.old.nodes value)) }
         ensures fits { OnOk result (self.old.next + length (put_events T.cmp self.old.size self.old.nodes value) ≤ u64.MAX) }
         ensures refusal { IfErr result (λ e. e.cause ≡ refusal_for self.old.next (length (put_events T.cmp self.old.size self.old.nodes value))) }
@@ -172,6 +178,7 @@ impl<T: Ord + Clone + Drop, Node: NodeLike<T>> BTreeSet<T, Node> {
         ensures nodes { OnOk result (self.new.nodes ≡ with_put T.cmp self.old.size self.old.nodes value) }
         ensures replay { OnOk result (replay T.cmp self.old.nodes (numbered_from self.old.next (put_events T.cmp self.old.size self.old.nodes value)) ≡ Some self.new.nodes) }
         ensures size { self.new.size ≡ self.old.size }
+        ensures spaced { IsSpaced (self.old.size / 2) self.old.nodes → IsSpaced (self.new.size / 2) self.new.nodes }
         ensures next { OnOk result (self.new.next ≡ self.old.next + length (put_events T.cmp self.old.size self.old.nodes value)) }
         ensures fits { OnOk result (self.old.next + length (put_events T.cmp self.old.size self.old.nodes value) ≤ u64.MAX) }
         ensures refusal { IfErr result (λ e. e.cause ≡ refusal_for self.old.next (length (put_events T.cmp self.old.size self.old.nodes value))) }

@@ -3,7 +3,7 @@ ghost use Rattle.std.specs.Prelude.{◌≡◌, ℕ, ◌+◌, ◌/◌, ◌<◌, �
 ghost use Rattle.indexset_core.specs.Nodes.{joined, node_at};
 ghost use Rattle.indexset_core.specs.Order.{equal_element, has_equal, without};
 ghost use Rattle.indexset_log.specs.Edits.{with_taken};
-ghost use Rattle.indexset_log.specs.Joining.{are_small, join_after, with_joined, without_item};
+ghost use Rattle.indexset_log.specs.Joining.{are_small, IsSpaced, join_after, with_joined, without_item};
 ghost use Rattle.indexset_log.specs.Nodes.{last_of};
 ghost use Rattle.indexset_log.specs.Replay.{replay, numbered_from, IsNumberedFrom};
 ghost use Rattle.indexset_log.specs.Table.{count_with, joining_event, taking_count, taking_event, taking_events, removal_events};
@@ -29,6 +29,7 @@ impl<T: Ord + Clone + Drop, Node: NodeLike<T>> BTreeSet<T, Node> {
         ensures replay { IfOk result (λ r. replay T.cmp self.old.nodes r.1.items ≡ Some self.new.nodes) }
         ensures few { IfOk result (λ r. length r.1.items ≤ 3) }
         ensures size { self.new.size ≡ self.old.size }
+        ensures spaced { IsSpaced (self.old.size / 2) self.old.nodes → IsSpaced (self.new.size / 2) self.new.nodes }
         ensures next { OnOk result (self.new.next ≡ self.old.next + length (removal_events T.cmp self.old.size self.old.nodes value.now)) }
         ensures fits { OnOk result (self.old.next + length (removal_events T.cmp self.old.size self.old.nodes value.now) ≤ u64.MAX) }
         ensures refusal { IfErr result (λ e. e ≡ refusal_for self.old.next (length (removal_events T.cmp self.old.size self.old.nodes value.now))) }
@@ -61,6 +62,7 @@ impl<T: Ord + Clone + Drop, Node: NodeLike<T>> BTreeSet<T, Node> {
         ensures replay { IfOk result (λ r. replay T.cmp self.old.nodes r.1.items ≡ Some self.new.nodes) }
         ensures few { IfOk result (λ r. length r.1.items ≤ 3) }
         ensures size { self.new.size ≡ self.old.size }
+        ensures spaced { IsSpaced (self.old.size / 2) self.old.nodes → IsSpaced (self.new.size / 2) self.new.nodes }
         ensures next { OnOk result (self.new.next ≡ self.old.next + taking_count self.old.size self.old.nodes node offset) }
         ensures fits { OnOk result (self.old.next + taking_count self.old.size self.old.nodes node offset ≤ u64.MAX) }
         ensures refusal { IfErr result (λ e. e ≡ refusal_for self.old.next (taking_count self.old.size self.old.nodes node offset)) }
@@ -83,6 +85,7 @@ impl<T: Ord + Clone + Drop, Node: NodeLike<T>> BTreeSet<T, Node> {
         ensures gone { OnOk result (has_equal T.cmp (joined self.new.nodes) value.now ≡ false) }
         ensures replay { OnOk result (replay T.cmp self.old.nodes (numbered_from self.old.next (removal_events T.cmp self.old.size self.old.nodes value.now)) ≡ Some self.new.nodes) }
         ensures size { self.new.size ≡ self.old.size }
+        ensures spaced { IsSpaced (self.old.size / 2) self.old.nodes → IsSpaced (self.new.size / 2) self.new.nodes }
         ensures next { OnOk result (self.new.next ≡ self.old.next + length (removal_events T.cmp self.old.size self.old.nodes value.now)) }
         ensures fits { OnOk result (self.old.next + length (removal_events T.cmp self.old.size self.old.nodes value.now) ≤ u64.MAX) }
         ensures refusal { IfErr result (λ e. e ≡ refusal_for self.old.next (length (removal_events T.cmp self.old.size self.old.nodes value.now))) }
@@ -106,6 +109,7 @@ impl<T: Ord + Clone + Drop, Node: NodeLike<T>> BTreeSet<T, Node> {
         ensures nodes { OnOk result (self.new.nodes ≡ with_taken self.old.size self.old.nodes node offset) }
         ensures replay { IfOk result (λ item. replay T.cmp self.old.nodes (numbered_from self.old.next (taking_events self.old.size self.old.nodes node offset item)) ≡ Some self.new.nodes) }
         ensures size { self.new.size ≡ self.old.size }
+        ensures spaced { IsSpaced (self.old.size / 2) self.old.nodes → IsSpaced (self.new.size / 2) self.new.nodes }
         ensures next { OnOk result (self.new.next ≡ self.old.next + taking_count self.old.size self.old.nodes node offset) }
         ensures fits { OnOk result (self.old.next + taking_count self.old.size self.old.nodes node offset ≤ u64.MAX) }
         ensures refusal { IfErr result (λ e. e ≡ refusal_for self.old.next (taking_count self.old.size self.old.nodes node offset)) }

@@ -43,6 +43,7 @@ returns-in_ok-pair-in-Ok g c =
       replay = rw c.self.view_is at done.replay;
       few = done.few;
       size = rw c.self.view_is at done.size;
+      spaced = rw c.self.view_is at done.spaced;
       next = rw count next;
       fits = rw count fits;
       refusal = tt;

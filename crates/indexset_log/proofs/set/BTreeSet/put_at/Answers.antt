@@ -3,6 +3,7 @@ use Rattle.indexset_core.specs.Order.{has_equal}
 use Rattle.indexset_core.specs.Nodes.{joined}
 use Rattle.indexset_core.proofs.CallerLemmas.{has_put}
 use Rattle.indexset_log.proofs.Puts.{count_aimed, put_contents, put_replayed}
+use Rattle.indexset_log.proofs.SpacedKept.{put_kept}
 use Rattle.indexset_log.proofs.Theorem.{on_ok_map}
 use Rattle.indexset_log.proofs.Trees.{held}
 use Rattle.indexset_log.proofs.set.BTreeSet.put_at.Goals as goal
@@ -37,3 +38,8 @@ pub returns-in-Err-clause-refusal : goal.returns-in-Err-clause-refusal
 returns-in-Err-clause-refusal g c =
     let t = held g.Node.NodeLike.list c.self.inside.nodes.items c.self.view_is c.self.invariant in
     rw (count_aimed g.met.T.Ord.total t.rule c.args.value c.args.aim c.requires) c.in-Err.ensures.refusal
+
+pub returns-in-Ok-clause-spaced : goal.returns-in-Ok-clause-spaced
+returns-in-Ok-clause-spaced g c =
+    let t = held g.Node.NodeLike.list c.self.inside.nodes.items c.self.view_is c.self.invariant in
+    put_kept g.T.Ord.cmp g.met.T.Ord.total _ _ t.rule c.args.value c.carry_out.result c.carry_out.ensures.nodes c.carry_out.ensures.unchanged c.carry_out.ensures.size

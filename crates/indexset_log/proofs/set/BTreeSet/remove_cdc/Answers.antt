@@ -32,6 +32,7 @@ returns-in_ok-item-in-Some g c =
       replay = done.replay;
       few = done.few;
       size = done.size;
+      spaced = done.spaced;
       next = rw count done.next;
       fits = rw count done.fits;
       refusal = tt;
