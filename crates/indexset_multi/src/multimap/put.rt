@@ -1,10 +1,11 @@
 //! Calls that put pairs in.
-ghost use Rattle.std.specs.Prelude.{◌≡◌, ◌+◌, ◌≤◌, true, false, length, Some, IfOk, OnOk, IfErr, OnErr};
+ghost use Rattle.std.specs.Prelude.{◌≡◌, ◌+◌, ◌/◌, ◌≤◌, true, false, length, Some, IfOk, OnOk, IfErr, OnErr};
 ghost use Rattle.std.specs.Option.{option_map};
 ghost use Rattle.indexset_core.specs.MultiPairs.{by_number};
 ghost use Rattle.indexset_core.specs.Nodes.{joined};
 ghost use Rattle.indexset_core.specs.Order.{equal_element, put};
 ghost use Rattle.indexset_log.specs.Edits.{with_put};
+ghost use Rattle.indexset_log.specs.Joining.{IsSpaced};
 ghost use Rattle.indexset_log.specs.Replay.{replay, numbered_from, IsNumberedFrom};
 ghost use Rattle.indexset_multi.specs.Keys.{AreNumberedBelow, equal_pair, kept_number};
 ghost use Rattle.indexset_multi.specs.Tree.{insertion_events, insertion_refusal, inserted_pair, lacks_number, pair_next_after};
@@ -40,6 +41,7 @@ impl<K: Ord + Clone + Drop, V: Eq + Clone + Drop, Node: NodeLike<MultiPair<K, V>
         ensures replay { IfOk result (λ r. replay (by_number K.cmp) self.old.nodes r.1.items ≡ Some self.new.nodes) }
         ensures few { IfOk result (λ r. length r.1.items ≤ 3) }
         ensures size { self.new.size ≡ self.old.size }
+        ensures spaced { IsSpaced (self.old.size / 2) self.old.nodes → IsSpaced (self.new.size / 2) self.new.nodes }
         ensures next { OnOk result (self.new.next ≡ self.old.next + length (insertion_events K.cmp V.eq self.old key value)) }
         ensures pair_next { OnOk result (self.new.pair_next ≡ pair_next_after K.cmp V.eq self.old key value) }
         ensures fits { OnOk result (self.old.next + length (insertion_events K.cmp V.eq self.old key value) ≤ u64.MAX) }
@@ -62,6 +64,7 @@ impl<K: Ord + Clone + Drop, V: Eq + Clone + Drop, Node: NodeLike<MultiPair<K, V>
         ensures nodes { OnOk result (self.new.nodes ≡ with_put (by_number K.cmp) self.old.size self.old.nodes (inserted_pair K.cmp V.eq self.old key value)) }
         ensures replay { OnOk result (replay (by_number K.cmp) self.old.nodes (numbered_from self.old.next (insertion_events K.cmp V.eq self.old key value)) ≡ Some self.new.nodes) }
         ensures size { self.new.size ≡ self.old.size }
+        ensures spaced { IsSpaced (self.old.size / 2) self.old.nodes → IsSpaced (self.new.size / 2) self.new.nodes }
         ensures next { OnOk result (self.new.next ≡ self.old.next + length (insertion_events K.cmp V.eq self.old key value)) }
         ensures pair_next { OnOk result (self.new.pair_next ≡ pair_next_after K.cmp V.eq self.old key value) }
         ensures number_left { OnOk result (lacks_number K.cmp V.eq self.old key value ≡ false) }

@@ -1,5 +1,6 @@
-use Rattle.std.proofs.Common.{rules, Some, ◌≡◌, IfErr, subst, ◌∙◌, ap, length, arith}
+use Rattle.std.proofs.Common.{rules, Some, ◌≡◌, ◌/◌, IfErr, subst, ◌∙◌, ap, length, arith}
 use Rattle.indexset_core.specs.MultiPairs.{by_number}
+use Rattle.indexset_log.specs.Joining.{IsSpaced}
 use Rattle.indexset_log.specs.Replay.{replay}
 use Rattle.indexset_log.proofs.CallerLemmas.{some_taken}
 use Rattle.indexset_multi.proofs.Takes.{taken, taken_count}
@@ -56,3 +57,8 @@ pub returns-in_ok-pair-in-Some-clause-replay : goal.returns-in_ok-pair-in-Some-c
 returns-in_ok-pair-in-Some-clause-replay g c =
     let nodes : c.self.inside.set.nodes ≡ c.args.self.now.nodes = ap (λ m. m.nodes) c.self.view_is in
     subst (λ ns. replay (by_number g.K.Ord.cmp) ns c.in_ok-pair-in-Some.events.items ≡ Some c.remove_at_cdc.new.self.nodes) nodes c.in_ok-pair-in-Some.ensures.replay
+
+pub returns-in_ok-pair-in-Some-clause-spaced : goal.returns-in_ok-pair-in-Some-clause-spaced
+returns-in_ok-pair-in-Some-clause-spaced g c =
+    let after = c.remove_at_cdc.new.self in
+    subst (λ m. IsSpaced (m.size / 2) m.nodes → IsSpaced (after.size / 2) after.nodes) c.self.view_is c.in_ok-pair-in-Some.ensures.spaced
