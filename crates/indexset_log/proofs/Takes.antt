@@ -12,7 +12,7 @@ use Rattle.std.proofs.lemmas.List.Folds.{list_any-append}
 use Rattle.std.proofs.Math.Seq.{set-append_seam}
 use Rattle.std.proofs.lemmas.Option.{get_or_from_slice_get, slice_get-get_or}
 use Rattle.indexset_core.specs.Nodes.{joined, node_at, IsLawful}
-use Rattle.indexset_core.specs.Order.{IsAscending, without, equal_element}
+use Rattle.indexset_core.specs.Order.{IsAscending, rank, has_equal, without, equal_element}
 use Rattle.indexset_core.proofs.CallerLemmas.{is_some-find, joined-append, found_has_equal, found_rank, parted_by_item, offset-le}
 use Rattle.indexset_log.specs.declared.change.ChangeEvent.{ChangeEvent}
 use Rattle.indexset_log.specs.declared.change.ChangeEventUnassigned.{ChangeEventUnassigned}
@@ -54,6 +54,17 @@ some_taken size ns k i =
     elim (join_after size ns k i) as (λ j. 1 ≤ count_with j) [
       | None ↦ omega arith
       | Some j ↦ omega arith
+    ]
+
+pub removal_few : {T : Type 0} (cmp : T → T → Ordering) (size : ℕ) (ns : List (List T)) (v : T) → length (removal_events cmp size ns v) ≤ 3
+unfolding removal_events
+removal_few cmp size ns v =
+    let k = target cmp ns v in
+    let n = node_at ns k in
+    let i = rank cmp n v in
+    elim (has_equal cmp n v) as (λ t. length (if t then taking_events size ns k i (get_or n i v) else []) ≤ 3) [
+      | true ↦ omega (arith, taking_length size ns k i (get_or n i v), two_at_most size ns k i)
+      | false ↦ omega arith
     ]
 
 pub taking_few : {T : Type 0} (size : ℕ) (ns : List (List T)) (k i : ℕ) (x : T) (s : ℕ) (items : List (ChangeEvent T)) → items ≡ numbered_from s (taking_events size ns k i x) → length items ≤ 3

@@ -4,7 +4,7 @@ use Rattle.std.proofs.lemmas.List.{map-set}
 use Rattle.std.proofs.lemmas.Bool.{false≢true}
 use Rattle.std.specs.List.{list_any, slice_get}
 use Rattle.std.proofs.lemmas.Option.{get_or_from_slice_get, slice_get-get_or}
-use Rattle.indexset_log.specs.Table.{put_events, target_events, node_events, replace_events}
+use Rattle.indexset_log.specs.Table.{checked_put_events, put_events, target_events, node_events, replace_events}
 use Rattle.indexset_log.specs.declared.change.ChangeEvent.{ChangeEvent}
 use Rattle.indexset_log.specs.declared.change.ChangeEventUnassigned.{ChangeEventUnassigned}
 use Rattle.indexset_log.specs.declared.change.ChangeEventUnassigned.TheVariants.{InsertAt, RemoveAt, CreateNode, RemoveNode, SplitNode, MergeNodes}
@@ -59,6 +59,10 @@ module _ {T : Type 0} (cmp : T → T → Ordering) (size : ℕ) (v : T) where
   pub three_at_most : (ns : List (List T)) → length (put_events cmp size ns v) ≤ 3
   unfolding put_events target_events
   three_at_most ns = grind (arith, two_at_most)
+
+  pub three_checked : (ns : List (List T)) → length (checked_put_events cmp size ns v) ≤ 3
+  unfolding checked_put_events
+  three_checked ns = grind (arith, three_at_most)
 
   pub three_told : (ns : List (List T)) (s : ℕ) (items : List (ChangeEvent T)) → items ≡ numbered_from s (put_events cmp size ns v) → length items ≤ 3
   three_told ns s items told = omega (arith, ap (λ l. length l) told, length-numbered s (put_events cmp size ns v), three_at_most ns)

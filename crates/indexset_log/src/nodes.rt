@@ -1,5 +1,5 @@
 //! What is done to the nodes.
-ghost use Rattle.std.specs.Prelude.{◌≡◌, ◌+◌, ◌/◌, ◌<◌, ◌≤◌, ◌++◌, Bool, true, false, IsTrue, [], vec_len, vec_capacity, length, map, set, cond, if◌then◌else◌, min, sum_by, Option, Some, nat_le, ◌⊎◌, remove, slice_get, IfOk, OnOk, IfErr, OnErr, is_err};
+ghost use Rattle.std.specs.Prelude.{◌≡◌, ◌+◌, ◌/◌, ◌<◌, ◌≤◌, ◌++◌, Bool, true, false, IsTrue, [], vec_len, vec_capacity, length, map, set, cond, if◌then◌else◌, min, sum_by, Option, Some, nat_le, ◌⊎◌, remove, slice_get, IfOk, OnOk, IfErr, OnErr, IsOk, is_err};
 ghost use Rattle.std.specs.List.{HoldsAt};
 ghost use Rattle.indexset_core.specs.Nodes.{joined, node_at};
 ghost use Rattle.indexset_core.specs.Order.{IsAscending, IsFoundAt, IsGapFor, put, equal_element};
@@ -136,6 +136,7 @@ pub(crate) fn take_and_join<T: Ord + Drop, Node: NodeLike<T>>(
     ensures item { IfOk result (λ item. slice_get (node_at (map Node.list nodes.old.items) node) offset ≡ Some item) }
     ensures nodes { OnOk result (map Node.list nodes.new.items ≡ with_joined (set (map Node.list nodes.old.items) node (remove (node_at (map Node.list nodes.old.items) node) offset)) left) }
     ensures refusal { IfErr result (λ e. e ≡ Refusal.Memory) }
+    ensures never { Node.allocates ≡ false → IsOk result }
     ensures unchanged { OnErr result (map Node.list nodes.new.items ≡ map Node.list nodes.old.items) }
 {
     let more = nodes[left + 1].len();

@@ -142,6 +142,7 @@ impl<T: Ord + Clone + Drop, Node: NodeLike<T>> BTreeSet<T, Node> {
         ensures place { result ≡ located (P.answer probe.old) self.now.nodes }
         ensures fixed { P.answer probe.new ≡ P.answer probe.old }
         ensures few { P.asked probe.new ≤ P.asked probe.old + (digits (length self.now.nodes) + digits self.now.size + 1) }
+        ensures unasked { self.now.nodes ≡ [] → P.asked probe.new ≡ P.asked probe.old }
     {
         if self.nodes.is_empty() {
             return Err((0, 0));

@@ -84,9 +84,11 @@ impl<K: Ord + Clone + Drop, V: Clone + Drop, Node: NodeLike<Pair<K, V>>> BTreeMa
         ensures written { OnOk result (value_of K.cmp (joined self.new.nodes) key ≡ Some value) }
         ensures nodes { OnOk result (self.new.nodes ≡ with_put (by_key K.cmp) self.old.size self.old.nodes (pair key value)) }
         ensures replay { OnOk result (replay (by_key K.cmp) self.old.nodes (numbered_from self.old.next (put_events (by_key K.cmp) self.old.size self.old.nodes (pair key value))) ≡ Some self.new.nodes) }
+        ensures few { length (put_events (by_key K.cmp) self.old.size self.old.nodes (pair key value)) ≤ 3 }
         ensures size { self.new.size ≡ self.old.size }
         ensures spaced { IsSpaced (self.old.size / 2) self.old.nodes → IsSpaced (self.new.size / 2) self.new.nodes }
         ensures next { OnOk result (self.new.next ≡ self.old.next + length (put_events (by_key K.cmp) self.old.size self.old.nodes (pair key value))) }
+        ensures fits { OnOk result (self.old.next + length (put_events (by_key K.cmp) self.old.size self.old.nodes (pair key value)) ≤ u64.MAX) }
         ensures refusal { IfErr result (λ e. e.cause ≡ refusal_for self.old.next (length (put_events (by_key K.cmp) self.old.size self.old.nodes (pair key value)))) }
         ensures given_back { IfErr result (λ e. e.value ≡ (key, value)) }
         ensures unchanged { OnErr result (self.new ≡ self.old) }
@@ -103,9 +105,11 @@ impl<K: Ord + Clone + Drop, V: Clone + Drop, Node: NodeLike<Pair<K, V>>> BTreeMa
         ensures there { OnOk result (has_key K.cmp (joined self.new.nodes) key ≡ true) }
         ensures nodes { OnOk result (self.new.nodes ≡ with_checked_put (by_key K.cmp) self.old.size self.old.nodes (pair key value)) }
         ensures replay { OnOk result (replay (by_key K.cmp) self.old.nodes (numbered_from self.old.next (checked_put_events (by_key K.cmp) self.old.size self.old.nodes (pair key value))) ≡ Some self.new.nodes) }
+        ensures few { length (checked_put_events (by_key K.cmp) self.old.size self.old.nodes (pair key value)) ≤ 3 }
         ensures size { self.new.size ≡ self.old.size }
         ensures spaced { IsSpaced (self.old.size / 2) self.old.nodes → IsSpaced (self.new.size / 2) self.new.nodes }
         ensures next { OnOk result (self.new.next ≡ self.old.next + length (checked_put_events (by_key K.cmp) self.old.size self.old.nodes (pair key value))) }
+        ensures fits { OnOk result (self.old.next + length (checked_put_events (by_key K.cmp) self.old.size self.old.nodes (pair key value)) ≤ u64.MAX) }
         ensures refusal { IfErr result (λ e. e.cause ≡ refusal_for self.old.next (length (checked_put_events (by_key K.cmp) self.old.size self.old.nodes (pair key value)))) }
         ensures no_event { has_key K.cmp (joined self.old.nodes) key ≡ true → IsOk result }
         ensures given_back { IfErr result (λ e. e.value ≡ (key, value)) }

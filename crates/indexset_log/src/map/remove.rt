@@ -55,12 +55,15 @@ impl<K: Ord + Clone + Drop, V: Clone + Drop, Node: NodeLike<Pair<K, V>>> BTreeMa
         ensures contents { OnOk result (joined self.new.nodes ≡ without_key K.cmp (joined self.old.nodes) key.now) }
         ensures gone { OnOk result (has_key K.cmp (joined self.new.nodes) key.now ≡ false) }
         ensures replay { OnOk result (replay (by_key K.cmp) self.old.nodes (numbered_from self.old.next (key_removal_events K.cmp self.old.size self.old.nodes key.now)) ≡ Some self.new.nodes) }
+        ensures few { length (key_removal_events K.cmp self.old.size self.old.nodes key.now) ≤ 3 }
         ensures size { self.new.size ≡ self.old.size }
         ensures spaced { IsSpaced (self.old.size / 2) self.old.nodes → IsSpaced (self.new.size / 2) self.new.nodes }
         ensures next { OnOk result (self.new.next ≡ self.old.next + length (key_removal_events K.cmp self.old.size self.old.nodes key.now)) }
         ensures fits { OnOk result (self.old.next + length (key_removal_events K.cmp self.old.size self.old.nodes key.now) ≤ u64.MAX) }
         ensures refusal { IfErr result (λ e. e ≡ refusal_for self.old.next (length (key_removal_events K.cmp self.old.size self.old.nodes key.now))) }
+        ensures no_event { key_removal_events K.cmp self.old.size self.old.nodes key.now ≡ [] → IsOk result }
         ensures no_memory { length (key_removal_events K.cmp self.old.size self.old.nodes key.now) ≤ 1 → self.old.next + length (key_removal_events K.cmp self.old.size self.old.nodes key.now) ≤ u64.MAX → IsOk result }
+        ensures never { Node.allocates ≡ false → self.old.next + length (key_removal_events K.cmp self.old.size self.old.nodes key.now) ≤ u64.MAX → IsOk result }
         ensures unchanged { OnErr result (self.new ≡ self.old) }
     {
         match self.locate(key) {

@@ -87,9 +87,11 @@ impl<T: Ord + Clone + Drop, Node: NodeLike<T>> BTreeSet<T, Node> {
         ensures there { OnOk result (has_equal T.cmp (joined self.new.nodes) value ≡ true) }
         ensures nodes { OnOk result (self.new.nodes ≡ with_put T.cmp self.old.size self.old.nodes value) }
         ensures replay { OnOk result (replay T.cmp self.old.nodes (numbered_from self.old.next (put_events T.cmp self.old.size self.old.nodes value)) ≡ Some self.new.nodes) }
+        ensures few { length (put_events T.cmp self.old.size self.old.nodes value) ≤ 3 }
         ensures size { self.new.size ≡ self.old.size }
         ensures spaced { IsSpaced (self.old.size / 2) self.old.nodes → IsSpaced (self.new.size / 2) self.new.nodes }
         ensures next { OnOk result (self.new.next ≡ self.old.next + length (put_events T.cmp self.old.size self.old.nodes value)) }
+        ensures fits { OnOk result (self.old.next + length (put_events T.cmp self.old.size self.old.nodes value) ≤ u64.MAX) }
         ensures refusal { IfErr result (λ e. e.cause ≡ refusal_for self.old.next (length (put_events T.cmp self.old.size self.old.nodes value))) }
         ensures given_back { IfErr result (λ e. e.value ≡ value) }
         ensures unchanged { OnErr result (self.new ≡ self.old) }
@@ -107,14 +109,18 @@ impl<T: Ord + Clone + Drop, Node: NodeLike<T>> BTreeSet<T, Node> {
         ensures there { OnOk result (has_equal T.cmp (joined self.new.nodes) value ≡ true) }
         ensures nodes { OnOk result (self.new.nodes ≡ with_checked_put T.cmp self.old.size self.old.nodes value) }
         ensures replay { OnOk result (replay T.cmp self.old.nodes (numbered_from self.old.next (checked_put_events T.cmp self.old.size self.old.nodes value)) ≡ Some self.new.nodes) }
+        ensures few { length (checked_put_events T.cmp self.old.size self.old.nodes value) ≤ 3 }
         ensures size { self.new.size ≡ self.old.size }
         ensures spaced { IsSpaced (self.old.size / 2) self.old.nodes → IsSpaced (self.new.size / 2) self.new.nodes }
         ensures next { OnOk result (self.new.next ≡ self.old.next + length (checked_put_events T.cmp self.old.size self.old.nodes value)) }
+        ensures fits { OnOk result (self.old.next + length (checked_put_events T.cmp self.old.size self.old.nodes value) ≤ u64.MAX) }
         ensures refusal { IfErr result (λ e. e.cause ≡ refusal_for self.old.next (length (checked_put_events T.cmp self.old.size self.old.nodes value))) }
         ensures no_event { has_equal T.cmp (joined self.old.nodes) value ≡ true → IsOk result }
         ensures given_back { IfErr result (λ e. e.value ≡ value) }
         ensures unchanged { OnErr result (self.new ≡ self.old) }
     {
+        // The counter is a u64, so no number is wanting where none is used up.
+        let _next = self.next;
         let aim = self.aim(&value);
         if finds_equal(&aim) {
             return Ok(false);

@@ -84,12 +84,15 @@ impl<T: Ord + Clone + Drop, Node: NodeLike<T>> BTreeSet<T, Node> {
         ensures contents { OnOk result (joined self.new.nodes ≡ without T.cmp (joined self.old.nodes) value.now) }
         ensures gone { OnOk result (has_equal T.cmp (joined self.new.nodes) value.now ≡ false) }
         ensures replay { OnOk result (replay T.cmp self.old.nodes (numbered_from self.old.next (removal_events T.cmp self.old.size self.old.nodes value.now)) ≡ Some self.new.nodes) }
+        ensures few { length (removal_events T.cmp self.old.size self.old.nodes value.now) ≤ 3 }
         ensures size { self.new.size ≡ self.old.size }
         ensures spaced { IsSpaced (self.old.size / 2) self.old.nodes → IsSpaced (self.new.size / 2) self.new.nodes }
         ensures next { OnOk result (self.new.next ≡ self.old.next + length (removal_events T.cmp self.old.size self.old.nodes value.now)) }
         ensures fits { OnOk result (self.old.next + length (removal_events T.cmp self.old.size self.old.nodes value.now) ≤ u64.MAX) }
         ensures refusal { IfErr result (λ e. e ≡ refusal_for self.old.next (length (removal_events T.cmp self.old.size self.old.nodes value.now))) }
+        ensures no_event { removal_events T.cmp self.old.size self.old.nodes value.now ≡ [] → IsOk result }
         ensures no_memory { length (removal_events T.cmp self.old.size self.old.nodes value.now) ≤ 1 → self.old.next + length (removal_events T.cmp self.old.size self.old.nodes value.now) ≤ u64.MAX → IsOk result }
+        ensures never { Node.allocates ≡ false → self.old.next + length (removal_events T.cmp self.old.size self.old.nodes value.now) ≤ u64.MAX → IsOk result }
         ensures unchanged { OnErr result (self.new ≡ self.old) }
     {
         // The counter is a u64, so no number is wanting where none is used up.
@@ -108,12 +111,14 @@ impl<T: Ord + Clone + Drop, Node: NodeLike<T>> BTreeSet<T, Node> {
         ensures item { IfOk result (λ item. slice_get (node_at self.old.nodes node) offset ≡ Some item) }
         ensures nodes { OnOk result (self.new.nodes ≡ with_taken self.old.size self.old.nodes node offset) }
         ensures replay { IfOk result (λ item. replay T.cmp self.old.nodes (numbered_from self.old.next (taking_events self.old.size self.old.nodes node offset item)) ≡ Some self.new.nodes) }
+        ensures few { taking_count self.old.size self.old.nodes node offset ≤ 3 }
         ensures size { self.new.size ≡ self.old.size }
         ensures spaced { IsSpaced (self.old.size / 2) self.old.nodes → IsSpaced (self.new.size / 2) self.new.nodes }
         ensures next { OnOk result (self.new.next ≡ self.old.next + taking_count self.old.size self.old.nodes node offset) }
         ensures fits { OnOk result (self.old.next + taking_count self.old.size self.old.nodes node offset ≤ u64.MAX) }
         ensures refusal { IfErr result (λ e. e ≡ refusal_for self.old.next (taking_count self.old.size self.old.nodes node offset)) }
         ensures no_memory { taking_count self.old.size self.old.nodes node offset ≡ 1 → self.old.next + 1 ≤ u64.MAX → IsOk result }
+        ensures never { Node.allocates ≡ false → self.old.next + taking_count self.old.size self.old.nodes node offset ≤ u64.MAX → IsOk result }
         ensures unchanged { OnErr result (self.new ≡ self.old) }
     {
         // The nodes are lawful.
@@ -274,6 +279,7 @@ impl<T: Ord + Clone + Drop, Node: NodeLike<T>> BTreeSet<T, Node> {
         ensures next { OnOk result (self.new.next ≡ self.old.next + count_with join) }
         ensures refusal { IfErr result (λ e. e ≡ Refusal.Memory) }
         ensures no_memory { join ≡ None → IsOk result }
+        ensures never { Node.allocates ≡ false → IsOk result }
         ensures unchanged { OnErr result (self.new ≡ self.old) }
     {
         match join {
@@ -294,6 +300,7 @@ impl<T: Ord + Clone + Drop, Node: NodeLike<T>> BTreeSet<T, Node> {
         ensures size { self.new.size ≡ self.old.size }
         ensures next { OnOk result (self.new.next ≡ self.old.next + 2) }
         ensures refusal { IfErr result (λ e. e ≡ Refusal.Memory) }
+        ensures never { Node.allocates ≡ false → IsOk result }
         ensures unchanged { OnErr result (self.new ≡ self.old) }
     {
         let item = take_and_join(&mut self.nodes, node, offset, left)?;

@@ -1,4 +1,4 @@
-use Rattle.std.proofs.Common.{rules, ◌≡◌, ◌+◌, ◌≤◌, true, false, Some, IfErr, refl, arith, ap, subst, ◌∙◌}
+use Rattle.std.proofs.Common.{rules, ◌≡◌, ◌+◌, ◌≤◌, true, false, Some, length, IfErr, refl, arith, ap, subst, ◌∙◌}
 use Rattle.std.below.core.specs.declared.int.u64.TheConstants.{MAX}
 use Rattle.std.proofs.lemmas.Bool.{false≢true}
 use Rattle.indexset_core.specs.Nodes.{joined}
@@ -8,7 +8,7 @@ use Rattle.indexset_log.specs.Edits.{with_taken}
 use Rattle.indexset_log.specs.Replay.{numbered_from, replay}
 use Rattle.indexset_log.specs.Table.{taking_count, taking_events}
 use Rattle.indexset_log.specs.Tree.{refusal_for}
-use Rattle.indexset_log.proofs.Keys.{key_count, key_taken, no_key}
+use Rattle.indexset_log.proofs.Keys.{key_count, key_removal_few, key_taken, no_key}
 use Rattle.indexset_log.proofs.Takes.{some_taken}
 use Rattle.indexset_log.proofs.map.BTreeMap.remove.Goals as goal
 
@@ -24,6 +24,19 @@ returns-in_err-pair-in-Ok-clause-no_memory g c =
     let some = some_taken c.args.self.now.size c.args.self.now.nodes c.in-Ok.node c.in-Ok.offset in
     let never = subst (λ t. taking_count t.size t.nodes c.in-Ok.node c.in-Ok.offset ≡ 1 → t.next + 1 ≤ MAX → false ≡ true) c.self.view_is c.in_err-pair-in-Ok.ensures.no_memory in
     λ few fits. absurd (false≢true (never (omega (arith, count, few, some)) (omega (arith, count, fits, some))))
+
+pub returns-in_err-pair-in-Ok-clause-few : goal.returns-in_err-pair-in-Ok-clause-few
+returns-in_err-pair-in-Ok-clause-few g c = key_removal_few g.K.Ord.cmp c.args.self.now.size c.args.self.now.nodes c.args.key.now
+
+pub returns-in_err-pair-in-Ok-clause-no_event : goal.returns-in_err-pair-in-Ok-clause-no_event
+returns-in_err-pair-in-Ok-clause-no_event g c =
+    λ none. absurd (omega (arith, key_count g.met.K.Ord.total c.locate.ensures.lawful c.args.key.now c.locate.ensures.place c.in-Ok.is, some_taken c.args.self.now.size c.args.self.now.nodes c.in-Ok.node c.in-Ok.offset, ap (λ l. length l) none))
+
+pub returns-in_err-pair-in-Ok-clause-never : goal.returns-in_err-pair-in-Ok-clause-never
+returns-in_err-pair-in-Ok-clause-never g c =
+    let count = key_count g.met.K.Ord.total c.locate.ensures.lawful c.args.key.now c.locate.ensures.place c.in-Ok.is in
+    let never = subst (λ t. g.Node.NodeLike.allocates ≡ false → t.next + taking_count t.size t.nodes c.in-Ok.node c.in-Ok.offset ≤ MAX → false ≡ true) c.self.view_is c.in_err-pair-in-Ok.ensures.never in
+    λ free fits. absurd (false≢true (never free (omega (arith, count, fits))))
 
 pub returns-in_ok-pair-in-Ok : goal.returns-in_ok-pair-in-Ok
 returns-in_ok-pair-in-Ok g c =
@@ -42,12 +55,15 @@ returns-in_ok-pair-in-Ok g c =
       contents = ap joined nodes ∙ taken.contents;
       gone = ap (λ l. has_key g.K.Ord.cmp l c.args.key.now) (ap joined nodes ∙ taken.contents) ∙ key_gone g.K.Ord.cmp (joined c.args.self.now.nodes) c.args.key.now;
       replay = rw taken.events replayed;
+      few = key_removal_few g.K.Ord.cmp c.args.self.now.size c.args.self.now.nodes c.args.key.now;
       size = rw c.self.view_is at done.size;
       spaced = rw c.self.view_is at done.spaced;
       next = rw count next;
       fits = rw count fits;
       refusal = tt;
+      no_event = λ _. refl;
       no_memory = λ _ _. refl;
+      never = λ _ _. refl;
       unchanged = tt;
     }
 
@@ -59,11 +75,14 @@ returns-in-Err g c =
       contents = none.contents;
       gone = ap (λ l. has_key g.K.Ord.cmp l c.args.key.now) none.contents ∙ key_gone g.K.Ord.cmp (joined c.args.self.now.nodes) c.args.key.now;
       replay = rw none.events refl;
+      few = key_removal_few g.K.Ord.cmp c.args.self.now.size c.args.self.now.nodes c.args.key.now;
       size = refl;
       spaced = λ spaced. spaced;
       next = rw none.events (omega arith);
       fits = rw none.events (omega (arith, c.locate.ensures.number));
       refusal = tt;
+      no_event = λ _. refl;
       no_memory = λ _ _. refl;
+      never = λ _ _. refl;
       unchanged = tt;
     }
