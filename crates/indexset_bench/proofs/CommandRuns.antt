@@ -21,7 +21,7 @@ module _ {S C R : Type 0} (after : S → C → S) (reply : S → C → R) where
 
 module _ {S C R : Type 0} {after : S → C → S} {reply : S → C → R} {s s' : S} {done rest all : List C} {replies : List R} (far : SoFar after reply s s' done rest all replies) where
   -- those commands are the first ones, as many as there are replies
-  first_commands : take (length replies) all ≡ done
+  pub first_commands : take (length replies) all ≡ done
   first_commands = rw (far.told, length-scan after reply s done, ← far.given) (take-append_seam done rest)
 
   pub replies_to_first : replies ≡ scan after reply s (take (length replies) all)

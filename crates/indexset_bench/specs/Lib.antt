@@ -13,3 +13,4 @@ pub mod Reply
 pub mod Run
 pub mod SetRun
 pub mod Text
+pub mod Told

@@ -13,6 +13,7 @@ use Rattle.indexset_bench.specs.declared.logged.map.LoggedMapCommand.{LoggedMapC
 use Rattle.indexset_bench.specs.declared.logged.map.LoggedMapCommand.TheVariants.{Insert, CheckedInsert, Remove}
 use Rattle.indexset_bench.specs.declared.logged.map.LoggedMapReply.{LoggedMapReply}
 use Rattle.indexset_bench.specs.declared.logged.map.LoggedMapReply.TheVariants.{OldValue, Added, Out}
+use Rattle.indexset_bench.specs.Told.{tree_after}
 
 module _ {K V : Type 0} (cmp : K → K → Ordering) where
   -- the reply to a command
@@ -31,4 +32,8 @@ module _ {K V : Type 0} (cmp : K → K → Ordering) where
   abbrev pub logged_map_events : Tree (Pair K V) → LoggedMapCommand K V → List (ChangeEventUnassigned (Pair K V))
   logged_map_events t (Insert k v) = put_events (by_key cmp) t.size t.nodes (pair k v)
   logged_map_events t (CheckedInsert k v) = checked_put_events (by_key cmp) t.size t.nodes (pair k v)
-  logged_map_events t (Remove k) = key_removal_events cmp t.nodes k
+  logged_map_events t (Remove k) = key_removal_events cmp t.size t.nodes k
+
+  -- the tree that it leaves
+  abbrev pub logged_map_left : Tree (Pair K V) → LoggedMapCommand K V → Tree (Pair K V)
+  logged_map_left t c = tree_after (by_key cmp) t (logged_map_events t c)

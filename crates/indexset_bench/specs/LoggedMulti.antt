@@ -1,5 +1,5 @@
 -- Commands to a multimap, by its numbered pairs in order, by the number of its next new pair, and by its nodes.
-use Rattle.std.specs.Prelude.{ℕ, ◌+◌, Bool, false, List, is_none, if◌then◌else◌}
+use Rattle.std.specs.Prelude.{ℕ, ◌+◌, Bool, false, List, length, is_none, if◌then◌else◌}
 use Rattle.std.specs.Option.{option_map, unwrap_or}
 use Rattle.std.specs.declared.cmp.Ordering.{Ordering}
 use Rattle.indexset_core.specs.MultiPairs.{by_number, numbered_pair}
@@ -13,6 +13,7 @@ use Rattle.indexset_bench.specs.declared.logged.multimap.LoggedMultiCommand.{Log
 use Rattle.indexset_bench.specs.declared.logged.multimap.LoggedMultiCommand.TheVariants.{Insert, RemoveSome, Remove}
 use Rattle.indexset_bench.specs.declared.logged.multimap.LoggedMultiReply.{LoggedMultiReply}
 use Rattle.indexset_bench.specs.declared.logged.multimap.LoggedMultiReply.TheVariants.{OldValue, Out}
+use Rattle.indexset_bench.specs.Told.{nodes_after}
 
 -- what a command sees and changes: the pairs, and the number of the next new one
 pub record MultiState (K V : Type 0) : Type 0 where
@@ -45,8 +46,17 @@ module _ {K V : Type 0} (cmp : K → K → Ordering) (eq : V → V → Bool) whe
   -- the events of it
   abbrev pub logged_multi_events : MultiTree K V → LoggedMultiCommand K V → List (ChangeEventUnassigned (MultiPair K V))
   logged_multi_events m (Insert k w) = insertion_events cmp eq m k w
-  logged_multi_events m (RemoveSome k) = pair_removal_events cmp m.nodes (first_pair cmp (joined m.nodes) k)
-  logged_multi_events m (Remove k w) = pair_removal_events cmp m.nodes (equal_pair cmp eq (joined m.nodes) k w)
+  logged_multi_events m (RemoveSome k) = pair_removal_events cmp m.size m.nodes (first_pair cmp (joined m.nodes) k)
+  logged_multi_events m (Remove k w) = pair_removal_events cmp m.size m.nodes (equal_pair cmp eq (joined m.nodes) k w)
+
+  -- the tree that it leaves
+  abbrev pub logged_multi_left : MultiTree K V → LoggedMultiCommand K V → MultiTree K V
+  logged_multi_left m c = record {
+    nodes = nodes_after (by_number cmp) m.nodes m.next (logged_multi_events m c);
+    size = m.size;
+    next = m.next + length (logged_multi_events m c);
+    pair_next = logged_multi_next (record { pairs = joined m.nodes; pair_next = m.pair_next }) c;
+  }
 
   -- it needs a number for a new pair, and none is left
   abbrev pub lacks_pair_number : MultiTree K V → LoggedMultiCommand K V → Bool

@@ -9,6 +9,7 @@ use Rattle.indexset_bench.specs.declared.logged.set.LoggedSetCommand.{LoggedSetC
 use Rattle.indexset_bench.specs.declared.logged.set.LoggedSetCommand.TheVariants.{Put, PutChecked, Remove}
 use Rattle.indexset_bench.specs.declared.logged.set.LoggedSetReply.{LoggedSetReply}
 use Rattle.indexset_bench.specs.declared.logged.set.LoggedSetReply.TheVariants.{Old, Added}
+use Rattle.indexset_bench.specs.Told.{tree_after}
 
 module _ {T : Type 0} (cmp : T → T → Ordering) where
   -- the reply to a command
@@ -27,4 +28,8 @@ module _ {T : Type 0} (cmp : T → T → Ordering) where
   abbrev pub logged_set_events : Tree T → LoggedSetCommand T → List (ChangeEventUnassigned T)
   logged_set_events t (Put v) = put_events cmp t.size t.nodes v
   logged_set_events t (PutChecked v) = checked_put_events cmp t.size t.nodes v
-  logged_set_events t (Remove v) = removal_events cmp t.nodes v
+  logged_set_events t (Remove v) = removal_events cmp t.size t.nodes v
+
+  -- the tree that it leaves
+  abbrev pub logged_set_left : Tree T → LoggedSetCommand T → Tree T
+  logged_set_left t c = tree_after cmp t (logged_set_events t c)

@@ -4,7 +4,7 @@ use Rattle.std.specs.List.{concat, join_with_byte}
 use Rattle.std.specs.Fmt.{decimal}
 use Rattle.indexset_core.specs.declared.pair.Pair.{Pair}
 use Rattle.indexset_log.specs.declared.change.ChangeEvent.{ChangeEvent}
-use Rattle.indexset_log.specs.declared.change.ChangeEvent.TheVariants.{InsertAt, RemoveAt, CreateNode, RemoveNode, SplitNode}
+use Rattle.indexset_log.specs.declared.change.ChangeEvent.TheVariants.{InsertAt, RemoveAt, CreateNode, RemoveNode, SplitNode, MergeNodes}
 use Rattle.indexset_log.specs.declared.change.Id.{Id}
 
 abbrev pub pair_text : Pair ℕ ℕ → List ℕ
@@ -20,6 +20,7 @@ event_text (RemoveNode id max) = event_head id (codes " drop ") max
 event_text (InsertAt id max p i) = event_head id (codes " insert ") max ++ codes " " ++ pair_text p ++ codes " " ++ decimal i
 event_text (RemoveAt id max p i) = event_head id (codes " remove ") max ++ codes " " ++ pair_text p ++ codes " " ++ decimal i
 event_text (SplitNode id max k) = event_head id (codes " split ") max ++ codes " " ++ decimal k
+event_text (MergeNodes id max next) = event_head id (codes " merge ") max ++ codes " " ++ pair_text next
 
 -- the pairs of a node, parted by one space
 abbrev pub node_text : List (Pair ℕ ℕ) → List ℕ

@@ -1,5 +1,5 @@
 -- What a command does to the map, told by its events, and what is written to it.
-use Rattle.std.specs.Prelude.{ℕ, ◌+◌, if◌then◌else◌, List, [], ◌++◌, length, unwrap_or}
+use Rattle.std.specs.Prelude.{ℕ, if◌then◌else◌, List, [], ◌++◌}
 use Rattle.std.specs.Option.{option_map_or}
 use Rattle.std.specs.Ordering.{nat_cmp}
 use Rattle.indexset_core.specs.Nodes.{joined}
@@ -7,7 +7,7 @@ use Rattle.indexset_core.specs.Pairs.{by_key, pair, value_of}
 use Rattle.indexset_core.specs.declared.pair.Pair.{Pair}
 use Rattle.indexset_log.specs.Keys.{key_removal_events}
 use Rattle.indexset_log.specs.Nodes.{is_filled}
-use Rattle.indexset_log.specs.Replay.{replay, numbered_from}
+use Rattle.indexset_log.specs.Replay.{numbered_from}
 use Rattle.indexset_log.specs.Table.{put_events}
 use Rattle.indexset_log.specs.Tree.{Tree}
 use Rattle.indexset_log.specs.declared.change.ChangeEvent.{ChangeEvent}
@@ -18,6 +18,7 @@ use Rattle.indexset_bench.specs.declared.reply.Reply.{Reply}
 use Rattle.indexset_bench.specs.declared.reply.Reply.TheVariants.{New, OldValue, GoneValue, Nothing, Empty}
 use Rattle.indexset_bench.specs.PairText.{ended, event_text, lines_for, node_text}
 use Rattle.indexset_bench.specs.Reply.{reply_text}
+use Rattle.indexset_bench.specs.Told.{tree_after}
 
 -- the map's nodes, their greatest size, and the number of the next event
 abbrev pub PairTree : Type 0
@@ -26,7 +27,7 @@ PairTree = Tree (Pair ℕ ℕ)
 -- the events of a command, without numbers
 abbrev pub pair_events : PairTree → PairCommand → List (ChangeEventUnassigned (Pair ℕ ℕ))
 pair_events t (Put k v) = put_events (by_key nat_cmp) t.size t.nodes (pair k v)
-pair_events t (Cut k) = key_removal_events nat_cmp t.nodes k
+pair_events t (Cut k) = key_removal_events nat_cmp t.size t.nodes k
 pair_events t Nodes = []
 
 -- the same, numbered on
@@ -35,11 +36,7 @@ told_events t c = numbered_from t.next (pair_events t c)
 
 -- the nodes that the events lead to, and the number after theirs
 abbrev pub pairs_after : PairTree → PairCommand → PairTree
-pairs_after t c = record {
-  nodes = unwrap_or (replay (by_key nat_cmp) t.nodes (told_events t c)) t.nodes;
-  size = t.size;
-  next = t.next + length (pair_events t c);
-}
+pairs_after t c = tree_after (by_key nat_cmp) t (pair_events t c)
 
 -- a reply as a line
 abbrev pub reply_ended : Reply → List ℕ

@@ -1,5 +1,6 @@
 //! Logged trees, as a list of commands meets them.
-ghost use Rattle.std.specs.Prelude.{◌≡◌, ◌+◌, ◌≤◌, ℕ, List, Bool, false, Some, IfOk, OnOk, IfErr, OnErr, if◌then◌else◌, length};
+ghost use Rattle.std.specs.Prelude.{◌≡◌, ◌+◌, ◌/◌, ◌≤◌, ℕ, List, Bool, false, Some, IfOk, OnOk, IfErr, OnErr, if◌then◌else◌, length};
+ghost use Rattle.indexset_log.specs.Joining.{IsSpaced};
 ghost use Rattle.indexset_log.specs.Replay.{replay, numbered_from};
 ghost use Rattle.indexset_log.specs.declared.change.ChangeEventUnassigned.{ChangeEventUnassigned};
 
@@ -41,6 +42,9 @@ pub trait Logged {
     /// The events of a command, without numbers.
     ghost events: { Self → Self.Command → List (ChangeEventUnassigned Self.Item) };
 
+    /// The tree that a command leaves.
+    ghost left: { Self → Self.Command → Self };
+
     /// Too few numbers are left for a command.
     ghost lacks_numbers: { Self → Self.Command → Bool };
 
@@ -59,8 +63,10 @@ pub trait Logged {
         ensures events { IfOk result (λ r. r.1.items ≡ numbered_from (next self.old) (events self.old command)) }
         ensures replay { IfOk result (λ r. replay Self.Item.Ord.cmp (nodes self.old) r.1.items ≡ Some (nodes self.new)) }
         ensures few { IfOk result (λ r. length r.1.items ≤ 3) }
+        ensures tree { OnOk result (self.new ≡ left self.old command) }
         ensures next { OnOk result (next self.new ≡ next self.old + length (events self.old command)) }
         ensures size { size self.new ≡ size self.old }
+        ensures spaced { IsSpaced (size self.old / 2) (nodes self.old) → IsSpaced (size self.new / 2) (nodes self.new) }
         ensures fits { OnOk result (lacks_numbers self.old command ≡ false) }
         ensures refusal { IfErr result (λ e. e ≡ (if lacks_numbers self.old command then Refusal.Numbers else Refusal.Memory)) }
         ensures unchanged { OnErr result (self.new ≡ self.old) };

@@ -1,6 +1,9 @@
 //! Lists of commands to a logged tree, the reply to each, and the events of all.
-ghost use Rattle.std.specs.Prelude.{◌≡◌, ◌≢◌, ◌+◌, ◌*◌, ◌≤◌, ◌<◌, ◌++◌, ◌∷◌, [], true, Some, OnOk, IfErr, OnErr, IfSome, OnSome, IfNone, IsSomeAnd, length, take, slice_get};
+ghost use Rattle.std.specs.Prelude.{◌≡◌, ◌≢◌, ◌+◌, ◌-◌, ◌*◌, ◌/◌, ◌≤◌, ◌<◌, ◌++◌, ◌∷◌, [], true, Some, OnOk, IfErr, OnErr, IfSome, OnSome, IfNone, IsSomeAnd, length, take, slice_get};
 ghost use Rattle.std.specs.List.{fold, scan};
+ghost use Rattle.indexset_bench.specs.Told.{events_in_turn};
+ghost use Rattle.indexset_core.specs.Nodes.{joined};
+ghost use Rattle.indexset_log.specs.Joining.{IsSpaced};
 ghost use Rattle.indexset_log.specs.Replay.{replay, numbered_from, IsNumberedFrom};
 
 use crate::logged::Logged;
@@ -29,6 +32,8 @@ pub fn run_logged<L: Logged>(alloc: Global, tree: &mut L, commands: Vec<L::Comma
     // The events lead from the nodes before the run to those after it.
     ensures replay { replay L.Item.Ord.cmp (L.nodes tree.old) result.events.items ≡ Some (L.nodes tree.new) }
     ensures numbered { IsNumberedFrom (L.next tree.old) result.events.items }
+    ensures events { result.events.items ≡ numbered_from (L.next tree.old) (events_in_turn L.left L.events tree.old
+        (take (length result.replies.items) commands.items)) }
     ensures next { L.next tree.new ≡ L.next tree.old + length result.events.items }
     ensures few { length result.events.items ≤ 3 * length result.replies.items }
 
@@ -37,6 +42,8 @@ pub fn run_logged<L: Logged>(alloc: Global, tree: &mut L, commands: Vec<L::Comma
         (take (length result.replies.items) commands.items) }
     ensures state { L.state tree.new ≡ fold L.after (L.state tree.old)
         (take (length result.replies.items) commands.items) }
+    ensures tree { tree.new ≡ fold L.left tree.old
+        (take (length result.replies.items) commands.items) }
     ensures all { IfNone result.refused
         (length result.replies.items ≡ length commands.items) }
     ensures fewer { OnSome result.refused
@@ -44,6 +51,14 @@ pub fn run_logged<L: Logged>(alloc: Global, tree: &mut L, commands: Vec<L::Comma
     ensures refused { IfSome result.refused (λ e. e ≢ Refusal.Memory → (e ≡ Refusal.Numbers)
         × IsSomeAnd (slice_get commands.items (length result.replies.items)) (λ command. L.lacks_numbers tree.new command ≡ true)) }
     ensures size { L.size tree.new ≡ L.size tree.old }
+
+    // Few nodes: neighbours that held more than half the node size together still do, refused or not.
+    ensures spaced { IsSpaced (L.size tree.old / 2) (L.nodes tree.old)
+        → IsSpaced (L.size tree.new / 2) (L.nodes tree.new) }
+    ensures few_nodes { IsSpaced (L.size tree.old / 2) (L.nodes tree.old)
+        → (length (L.nodes tree.new) - 1) * (L.size tree.new / 2 + 1) ≤ 2 * length (joined (L.nodes tree.new)) }
+    ensures few_from_empty { L.nodes tree.old ≡ []
+        → (length (L.nodes tree.new) - 1) * (L.size tree.new / 2 + 1) ≤ 2 * length (joined (L.nodes tree.new)) }
 {
     let mut replies = Vec::new(alloc);
     let mut events = Vec::new(alloc);
@@ -74,11 +89,13 @@ fn answer<L: Logged>(
     requires { L.clones }
     ensures told { OnOk result (replies.new.items ≡ replies.old.items ++ L.reply (L.state tree.old) command ∷ []) }
     ensures state { OnOk result (L.state tree.new ≡ L.after (L.state tree.old) command) }
+    ensures tree { OnOk result (tree.new ≡ L.left tree.old command) }
     ensures events { OnOk result (events.new.items ≡ events.old.items ++ numbered_from (L.next tree.old) (L.events tree.old command)) }
     ensures replay { OnOk result (replay L.Item.Ord.cmp (L.nodes tree.old) (numbered_from (L.next tree.old) (L.events tree.old command)) ≡ Some (L.nodes tree.new)) }
     ensures few { OnOk result (length events.new.items ≤ length events.old.items + 3) }
     ensures next { OnOk result (L.next tree.new ≡ L.next tree.old + length (L.events tree.old command)) }
     ensures size { L.size tree.new ≡ L.size tree.old }
+    ensures spaced { IsSpaced (L.size tree.old / 2) (L.nodes tree.old) → IsSpaced (L.size tree.new / 2) (L.nodes tree.new) }
     ensures refusal { IfErr result (λ e. e ≢ Refusal.Memory → (e ≡ Refusal.Numbers) × (L.lacks_numbers tree.old command ≡ true)) }
     ensures untold { OnErr result (replies.new.items ≡ replies.old.items) }
     ensures no_event { OnErr result (events.new.items ≡ events.old.items) }

@@ -65,6 +65,14 @@ impl fmt::Display for EventText<'_> {
                 let max = PairText(max_value);
                 write!(f, "{id} split {max} {split_index}")
             }
+            ChangeEvent::MergeNodes {
+                max_value,
+                next_max_value,
+                ..
+            } => {
+                let (max, next) = (PairText(max_value), PairText(next_max_value));
+                write!(f, "{id} merge {max} {next}")
+            }
         }
     }
 }

@@ -35,7 +35,7 @@ impl<K: Ord + Clone + Drop, V: Clone + Drop, Node: NodeLike<Pair<K, V>>> Logged
     ghost use Rattle.std.below.core.specs.declared.int.u64.TheConstants.{MAX};
     ghost use Rattle.indexset_core.specs.Nodes.{joined};
     ghost use Rattle.indexset_core.specs.declared.pair.Pair.{Pair};
-    ghost use Rattle.indexset_bench.specs.LoggedMap.{logged_map_reply, logged_map_after, logged_map_events};
+    ghost use Rattle.indexset_bench.specs.LoggedMap.{logged_map_reply, logged_map_after, logged_map_events, logged_map_left};
 
     type Item = Pair<K, V>;
 
@@ -58,6 +58,8 @@ impl<K: Ord + Clone + Drop, V: Clone + Drop, Node: NodeLike<Pair<K, V>>> Logged
     ghost after = { logged_map_after K.cmp };
 
     ghost events = { logged_map_events K.cmp };
+
+    ghost left = { logged_map_left K.cmp };
 
     ghost lacks_numbers = { λ t command. nat_lt MAX (t.next + length (logged_map_events K.cmp t command)) };
 

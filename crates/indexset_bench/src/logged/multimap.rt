@@ -33,7 +33,7 @@ impl<K: Ord + Clone + Drop, V: Eq + Clone + Drop, Node: NodeLike<MultiPair<K, V>
     ghost use Rattle.std.below.core.specs.declared.int.u64.TheConstants.{MAX};
     ghost use Rattle.indexset_core.specs.Nodes.{joined};
     ghost use Rattle.indexset_core.specs.declared.multipair.MultiPair.{MultiPair};
-    ghost use Rattle.indexset_bench.specs.LoggedMulti.{MultiState, logged_multi_reply, logged_multi_after, logged_multi_events, lacks_pair_number};
+    ghost use Rattle.indexset_bench.specs.LoggedMulti.{MultiState, logged_multi_reply, logged_multi_after, logged_multi_events, logged_multi_left, lacks_pair_number};
 
     type Item = MultiPair<K, V>;
 
@@ -56,6 +56,8 @@ impl<K: Ord + Clone + Drop, V: Eq + Clone + Drop, Node: NodeLike<MultiPair<K, V>
     ghost after = { logged_multi_after K.cmp V.eq };
 
     ghost events = { logged_multi_events K.cmp V.eq };
+
+    ghost left = { logged_multi_left K.cmp V.eq };
 
     ghost lacks_numbers = { λ m command. lacks_pair_number K.cmp V.eq m command || nat_lt MAX (m.next + length (logged_multi_events K.cmp V.eq m command)) };
 

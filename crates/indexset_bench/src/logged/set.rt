@@ -30,7 +30,7 @@ impl<T: Ord + Clone + Drop, Node: NodeLike<T>> Logged for BTreeSet<T, Node> {
     ghost use Rattle.std.specs.Prelude.{◌≡◌, ◌+◌, List, length, nat_lt};
     ghost use Rattle.std.below.core.specs.declared.int.u64.TheConstants.{MAX};
     ghost use Rattle.indexset_core.specs.Nodes.{joined};
-    ghost use Rattle.indexset_bench.specs.LoggedSet.{logged_set_reply, logged_set_after, logged_set_events};
+    ghost use Rattle.indexset_bench.specs.LoggedSet.{logged_set_reply, logged_set_after, logged_set_events, logged_set_left};
 
     type Item = T;
 
@@ -53,6 +53,8 @@ impl<T: Ord + Clone + Drop, Node: NodeLike<T>> Logged for BTreeSet<T, Node> {
     ghost after = { logged_set_after T.cmp };
 
     ghost events = { logged_set_events T.cmp };
+
+    ghost left = { logged_set_left T.cmp };
 
     ghost lacks_numbers = { λ t command. nat_lt MAX (t.next + length (logged_set_events T.cmp t command)) };
 

@@ -1,4 +1,4 @@
-use Rattle.std.proofs.Common.{◌≡◌, ◌+◌, ◌≤◌, ◌++◌, length, vec_len, vec_capacity, refl, arith, length-append}
+use Rattle.std.proofs.Common.{◌+◌, ◌≤◌, vec_len, vec_capacity, refl, arith, length-append}
 use Rattle.indexset_bench.proofs.logged_run.answer.Goals as goal
 
 pub returns-clause-events : goal.returns-clause-events

@@ -1,7 +1,7 @@
-use Rattle.std.proofs.Common.{◌≡◌, ◌+◌, ◌++◌, length, Some, refl, ap, subst, sym, arith, length-append, rules, ◌∙◌}
+use Rattle.std.proofs.Common.{◌/◌, ◌++◌, length, refl, ap, subst, sym, arith, length-append, rules, ◌∙◌}
 use Rattle.std.specs.Vec.Iter.{into_iter_items}
-use Rattle.indexset_bench.proofs.LoggedRuns.{LogSoFar, more_log, next_command, no_log}
-use Rattle.indexset_bench.proofs.CommandRuns.{replies_to_first, held_after_first, count_of_replies, count_of_done, further}
+use Rattle.indexset_bench.proofs.LoggedRuns.{LogSoFar, few_after, few_from_none, more_log, more_table, next_command, no_log, no_table, table_to_first, tree_to_first}
+use Rattle.indexset_bench.proofs.CommandRuns.{replies_to_first, held_after_first, first_commands, count_of_replies, count_of_done, further}
 use Rattle.indexset_bench.proofs.logged_run.run_logged.Goals as goal
 
 pub loop-command-init : goal.loop-command-init
@@ -11,6 +11,8 @@ loop-command-init g c =
     record {
       so_far = search rules;
       log = rw (c.new-replies.ensures.items, c.new-events.ensures.items) (no_log g.L.Item.Ord.cmp (tree.nodes start) (tree.next start));
+      table = rw c.new-events.ensures.items (no_table tree.left tree.events start (tree.next start));
+      spaced = λ s. s;
       left = search rules;
       size = refl;
     }
@@ -27,6 +29,8 @@ loop-command-preserved g c =
     record {
       so_far = further before.so_far c.in-Some.command (into_iter_items c.next.new.self) (tree.state after) c.answer.new.replies.items next done.told done.state;
       log = subst (λ n. LogSoFar g.L.Item.Ord.cmp (tree.nodes c.args.tree.now) (tree.nodes after) (tree.next c.args.tree.now) (tree.next after) n c.answer.new.events.items) (sym (ap (λ q. length q) done.told ∙ length-append c.loop-command.replies.items _)) log;
+      table = more_table tree.left tree.events c.args.tree.now (tree.next c.args.tree.now) now after (tree.next now) (tree.next after) c.loop-command.yielded c.in-Some.command c.loop-command.events.items c.answer.new.events.items before.table done.events done.next done.tree;
+      spaced = λ s. c.answer.ensures.spaced (before.spaced s);
       left = omega (arith, ap length next);
       size = cc;
     }
@@ -58,3 +62,40 @@ returns-clause-state g c = held_after_first c.loop-command.invariant.so_far
 pub returns-clause-all : goal.returns-clause-all
 returns-clause-all g c =
     omega (arith, c.in-None.ensures.steps.0, count_of_replies c.loop-command.invariant.so_far)
+
+pub returns-in-Err-clause-events : goal.returns-in-Err-clause-events
+returns-in-Err-clause-events g c =
+    rw (c.in-Err.ensures.untold, c.in-Err.ensures.no_event) (table_to_first c.loop-command.invariant.table (first_commands c.loop-command.invariant.so_far))
+
+pub returns-in-Err-clause-tree : goal.returns-in-Err-clause-tree
+returns-in-Err-clause-tree g c =
+    rw (c.in-Err.ensures.untold, c.in-Err.ensures.unchanged) (tree_to_first c.loop-command.invariant.table (first_commands c.loop-command.invariant.so_far))
+
+pub returns-in-Err-clause-spaced : goal.returns-in-Err-clause-spaced
+returns-in-Err-clause-spaced g c = rw c.in-Err.ensures.unchanged c.loop-command.invariant.spaced
+
+pub returns-in-Err-clause-few_nodes : goal.returns-in-Err-clause-few_nodes
+returns-in-Err-clause-few_nodes g c = λ s. few_after _ _ _ _ (rw c.in-Err.ensures.unchanged c.loop-command.invariant.spaced) s
+
+pub returns-clause-events : goal.returns-clause-events
+returns-clause-events g c = table_to_first c.loop-command.invariant.table (first_commands c.loop-command.invariant.so_far)
+
+pub returns-clause-tree : goal.returns-clause-tree
+returns-clause-tree g c = tree_to_first c.loop-command.invariant.table (first_commands c.loop-command.invariant.so_far)
+
+pub returns-clause-few_nodes : goal.returns-clause-few_nodes
+returns-clause-few_nodes g c = few_after _ _ _ _ c.loop-command.invariant.spaced
+
+pub returns-in-Err-clause-few_from_empty : goal.returns-in-Err-clause-few_from_empty
+returns-in-Err-clause-few_from_empty g c =
+    let tree = g.L.Logged in
+    let old = c.args.tree.now in
+    let new = c.answer.new.tree in
+    few_from_none (tree.size old / 2) (tree.size new / 2) (tree.nodes old) (tree.nodes new) (rw c.in-Err.ensures.unchanged c.loop-command.invariant.spaced)
+
+pub returns-clause-few_from_empty : goal.returns-clause-few_from_empty
+returns-clause-few_from_empty g c =
+    let tree = g.L.Logged in
+    let old = c.args.tree.now in
+    let new = c.loop-command.tree in
+    few_from_none (tree.size old / 2) (tree.size new / 2) (tree.nodes old) (tree.nodes new) c.loop-command.invariant.spaced
