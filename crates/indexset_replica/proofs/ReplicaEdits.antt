@@ -7,10 +7,11 @@ use Rattle.std.specs.Ordering.{is_eq, is_ne}
 use Rattle.std.specs.declared.cmp.Ordering.TheVariants.{Less, Equal, Greater}
 use Rattle.std.proofs.lemmas.Bool.{lt-ltb, le-ltb, le-leb, lt-leb, eq-eqb, ne_eqb, ltb-true, or_right}
 use Rattle.indexset_core.specs.Nodes.{joined, node_at}
-use Rattle.indexset_core.specs.declared.refusal.Refusal.TheVariants.{NoSuchNode, IndexOutside, ValueDiffers, WouldBeEmpty, OutOfOrder, BadSplit}
+use Rattle.indexset_core.specs.declared.refusal.Refusal.TheVariants.{NoSuchNode, IndexOutside, ValueDiffers, WouldBeEmpty, OutOfOrder, BadSplit, NotNeighbours}
+use Rattle.indexset_log.specs.Joining.{with_joined}
 use Rattle.indexset_log.specs.Nodes.{is_ascending}
 use Rattle.indexset_log.specs.Replay.{has_name, node_named, reaches}
-use Rattle.indexset_log.specs.declared.change.ChangeEventUnassigned.TheVariants.{InsertAt, RemoveAt, CreateNode, RemoveNode, SplitNode}
+use Rattle.indexset_log.specs.declared.change.ChangeEventUnassigned.TheVariants.{InsertAt, RemoveAt, CreateNode, RemoveNode, SplitNode, MergeNodes}
 use Rattle.indexset_log.proofs.CallerLemmas.{node_is}
 use Rattle.indexset_replica.specs.Replica.{IsEdit, misfit}
 
@@ -47,6 +48,10 @@ module _ {T : Type 0} (cmp : T → T → Ordering) (ns : List (List T)) (m : T) 
     unfolding misfit
     absent_split k = rw none refl
 
+    pub absent_first : (w : T) → misfit cmp ns (MergeNodes m w) ≡ Some NoSuchNode
+    unfolding misfit
+    absent_first w = rw none refl
+
   -- the node at place p has that name
   module _ (p : ℕ) (named : node_named cmp ns m ≡ Some p) where
     pub named_inside : p < length ns
@@ -67,6 +72,21 @@ module _ {T : Type 0} (cmp : T → T → Ordering) (ns : List (List T)) (m : T) 
     pub split_start : (k : ℕ) → k ≡ 0 → misfit cmp ns (SplitNode m k) ≡ Some BadSplit
     unfolding misfit
     split_start k none = rw (named, eq-eqb k 0 none) refl
+
+    -- the node that is to follow it
+    module _ (w : T) where
+      pub absent_next : node_named cmp ns w ≡ None → misfit cmp ns (MergeNodes m w) ≡ Some NoSuchNode
+      unfolding misfit
+      absent_next none = rw (named, none) refl
+
+      module _ (q : ℕ) (next : node_named cmp ns w ≡ Some q) where
+        pub merge_apart : (q ≡ p + 1 → ⊥) → misfit cmp ns (MergeNodes m w) ≡ Some NotNeighbours
+        unfolding misfit
+        merge_apart apart = rw (named, next, ne_eqb q (p + 1) apart) refl
+
+        pub merge_edit : q ≡ p + 1 → IsEdit cmp ns (MergeNodes m w) (with_joined ns p)
+        unfolding misfit
+        merge_edit follows = record { fits = rw (named, next, eq-eqb q (p + 1) follows) refl; edited = rw (named, next, eq-eqb q (p + 1) follows) refl }
 
 -- the node of that name, as the code holds it
 module _ {T N : Type 0} (cmp : T → T → Ordering) (f : N → List T) (items : List N) (m : T) (p : ℕ) (named : node_named cmp (map f items) m ≡ Some p) where

@@ -10,13 +10,14 @@ use Rattle.std.proofs.lemmas.List.{take-append-drop, length-append, length-take,
 use Rattle.std.proofs.lemmas.Option.{slice_get-get_or}
 use Rattle.indexset_core.specs.Nodes.{joined, node_at}
 use Rattle.indexset_core.specs.declared.refusal.Refusal.{Refusal}
-use Rattle.indexset_core.specs.declared.refusal.Refusal.TheVariants.{BadSplit, Gap, IndexOutside, NoSuchNode, Numbers, OutOfOrder, ValueDiffers, WouldBeEmpty}
+use Rattle.indexset_core.specs.declared.refusal.Refusal.TheVariants.{BadSplit, Gap, IndexOutside, NoSuchNode, NotNeighbours, Numbers, OutOfOrder, ValueDiffers, WouldBeEmpty}
+use Rattle.indexset_log.specs.Joining.{with_joined}
 use Rattle.indexset_log.specs.Nodes.{is_filled, last_of, is_ascending, are_nodes}
 use Rattle.indexset_log.specs.Replay.{at_named, edit, event_number, node_named, reaches, step, step_plain, unassigned}
 use Rattle.indexset_log.specs.declared.change.ChangeEvent.{ChangeEvent}
 use Rattle.indexset_log.specs.declared.change.ChangeEventUnassigned.{ChangeEventUnassigned}
-use Rattle.indexset_log.specs.declared.change.ChangeEventUnassigned.TheVariants.{InsertAt, RemoveAt, CreateNode, RemoveNode, SplitNode}
-use Rattle.indexset_log.proofs.CallerLemmas.{At, Ruled, Each, Up, at_ruled, at_place, ruled_at, each-append, each-left, each-right, edit_step, filled-append, length_filled, remove_at, remove_node_step, remove_step, splice_at, split_step, tested_ruled, true_up, up_true}
+use Rattle.indexset_log.specs.declared.change.ChangeEventUnassigned.TheVariants.{InsertAt, RemoveAt, CreateNode, RemoveNode, SplitNode, MergeNodes}
+use Rattle.indexset_log.proofs.CallerLemmas.{At, Ruled, Each, Up, at_ruled, at_pair, at_place, ruled_at, each-append, each-left, each-right, edit_step, filled-append, joined_seam, length_filled, merge_step, remove_at, remove_node_step, remove_step, splice_at, split_step, tested_ruled, true_up, up_true}
 use Rattle.indexset_replica.proofs.ReplicaEdits.{named_inside}
 use Rattle.indexset_replica.specs.Replica.{IsEdit, apply_refusal, disorder, in_named, misfit}
 
@@ -51,6 +52,14 @@ else_none : {X : Type 0} (b : Bool) (x : X) (o : Option X) → (if b then Some x
 else_none true x o e = some_none e
 else_none false x o e = (refl, e)
 
+none_then : {X : Type 0} (b : Bool) (x : X) → (if b then None else Some x) ≡ None → b ≡ true
+none_then true x e = refl
+none_then false x e = some_none e
+
+named_none : (o : Option ℕ) (f : ℕ → Option Refusal) → option_map_or f o (Some NoSuchNode) ≡ None → (p : ℕ) × (o ≡ Some p) × (f p ≡ None)
+named_none None f e = some_none e
+named_none (Some p) f e = (p, refl, e)
+
 ne_from : (a b : ℕ) → (a ≡ b → ⊥) → a ≤ b → a < b
 ne_from a b h le = grind arith
 
@@ -67,17 +76,21 @@ module _ {T : Type 0} (cmp : T → T → Ordering) where
       let made = map_some (f (node_at ns at.0)) (splice ns at.0 (at.0 + 1)) r at.2 in
       (at.0, made.0, at.1, made.1, made.2)
 
+  -- what an edit that joins two nodes makes
+  merge_parts : (ns : List (List T)) (m w : T) (r : List (List T)) → edit cmp ns (MergeNodes m w) ≡ Some r → (p : ℕ) × (node_named cmp ns m ≡ Some p) × (node_named cmp ns w ≡ Some (p + 1)) × (with_joined ns p ≡ r)
+  merge_parts ns m w r e =
+      let at = then_some (node_named cmp ns m) (λ p. option_and_then (λ q. if q == p + 1 then Some (with_joined ns p) else None) (node_named cmp ns w)) r e in
+      let next = then_some (node_named cmp ns w) (λ q. if q == at.0 + 1 then Some (with_joined ns at.0) else None) r at.2 in
+      let made = if_some (next.0 == at.0 + 1) (with_joined ns at.0) r next.2 in
+      (at.0, at.1, next.1 ∙ ap Some (eqb-true next.0 (at.0 + 1) made.0), made.1)
+
   -- ---- nodes after an edit
 
   ordered_ruled : (r : List (List T)) → Each (λ n. is_filled n ≡ true) r → is_ascending cmp (joined r) ≡ true → Ruled cmp r
   ordered_ruled r full asc = record { filled = full; up = true_up cmp (joined r) asc }
 
   in_order : (r : List (List T)) → disorder cmp (Some r) ≡ None → is_ascending cmp (joined r) ≡ true
-  in_order r =
-      elim (is_ascending cmp (joined r)) as (λ b. (if b then None else Some OutOfOrder) ≡ None → b ≡ true) [
-        | true ↦ λ e. refl
-        | false ↦ λ e. some_none e
-      ]
+  in_order r = none_then (is_ascending cmp (joined r)) OutOfOrder
 
   full_around : (ns : List (List T)) (i j : ℕ) (parts : List (List T)) → Each (λ n. is_filled n ≡ true) ns → Each (λ n. is_filled n ≡ true) parts → Each (λ n. is_filled n ≡ true) (splice ns i j parts)
   full_around ns i j parts full new =
@@ -87,11 +100,14 @@ module _ {T : Type 0} (cmp : T → T → Ordering) where
       each-append P (take i ns) (parts ++ drop j ns) front (each-append P parts (drop j ns) new back)
 
   in_named_none : (ns : List (List T)) (m : T) (f : List T → Option Refusal) → in_named cmp ns m f ≡ None → (p : ℕ) × (node_named cmp ns m ≡ Some p) × (f (node_at ns p) ≡ None)
-  in_named_none ns m f =
-      elim (node_named cmp ns m) as (λ q. option_map_or (λ p. f (node_at ns p)) q (Some NoSuchNode) ≡ None → (p : ℕ) × (q ≡ Some p) × (f (node_at ns p) ≡ None)) [
-        | None ↦ λ e. some_none e
-        | Some p ↦ λ e. (p, refl, e)
-      ]
+  in_named_none ns m f = named_none (node_named cmp ns m) (λ p. f (node_at ns p))
+
+  merge_none : (ns : List (List T)) (m w : T) → misfit cmp ns (MergeNodes m w) ≡ None → (p : ℕ) × (node_named cmp ns m ≡ Some p) × (node_named cmp ns w ≡ Some (p + 1))
+  unfolding misfit
+  merge_none ns m w fits =
+      let found = named_none (node_named cmp ns m) (λ p. option_map_or (λ q. if q == p + 1 then None else Some NotNeighbours) (node_named cmp ns w) (Some NoSuchNode)) fits in
+      let next = named_none (node_named cmp ns w) (λ q. if q == found.0 + 1 then None else Some NotNeighbours) found.2 in
+      (found.0, found.1, next.1 ∙ ap Some (eqb-true next.0 (found.0 + 1) (none_then (next.0 == found.0 + 1) NotNeighbours next.2)))
 
   insert_order : (ns : List (List T)) (m v : T) (i : ℕ) (r : List (List T)) → misfit cmp ns (InsertAt m v i) ≡ None → edit cmp ns (InsertAt m v i) ≡ Some r → is_ascending cmp (joined r) ≡ true
   unfolding misfit
@@ -125,6 +141,13 @@ module _ {T : Type 0} (cmp : T → T → Ordering) where
         let left : is_filled (take k n) ≡ true = length_filled (take k n) (rw (length-take k n) (omega arith)) in
         let right : is_filled (drop k n) ≡ true = length_filled (drop k n) (rw (length-drop k n) (omega arith)) in
         with_item n at.here (λ d. (split_step cmp o b a (take k n) (drop k n) d (subst (λ q. At cmp o b q a) (sym whole) at) left right).0)
+
+    merged_ruled : (ns : List (List T)) (p : ℕ) → p + 1 < length ns → Ruled cmp ns → Ruled cmp (with_joined ns p)
+    merged_ruled =
+        at_pair (λ q j. Ruled cmp q → Ruled cmp (with_joined q j))
+        (λ b l r a rule.
+        let first = ruled_at cmp o b l (r ∷ a) rule in
+        rw (joined_seam b l r a) (with_item l first.here (λ d. at_ruled cmp o b (l ++ r) a (merge_step cmp o b a l r d d rule).0)))
 
     pub edited_ruled : (ns : List (List T)) (e : ChangeEventUnassigned T) (r : List (List T)) → Ruled cmp ns → IsEdit cmp ns e r → Ruled cmp r
     unfolding misfit
@@ -165,6 +188,9 @@ module _ {T : Type 0} (cmp : T → T → Ordering) where
         let tests = and_parts (ltb 0 k) (ltb k (length n)) made.0 in
         let done = parts_ruled (take k n ∷ drop k n ∷ []) ns p n (named_read ns m p at.2) (split_ruled n k (ltb-true 0 k tests.0) (ltb-true k (length n) tests.1)) rule in
         subst (Ruled cmp) (ap (splice ns p (p + 1)) made.1 ∙ at.4) done
+    edited_ruled ns (MergeNodes m w) r rule h =
+        let at = merge_parts ns m w r h.edited in
+        subst (Ruled cmp) at.3 (merged_ruled ns at.0 (named_inside cmp ns w (at.0 + 1) at.2) rule)
 
     pub edited_step : (ns : List (List T)) (e : ChangeEventUnassigned T) (r : List (List T)) → Ruled cmp ns → IsEdit cmp ns e r → step_plain cmp ns e ≡ Some r
     edited_step ns e r rule h = edit_step cmp o ns e r h.edited (edited_ruled ns e r rule h)
@@ -205,6 +231,9 @@ module _ {T : Type 0} (cmp : T → T → Ordering) where
       let both = or_parts (k == 0) (nat_le (length n) k) tests.0 in
       let some : 0 < k = ne_from 0 k (λ none. eqb-false k 0 both.0 (sym none)) (omega arith) in
       (splice ns found.0 (found.0 + 1) (take k n ∷ drop k n ∷ []), at_named_is ns m (λ n. if ltb 0 k && ltb k (length n) then Some (take k n ∷ drop k n ∷ []) else None) found.0 (take k n ∷ drop k n ∷ []) found.1 (rw (lt-ltb 0 k some, lt-ltb k (length n) (leb-false (length n) k both.1)) refl))
+  edit_some ns (MergeNodes m w) fits =
+      let at = merge_none ns m w fits in
+      (with_joined ns at.0, rw (at.1, at.2, eq-eqb (at.0 + 1) (at.0 + 1) refl) refl)
 
   fits_by : (ns : List (List T)) (e : ChangeEventUnassigned T) (q : List (List T)) → edit cmp ns e ≡ Some q → is_ascending cmp (joined q) ≡ true → misfit cmp ns e ≡ None
   unfolding misfit
@@ -233,6 +262,9 @@ module _ {T : Type 0} (cmp : T → T → Ordering) where
       let tests = and_parts (ltb 0 k) (ltb k (length n)) made.0 in
       let some = ltb-true 0 k tests.0 in
       rw (at.2, ne_eqb k 0 (λ none. omega (arith, none, some)), lt-leb (length n) k (ltb-true k (length n) tests.1)) refl
+  fits_by ns (MergeNodes m w) q edited asc =
+      let at = merge_parts ns m w q edited in
+      rw (at.1, at.2, eq-eqb (at.0 + 1) (at.0 + 1) refl) refl
 
   pub step_fits : (ns : List (List T)) (e : ChangeEventUnassigned T) (r : List (List T)) → step_plain cmp ns e ≡ Some r → misfit cmp ns e ≡ None
   unfolding step_plain

@@ -1,5 +1,5 @@
 -- What fits a replica.
-use Rattle.std.specs.Prelude.{◌≡◌, Option, Some, None, ℕ, ◌-◌, Bool, true, ◌==◌, ◌&&◌, ◌||◌, not, if◌then◌else◌, nat_lt, nat_le, List, length, get_or, insert, slice_get, unwrap_or}
+use Rattle.std.specs.Prelude.{◌≡◌, Option, Some, None, ℕ, ◌+◌, ◌-◌, Bool, true, ◌==◌, ◌&&◌, ◌||◌, not, if◌then◌else◌, nat_lt, nat_le, List, length, get_or, insert, slice_get, unwrap_or}
 use Rattle.std.below.core.specs.declared.int.u64.TheConstants.{MAX}
 use Rattle.std.specs.List.{position_or_len}
 use Rattle.std.specs.Option.{option_map_or}
@@ -7,12 +7,12 @@ use Rattle.std.specs.Ordering.{is_lt, is_eq}
 use Rattle.std.specs.declared.cmp.Ordering.{Ordering}
 use Rattle.indexset_core.specs.Nodes.{joined, node_at}
 use Rattle.indexset_core.specs.declared.refusal.Refusal.{Refusal}
-use Rattle.indexset_core.specs.declared.refusal.Refusal.TheVariants.{Memory, Numbers, Empty, Unsorted, Overlaps, Gap, NoSuchNode, IndexOutside, ValueDiffers, WouldBeEmpty, OutOfOrder, BadSplit}
+use Rattle.indexset_core.specs.declared.refusal.Refusal.TheVariants.{Memory, Numbers, Empty, Unsorted, Overlaps, Gap, NoSuchNode, IndexOutside, ValueDiffers, WouldBeEmpty, OutOfOrder, BadSplit, NotNeighbours}
 use Rattle.indexset_log.specs.Nodes.{is_filled, is_ascending}
 use Rattle.indexset_log.specs.Replay.{edit, event_number, node_named, reaches, unassigned}
 use Rattle.indexset_log.specs.declared.change.ChangeEvent.{ChangeEvent}
 use Rattle.indexset_log.specs.declared.change.ChangeEventUnassigned.{ChangeEventUnassigned}
-use Rattle.indexset_log.specs.declared.change.ChangeEventUnassigned.TheVariants.{InsertAt, RemoveAt, CreateNode, RemoveNode, SplitNode}
+use Rattle.indexset_log.specs.declared.change.ChangeEventUnassigned.TheVariants.{InsertAt, RemoveAt, CreateNode, RemoveNode, SplitNode, MergeNodes}
 
 -- the first item and the last
 abbrev pub first_item : {T : Type 0} → List T → Option T
@@ -43,6 +43,8 @@ module _ {T : Type 0} (cmp : T → T → Ordering) where
   misfit ns (RemoveAt m v i) =
       in_named ns m (λ n. if nat_le (length n) i then Some IndexOutside else if not (is_eq (cmp (get_or n i v) v)) then Some ValueDiffers else if length n == 1 then Some WouldBeEmpty else None)
   misfit ns (SplitNode m k) = in_named ns m (λ n. if k == 0 || nat_le (length n) k then Some BadSplit else None)
+  misfit ns (MergeNodes m w) =
+      option_map_or (λ p. option_map_or (λ q. if q == p + 1 then None else Some NotNeighbours) (node_named cmp ns w) (Some NoSuchNode)) (node_named cmp ns m) (Some NoSuchNode)
 
   -- why a replica of these nodes that waits for the event of this number refuses an event, memory aside
   unfoldable pub apply_refusal : List (List T) → ℕ → ChangeEvent T → Option Refusal

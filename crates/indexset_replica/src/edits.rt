@@ -3,7 +3,7 @@ ghost use Rattle.std.specs.Prelude.{◌≡◌, ◌<◌, [], ◌∷◌, IfOk, OnO
 ghost use Rattle.indexset_core.specs.Nodes.{IsNodeList, vec_items};
 ghost use Rattle.indexset_replica.specs.Replica.{IsEdit, misfit};
 ghost use Rattle.indexset_log.specs.Replay.{unassigned};
-ghost use Rattle.indexset_log.specs.declared.change.ChangeEventUnassigned.TheVariants.{InsertAt, RemoveAt, CreateNode, RemoveNode, SplitNode};
+ghost use Rattle.indexset_log.specs.declared.change.ChangeEventUnassigned.TheVariants.{InsertAt, RemoveAt, CreateNode, RemoveNode, SplitNode, MergeNodes};
 
 use super::places::{first_reaching, fits_at, fits_before, place_named};
 use indexset_core::moves;
@@ -41,6 +41,11 @@ pub(super) fn carry_out<T: Ord + Clone + Drop>(
             split_index,
             ..
         } => split_node(nodes, max_value, *split_index),
+        ChangeEvent::MergeNodes {
+            max_value,
+            next_max_value,
+            ..
+        } => merge_nodes(nodes, max_value, next_max_value),
     }
 }
 
@@ -160,5 +165,29 @@ fn split_node<T: Ord + Clone + Drop>(
     let node = &mut nodes[place];
     let rest = node.split_off(split_index)?;
     moves::insert_item(nodes, place + 1, rest);
+    Ok(())
+}
+
+// Makes the node named and the one after it, which is named too, one.
+fn merge_nodes<T: Ord + Clone + Drop>(
+    nodes: &mut Vec<Vec<T>>,
+    name: &T,
+    next_name: &T,
+) -> Result<(), Refusal>
+    requires { IsNodeList T.cmp (vec_items nodes.old.items) }
+    ensures done { OnOk result (IsEdit T.cmp (vec_items nodes.old.items) (MergeNodes name.now next_name.now) (vec_items nodes.new.items)) }
+    ensures refusal { IfErr result (λ e. e ≡ unwrap_or (misfit T.cmp (vec_items nodes.old.items) (MergeNodes name.now next_name.now)) Refusal.Memory) }
+    ensures unchanged { OnErr result (vec_items nodes.new.items ≡ vec_items nodes.old.items) }
+{
+    let place = place_named(nodes.as_slice(), name)?;
+    let next = place_named(nodes.as_slice(), next_name)?;
+    if next != place + 1 {
+        return Err(Refusal::NotNeighbours);
+    }
+    let count = nodes[next].len();
+    let node = &mut nodes[place];
+    node.reserve(count)?;
+    let mut rest = moves::remove_item(nodes, next);
+    moves::move_tail(&mut rest, 0, &mut nodes[place]);
     Ok(())
 }
