@@ -1,4 +1,11 @@
-//! Ordered sets and maps kept as a two-level B-tree, with look-ups by key and by position.
+//! Ordered sets and maps kept as a two-level B-tree, with look-ups by key and by position, and a
+//! logged family whose changes go out as numbered events.
+//!
+//! This is the crate that a user lists; it holds paths alone, those of the Rust crate. [`BTreeSet`] and
+//! [`BTreeMap`] with their types stand at the root, the logged set, map and multimap in
+//! [`concurrent`], their events in [`cdc`], what both families stand on in [`base`], and the copy that
+//! follows a tree by its events in [`replica`]. `Rattle.indexset.specs.Words` has the words of its
+//! contracts, and `docs/CALLING.md` is the page for callers.
 #![tactic(auto)]
 
 /// What the collections stand on. The Rust crate calls this module `core`.

@@ -1,4 +1,10 @@
-//! Lines of commands over a set and a map of numbers, and the reply to each.
+//! Lists of commands to the collections, and a program over lines.
+//!
+//! [`set_run::run_set`], [`map_run::run_map`] and [`logged_run::run_logged`] carry out a list of
+//! commands and answer the replies, the last the events too; [`logged::Logged`] is what a run asks of
+//! a logged tree. [`run`] reads lines of a reader and writes the reply to each: `line` reads, `command`
+//! and `pair_command` say what a line means, `perform` and `pairs` carry it out, `write` writes. The
+//! text that it writes is defined in `specs/Text.antt`, and [`laws`] says what the definitions mean.
 #![tactic(auto)]
 
 mod command;
