@@ -7,6 +7,7 @@
 //! text that it writes is defined in `specs/Text.antt`, and [`laws`] says what the definitions mean.
 #![tactic(auto)]
 
+mod bytes;
 mod command;
 pub mod command_run;
 mod fault;
@@ -22,6 +23,7 @@ mod perform;
 mod program;
 mod reply;
 pub mod set_run;
+mod write;
 
 pub use fault::RunFault;
 pub use indexset_replica::Replica;

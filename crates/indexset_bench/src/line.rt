@@ -1,12 +1,14 @@
 //! Lines of a reader.
 
 ghost use Rattle.std.specs.Prelude.{◌⊎◌, ◌≡◌, ◌≢◌, ◌==◌, ◌+◌, ◌<◌, length, vec_len, vec_capacity, false, Ok, Err, IfOk, IfErr, IfSome, OnErr, OnSome, IsTrue};
-ghost use Rattle.std.specs.List.{position, position_or_len};
+ghost use Rattle.std.specs.List.{position_or_len};
 ghost use Rattle.std.specs.Io.KnownBytes.{IsAtEnd, Keeps};
 ghost use Rattle.indexset_bench.specs.Lines.{HasNoEnd};
 ghost use Rattle.indexset_bench.specs.Reading.{Reads, Stops, TakesPiece};
 
+use crate::bytes::first_place;
 use crate::fault::RunFault;
+use crate::write::flush;
 use std::io::{BufRead, ErrorKind, Write};
 
 /// What a read of a line found.
@@ -41,14 +43,6 @@ pub fn next_line<R: BufRead, W: Write>(
         flush(writer)?;
     }
     Err(RunFault::Read)
-}
-
-/// Passes on what the writer holds back.
-pub fn flush<W: Write>(writer: &mut W) -> Result<(), RunFault>
-    ensures unwritten { Keeps (W.contents writer.old) (W.contents writer.new) }
-    ensures fault { IfErr result (λ fault. fault ≡ RunFault.Write) }
-{
-    writer.flush().map_err(|_| RunFault::Write)
 }
 
 /// Moves to the line what the reader shows of it. Answers nothing where more of the line may come.
@@ -100,14 +94,7 @@ fn take_piece<R: BufRead>(reader: &mut R, line: &mut Vec<u8>) -> Result<Option<P
 fn line_len(bytes: &[u8]) -> usize
     ensures { result ≡ position_or_len (λ b. b == 10) bytes.now }
 {
-    line_end(bytes).unwrap_or(bytes.len())
-}
-
-/// Where the first line end is.
-fn line_end(bytes: &[u8]) -> Option<usize>
-    ensures { result ≡ position (λ b. b == 10) bytes.now }
-{
-    bytes.iter().position(|b| *b == b'\n')
+    first_place(bytes, b'\n').unwrap_or(bytes.len())
 }
 
 /// Whether nothing is left to read.

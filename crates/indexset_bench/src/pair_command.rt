@@ -1,10 +1,10 @@
 //! The commands to the map, and what a line says.
 
-ghost use Rattle.std.specs.Prelude.{◌≡◌, ◌≢◌, ℕ, ◌^◌, ◌<◌, ◌++◌, ◌∷◌, ◌==◌, MatchOption};
-ghost use Rattle.std.specs.List.{position};
+ghost use Rattle.std.specs.Prelude.{◌≡◌, ◌≢◌, ℕ, ◌^◌, ◌<◌, ◌++◌, ◌∷◌, MatchOption};
 ghost use Rattle.std.specs.Fmt.{decimal};
 ghost use Rattle.indexset_bench.specs.PairCommand.{pair_meaning};
 
+use crate::bytes::first_place;
 use crate::command::number;
 
 /// What a line asks of the map.
@@ -24,17 +24,10 @@ fn two_numbers(text: &[u8]) -> Option<(u64, u64)>
         ((m n : ℕ) → m < 2 ^ 64 → n < 2 ^ 64 → text.now ≢ decimal m ++ 32 ∷ decimal n)
         (λ p. (text.now ≡ decimal p.0 ++ 32 ∷ decimal p.1) × (p.0 < 2 ^ 64) × (p.1 < 2 ^ 64)) }
 {
-    let space = space_in(text)?;
+    let space = first_place(text, b' ')?;
     let first = number(&text[..space])?;
     let second = number(&text[space + 1..])?;
     Some((first, second))
-}
-
-/// Where the first space is.
-fn space_in(text: &[u8]) -> Option<usize>
-    ensures { result ≡ position (λ b. b == 32) text.now }
-{
-    text.iter().position(|b| *b == b' ')
 }
 
 /// The command to the map that the line spells, if it spells one.

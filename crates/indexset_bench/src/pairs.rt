@@ -1,18 +1,16 @@
-//! What a line does to the map, and what is written to it: a reply and events, or the nodes.
+//! What a line does to the map, and the reply and the events that are written to it, or the nodes.
 
-ghost use Rattle.std.specs.Prelude.{◌≡◌, ◌≢◌, ◌+◌, ◌<◌, [], length, Err, OnOk, IfErr};
+ghost use Rattle.std.specs.Prelude.{◌≡◌, ◌≢◌, ◌+◌, ◌<◌, [], length, Err, OnOk};
 ghost use Rattle.std.specs.Option.{option_map_or};
 ghost use Rattle.std.specs.Io.KnownBytes.{Appends, Keeps};
-ghost use Rattle.indexset_bench.specs.Pairs.{pair_events, pair_reply, pairs_after, reply_ended};
-ghost use Rattle.indexset_bench.specs.PairText.{ended, event_text, lines_for, node_text};
+ghost use Rattle.indexset_bench.specs.Pairs.{pair_events, pair_reply, pairs_after};
 ghost use Rattle.std.below.core.specs.declared.int.u64.TheConstants.{MAX};
 
 use crate::fault::RunFault;
 use crate::pair_command::PairCommand;
-use crate::pair_text::{EventText, PairText};
 use crate::reply::Reply;
+use crate::write::{write_events, write_line, write_nodes};
 use indexset_core::pair::Pair;
-use indexset_log::change::ChangeEvent;
 use indexset_log::map::BTreeMap;
 use std::io::Write;
 
@@ -78,56 +76,4 @@ fn reply_to_cut(out: Option<(u64, u64)>) -> Reply
         Some((_, value)) => Reply::GoneValue(value),
         None => Reply::Nothing,
     }
-}
-
-/// Writes a reply as a line.
-pub fn write_line<W: Write>(writer: &mut W, reply: Reply) -> Result<(), RunFault>
-    ensures told { OnOk result (Appends (W.contents writer.old) (W.contents writer.new)
-        (reply_ended reply)) }
-    ensures fault { IfErr result (λ fault. fault ≡ RunFault.Write) }
-{
-    writer.writeln(reply).map_err(|_| RunFault::Write)
-}
-
-/// Writes each event as a line.
-fn write_events<W: Write>(
-    writer: &mut W,
-    events: &[ChangeEvent<Pair<u64, u64>>],
-) -> Result<(), RunFault>
-    ensures told { OnOk result (Appends (W.contents writer.old) (W.contents writer.new)
-        (lines_for event_text events.now)) }
-    ensures fault { IfErr result (λ fault. fault ≡ RunFault.Write) }
-{
-    for event in events {
-        let shown = EventText(event);
-        writer.writeln(shown).map_err(|_| RunFault::Write)?;
-    }
-    Ok(())
-}
-
-/// Writes each node as a line.
-fn write_nodes<W: Write>(writer: &mut W, pairs: &Pairs) -> Result<(), RunFault>
-    ensures told { OnOk result (Appends (W.contents writer.old) (W.contents writer.new)
-        (lines_for node_text pairs.now.nodes)) }
-    ensures fault { IfErr result (λ fault. fault ≡ RunFault.Write) }
-{
-    for node in pairs.iter_nodes() {
-        write_node(writer, node)?;
-    }
-    Ok(())
-}
-
-/// Writes a node as a line: its pairs, parted by one space.
-fn write_node<W: Write>(writer: &mut W, node: &[Pair<u64, u64>]) -> Result<(), RunFault>
-    ensures told { OnOk result (Appends (W.contents writer.old) (W.contents writer.new)
-        (ended (node_text node.now))) }
-    ensures fault { IfErr result (λ fault. fault ≡ RunFault.Write) }
-{
-    let mut lead = "";
-    for pair in node {
-        let shown = PairText(pair);
-        write!(writer, "{lead}{shown}").map_err(|_| RunFault::Write)?;
-        lead = " ";
-    }
-    writeln!(writer).map_err(|_| RunFault::Write)
 }

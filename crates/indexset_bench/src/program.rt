@@ -13,10 +13,11 @@ ghost use Rattle.indexset_bench.specs.Text.{Changes, reply_line, stores, stores_
 
 use crate::command::parse;
 use crate::fault::RunFault;
-use crate::line::{Part, flush, is_at_end, next_line};
+use crate::line::{Part, is_at_end, next_line};
 use crate::pair_command::parse_pairs;
-use crate::pairs::{Pairs, answer_pairs, write_line};
+use crate::pairs::{Pairs, answer_pairs};
 use crate::perform::perform;
+use crate::write::{flush, write_line};
 use indexset_set::BTreeSet;
 use std::alloc::Global;
 use std::io::{BufRead, Write};

@@ -6,6 +6,6 @@ use Rattle.indexset_bench.proofs.line.line_len.Goals as goal
 
 pub returns : goal.returns
 returns c =
-    let place : c.line_end.result ≡ position (λ b. b == 10) c.args.bytes.now = c.line_end.ensures in
-    let same : c.unwrap_or.result ≡ unwrap_or c.line_end.result (length c.args.bytes.now) = search rules in
+    let place : c.first_place.result ≡ position (λ b. b == 10) c.args.bytes.now = c.first_place.ensures in
+    let same : c.unwrap_or.result ≡ unwrap_or c.first_place.result (length c.args.bytes.now) = search rules in
     same ∙ ap (λ o. unwrap_or o (length c.args.bytes.now)) place ∙ position-or_len (λ b. b == 10) c.args.bytes.now

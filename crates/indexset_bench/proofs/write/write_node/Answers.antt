@@ -5,7 +5,7 @@ use Rattle.std.proofs.lemmas.Result.{on_ok_weaker}
 use Rattle.std.specs.Io.KnownBytes.{Appends}
 use Rattle.indexset_bench.specs.PairText.{node_text, pair_text}
 use Rattle.indexset_bench.proofs.Written.{more_joined, next_lead, on_ok_given}
-use Rattle.indexset_bench.proofs.pairs.write_node.Goals as goal
+use Rattle.indexset_bench.proofs.write.write_node.Goals as goal
 
 pub loop-pair-init : goal.loop-pair-init
 loop-pair-init g c = (([], (refl, refl)), refl, Appends-nil _)

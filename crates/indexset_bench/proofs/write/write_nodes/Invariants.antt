@@ -1,7 +1,7 @@
 use Rattle.std.proofs.Common.{◌≡◌, ◌++◌, map}
 use Rattle.std.specs.Io.KnownBytes.{Appends}
 use Rattle.indexset_bench.specs.PairText.{lines_for, node_text}
-use Rattle.indexset_bench.proofs.pairs.write_nodes.Given as goal
+use Rattle.indexset_bench.proofs.write.write_nodes.Given as goal
 
 abbrev pub invariant-loop-node : goal.invariant-loop-node
 invariant-loop-node g l =

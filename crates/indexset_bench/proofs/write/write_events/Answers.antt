@@ -3,7 +3,7 @@ use Rattle.std.proofs.KnownBytes.{Appends-nil}
 use Rattle.std.proofs.lemmas.List.{take_all}
 use Rattle.indexset_bench.specs.PairText.{event_text}
 use Rattle.indexset_bench.proofs.Written.{more_lines, on_ok_given}
-use Rattle.indexset_bench.proofs.pairs.write_events.Goals as goal
+use Rattle.indexset_bench.proofs.write.write_events.Goals as goal
 
 pub loop-event-init : goal.loop-event-init
 loop-event-init g c = Appends-nil _

@@ -2,7 +2,7 @@ use Rattle.std.proofs.Common.{rules, ap, map, subst}
 use Rattle.std.specs.Io.KnownBytes.{Appends}
 use Rattle.indexset_bench.specs.PairText.{ended, node_text}
 use Rattle.indexset_bench.proofs.Written.{on_ok_given, one_line, one_read}
-use Rattle.indexset_bench.proofs.pairs.write_nodes.Goals as goal
+use Rattle.indexset_bench.proofs.write.write_nodes.Goals as goal
 
 pub loop-node-preserved : goal.loop-node-preserved
 loop-node-preserved g c =

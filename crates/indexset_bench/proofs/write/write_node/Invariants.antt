@@ -5,7 +5,7 @@ use Rattle.std.specs.Io.KnownBytes.{Appends}
 use Rattle.std.specs.List.{join_with_byte}
 use Rattle.indexset_bench.specs.PairText.{pair_text}
 use Rattle.indexset_bench.proofs.Written.{lead_after}
-use Rattle.indexset_bench.proofs.pairs.write_node.Given as goal
+use Rattle.indexset_bench.proofs.write.write_node.Given as goal
 
 abbrev pub invariant-loop-pair : goal.invariant-loop-pair
 invariant-loop-pair g l =

@@ -1,0 +1,11 @@
+//! Bytes within a text.
+
+ghost use Rattle.std.specs.Prelude.{◌≡◌, ◌==◌};
+ghost use Rattle.std.specs.List.{position};
+
+/// Where a byte stands first.
+pub fn first_place(bytes: &[u8], sought: u8) -> Option<usize>
+    ensures { result ≡ position (λ b. b == sought) bytes.now }
+{
+    bytes.iter().position(|b| *b == sought)
+}

@@ -1,0 +1,74 @@
+//! What is written: lines of a reply, of events and of nodes.
+
+ghost use Rattle.std.specs.Prelude.{◌≡◌, OnOk, IfErr};
+ghost use Rattle.std.specs.Io.KnownBytes.{Appends, Keeps};
+ghost use Rattle.indexset_bench.specs.Pairs.{reply_ended};
+ghost use Rattle.indexset_bench.specs.PairText.{ended, event_text, lines_for, node_text};
+
+use crate::fault::RunFault;
+use crate::pair_text::{EventText, PairText};
+use crate::pairs::Pairs;
+use crate::reply::Reply;
+use indexset_core::pair::Pair;
+use indexset_log::change::ChangeEvent;
+use std::io::Write;
+
+/// Passes on what the writer holds back.
+pub fn flush<W: Write>(writer: &mut W) -> Result<(), RunFault>
+    ensures unwritten { Keeps (W.contents writer.old) (W.contents writer.new) }
+    ensures fault { IfErr result (λ fault. fault ≡ RunFault.Write) }
+{
+    writer.flush().map_err(|_| RunFault::Write)
+}
+
+/// Writes a reply as a line.
+pub fn write_line<W: Write>(writer: &mut W, reply: Reply) -> Result<(), RunFault>
+    ensures told { OnOk result (Appends (W.contents writer.old) (W.contents writer.new)
+        (reply_ended reply)) }
+    ensures fault { IfErr result (λ fault. fault ≡ RunFault.Write) }
+{
+    writer.writeln(reply).map_err(|_| RunFault::Write)
+}
+
+/// Writes each event as a line.
+pub fn write_events<W: Write>(
+    writer: &mut W,
+    events: &[ChangeEvent<Pair<u64, u64>>],
+) -> Result<(), RunFault>
+    ensures told { OnOk result (Appends (W.contents writer.old) (W.contents writer.new)
+        (lines_for event_text events.now)) }
+    ensures fault { IfErr result (λ fault. fault ≡ RunFault.Write) }
+{
+    for event in events {
+        let shown = EventText(event);
+        writer.writeln(shown).map_err(|_| RunFault::Write)?;
+    }
+    Ok(())
+}
+
+/// Writes each node as a line.
+pub fn write_nodes<W: Write>(writer: &mut W, pairs: &Pairs) -> Result<(), RunFault>
+    ensures told { OnOk result (Appends (W.contents writer.old) (W.contents writer.new)
+        (lines_for node_text pairs.now.nodes)) }
+    ensures fault { IfErr result (λ fault. fault ≡ RunFault.Write) }
+{
+    for node in pairs.iter_nodes() {
+        write_node(writer, node)?;
+    }
+    Ok(())
+}
+
+/// Writes a node as a line: its pairs, parted by one space.
+fn write_node<W: Write>(writer: &mut W, node: &[Pair<u64, u64>]) -> Result<(), RunFault>
+    ensures told { OnOk result (Appends (W.contents writer.old) (W.contents writer.new)
+        (ended (node_text node.now))) }
+    ensures fault { IfErr result (λ fault. fault ≡ RunFault.Write) }
+{
+    let mut lead = "";
+    for pair in node {
+        let shown = PairText(pair);
+        write!(writer, "{lead}{shown}").map_err(|_| RunFault::Write)?;
+        lead = " ";
+    }
+    writeln!(writer).map_err(|_| RunFault::Write)
+}
