@@ -16,9 +16,9 @@ use Rattle.indexset_bench.specs.declared.pair_command.PairCommand.{PairCommand}
 use Rattle.indexset_bench.specs.declared.pair_command.PairCommand.TheVariants.{Put, Cut, Nodes}
 use Rattle.indexset_bench.specs.declared.command.Command.{Command}
 use Rattle.indexset_bench.specs.declared.command.Command.TheVariants.{Add, Del, Has, Rank, At, Len}
-use Rattle.indexset_bench.specs.Command.{spelling}
+use Rattle.indexset_bench.specs.Command.{meaning, spelling}
 use Rattle.indexset_bench.specs.PairCommand.{pair_spelling, PairFitsU64, pair_fits_u64, pair_candidates, pair_meaning, before_space, after_space}
-use Rattle.indexset_bench.proofs.Meanings.{IsAfter, is_append, IsNumberOf}
+use Rattle.indexset_bench.proofs.Meanings.{IsAfter, is_append, IsNumberOf, sound}
 use Rattle.indexset_bench.proofs.Spellings.{both, both-true, found_spelled, spelled_found, spells}
 
 -- ---- two numbers parted by a space
@@ -214,3 +214,11 @@ made_none P Q (Some x) e h = absurd (cc)
 
 pub given_some : {X : Type 0} (P : Type 0) (Q : X → Type 0) (o : Option X) (x : X) → MatchOption o P Q → o ≡ Some x → Q x
 given_some P Q o x h e = subst (λ q. MatchOption q P Q) e h
+
+-- a line that is a command to the set is none to the map
+pub no_pairs_meant : (line : List ℕ) (c : Command) → meaning line ≡ Some c → pair_meaning line ≡ None
+no_pairs_meant line c meant =
+    elim (pair_meaning line) as (λ o. pair_meaning line ≡ o → o ≡ None) [
+      | None ↦ λ e. refl
+      | Some d ↦ λ e. absurd (apart c d (sym (sound line c meant).0 ∙ (pair_sound line d e).0))
+    ] refl

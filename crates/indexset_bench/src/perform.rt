@@ -1,5 +1,5 @@
-//! What a line does to the set, and the reply to it.
-ghost use Rattle.std.specs.Prelude.{◌≡◌, IfOk, OnOk, IfErr, OnErr};
+//! What a command does to the set, and the reply to it.
+ghost use Rattle.std.specs.Prelude.{◌≡◌, Some, IfOk, OnOk, IfErr, OnErr};
 ghost use Rattle.indexset_spine.specs.Cut.{items};
 ghost use Rattle.indexset_bench.specs.Reply.{AddsNew, reply_to, contents_after};
 
@@ -8,41 +8,40 @@ use crate::reply::Reply;
 use indexset_core::refusal::Refusal;
 use indexset_set::BTreeSet;
 
-/// Does what a line says, and answers the reply to it. A refused call changes nothing.
-pub fn perform(set: &mut BTreeSet<u64>, command: Option<Command>) -> Result<Reply, Refusal>
-    ensures reply { IfOk result (λ reply. reply ≡ reply_to (items set.old) command) }
-    ensures ok { OnOk result (items set.new ≡ contents_after (items set.old) command) }
+/// Carries out a command, and answers the reply to it. A refused call changes nothing.
+pub fn perform(set: &mut BTreeSet<u64>, command: Command) -> Result<Reply, Refusal>
+    ensures reply { IfOk result (λ reply. reply ≡ reply_to (items set.old) (Some command)) }
+    ensures ok { OnOk result (items set.new ≡ contents_after (items set.old) (Some command)) }
     ensures refusal { IfErr result (λ e. e ≡ Refusal.Memory) }
-    ensures only_new { OnErr result (AddsNew (items set.old) command) }
+    ensures only_new { OnErr result (AddsNew (items set.old) (Some command)) }
     ensures unchanged { OnErr result (items set.new ≡ items set.old) }
 {
     let reply = match command {
-        Some(Command::Add(n)) => match set.insert(n) {
+        Command::Add(n) => match set.insert(n) {
             Ok(true) => Reply::New,
             Ok(false) => Reply::Old,
             Err(refused) => return Err(refused.cause),
         },
-        Some(Command::Del(n)) => {
+        Command::Del(n) => {
             if set.remove(&n) {
                 Reply::Gone
             } else {
                 Reply::Nothing
             }
         }
-        Some(Command::Has(n)) => {
+        Command::Has(n) => {
             if set.contains(&n) {
                 Reply::Yes
             } else {
                 Reply::No
             }
         }
-        Some(Command::Rank(n)) => Reply::Count(set.rank(&n)),
-        Some(Command::At(position)) => match set.get_index(position as usize) {
+        Command::Rank(n) => Reply::Count(set.rank(&n)),
+        Command::At(position) => match set.get_index(position as usize) {
             Some(n) => Reply::Item(*n),
             None => Reply::Nothing,
         },
-        Some(Command::Len) => Reply::Count(set.len()),
-        None => Reply::Bad,
+        Command::Len => Reply::Count(set.len()),
     };
     Ok(reply)
 }

@@ -4,19 +4,19 @@ ghost use Rattle.std.specs.Prelude.{◌≡◌, ◌≢◌, ◌⊎◌, ◌<◌, []
 ghost use Rattle.std.below.core.specs.declared.int.u64.TheConstants.{MAX};
 ghost use Rattle.std.specs.Io.KnownBytes.{Appends, Keeps};
 ghost use Rattle.indexset_spine.specs.Cut.{items};
-ghost use Rattle.indexset_bench.specs.Command.{meaning};
 ghost use Rattle.indexset_bench.specs.Lines.{HasNoEnd, IsLinePart};
 ghost use Rattle.indexset_bench.specs.Reply.{AddsNew, contents_after, reply_to};
 ghost use Rattle.indexset_bench.specs.Pairs.{reply_ended};
 ghost use Rattle.indexset_bench.specs.Run.{AnswersAll, AnswersWholeLines, LacksNumbers};
 ghost use Rattle.indexset_bench.specs.Text.{Changes, reply_line, stores, stores_after, text_of};
 
-use crate::command::parse;
+use crate::command::{Command, parse};
 use crate::fault::RunFault;
 use crate::line::{Part, is_at_end, next_line};
 use crate::pair_command::parse_pairs;
 use crate::pairs::{Pairs, answer_pairs};
 use crate::perform::perform;
+use crate::reply::Reply;
 use crate::write::{flush, write_line};
 use indexset_set::BTreeSet;
 use std::alloc::Global;
@@ -127,26 +127,29 @@ fn answer_line<W: Write>(
         → MAX < (stores_after (stores (items set.old) pairs.old) line.now).pairs.next }
     ensures no_read { result ≢ Err RunFault.Read }
 {
+    if let Some(command) = parse(line) {
+        return answer_numbers(writer, set, command);
+    }
     match parse_pairs(line) {
         Some(command) => answer_pairs(writer, pairs, command),
-        None => answer_numbers(writer, set, line),
+        None => write_line(writer, Reply::Bad),
     }
 }
 
-/// Answers a line over the set. Where memory is refused, nothing is written.
+/// Answers a command to the set. Where memory is refused, nothing is written.
 fn answer_numbers<W: Write>(
     writer: &mut W,
     set: &mut BTreeSet<u64>,
-    line: &[u8],
+    command: Command,
 ) -> Result<(), RunFault>
-    ensures set { OnOk result (items set.new ≡ contents_after (items set.old) (meaning line.now)) }
+    ensures set { OnOk result (items set.new ≡ contents_after (items set.old) (Some command)) }
     ensures told { OnOk result (Appends (W.contents writer.old) (W.contents writer.new)
-        (reply_ended (reply_to (items set.old) (meaning line.now)))) }
+        (reply_ended (reply_to (items set.old) (Some command)))) }
     ensures untold { result ≡ Err RunFault.Memory
         → Keeps (W.contents writer.old) (W.contents writer.new) }
-    ensures only_new { result ≡ Err RunFault.Memory → AddsNew (items set.old) (meaning line.now) }
+    ensures only_new { result ≡ Err RunFault.Memory → AddsNew (items set.old) (Some command) }
     ensures fault { IfErr result (λ fault. (fault ≡ RunFault.Memory) ⊎ (fault ≡ RunFault.Write)) }
 {
-    let reply = perform(set, parse(line))?;
+    let reply = perform(set, command)?;
     write_line(writer, reply)
 }
