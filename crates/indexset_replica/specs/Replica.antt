@@ -35,7 +35,7 @@ module _ {T : Type 0} (cmp : T → T → Ordering) where
   abbrev pub in_named : List (List T) → T → (List T → Option Refusal) → Option Refusal
   in_named ns m f = option_map_or (λ p. f (node_at ns p)) (node_named cmp ns m) (Some NoSuchNode)
 
-  -- the first of the reasons why an event does not fit the nodes, where there is one
+  -- the first reason why an event does not fit the nodes, if any
   unfoldable pub misfit : List (List T) → ChangeEventUnassigned T → Option Refusal
   misfit ns (CreateNode m) = disorder (edit cmp ns (CreateNode m))
   misfit ns (RemoveNode m) = in_named ns m (λ n. None)

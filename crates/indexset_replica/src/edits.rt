@@ -49,7 +49,7 @@ pub(super) fn carry_out<T: Ord + Clone + Drop>(
     }
 }
 
-// Puts an item into the node named.
+// Inserts an item into the node of that name.
 fn insert_item<T: Ord + Clone + Drop>(
     nodes: &mut Vec<Vec<T>>,
     name: &T,
@@ -76,7 +76,7 @@ fn insert_item<T: Ord + Clone + Drop>(
     Ok(())
 }
 
-// Takes the item out of the node named.
+// Removes the item at an index of the node of that name.
 fn remove_item<T: Ord + Clone + Drop>(
     nodes: &mut Vec<Vec<T>>,
     name: &T,
@@ -103,7 +103,7 @@ fn remove_item<T: Ord + Clone + Drop>(
     Ok(())
 }
 
-// Makes a node of this item alone.
+// Inserts a node of this item alone.
 fn create_node<T: Ord + Clone + Drop>(nodes: &mut Vec<Vec<T>>, value: &T) -> Result<(), Refusal>
     requires clones { (x y : T) → T.is_clone x y → y ≡ x }
     requires nodes { IsNodeList T.cmp (vec_items nodes.old.items) }
@@ -120,7 +120,7 @@ fn create_node<T: Ord + Clone + Drop>(nodes: &mut Vec<Vec<T>>, value: &T) -> Res
     Ok(())
 }
 
-// Room for one more node, and a node of this item alone.
+// Reserves room for one more node, and returns a node of this item alone.
 fn room_for_node_of<T: Clone + Drop>(nodes: &mut Vec<Vec<T>>, value: &T) -> Result<Vec<T>, Refusal>
     requires clones { (x y : T) → T.is_clone x y → y ≡ x }
     ensures nodes { nodes.new.items ≡ nodes.old.items }
@@ -134,7 +134,7 @@ fn room_for_node_of<T: Clone + Drop>(nodes: &mut Vec<Vec<T>>, value: &T) -> Resu
     Ok(node)
 }
 
-// Takes out the node named.
+// Removes the node of that name.
 fn remove_node<T: Ord + Clone + Drop>(nodes: &mut Vec<Vec<T>>, name: &T) -> Result<(), Refusal>
     requires { IsNodeList T.cmp (vec_items nodes.old.items) }
     ensures done { OnOk result (IsEdit T.cmp (vec_items nodes.old.items) (RemoveNode name.now) (vec_items nodes.new.items)) }
@@ -146,7 +146,7 @@ fn remove_node<T: Ord + Clone + Drop>(nodes: &mut Vec<Vec<T>>, name: &T) -> Resu
     Ok(())
 }
 
-// Cuts the node named: its first items, and the rest.
+// Splits the node of that name into its first items and the rest.
 fn split_node<T: Ord + Clone + Drop>(
     nodes: &mut Vec<Vec<T>>,
     name: &T,
@@ -168,7 +168,7 @@ fn split_node<T: Ord + Clone + Drop>(
     Ok(())
 }
 
-// Makes the node named and the one after it, which is named too, one.
+// Joins the node of that name with the one after it, which has the second name.
 fn merge_nodes<T: Ord + Clone + Drop>(
     nodes: &mut Vec<Vec<T>>,
     name: &T,

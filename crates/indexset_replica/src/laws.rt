@@ -6,8 +6,8 @@ ghost use Rattle.indexset_replica.specs.Replica.{apply_refusal};
 ghost use Rattle.indexset_log.specs.Replay.{event_number, step};
 ghost use Rattle.indexset_log.specs.declared.change.ChangeEvent.{ChangeEvent};
 
-/// Memory aside, an event is refused exactly where its number is not the next, or is the greatest u64,
-/// or where it is no step from these nodes.
+/// Memory aside, an event is refused exactly where its number is not the next, or is `u64::MAX`, or
+/// where it is no step from these nodes.
 pub fn refused_unless_a_step<T: Ord>()
     ensures { (ns : List (List T)) (next : ℕ) (e : ChangeEvent T) → IsNodeList T.cmp ns
         → (apply_refusal T.cmp ns next e ≡ None)

@@ -1,10 +1,13 @@
 //! A copy of a logged tree's nodes that follows the tree by its events.
 //!
-//! [`Replica`] holds nodes and the number of the next event. `attach` gives it the nodes of a tree as
-//! they stand, and `apply` makes the change of one event: it takes the next event alone, and refuses
-//! any other, naming why. Then the nodes are those of the tree, boundaries included. [`laws`] says
-//! what the definitions of a replica mean, whatever the code: `refused_unless_a_step` is that memory
-//! aside an event is refused exactly where it is no step from the nodes.
+//! [`Replica`] holds a list of nodes and the number of the next event. `new` returns one without nodes,
+//! `attach` gives it the nodes that the tree has when the copy begins, and `apply` makes the change of
+//! one event. It takes the next event alone, and fails with a `Refusal` that says why where an event is
+//! not the next or does not fit the nodes. Once the events of the tree's calls are applied, the nodes
+//! are those of the tree, boundaries included; `nodes`, `contains` and `next` read them. [`laws`] states
+//! what the definitions mean, whatever the code: `refused_unless_a_step` says that, memory aside, an
+//! event is refused exactly where it is no step from the nodes. What each kind of event changes is in
+//! `edits`, and the searches among the nodes are in `places`.
 #![tactic(auto)]
 
 ghost use Rattle.std.specs.Prelude.{◌≡◌, ◌+◌, [], length, None, Some, OnOk, IfErr, OnErr, unwrap_or};
@@ -24,8 +27,8 @@ use indexset_log::change::ChangeEvent;
 use std::alloc::Global;
 use std::marker::Model;
 
-/// Nodes that follow a tree's events: non-empty lists whose joining is ascending. A node is named by
-/// its last item. (In the Rust crate a helper of the tests.)
+/// Nodes that follow a tree's events: non-empty lists whose concatenation is ascending. A node is named
+/// by its last item. (In the Rust crate a helper of the tests.)
 #[derive(Drop)]
 pub struct Replica<T: Ord + Clone + Drop> {
     nodes: Vec<Vec<T>>,
@@ -46,7 +49,8 @@ impl<T: Ord + Clone + Drop> Model for Replica<T> {
 }
 
 impl<T: Ord + Clone + Drop> Replica<T> {
-    /// No node yet. The first event is to have the number `next`.
+    /// Returns a replica without nodes, whose first event is to have the number `next`. It allocates
+    /// nothing.
     pub fn new(alloc: Global, next: u64) -> Self
         ensures { result ≡ record { nodes = []; next = next } }
     {
@@ -56,7 +60,7 @@ impl<T: Ord + Clone + Drop> Replica<T> {
         }
     }
 
-    /// The nodes, in order.
+    /// Returns the nodes, in order, in constant time.
     pub fn nodes(&self) -> &[Vec<T>]
         ensures value { vec_items result.now ≡ self.now.nodes }
         ensures lawful { IsNodeList T.cmp self.now.nodes }
@@ -64,14 +68,14 @@ impl<T: Ord + Clone + Drop> Replica<T> {
         self.nodes.as_slice()
     }
 
-    /// The number of the next event.
+    /// Returns the number of the next event, in constant time.
     pub fn next(&self) -> u64
         ensures { result ≡ self.now.next }
     {
         self.next
     }
 
-    /// Whether an equal item is there.
+    /// Returns whether an equal item is held, by two binary searches.
     pub fn contains(&self, value: &T) -> bool
         ensures { result ≡ has_equal T.cmp (joined self.now.nodes) value.now }
     {
@@ -79,10 +83,11 @@ impl<T: Ord + Clone + Drop> Replica<T> {
         place < self.nodes.len() && search::find(self.nodes[place].as_slice(), value).is_ok()
     }
 
-    /// Takes a whole node in, in its place among the others. It is refused where it is empty, where it
-    /// is not strictly ascending, where it does not lie wholly before, after or between two
-    /// neighbouring nodes, and for want of memory: the first of these. A refused node is handed back,
-    /// and nothing changes. No number is used up.
+    /// Inserts a whole node in its place among the others, and uses up no event number. It compares the
+    /// items of the node once each, and makes one binary search among the nodes. It fails with the first
+    /// of these: `Empty`; `Unsorted`, where the node is not strictly ascending; `Overlaps`, where it does
+    /// not lie wholly before, after or between two neighbouring nodes; `Memory`. A call that fails
+    /// returns the node and changes nothing.
     pub fn attach(&mut self, node: Vec<T>) -> Result<(), Refused<Vec<T>>>
         ensures nodes { OnOk result (self.new.nodes ≡ attached T.cmp self.old.nodes node.items) }
         ensures good { OnOk result (attach_refusal T.cmp (length node.items) self.old.nodes node.items ≡ None) }
@@ -103,9 +108,12 @@ impl<T: Ord + Clone + Drop> Replica<T> {
         }
     }
 
-    /// Makes the event's change to the nodes, and waits for the next event. It is refused where the
-    /// event is not the next, where no number would be left after it, where it does not fit the
-    /// nodes, and for want of memory: the first of these. A refused event changes nothing.
+    /// Makes the change of an event, and waits for the next. It makes a binary search among the nodes
+    /// for each node that the event names, and moves no items of other nodes. It fails with the first of
+    /// these: `Gap`, where the event is not the next; `Numbers`, where its number is `u64::MAX`, so that
+    /// none is left after it; the reason why it does not fit the nodes (`NoSuchNode`, `IndexOutside`,
+    /// `ValueDiffers`, `WouldBeEmpty`, `OutOfOrder`, `BadSplit` or `NotNeighbours`); `Memory`. A call that
+    /// fails changes nothing.
     pub fn apply(&mut self, event: &ChangeEvent<T>) -> Result<(), Refusal>
         requires { (x y : T) → T.is_clone x y → y ≡ x }
         ensures step { OnOk result (step T.cmp self.old.nodes event.now ≡ Some self.new.nodes) }
