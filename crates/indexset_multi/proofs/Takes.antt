@@ -1,5 +1,5 @@
 -- The removal of a pair by its place, as the map's contract sees it.
-use Rattle.std.proofs.Common.{◌≡◌, ℕ, zero, suc, ◌<◌, List, [], ◌∷◌, length, Option, Some, Ordering, slice_get, refl, ap, sym, ◌∙◌, subst, arith}
+use Rattle.std.proofs.Common.{◌≡◌, ℕ, zero, suc, ◌<◌, ◌≤◌, List, [], ◌∷◌, length, Option, None, Some, Ordering, slice_get, refl, ap, sym, ◌∙◌, subst, arith}
 use Rattle.std.specs.Cmp.{IsTotalOrder}
 use Rattle.indexset_core.specs.declared.multipair.MultiPair.{MultiPair}
 use Rattle.indexset_core.specs.MultiPairs.{by_number}
@@ -7,12 +7,16 @@ use Rattle.indexset_core.specs.Nodes.{joined, node_at, IsLawful}
 use Rattle.indexset_log.specs.declared.change.ChangeEventUnassigned.{ChangeEventUnassigned}
 use Rattle.indexset_log.specs.Replay.{replay, numbered_from}
 use Rattle.indexset_log.specs.Table.{taking_count, taking_events}
-use Rattle.indexset_log.proofs.CallerLemmas.{place_contents, place_events, taking_length}
+use Rattle.indexset_log.proofs.CallerLemmas.{place_contents, place_events, removal_few, taking_length}
 use Rattle.indexset_multi.specs.Keys.{AreNumberedBelow, without_pair}
 use Rattle.indexset_multi.specs.Places.{item_at, IsItemPlace}
 use Rattle.indexset_multi.specs.Tree.{MultiTree, pair_removal_events}
 use Rattle.indexset_multi.proofs.Below.{below_without}
 use Rattle.indexset_multi.proofs.Numbers.{numbers_total}
+
+pub pair_removal_few : {K V : Type 0} (cmp : K → K → Ordering) (size : ℕ) (ns : List (List (MultiPair K V))) (pair : Option (MultiPair K V)) → length (pair_removal_events cmp size ns pair) ≤ 3
+pair_removal_few cmp size ns None = omega arith
+pair_removal_few cmp size ns (Some p) = removal_few (by_number cmp) size ns p
 
 some_read : {T : Type 0} (l : List T) (i : ℕ) → i < length l → (x : T) × (slice_get l i ≡ Some x)
 some_read [] i lt = absurd (omega arith)

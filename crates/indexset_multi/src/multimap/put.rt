@@ -63,10 +63,12 @@ impl<K: Ord + Clone + Drop, V: Eq + Clone + Drop, Node: NodeLike<MultiPair<K, V>
         ensures contents { OnOk result (joined self.new.nodes ≡ put (by_number K.cmp) (joined self.old.nodes) (inserted_pair K.cmp V.eq self.old key value)) }
         ensures nodes { OnOk result (self.new.nodes ≡ with_put (by_number K.cmp) self.old.size self.old.nodes (inserted_pair K.cmp V.eq self.old key value)) }
         ensures replay { OnOk result (replay (by_number K.cmp) self.old.nodes (numbered_from self.old.next (insertion_events K.cmp V.eq self.old key value)) ≡ Some self.new.nodes) }
+        ensures few { length (insertion_events K.cmp V.eq self.old key value) ≤ 3 }
         ensures size { self.new.size ≡ self.old.size }
         ensures spaced { IsSpaced (self.old.size / 2) self.old.nodes → IsSpaced (self.new.size / 2) self.new.nodes }
         ensures next { OnOk result (self.new.next ≡ self.old.next + length (insertion_events K.cmp V.eq self.old key value)) }
         ensures pair_next { OnOk result (self.new.pair_next ≡ pair_next_after K.cmp V.eq self.old key value) }
+        ensures fits { OnOk result (self.old.next + length (insertion_events K.cmp V.eq self.old key value) ≤ u64.MAX) }
         ensures number_left { OnOk result (lacks_number K.cmp V.eq self.old key value ≡ false) }
         ensures refusal { IfErr result (λ e. e.cause ≡ insertion_refusal K.cmp V.eq self.old key value) }
         ensures given_back { IfErr result (λ e. e.value ≡ (key, value)) }

@@ -1,5 +1,5 @@
 //! Calls that take pairs out.
-ghost use Rattle.std.specs.Prelude.{◌≡◌, ◌+◌, ◌/◌, ◌<◌, ◌≤◌, [], length, Some, IfOk, OnOk, IfErr, OnErr, IsOk};
+ghost use Rattle.std.specs.Prelude.{◌≡◌, ◌+◌, ◌/◌, ◌<◌, ◌≤◌, [], length, false, Some, IfOk, OnOk, IfErr, OnErr, IsOk};
 ghost use Rattle.std.specs.Option.{option_map};
 ghost use Rattle.indexset_core.specs.MultiPairs.{by_number};
 ghost use Rattle.indexset_core.specs.Nodes.{joined};
@@ -54,13 +54,16 @@ impl<K: Ord + Clone + Drop, V: Eq + Clone + Drop, Node: NodeLike<MultiPair<K, V>
         ensures answer { IfOk result (λ entry. entry ≡ option_map entry_of (first_pair K.cmp (joined self.old.nodes) key.now)) }
         ensures contents { OnOk result (joined self.new.nodes ≡ without_pair K.cmp (joined self.old.nodes) (first_pair K.cmp (joined self.old.nodes) key.now)) }
         ensures replay { OnOk result (replay (by_number K.cmp) self.old.nodes (numbered_from self.old.next (pair_removal_events K.cmp self.old.size self.old.nodes (first_pair K.cmp (joined self.old.nodes) key.now))) ≡ Some self.new.nodes) }
+        ensures few { length (pair_removal_events K.cmp self.old.size self.old.nodes (first_pair K.cmp (joined self.old.nodes) key.now)) ≤ 3 }
         ensures size { self.new.size ≡ self.old.size }
         ensures spaced { IsSpaced (self.old.size / 2) self.old.nodes → IsSpaced (self.new.size / 2) self.new.nodes }
         ensures next { OnOk result (self.new.next ≡ self.old.next + length (pair_removal_events K.cmp self.old.size self.old.nodes (first_pair K.cmp (joined self.old.nodes) key.now))) }
         ensures pair_next { self.new.pair_next ≡ self.old.pair_next }
         ensures fits { OnOk result (self.old.next + length (pair_removal_events K.cmp self.old.size self.old.nodes (first_pair K.cmp (joined self.old.nodes) key.now)) ≤ u64.MAX) }
         ensures refusal { IfErr result (λ e. e ≡ refusal_for self.old.next (length (pair_removal_events K.cmp self.old.size self.old.nodes (first_pair K.cmp (joined self.old.nodes) key.now)))) }
+        ensures no_event { pair_removal_events K.cmp self.old.size self.old.nodes (first_pair K.cmp (joined self.old.nodes) key.now) ≡ [] → IsOk result }
         ensures no_memory { length (pair_removal_events K.cmp self.old.size self.old.nodes (first_pair K.cmp (joined self.old.nodes) key.now)) ≤ 1 → self.old.next + length (pair_removal_events K.cmp self.old.size self.old.nodes (first_pair K.cmp (joined self.old.nodes) key.now)) ≤ u64.MAX → IsOk result }
+        ensures never { Node.allocates ≡ false → self.old.next + length (pair_removal_events K.cmp self.old.size self.old.nodes (first_pair K.cmp (joined self.old.nodes) key.now)) ≤ u64.MAX → IsOk result }
         ensures unchanged { OnErr result (self.new ≡ self.old) }
     {
         let place = self.first_place(key);
@@ -101,13 +104,16 @@ impl<K: Ord + Clone + Drop, V: Eq + Clone + Drop, Node: NodeLike<MultiPair<K, V>
         ensures answer { IfOk result (λ entry. entry ≡ option_map entry_of (equal_pair K.cmp V.eq (joined self.old.nodes) key.now value.now)) }
         ensures contents { OnOk result (joined self.new.nodes ≡ without_pair K.cmp (joined self.old.nodes) (equal_pair K.cmp V.eq (joined self.old.nodes) key.now value.now)) }
         ensures replay { OnOk result (replay (by_number K.cmp) self.old.nodes (numbered_from self.old.next (pair_removal_events K.cmp self.old.size self.old.nodes (equal_pair K.cmp V.eq (joined self.old.nodes) key.now value.now))) ≡ Some self.new.nodes) }
+        ensures few { length (pair_removal_events K.cmp self.old.size self.old.nodes (equal_pair K.cmp V.eq (joined self.old.nodes) key.now value.now)) ≤ 3 }
         ensures size { self.new.size ≡ self.old.size }
         ensures spaced { IsSpaced (self.old.size / 2) self.old.nodes → IsSpaced (self.new.size / 2) self.new.nodes }
         ensures next { OnOk result (self.new.next ≡ self.old.next + length (pair_removal_events K.cmp self.old.size self.old.nodes (equal_pair K.cmp V.eq (joined self.old.nodes) key.now value.now))) }
         ensures pair_next { self.new.pair_next ≡ self.old.pair_next }
         ensures fits { OnOk result (self.old.next + length (pair_removal_events K.cmp self.old.size self.old.nodes (equal_pair K.cmp V.eq (joined self.old.nodes) key.now value.now)) ≤ u64.MAX) }
         ensures refusal { IfErr result (λ e. e ≡ refusal_for self.old.next (length (pair_removal_events K.cmp self.old.size self.old.nodes (equal_pair K.cmp V.eq (joined self.old.nodes) key.now value.now)))) }
+        ensures no_event { pair_removal_events K.cmp self.old.size self.old.nodes (equal_pair K.cmp V.eq (joined self.old.nodes) key.now value.now) ≡ [] → IsOk result }
         ensures no_memory { length (pair_removal_events K.cmp self.old.size self.old.nodes (equal_pair K.cmp V.eq (joined self.old.nodes) key.now value.now)) ≤ 1 → self.old.next + length (pair_removal_events K.cmp self.old.size self.old.nodes (equal_pair K.cmp V.eq (joined self.old.nodes) key.now value.now)) ≤ u64.MAX → IsOk result }
+        ensures never { Node.allocates ≡ false → self.old.next + length (pair_removal_events K.cmp self.old.size self.old.nodes (equal_pair K.cmp V.eq (joined self.old.nodes) key.now value.now)) ≤ u64.MAX → IsOk result }
         ensures unchanged { OnErr result (self.new ≡ self.old) }
     {
         let place = self.equal_place(key, value);
@@ -175,13 +181,16 @@ impl<K: Ord + Clone + Drop, V: Eq + Clone + Drop, Node: NodeLike<MultiPair<K, V>
         ensures answer { IfOk result (λ entry. entry ≡ option_map entry_of (item_at self.old.nodes place)) }
         ensures contents { OnOk result (joined self.new.nodes ≡ without_pair K.cmp (joined self.old.nodes) (item_at self.old.nodes place)) }
         ensures replay { OnOk result (replay (by_number K.cmp) self.old.nodes (numbered_from self.old.next (pair_removal_events K.cmp self.old.size self.old.nodes (item_at self.old.nodes place))) ≡ Some self.new.nodes) }
+        ensures few { length (pair_removal_events K.cmp self.old.size self.old.nodes (item_at self.old.nodes place)) ≤ 3 }
         ensures size { self.new.size ≡ self.old.size }
         ensures spaced { IsSpaced (self.old.size / 2) self.old.nodes → IsSpaced (self.new.size / 2) self.new.nodes }
         ensures next { OnOk result (self.new.next ≡ self.old.next + length (pair_removal_events K.cmp self.old.size self.old.nodes (item_at self.old.nodes place))) }
         ensures pair_next { self.new.pair_next ≡ self.old.pair_next }
         ensures fits { OnOk result (self.old.next + length (pair_removal_events K.cmp self.old.size self.old.nodes (item_at self.old.nodes place)) ≤ u64.MAX) }
         ensures refusal { IfErr result (λ e. e ≡ refusal_for self.old.next (length (pair_removal_events K.cmp self.old.size self.old.nodes (item_at self.old.nodes place)))) }
+        ensures no_event { pair_removal_events K.cmp self.old.size self.old.nodes (item_at self.old.nodes place) ≡ [] → IsOk result }
         ensures no_memory { length (pair_removal_events K.cmp self.old.size self.old.nodes (item_at self.old.nodes place)) ≤ 1 → self.old.next + length (pair_removal_events K.cmp self.old.size self.old.nodes (item_at self.old.nodes place)) ≤ u64.MAX → IsOk result }
+        ensures never { Node.allocates ≡ false → self.old.next + length (pair_removal_events K.cmp self.old.size self.old.nodes (item_at self.old.nodes place)) ≤ u64.MAX → IsOk result }
         ensures unchanged { OnErr result (self.new ≡ self.old) }
     {
         // A set says here what it is.

@@ -1,7 +1,8 @@
-use Rattle.std.proofs.Common.{rules, ◌≡◌, IfErr, subst, ap, arith}
+use Rattle.std.proofs.Common.{rules, ◌≡◌, IfErr, subst, ap, length, arith}
 use Rattle.std.proofs.lemmas.Bool.{false≢true}
 use Rattle.indexset_log.proofs.CallerLemmas.{some_taken}
-use Rattle.indexset_multi.proofs.Takes.{taken, taken_count}
+use Rattle.indexset_multi.specs.Places.{item_at}
+use Rattle.indexset_multi.proofs.Takes.{pair_removal_few, taken, taken_count}
 use Rattle.indexset_multi.proofs.multimap.BTreeMultiMap.take.Goals as goal
 
 pub returns-in_err-pair-in-Some-clause-refusal : goal.returns-in_err-pair-in-Some-clause-refusal
@@ -47,3 +48,23 @@ returns-in_err-pair-in-Some-clause-no_memory g c =
     let next : c.self.inside.set.next ≡ c.args.self.now.next = ap (λ m. m.next) c.self.view_is in
     let some = some_taken c.self.inside.set.size c.self.inside.set.nodes c.in-Some.node c.in-Some.offset in
     λ few fits. absurd (false≢true (c.in_err-pair-in-Some.ensures.no_memory (omega (arith, count, few, some)) (omega (arith, count, fits, some, next))))
+
+pub returns-in_err-pair-in-Some-clause-few : goal.returns-in_err-pair-in-Some-clause-few
+returns-in_err-pair-in-Some-clause-few g c = pair_removal_few g.K.Ord.cmp c.args.self.now.size c.args.self.now.nodes (item_at c.args.self.now.nodes c.args.place)
+
+pub returns-in_ok-pair-in-Some-clause-few : goal.returns-in_ok-pair-in-Some-clause-few
+returns-in_ok-pair-in-Some-clause-few g c = pair_removal_few g.K.Ord.cmp c.args.self.now.size c.args.self.now.nodes (item_at c.args.self.now.nodes c.args.place)
+
+pub returns-in-None-clause-few : goal.returns-in-None-clause-few
+returns-in-None-clause-few g c = pair_removal_few g.K.Ord.cmp c.args.self.now.size c.args.self.now.nodes (item_at c.args.self.now.nodes c.args.place)
+
+pub returns-in_err-pair-in-Some-clause-no_event : goal.returns-in_err-pair-in-Some-clause-no_event
+returns-in_err-pair-in-Some-clause-no_event g c =
+    let count = taken_count g.K.Ord.cmp g.met.K.Ord.total c.self.view_is c.node_count-nodes.ensures.lawful c.in-Some.is c.requires in
+    λ none. absurd (omega (arith, count, some_taken c.self.inside.set.size c.self.inside.set.nodes c.in-Some.node c.in-Some.offset, ap (λ l. length l) none))
+
+pub returns-in_err-pair-in-Some-clause-never : goal.returns-in_err-pair-in-Some-clause-never
+returns-in_err-pair-in-Some-clause-never g c =
+    let count = taken_count g.K.Ord.cmp g.met.K.Ord.total c.self.view_is c.node_count-nodes.ensures.lawful c.in-Some.is c.requires in
+    let next : c.self.inside.set.next ≡ c.args.self.now.next = ap (λ m. m.next) c.self.view_is in
+    λ free fits. absurd (false≢true (c.in_err-pair-in-Some.ensures.never free (omega (arith, count, fits, next))))
