@@ -1,24 +1,24 @@
 -- Where a value stands in the nodes of a replica.
-use Rattle.std.proofs.Common.{◌≡◌, ℕ, zero, suc, ◌+◌, ◌-◌, ◌<◌, ◌≤◌, Bool, true, false, not, ◌&&◌, ◌||◌, List, [], ◌∷◌, ◌++◌, length, map, get_or, slice_get, take, drop, insert, Result, Ok, Err, IfOk, IfErr, is_ok, Option, Some, None, Ordering, All, inl, inr, refl, ap, sym, ◌∙◌, subst, arith, append_assoc, length-append}
+use Rattle.std.proofs.Common.{◌≡◌, ℕ, zero, suc, ◌+◌, ◌-◌, ◌<◌, ◌≤◌, Bool, true, false, not, ◌||◌, List, [], ◌∷◌, ◌++◌, length, map, get_or, slice_get, take, drop, insert, Result, Ok, Err, IfOk, IfErr, is_ok, Option, Some, None, Ordering, All, inl, inr, refl, ap, sym, ◌∙◌, subst, arith, append_assoc, length-append}
 use Rattle.std.specs.Borrow.{Bor}
 use Rattle.std.specs.Cmp.{IsTotalOrder}
-use Rattle.std.specs.List.{position, position_or_len, splice, take-map}
+use Rattle.std.specs.List.{position_or_len, splice, take-map}
 use Rattle.std.specs.List.Sorted.{IsPartitionedBy, IsPartitionPoint}
 use Rattle.std.specs.Option.{option_copied, option_map_or, option_or}
 use Rattle.std.specs.Ordering.{is_lt, is_eq}
-use Rattle.std.specs.declared.cmp.Ordering.TheVariants.{Less, Equal, Greater}
+use Rattle.std.specs.declared.cmp.Ordering.TheVariants.{Less}
 use Rattle.std.proofs.lemmas.Bool.{false≢true, and_from, and_parts, cases_lt, le-ltb, not-true, not-false}
 use Rattle.std.proofs.lemmas.List.{append-nil, get_or_past, take-append-drop, get_or-map, length-map, nil_from_length}
 use Rattle.std.proofs.lemmas.Option.{slice_get-map, slice_get_within}
-use Rattle.std.proofs.lemmas.List.Sums.{fails_before_first, passes_at_first, position_or_len_is}
+use Rattle.std.proofs.lemmas.List.Sums.{fails_before_first, position_or_len_is}
 use Rattle.std.proofs.Math.Bool.{or-false}
 use Rattle.std.proofs.Math.Seq.{drop-append_seam, get_or-append_seam, get_or-append_right}
-use Rattle.indexset_core.specs.Nodes.{joined, node_at, node_lengths, IsNodeList}
-use Rattle.indexset_core.specs.Order.{IsAscending, IsFoundAt, IsGapFor, has_equal}
+use Rattle.indexset_core.specs.Nodes.{joined, node_at, node_lengths}
+use Rattle.indexset_core.specs.Order.{IsFoundAt, IsGapFor, has_equal}
 use Rattle.indexset_core.proofs.CallerLemmas.{found_has_equal, gap_has_equal, joined-append, joined-splice, joined_around, less_from, slice_get-right}
 use Rattle.indexset_log.specs.Nodes.{is_filled, last_of, is_ascending}
 use Rattle.indexset_log.specs.Replay.{has_name, node_named, reaches}
-use Rattle.indexset_log.proofs.CallerLemmas.{Ruled, Each, Up, ascends, at_place, each-append, each-left, each-map, each-right, each_all, each_last, filled_length, greater, last_some, node_is, length_filled, not_reaching, over_rest, place_none, position_at, reached, reaching, true_up, unnamed, up-between, up-left, up-right, up_put, up_true, upto_last, nodes_each}
+use Rattle.indexset_log.proofs.CallerLemmas.{Ruled, Each, Up, at_place, each-append, each-left, each-map, each-right, each_all, each_last, greater, last_some, node_is, length_filled, not_reaching, over_rest, place_none, position_at, reached, reaching, true_up, unnamed, up-between, up-left, up-right, up_put, up_true, upto_last, nodes_each}
 use Rattle.indexset_replica.specs.Replica.{first_item, is_between, last_item}
 
 pub filled_each : {T : Type 0} (ns : List (List T)) → All (λ n. 1 ≤ n) (node_lengths ns) → Each (λ n. is_filled n ≡ true) ns

@@ -1,23 +1,23 @@
 -- An event that fits is a step, and the other way round.
-use Rattle.std.proofs.Common.{◌≡◌, ◌≢◌, ◌==◌, ◌↔◌, is_some, ℕ, suc, ◌+◌, ◌-◌, ◌<◌, ◌≤◌, ◌||◌, Bool, true, false, not, if◌then◌else◌, ◌&&◌, List, [], ◌∷◌, ◌++◌, length, get_or, slice_get, take, drop, insert, remove, nat_lt, nat_le, ltb, leb, eqb, Option, Some, None, Ordering, option_and_then, refl, ap, sym, ◌∙◌, subst, arith, inl, inr}
+use Rattle.std.proofs.Common.{◌≡◌, ◌≢◌, ◌==◌, ◌↔◌, is_some, ℕ, ◌+◌, ◌<◌, ◌≤◌, ◌||◌, Bool, true, false, not, if◌then◌else◌, ◌&&◌, List, [], ◌∷◌, ◌++◌, length, get_or, slice_get, take, drop, insert, remove, nat_lt, nat_le, ltb, leb, Option, Some, None, Ordering, option_and_then, refl, ap, sym, ◌∙◌, subst, arith}
 use Rattle.std.below.core.specs.declared.int.u64.TheConstants.{MAX}
 use Rattle.std.specs.Cmp.{IsTotalOrder}
 use Rattle.std.specs.List.{position_or_len, splice}
 use Rattle.std.specs.Option.{option_map, option_map_or}
 use Rattle.std.specs.Ordering.{is_eq}
-use Rattle.std.proofs.lemmas.Bool.{false≢true, and_parts, cases_Bool, eqb-true, leb-true, ltb-true, le-ltb, lt-leb, eq-eqb, le-leb, lt-ltb, ne_eqb, not-false, ltb-false, leb-false, eqb-false, or_parts}
+use Rattle.std.proofs.lemmas.Bool.{false≢true, and_parts, eqb-true, leb-true, ltb-true, le-ltb, lt-leb, eq-eqb, le-leb, lt-ltb, ne_eqb, not-false, ltb-false, leb-false, eqb-false, or_parts}
 use Rattle.std.proofs.lemmas.List.{take-append-drop, length-append, length-take, length-drop}
 use Rattle.std.proofs.lemmas.Option.{slice_get-get_or}
 use Rattle.indexset_core.specs.Nodes.{joined, node_at}
 use Rattle.indexset_core.specs.declared.refusal.Refusal.{Refusal}
 use Rattle.indexset_core.specs.declared.refusal.Refusal.TheVariants.{BadSplit, Gap, IndexOutside, NoSuchNode, NotNeighbours, Numbers, OutOfOrder, ValueDiffers, WouldBeEmpty}
 use Rattle.indexset_log.specs.Joining.{with_joined}
-use Rattle.indexset_log.specs.Nodes.{is_filled, last_of, is_ascending, are_nodes}
+use Rattle.indexset_log.specs.Nodes.{is_filled, is_ascending, are_nodes}
 use Rattle.indexset_log.specs.Replay.{at_named, edit, event_number, node_named, reaches, step, step_plain, unassigned}
 use Rattle.indexset_log.specs.declared.change.ChangeEvent.{ChangeEvent}
 use Rattle.indexset_log.specs.declared.change.ChangeEventUnassigned.{ChangeEventUnassigned}
 use Rattle.indexset_log.specs.declared.change.ChangeEventUnassigned.TheVariants.{InsertAt, RemoveAt, CreateNode, RemoveNode, SplitNode, MergeNodes}
-use Rattle.indexset_log.proofs.CallerLemmas.{At, Ruled, Each, Up, at_ruled, at_pair, at_place, ruled_at, each-append, each-left, each-right, edit_step, filled-append, joined_seam, length_filled, merge_step, remove_at, remove_node_step, remove_step, splice_at, split_step, tested_ruled, true_up, up_true}
+use Rattle.indexset_log.proofs.CallerLemmas.{At, Ruled, Each, at_ruled, at_pair, at_place, ruled_at, each-append, each-left, each-right, edit_step, filled-append, joined_seam, length_filled, merge_step, remove_at, remove_node_step, remove_step, splice_at, split_step, tested_ruled, true_up, up_true}
 use Rattle.indexset_replica.proofs.ReplicaEdits.{named_inside}
 use Rattle.indexset_replica.specs.Replica.{IsEdit, apply_refusal, disorder, in_named, misfit}
 

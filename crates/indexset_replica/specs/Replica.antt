@@ -1,15 +1,14 @@
 -- What fits a replica.
-use Rattle.std.specs.Prelude.{◌≡◌, Option, Some, None, ℕ, ◌+◌, ◌-◌, Bool, true, ◌==◌, ◌&&◌, ◌||◌, not, if◌then◌else◌, nat_lt, nat_le, List, length, get_or, insert, slice_get, unwrap_or}
+use Rattle.std.specs.Prelude.{◌≡◌, Option, Some, None, ℕ, ◌+◌, ◌-◌, Bool, true, ◌==◌, ◌&&◌, ◌||◌, not, if◌then◌else◌, nat_lt, nat_le, List, length, get_or, slice_get}
 use Rattle.std.below.core.specs.declared.int.u64.TheConstants.{MAX}
-use Rattle.std.specs.List.{position_or_len}
 use Rattle.std.specs.Option.{option_map_or}
 use Rattle.std.specs.Ordering.{is_lt, is_eq}
 use Rattle.std.specs.declared.cmp.Ordering.{Ordering}
 use Rattle.indexset_core.specs.Nodes.{joined, node_at}
 use Rattle.indexset_core.specs.declared.refusal.Refusal.{Refusal}
-use Rattle.indexset_core.specs.declared.refusal.Refusal.TheVariants.{Memory, Numbers, Empty, Unsorted, Overlaps, Gap, NoSuchNode, IndexOutside, ValueDiffers, WouldBeEmpty, OutOfOrder, BadSplit, NotNeighbours}
-use Rattle.indexset_log.specs.Nodes.{is_filled, is_ascending}
-use Rattle.indexset_log.specs.Replay.{edit, event_number, node_named, reaches, unassigned}
+use Rattle.indexset_core.specs.declared.refusal.Refusal.TheVariants.{Numbers, Gap, NoSuchNode, IndexOutside, ValueDiffers, WouldBeEmpty, OutOfOrder, BadSplit, NotNeighbours}
+use Rattle.indexset_log.specs.Nodes.{is_ascending}
+use Rattle.indexset_log.specs.Replay.{edit, event_number, node_named, unassigned}
 use Rattle.indexset_log.specs.declared.change.ChangeEvent.{ChangeEvent}
 use Rattle.indexset_log.specs.declared.change.ChangeEventUnassigned.{ChangeEventUnassigned}
 use Rattle.indexset_log.specs.declared.change.ChangeEventUnassigned.TheVariants.{InsertAt, RemoveAt, CreateNode, RemoveNode, SplitNode, MergeNodes}

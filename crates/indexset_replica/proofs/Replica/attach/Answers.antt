@@ -1,6 +1,4 @@
 use Rattle.std.proofs.Common.{refl, ap}
-use Rattle.indexset_core.specs.Nodes.{IsNodeList}
-use Rattle.indexset_log.specs.Attach.{attach_index, attached}
 use Rattle.indexset_log.proofs.CallerLemmas.{map_insert}
 use Rattle.indexset_replica.proofs.Replica.attach.Goals as goal
 use Rattle.indexset_replica.proofs.Replica.attach.Goals.{in-Ok-insert, in-Err-insert}

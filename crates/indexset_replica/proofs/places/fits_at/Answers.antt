@@ -1,4 +1,4 @@
-use Rattle.std.proofs.Common.{◌≡◌, length, map, refl, arith, sym, ◌∙◌}
+use Rattle.std.proofs.Common.{map, refl, arith, sym, ◌∙◌}
 use Rattle.std.proofs.lemmas.List.{length-map, take_rest}
 use Rattle.indexset_log.proofs.CallerLemmas.{nodes_ruled, node_is}
 use Rattle.indexset_replica.proofs.ReplicaNodes.{copied-or, fits_node}
