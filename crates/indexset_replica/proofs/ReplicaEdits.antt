@@ -15,7 +15,7 @@ use Rattle.indexset_log.specs.declared.change.ChangeEventUnassigned.TheVariants.
 use Rattle.indexset_log.proofs.CallerLemmas.{node_is}
 use Rattle.indexset_replica.specs.Replica.{IsEdit, misfit}
 
-some_inj : {X : Type 0} {x y : X} → Some x ≡ Some y → x ≡ y
+pub some_inj : {X : Type 0} {x y : X} → Some x ≡ Some y → x ≡ y
 some_inj e = cc
 
 ne_eq : (a : Ordering) → is_eq a ≡ not (is_ne a)

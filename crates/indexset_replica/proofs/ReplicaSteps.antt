@@ -18,7 +18,7 @@ use Rattle.indexset_log.specs.declared.change.ChangeEvent.{ChangeEvent}
 use Rattle.indexset_log.specs.declared.change.ChangeEventUnassigned.{ChangeEventUnassigned}
 use Rattle.indexset_log.specs.declared.change.ChangeEventUnassigned.TheVariants.{InsertAt, RemoveAt, CreateNode, RemoveNode, SplitNode, MergeNodes}
 use Rattle.indexset_log.proofs.CallerLemmas.{At, Ruled, Each, at_ruled, at_pair, at_place, ruled_at, each-append, each-left, each-right, edit_step, filled-append, joined_seam, length_filled, merge_step, remove_at, remove_node_step, remove_step, splice_at, split_step, tested_ruled, true_up, up_true}
-use Rattle.indexset_replica.proofs.ReplicaEdits.{named_inside}
+use Rattle.indexset_replica.proofs.ReplicaEdits.{named_inside, some_inj}
 use Rattle.indexset_replica.specs.Replica.{IsEdit, apply_refusal, disorder, in_named, misfit}
 
 -- ---- values of a chain
@@ -28,9 +28,6 @@ none_some e = absurd (cc)
 
 some_none : {X P : Type 0} {x : X} → Some x ≡ None → P
 some_none e = absurd (cc)
-
-some_inj : {X : Type 0} {x y : X} → Some x ≡ Some y → x ≡ y
-some_inj e = cc
 
 then_some : {X Y : Type 0} (o : Option X) (f : X → Option Y) (y : Y) → option_and_then f o ≡ Some y → (x : X) × (o ≡ Some x) × (f x ≡ Some y)
 then_some None f y e = none_some e
