@@ -44,7 +44,7 @@ module _ {X : Type 0} (p q : X → Bool) where
 any_here : {X : Type 0} (p : X → Bool) (l : List X) (i : ℕ) (x : X) → slice_get l i ≡ Some x → p x ≡ true → list_any p l ≡ true
 any_here p l i x here holds = list_any_at p l i x (slice_get_within l i x here) (ap p (get_or_from_slice_get l i x x here) ∙ holds)
 
-below_less : (m n : ℕ) → m < n → nat_cmp m n ≡ Less
+pub below_less : (m n : ℕ) → m < n → nat_cmp m n ≡ Less
 below_less m n lt = grind (arith, nat_tests)
 
 module _ {K : Type 0} (cmp : K → K → Ordering) (o : IsTotalOrder cmp) where

@@ -1,5 +1,5 @@
 -- Lists of numbered pairs, by key.
-use Rattle.std.specs.Prelude.{ℕ, ◌<◌, Bool, List, Option, filter, find, map}
+use Rattle.std.specs.Prelude.{ℕ, ◌<◌, Bool, List, [], ◌∷◌, if◌then◌else◌, Option, filter, find, map}
 use Rattle.std.specs.Borrow.{Bor}
 use Rattle.std.specs.List.{All, list_any}
 use Rattle.std.specs.Option.{option_map, option_map_or}
@@ -11,6 +11,11 @@ use Rattle.indexset_core.specs.declared.pair.Pair.{Pair}
 use Rattle.indexset_core.specs.Bounds.{is_within}
 use Rattle.indexset_core.specs.MultiPairs.{by_number, numbered_pair, unnumbered}
 use Rattle.indexset_core.specs.Order.{without}
+
+-- the items without the first that passes
+abbrev pub without_first : {X : Type 0} → (X → Bool) → List X → List X
+without_first test [] = []
+without_first test (x ∷ l) = if test x then l else x ∷ without_first test l
 
 module _ {K V : Type 0} where
   -- the key and the value

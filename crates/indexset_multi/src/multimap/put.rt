@@ -1,14 +1,15 @@
 //! Calls that put pairs in.
-ghost use Rattle.std.specs.Prelude.{◌≡◌, ◌+◌, ◌/◌, ◌≤◌, true, false, length, Some, IfOk, OnOk, IfErr, OnErr};
+ghost use Rattle.std.specs.Prelude.{◌≡◌, ◌+◌, ◌/◌, ◌≤◌, [], ◌∷◌, ◌++◌, true, false, length, Some, IfOk, OnOk, IfErr, OnErr};
 ghost use Rattle.std.specs.Option.{option_map};
+ghost use Rattle.std.specs.Ordering.{is_eq};
 ghost use Rattle.indexset_core.specs.MultiPairs.{by_number};
-ghost use Rattle.indexset_core.specs.Nodes.{joined};
+ghost use Rattle.indexset_core.specs.Nodes.{joined, IsLawful};
 ghost use Rattle.indexset_core.specs.Order.{equal_element, put};
 ghost use Rattle.indexset_log.specs.Edits.{with_put};
 ghost use Rattle.indexset_log.specs.Joining.{IsSpaced};
 ghost use Rattle.indexset_log.specs.Replay.{replay, numbered_from, IsNumberedFrom};
-ghost use Rattle.indexset_multi.specs.Keys.{AreNumberedBelow, equal_pair, kept_number};
-ghost use Rattle.indexset_multi.specs.Tree.{insertion_events, insertion_refusal, inserted_pair, lacks_number, pair_next_after};
+ghost use Rattle.indexset_multi.specs.Keys.{AreNumberedBelow, equal_pair, kept_number, pairs_of};
+ghost use Rattle.indexset_multi.specs.Tree.{insertion_events, insertion_refusal, inserted_pair, lacks_number, pair_next_after, takes_number};
 
 use super::BTreeMultiMap;
 use indexset_core::multipair::MultiPair;
@@ -35,6 +36,9 @@ impl<K: Ord + Clone + Drop, V: Eq + Clone + Drop, Node: NodeLike<MultiPair<K, V>
         requires values { (x y : V) → V.is_clone x y → y ≡ x }
         ensures answer { IfOk result (λ r. r.0 ≡ option_map (λ p. p.value) (equal_pair K.cmp V.eq (joined self.old.nodes) key value)) }
         ensures contents { OnOk result (joined self.new.nodes ≡ put (by_number K.cmp) (joined self.old.nodes) (inserted_pair K.cmp V.eq self.old key value)) }
+        ensures there { OnOk result (equal_pair K.cmp V.eq (joined self.new.nodes) key value ≡ Some (inserted_pair K.cmp V.eq self.old key value)) }
+        ensures last { OnOk result (takes_number K.cmp V.eq self.old key value ≡ true → pairs_of K.cmp (joined self.new.nodes) key ≡ pairs_of K.cmp (joined self.old.nodes) key ++ inserted_pair K.cmp V.eq self.old key value ∷ []) }
+        ensures others { OnOk result ((other : K) → is_eq (K.cmp other key) ≡ false → pairs_of K.cmp (joined self.new.nodes) other ≡ pairs_of K.cmp (joined self.old.nodes) other) }
         ensures nodes { OnOk result (self.new.nodes ≡ with_put (by_number K.cmp) self.old.size self.old.nodes (inserted_pair K.cmp V.eq self.old key value)) }
         ensures events { IfOk result (λ r. r.1.items ≡ numbered_from self.old.next (insertion_events K.cmp V.eq self.old key value)) }
         ensures numbered { IfOk result (λ r. IsNumberedFrom self.old.next r.1.items) }
@@ -61,6 +65,9 @@ impl<K: Ord + Clone + Drop, V: Eq + Clone + Drop, Node: NodeLike<MultiPair<K, V>
     pub fn insert(&mut self, key: K, value: V) -> Result<Option<V>, Refused<(K, V)>>
         ensures answer { IfOk result (λ old. old ≡ option_map (λ p. p.value) (equal_pair K.cmp V.eq (joined self.old.nodes) key value)) }
         ensures contents { OnOk result (joined self.new.nodes ≡ put (by_number K.cmp) (joined self.old.nodes) (inserted_pair K.cmp V.eq self.old key value)) }
+        ensures there { OnOk result (equal_pair K.cmp V.eq (joined self.new.nodes) key value ≡ Some (inserted_pair K.cmp V.eq self.old key value)) }
+        ensures last { OnOk result (takes_number K.cmp V.eq self.old key value ≡ true → pairs_of K.cmp (joined self.new.nodes) key ≡ pairs_of K.cmp (joined self.old.nodes) key ++ inserted_pair K.cmp V.eq self.old key value ∷ []) }
+        ensures others { OnOk result ((other : K) → is_eq (K.cmp other key) ≡ false → pairs_of K.cmp (joined self.new.nodes) other ≡ pairs_of K.cmp (joined self.old.nodes) other) }
         ensures nodes { OnOk result (self.new.nodes ≡ with_put (by_number K.cmp) self.old.size self.old.nodes (inserted_pair K.cmp V.eq self.old key value)) }
         ensures replay { OnOk result (replay (by_number K.cmp) self.old.nodes (numbered_from self.old.next (insertion_events K.cmp V.eq self.old key value)) ≡ Some self.new.nodes) }
         ensures few { length (insertion_events K.cmp V.eq self.old key value) ≤ 3 }
@@ -85,6 +92,8 @@ impl<K: Ord + Clone + Drop, V: Eq + Clone + Drop, Node: NodeLike<MultiPair<K, V>
         ensures pair { IfOk result (λ r. r.0 ≡ inserted_pair K.cmp V.eq self.now key value) }
         ensures pair_next { IfOk result (λ r. r.1 ≡ pair_next_after K.cmp V.eq self.now key value) }
         ensures numbers { IfOk result (λ r. AreNumberedBelow r.1 (put (by_number K.cmp) (joined self.now.nodes) r.0)) }
+        ensures lawful { IsLawful (by_number K.cmp) self.now.size self.now.nodes }
+        ensures below { AreNumberedBelow self.now.pair_next (joined self.now.nodes) }
         ensures replaced { IfOk result (λ r. equal_element (by_number K.cmp) (joined self.now.nodes) r.0 ≡ equal_pair K.cmp V.eq (joined self.now.nodes) key value) }
         ensures number_left { OnOk result (lacks_number K.cmp V.eq self.now key value ≡ false) }
         ensures refusal { OnErr result (lacks_number K.cmp V.eq self.now key value ≡ true) }

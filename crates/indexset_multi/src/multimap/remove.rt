@@ -1,12 +1,13 @@
 //! Calls that take pairs out.
-ghost use Rattle.std.specs.Prelude.{◌≡◌, ◌+◌, ◌/◌, ◌<◌, ◌≤◌, [], length, false, Some, IfOk, OnOk, IfErr, OnErr, IsOk};
+ghost use Rattle.std.specs.Prelude.{◌≡◌, ◌+◌, ◌/◌, ◌<◌, ◌≤◌, [], drop, length, false, Some, IfOk, OnOk, IfErr, OnErr, IsOk};
 ghost use Rattle.std.specs.Option.{option_map};
+ghost use Rattle.std.specs.Ordering.{is_eq};
 ghost use Rattle.indexset_core.specs.MultiPairs.{by_number};
-ghost use Rattle.indexset_core.specs.Nodes.{joined};
+ghost use Rattle.indexset_core.specs.Nodes.{joined, IsLawful};
 ghost use Rattle.indexset_log.specs.Joining.{IsSpaced};
 ghost use Rattle.indexset_log.specs.Replay.{replay, numbered_from, IsNumberedFrom};
 ghost use Rattle.indexset_log.specs.Tree.{refusal_for};
-ghost use Rattle.indexset_multi.specs.Keys.{entry_of, equal_pair, first_pair, without_pair};
+ghost use Rattle.indexset_multi.specs.Keys.{entry_of, equal_pair, first_pair, pairs_of, without_first, without_pair};
 ghost use Rattle.indexset_multi.specs.Places.{item_at, IsItemPlace};
 ghost use Rattle.indexset_multi.specs.Tree.{pair_removal_events};
 
@@ -31,6 +32,8 @@ impl<K: Ord + Clone + Drop, V: Eq + Clone + Drop, Node: NodeLike<MultiPair<K, V>
         requires values { (x y : V) → V.is_clone x y → y ≡ x }
         ensures answer { IfOk result (λ r. r.0 ≡ option_map entry_of (first_pair K.cmp (joined self.old.nodes) key.now)) }
         ensures contents { OnOk result (joined self.new.nodes ≡ without_pair K.cmp (joined self.old.nodes) (first_pair K.cmp (joined self.old.nodes) key.now)) }
+        ensures gone { OnOk result (pairs_of K.cmp (joined self.new.nodes) key.now ≡ drop 1 (pairs_of K.cmp (joined self.old.nodes) key.now)) }
+        ensures others { OnOk result ((other : K) → is_eq (K.cmp other key.now) ≡ false → pairs_of K.cmp (joined self.new.nodes) other ≡ pairs_of K.cmp (joined self.old.nodes) other) }
         ensures events { IfOk result (λ r. r.1.items ≡ numbered_from self.old.next (pair_removal_events K.cmp self.old.size self.old.nodes (first_pair K.cmp (joined self.old.nodes) key.now))) }
         ensures numbered { IfOk result (λ r. IsNumberedFrom self.old.next r.1.items) }
         ensures replay { IfOk result (λ r. replay (by_number K.cmp) self.old.nodes r.1.items ≡ Some self.new.nodes) }
@@ -53,6 +56,8 @@ impl<K: Ord + Clone + Drop, V: Eq + Clone + Drop, Node: NodeLike<MultiPair<K, V>
     pub fn remove_some(&mut self, key: &K) -> Result<Option<(K, V)>, Refusal>
         ensures answer { IfOk result (λ entry. entry ≡ option_map entry_of (first_pair K.cmp (joined self.old.nodes) key.now)) }
         ensures contents { OnOk result (joined self.new.nodes ≡ without_pair K.cmp (joined self.old.nodes) (first_pair K.cmp (joined self.old.nodes) key.now)) }
+        ensures gone { OnOk result (pairs_of K.cmp (joined self.new.nodes) key.now ≡ drop 1 (pairs_of K.cmp (joined self.old.nodes) key.now)) }
+        ensures others { OnOk result ((other : K) → is_eq (K.cmp other key.now) ≡ false → pairs_of K.cmp (joined self.new.nodes) other ≡ pairs_of K.cmp (joined self.old.nodes) other) }
         ensures replay { OnOk result (replay (by_number K.cmp) self.old.nodes (numbered_from self.old.next (pair_removal_events K.cmp self.old.size self.old.nodes (first_pair K.cmp (joined self.old.nodes) key.now))) ≡ Some self.new.nodes) }
         ensures few { length (pair_removal_events K.cmp self.old.size self.old.nodes (first_pair K.cmp (joined self.old.nodes) key.now)) ≤ 3 }
         ensures size { self.new.size ≡ self.old.size }
@@ -81,6 +86,8 @@ impl<K: Ord + Clone + Drop, V: Eq + Clone + Drop, Node: NodeLike<MultiPair<K, V>
         requires values { (x y : V) → V.is_clone x y → y ≡ x }
         ensures answer { IfOk result (λ r. r.0 ≡ option_map entry_of (equal_pair K.cmp V.eq (joined self.old.nodes) key.now value.now)) }
         ensures contents { OnOk result (joined self.new.nodes ≡ without_pair K.cmp (joined self.old.nodes) (equal_pair K.cmp V.eq (joined self.old.nodes) key.now value.now)) }
+        ensures gone { OnOk result (pairs_of K.cmp (joined self.new.nodes) key.now ≡ without_first (λ p. V.eq p.value value.now) (pairs_of K.cmp (joined self.old.nodes) key.now)) }
+        ensures others { OnOk result ((other : K) → is_eq (K.cmp other key.now) ≡ false → pairs_of K.cmp (joined self.new.nodes) other ≡ pairs_of K.cmp (joined self.old.nodes) other) }
         ensures events { IfOk result (λ r. r.1.items ≡ numbered_from self.old.next (pair_removal_events K.cmp self.old.size self.old.nodes (equal_pair K.cmp V.eq (joined self.old.nodes) key.now value.now))) }
         ensures numbered { IfOk result (λ r. IsNumberedFrom self.old.next r.1.items) }
         ensures replay { IfOk result (λ r. replay (by_number K.cmp) self.old.nodes r.1.items ≡ Some self.new.nodes) }
@@ -103,6 +110,8 @@ impl<K: Ord + Clone + Drop, V: Eq + Clone + Drop, Node: NodeLike<MultiPair<K, V>
     pub fn remove(&mut self, key: &K, value: &V) -> Result<Option<(K, V)>, Refusal>
         ensures answer { IfOk result (λ entry. entry ≡ option_map entry_of (equal_pair K.cmp V.eq (joined self.old.nodes) key.now value.now)) }
         ensures contents { OnOk result (joined self.new.nodes ≡ without_pair K.cmp (joined self.old.nodes) (equal_pair K.cmp V.eq (joined self.old.nodes) key.now value.now)) }
+        ensures gone { OnOk result (pairs_of K.cmp (joined self.new.nodes) key.now ≡ without_first (λ p. V.eq p.value value.now) (pairs_of K.cmp (joined self.old.nodes) key.now)) }
+        ensures others { OnOk result ((other : K) → is_eq (K.cmp other key.now) ≡ false → pairs_of K.cmp (joined self.new.nodes) other ≡ pairs_of K.cmp (joined self.old.nodes) other) }
         ensures replay { OnOk result (replay (by_number K.cmp) self.old.nodes (numbered_from self.old.next (pair_removal_events K.cmp self.old.size self.old.nodes (equal_pair K.cmp V.eq (joined self.old.nodes) key.now value.now))) ≡ Some self.new.nodes) }
         ensures few { length (pair_removal_events K.cmp self.old.size self.old.nodes (equal_pair K.cmp V.eq (joined self.old.nodes) key.now value.now)) ≤ 3 }
         ensures size { self.new.size ≡ self.old.size }
@@ -149,6 +158,7 @@ impl<K: Ord + Clone + Drop, V: Eq + Clone + Drop, Node: NodeLike<MultiPair<K, V>
         requires place { IsItemPlace self.old.nodes place }
         ensures answer { IfOk result (λ r. r.0 ≡ option_map entry_of (item_at self.old.nodes place)) }
         ensures contents { OnOk result (joined self.new.nodes ≡ without_pair K.cmp (joined self.old.nodes) (item_at self.old.nodes place)) }
+        ensures lawful { IsLawful (by_number K.cmp) self.old.size self.old.nodes }
         ensures events { IfOk result (λ r. r.1.items ≡ numbered_from self.old.next (pair_removal_events K.cmp self.old.size self.old.nodes (item_at self.old.nodes place))) }
         ensures numbered { IfOk result (λ r. IsNumberedFrom self.old.next r.1.items) }
         ensures replay { IfOk result (λ r. replay (by_number K.cmp) self.old.nodes r.1.items ≡ Some self.new.nodes) }
@@ -180,6 +190,7 @@ impl<K: Ord + Clone + Drop, V: Eq + Clone + Drop, Node: NodeLike<MultiPair<K, V>
         requires { IsItemPlace self.old.nodes place }
         ensures answer { IfOk result (λ entry. entry ≡ option_map entry_of (item_at self.old.nodes place)) }
         ensures contents { OnOk result (joined self.new.nodes ≡ without_pair K.cmp (joined self.old.nodes) (item_at self.old.nodes place)) }
+        ensures lawful { IsLawful (by_number K.cmp) self.old.size self.old.nodes }
         ensures replay { OnOk result (replay (by_number K.cmp) self.old.nodes (numbered_from self.old.next (pair_removal_events K.cmp self.old.size self.old.nodes (item_at self.old.nodes place))) ≡ Some self.new.nodes) }
         ensures few { length (pair_removal_events K.cmp self.old.size self.old.nodes (item_at self.old.nodes place)) ≤ 3 }
         ensures size { self.new.size ≡ self.old.size }

@@ -1,6 +1,10 @@
-use Rattle.std.proofs.Common.{◌≡◌, ap, subst, sym, arith}
+use Rattle.std.proofs.Common.{◌≡◌, ◌/◌, ap, subst, sym, arith}
 use Rattle.std.proofs.lemmas.Grind.{common_steps}
+use Rattle.indexset_core.specs.MultiPairs.{by_number}
+use Rattle.indexset_log.specs.Joining.{IsSpaced}
+use Rattle.indexset_log.proofs.CallerLemmas.{lawful_ascends}
 use Rattle.indexset_multi.specs.Keys.{AreNumberedBelow}
+use Rattle.indexset_multi.proofs.Lists.{inserted_last, inserted_others, inserted_there}
 use Rattle.indexset_multi.proofs.multimap.BTreeMultiMap.insert_cdc.Goals as goal
 
 pub returns-in_err-old-clause-refusal : goal.returns-in_err-old-clause-refusal
@@ -30,3 +34,29 @@ returns-clause-next g c =
     let size : c.self.inside.set.size ≡ c.args.self.now.size = ap (λ t. t.size) c.self.view_is in
     let next : c.self.inside.set.next ≡ c.args.self.now.next = ap (λ t. t.next) c.self.view_is in
     rw (c.in_ok-pair.ensures.pair, same, size, next) at c.in_ok-old.ensures.next
+
+pub returns-clause-there : goal.returns-clause-there
+returns-clause-there g c =
+    let m = c.args.self.now in
+    let same : c.self.inside.set.nodes ≡ m.nodes = ap (λ t. t.nodes) c.self.view_is in
+    let made = rw (c.in_ok-pair.ensures.pair, same) at c.in_ok-old.ensures.contents in
+    rw made (inserted_there g.K.Ord.cmp g.met.K.Ord.total g.V.PartialEq.eq m c.args.key c.args.value g.met.V.Eq.laws.refl (lawful_ascends (by_number g.K.Ord.cmp) m.size m.nodes c.in_ok-pair.ensures.lawful))
+
+pub returns-clause-last : goal.returns-clause-last
+returns-clause-last g c =
+    let m = c.args.self.now in
+    let same : c.self.inside.set.nodes ≡ m.nodes = ap (λ t. t.nodes) c.self.view_is in
+    let made = rw (c.in_ok-pair.ensures.pair, same) at c.in_ok-old.ensures.contents in
+    rw made (inserted_last g.K.Ord.cmp g.met.K.Ord.total g.V.PartialEq.eq m c.args.key c.args.value c.in_ok-pair.ensures.below)
+
+pub returns-clause-others : goal.returns-clause-others
+returns-clause-others g c =
+    let m = c.args.self.now in
+    let same : c.self.inside.set.nodes ≡ m.nodes = ap (λ t. t.nodes) c.self.view_is in
+    let made = rw (c.in_ok-pair.ensures.pair, same) at c.in_ok-old.ensures.contents in
+    rw made (inserted_others g.K.Ord.cmp g.met.K.Ord.total g.V.PartialEq.eq m c.args.key c.args.value (lawful_ascends (by_number g.K.Ord.cmp) m.size m.nodes c.in_ok-pair.ensures.lawful))
+
+pub returns-clause-spaced : goal.returns-clause-spaced
+returns-clause-spaced g c =
+    let after = c.put_cdc.new.self in
+    subst (λ m. IsSpaced (m.size / 2) m.nodes → IsSpaced (after.size / 2) after.nodes) c.self.view_is c.in_ok-old.ensures.spaced

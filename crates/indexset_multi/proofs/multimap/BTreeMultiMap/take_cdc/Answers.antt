@@ -1,5 +1,6 @@
 use Rattle.std.proofs.Common.{rules, Some, ◌≡◌, ◌/◌, IfErr, subst, ◌∙◌, ap, length, arith}
 use Rattle.indexset_core.specs.MultiPairs.{by_number}
+use Rattle.indexset_core.specs.Nodes.{IsLawful}
 use Rattle.indexset_log.specs.Joining.{IsSpaced}
 use Rattle.indexset_log.specs.Replay.{replay}
 use Rattle.indexset_log.proofs.CallerLemmas.{some_taken}
@@ -62,3 +63,9 @@ pub returns-in_ok-pair-in-Some-clause-spaced : goal.returns-in_ok-pair-in-Some-c
 returns-in_ok-pair-in-Some-clause-spaced g c =
     let after = c.remove_at_cdc.new.self in
     subst (λ m. IsSpaced (m.size / 2) m.nodes → IsSpaced (after.size / 2) after.nodes) c.self.view_is c.in_ok-pair-in-Some.ensures.spaced
+
+pub returns-in_ok-pair-in-Some-clause-lawful : goal.returns-in_ok-pair-in-Some-clause-lawful
+returns-in_ok-pair-in-Some-clause-lawful g c = subst (λ m. IsLawful (by_number g.K.Ord.cmp) m.size m.nodes) c.self.view_is c.node_count-nodes.ensures.lawful
+
+pub returns-in-None-clause-lawful : goal.returns-in-None-clause-lawful
+returns-in-None-clause-lawful g c = subst (λ m. IsLawful (by_number g.K.Ord.cmp) m.size m.nodes) c.self.view_is c.node_count-nodes.ensures.lawful
