@@ -1,7 +1,9 @@
 //! Calls that change many elements of a set at once.
-ghost use Rattle.std.specs.Prelude.{◌≡◌, ◌<◌, ◌≤◌, ◌↔◌, ◌++◌, IsTrue, take, [], IfOk, OnOk, IfErr, OnErr, IfSome, length, drop, slice_get};
+ghost use Rattle.std.specs.Prelude.{◌≡◌, ◌<◌, ◌≤◌, ◌↔◌, ◌++◌, true, false, IsTrue, take, [], IfOk, OnOk, IfErr, OnErr, IfSome, length, drop, slice_get};
 ghost use Rattle.std.specs.Fn.{CalledAt};
+ghost use Rattle.std.specs.List.{All};
 ghost use Rattle.std.specs.List.Retain.{IsFiltered};
+ghost use Rattle.std.specs.Ordering.{is_lt};
 ghost use Rattle.indexset_spine.specs.Cut.{items};
 ghost use Rattle.indexset_core.specs.Order.{IsAscending, below, put};
 ghost use Rattle.indexset_set.specs.SetAlgebra.{put_all, MovesSome};
@@ -34,6 +36,8 @@ impl<T: Ord + Drop> BTreeSet<T> {
     pub fn split_off(&mut self, value: &T) -> Result<Self, Refusal>
         ensures below { OnOk result (items self.new ≡ below T.cmp (items self.old) value.now) }
         ensures rest { IfOk result (λ s. items s ≡ not_below T.cmp (items self.old) value.now) }
+        ensures all_below { OnOk result (All (λ x. is_lt (T.cmp x value.now) ≡ true) (items self.new)) }
+        ensures all_from { IfOk result (λ s. All (λ x. is_lt (T.cmp x value.now) ≡ false) (items s)) }
         ensures size { self.new.size ≡ self.old.size }
         ensures rest_size { IfOk result (λ s. s.size ≡ self.old.size) }
         ensures refusal { IfErr result (λ e. e ≡ Refusal.Memory) }

@@ -1,5 +1,5 @@
 //! Calls that go by position: the element there, and the element there taken out.
-ghost use Rattle.std.specs.Prelude.{◌≡◌, ◌-◌, ◌<◌, ◌++◌, [], Some, IfSome, MatchOption, length, take, drop, remove, slice_get};
+ghost use Rattle.std.specs.Prelude.{◌≡◌, ◌-◌, ◌<◌, ◌↔◌, ◌++◌, [], Some, IsSome, IfSome, MatchOption, length, take, drop, remove, slice_get};
 ghost use Rattle.std.specs.Option.{option_copied, option_to_list};
 ghost use Rattle.indexset_core.specs.Order.{above, below};
 ghost use Rattle.indexset_spine.specs.Cut.{items};
@@ -19,6 +19,7 @@ impl<T: Ord> BTreeSet<T> {
     /// The least element, where there is one.
     pub fn first(&self) -> Option<&T>
         ensures element { option_copied result ≡ slice_get (items self.now) 0 }
+        ensures variant { IsSome result ↔ (0 < length (items self.now)) }
         ensures least { IfSome result (λ least. below T.cmp (items self.now) least.now ≡ []) }
     {
         self.spine.iter().next()
@@ -27,6 +28,7 @@ impl<T: Ord> BTreeSet<T> {
     /// The greatest element, where there is one.
     pub fn last(&self) -> Option<&T>
         ensures element { option_copied result ≡ slice_get (items self.now) (length (items self.now) - 1) }
+        ensures variant { IsSome result ↔ (0 < length (items self.now)) }
         ensures greatest { IfSome result (λ greatest. above T.cmp (items self.now) greatest.now ≡ []) }
     {
         self.spine.iter().next_back()

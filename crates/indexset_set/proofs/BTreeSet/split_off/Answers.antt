@@ -1,5 +1,7 @@
-use Rattle.std.proofs.Common.{◌∙◌}
-use Rattle.indexset_set.proofs.SetBulkLemmas.{take_below, drop_not_below}
+use Rattle.std.proofs.Common.{◌≡◌, ◌∙◌, false, subst, sym, true}
+use Rattle.std.specs.List.{All}
+use Rattle.std.specs.Ordering.{is_lt}
+use Rattle.indexset_set.proofs.SetBulkLemmas.{below_all, drop_not_below, not_below_all, take_below}
 use Rattle.indexset_set.proofs.BTreeSet.split_off.Goals as goal
 
 pub returns-clause-below : goal.returns-clause-below
@@ -9,3 +11,11 @@ returns-clause-below g c =
 pub returns-clause-rest : goal.returns-clause-rest
 returns-clause-rest g c =
     rw (← c.self.view_is) (c.in_ok-spine.ensures.right ∙ drop_not_below g.T.Ord.cmp g.met.T.Ord.total _ c.self.invariant _ _ c.locate-spot.ensures.position)
+
+pub returns-clause-all_below : goal.returns-clause-all_below
+returns-clause-all_below g c =
+    subst (All (λ x. is_lt (g.T.Ord.cmp x c.args.value.now) ≡ true)) (sym (returns-clause-below g c)) (below_all g.T.Ord.cmp _ c.args.value.now)
+
+pub returns-clause-all_from : goal.returns-clause-all_from
+returns-clause-all_from g c =
+    subst (All (λ x. is_lt (g.T.Ord.cmp x c.args.value.now) ≡ false)) (sym (returns-clause-rest g c)) (not_below_all g.T.Ord.cmp _ c.args.value.now)
