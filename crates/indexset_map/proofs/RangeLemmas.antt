@@ -1,11 +1,13 @@
 -- The pairs of a list, cut where a key would go.
-use Rattle.std.proofs.Common.{◌≡◌, ℕ, List, [], ◌∷◌, take, drop, Ordering, refl}
+use Rattle.std.proofs.Common.{◌≡◌, ◌∙◌, ℕ, Bool, true, false, not, cond, List, [], ◌∷◌, take, drop, filter, Ordering, refl, ap, sym, subst}
 use Rattle.std.specs.Cmp.{IsTotalOrder}
+use Rattle.std.specs.List.{All}
+use Rattle.std.specs.Ordering.{is_lt}
 use Rattle.indexset_core.specs.declared.pair.Pair.{Pair}
 use Rattle.indexset_core.specs.Order.{IsAscending}
-use Rattle.indexset_core.specs.Pairs.{pair, by_key, key_rank, pairs_below, pairs_from}
+use Rattle.indexset_core.specs.Pairs.{pair, by_key, key_rank, pair_keys, pairs_below, pairs_from}
 use Rattle.indexset_core.proofs.CallerLemmas.{pairs_total}
-use Rattle.indexset_set.proofs.CallerLemmas.{take_below, drop_not_below}
+use Rattle.indexset_set.proofs.CallerLemmas.{below_all, drop_not_below, not_below_all, take_below}
 
 module _ {K V : Type 0} (cmp : K → K → Ordering) (o : IsTotalOrder cmp) where
   -- the pairs, cut where the key would go
@@ -21,3 +23,25 @@ module _ {K V : Type 0} (cmp : K → K → Ordering) (o : IsTotalOrder cmp) wher
       from : (l : List (Pair K V)) → IsAscending (by_key cmp) l → i ≡ key_rank cmp l k → drop i l ≡ pairs_from cmp l k
       from [] up place = rw place refl
       from (p ∷ l) up place = drop_not_below (by_key cmp) (pairs_total cmp o) (p ∷ l) up (pair k p.value) i place
+
+-- the keys of the pairs whose keys pass a test
+module _ {K V : Type 0} (p : K → Bool) where
+  key_passing : (b : Bool) (q : Pair K V) (l : List (Pair K V)) (m : List K) → pair_keys l ≡ m → pair_keys (cond b (q ∷ l) l) ≡ cond b (q.key ∷ m) m
+  key_passing true q l m is = ap (λ t. q.key ∷ t) is
+  key_passing false q l m is = is
+
+  keys_passing : (l : List (Pair K V)) → pair_keys (filter (λ q. p q.key) l) ≡ filter p (pair_keys l)
+  keys_passing [] = refl
+  keys_passing (q ∷ l) = key_passing (p q.key) q (filter (λ q. p q.key) l) (filter p (pair_keys l)) (keys_passing l)
+
+  -- no key passes where no pair's does
+  pub no_keys_passing : (l : List (Pair K V)) → filter (λ q. p q.key) l ≡ [] → filter p (pair_keys l) ≡ []
+  no_keys_passing l none = sym (keys_passing l) ∙ ap pair_keys none
+
+-- what each key is on either side of the cut
+module _ {K V : Type 0} (cmp : K → K → Ordering) (l m : List (Pair K V)) (k : K) where
+  pub keys_all_below : m ≡ pairs_below cmp l k → All (λ x. is_lt (cmp x k) ≡ true) (pair_keys m)
+  keys_all_below is = subst (All (λ x. is_lt (cmp x k) ≡ true)) (sym (ap pair_keys is ∙ keys_passing (λ x. is_lt (cmp x k)) l)) (below_all cmp (pair_keys l) k)
+
+  pub keys_all_from : m ≡ pairs_from cmp l k → All (λ x. is_lt (cmp x k) ≡ false) (pair_keys m)
+  keys_all_from is = subst (All (λ x. is_lt (cmp x k) ≡ false)) (sym (ap pair_keys is ∙ keys_passing (λ x. not (is_lt (cmp x k))) l)) (not_below_all cmp (pair_keys l) k)

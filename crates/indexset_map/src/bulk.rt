@@ -1,6 +1,8 @@
 //! Calls that move many pairs at once.
-ghost use Rattle.std.specs.Prelude.{◌≡◌, ◌<◌, [], IfOk, OnOk, IfErr, OnErr, length};
-ghost use Rattle.indexset_core.specs.Pairs.{by_key, pairs_below, pairs_from};
+ghost use Rattle.std.specs.Prelude.{◌≡◌, ◌<◌, [], true, false, IfOk, OnOk, IfErr, OnErr, length};
+ghost use Rattle.std.specs.List.{All};
+ghost use Rattle.std.specs.Ordering.{is_lt};
+ghost use Rattle.indexset_core.specs.Pairs.{by_key, pair_keys, pairs_below, pairs_from};
 ghost use Rattle.indexset_set.specs.SetAlgebra.{put_all, MovesSome};
 
 use super::BTreeMap;
@@ -12,6 +14,8 @@ impl<K: Ord + Drop, V: Drop> BTreeMap<K, V> {
     pub fn split_off(&mut self, key: &K) -> Result<Self, Refusal>
         ensures below { OnOk result (self.new.pairs ≡ pairs_below K.cmp self.old.pairs key.now) }
         ensures rest { IfOk result (λ m. m.pairs ≡ pairs_from K.cmp self.old.pairs key.now) }
+        ensures all_below { OnOk result (All (λ k. is_lt (K.cmp k key.now) ≡ true) (pair_keys self.new.pairs)) }
+        ensures all_from { IfOk result (λ m. All (λ k. is_lt (K.cmp k key.now) ≡ false) (pair_keys m.pairs)) }
         ensures size { self.new.size ≡ self.old.size }
         ensures rest_size { IfOk result (λ m. m.size ≡ self.old.size) }
         ensures refusal { IfErr result (λ e. e ≡ Refusal.Memory) }

@@ -6,6 +6,7 @@ use Rattle.std.specs.List.{All, AllPairs, fold, items_where_true}
 use Rattle.std.specs.List.Retain.{RetainsInTurn, IsFiltered}
 use Rattle.std.specs.Ordering.{is_lt}
 use Rattle.std.proofs.lemmas.List.{take-append-drop}
+use Rattle.std.proofs.lemmas.List.Elements.{filter_passes}
 use Rattle.std.proofs.lemmas.List.Kept.{AllPairs-cons}
 use Rattle.std.proofs.lemmas.List.Sums.{fold-append}
 use Rattle.indexset_core.specs.Order.{IsAscending, below, rank, put}
@@ -110,15 +111,6 @@ module _ {T : Type 0} (cmp : T → T → Ordering) where
   cut_parts o l up v =
       let i = rank cmp l v in
       rw (sym (take_below cmp o l up v i refl), sym (drop_not_below cmp o l up v i refl)) (take-append-drop i l)
-
-  kept : (p : T → Bool) (b : Bool) (x : T) (l : List T) → p x ≡ b → All (λ y. p y ≡ true) l → All (λ y. p y ≡ true) (cond b (x ∷ l) l)
-  kept p true x l e h zero d lt = e
-  kept p true x l e h (suc k) d lt = h k d (omega arith)
-  kept p false x l e h k d lt = h k d lt
-
-  filter_passes : (p : T → Bool) (l : List T) → All (λ x. p x ≡ true) (filter p l)
-  filter_passes p [] = λ k d lt. absurd (omega arith)
-  filter_passes p (x ∷ xs) = kept p (p x) x (filter p xs) refl (filter_passes p xs)
 
   pub below_all : (l : List T) (v : T) → All (λ x. is_lt (cmp x v) ≡ true) (below cmp l v)
   below_all l v = filter_passes (λ x. is_lt (cmp x v)) l

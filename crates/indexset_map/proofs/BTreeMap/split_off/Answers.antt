@@ -1,6 +1,6 @@
 use Rattle.std.proofs.Common.{take, drop, ap, ◌∙◌}
 use Rattle.indexset_map.specs.Contents.{Contents}
-use Rattle.indexset_map.proofs.RangeLemmas.{cut_below, cut_from}
+use Rattle.indexset_map.proofs.RangeLemmas.{cut_below, cut_from, keys_all_below, keys_all_from}
 use Rattle.indexset_map.proofs.BTreeMap.split_off.Goals as goal
 
 pub returns-clause-below : goal.returns-clause-below
@@ -10,3 +10,9 @@ returns-clause-below g c =
 pub returns-clause-rest : goal.returns-clause-rest
 returns-clause-rest g c =
     (c.in_ok-set.ensures {u = tt}).rest ∙ (ap (λ (m : Contents g.row.K.Denot g.row.V.Denot). drop c.rank-place.result m.pairs) c.self.view_is ∙ cut_from g.K.Ord.cmp g.met.K.Ord.total c.args.self.now.pairs c.len-len.ensures.ascending c.args.key.now _ c.rank-place.ensures)
+
+pub returns-clause-all_below : goal.returns-clause-all_below
+returns-clause-all_below g c = keys_all_below g.K.Ord.cmp _ _ c.args.key.now (returns-clause-below g c)
+
+pub returns-clause-all_from : goal.returns-clause-all_from
+returns-clause-all_from g c = keys_all_from g.K.Ord.cmp _ _ c.args.key.now (returns-clause-rest g c)

@@ -1,0 +1,8 @@
+use Rattle.std.specs.Ordering.{is_gt}
+use Rattle.indexset_spine.specs.Cut.{items}
+use Rattle.indexset_map.proofs.RangeLemmas.{no_keys_passing}
+use Rattle.indexset_map.proofs.BTreeMap.last_key_value.Goals as goal
+
+pub returns-clause-greatest : goal.returns-clause-greatest
+returns-clause-greatest g c =
+    rw (← c.self.view_is) (no_keys_passing (λ x. is_gt (g.K.Ord.cmp x _)) (items c.self.inside.set) (c.in_ok-pair.ensures {u = tt}).greatest)
