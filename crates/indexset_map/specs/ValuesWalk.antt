@@ -1,6 +1,6 @@
 -- A walk that lends one value a call, without its key.
 use Rattle.std.specs.Prelude.{[], Option}
-use Rattle.std.specs.Borrow.{Fml, RattleType, MutBor, LendsIf}
+use Rattle.std.specs.Borrow.{Fml, RattleType, MutBor, Lends, LendsIf}
 use Rattle.std.specs.declared.cmp.Ord as ord
 use Rattle.std.specs.declared.cmp.PartialEq as eq
 use Rattle.std.specs.declared.cmp.PartialOrd as partial
@@ -20,10 +20,17 @@ module _ {K V : Type 0} {g : ord.Ghosts K} {g' : eq.Ghosts K} {g'' : partial.Gho
   values_of s = record { map = s.map; front = s.front; back = s.back; within = s.within }
 
 module _ (K V : RattleType) {g : ord.Ghosts K.Denot} {g' : eq.Ghosts K.Denot} {g'' : partial.Ghosts K.Denot} (s : MutBor (ValuesMut K.Denot V.Denot g g' g'')) where
-  -- once the borrow r ends, the walk is past its first value, which is the last one written through r; at `None` it stays
-  abbrev pub lends_next_value : Option (MutBor V.Denot) → Fml
-  lends_next_value r = LendsIf (the_row (record { mir = named 1; lft = [] }) K V g g' g'' (record {})) V s r (λ w. values_of (after_first (values_walk s.now) w)) s.now
+  -- once the borrow r ends, the walk is past its first value, which is the last one written through r
+  abbrev pub lends_next_value : MutBor V.Denot → Fml
+  lends_next_value r = Lends (the_row (record { mir = named 1; lft = [] }) K V g g' g'' (record {})) V s r (λ w. values_of (after_first (values_walk s.now) w))
+
+  -- the same where there may be one, and at `None` the walk stays
+  abbrev pub lends_next_value_if : Option (MutBor V.Denot) → Fml
+  lends_next_value_if r = LendsIf (the_row (record { mir = named 1; lft = [] }) K V g g' g'' (record {})) V s r (λ w. values_of (after_first (values_walk s.now) w)) s.now
 
   -- the same at the last value
-  abbrev pub lends_next_value_back : Option (MutBor V.Denot) → Fml
-  lends_next_value_back r = LendsIf (the_row (record { mir = named 1; lft = [] }) K V g g' g'' (record {})) V s r (λ w. values_of (before_last (values_walk s.now) w)) s.now
+  abbrev pub lends_next_value_back : MutBor V.Denot → Fml
+  lends_next_value_back r = Lends (the_row (record { mir = named 1; lft = [] }) K V g g' g'' (record {})) V s r (λ w. values_of (before_last (values_walk s.now) w))
+
+  abbrev pub lends_next_value_back_if : Option (MutBor V.Denot) → Fml
+  lends_next_value_back_if r = LendsIf (the_row (record { mir = named 1; lft = [] }) K V g g' g'' (record {})) V s r (λ w. values_of (before_last (values_walk s.now) w)) s.now

@@ -1,5 +1,5 @@
 //! A walk that lends the values of a map one at a time, without their keys.
-ghost use Rattle.std.specs.Prelude.{◌≡◌, ◌-◌, ◌<◌, ◌≤◌, Some, length, slice_get, MatchOption};
+ghost use Rattle.std.specs.Prelude.{◌≡◌, ◌-◌, ◌<◌, ◌≤◌, Some, length, nat_lt, slice_get, MatchOption};
 ghost use Rattle.std.specs.Borrow.{sem};
 ghost use Rattle.std.specs.Option.{option_map};
 
@@ -42,18 +42,31 @@ impl<K: Ord, V> BTreeMap<K, V> {
 }
 
 impl<'a, K: Ord, V> ValuesMut<'a, K, V> {
-    ghost use Rattle.indexset_map.specs.Walk.{walk_back, walk_front, walk_map};
-    ghost use Rattle.indexset_map.specs.ValuesWalk.{lends_next_value, lends_next_value_back, values_walk};
+    ghost use Rattle.indexset_map.specs.Walk.{walk_back, walk_front, walk_map, walk_rest};
+    ghost use Rattle.indexset_map.specs.ValuesWalk.{lends_next_value, lends_next_value_back, lends_next_value_back_if, lends_next_value_if, values_walk};
+
+    /// How many values are left.
+    pub fn len(&self) -> usize
+        ensures value { result ≡ length (walk_rest (values_walk self.now)) }
+        ensures places { result ≡ walk_back (values_walk self.now) - walk_front (values_walk self.now) }
+    {
+        self.back.saturating_sub(self.front)
+    }
+
+    /// Whether a value is left.
+    pub fn has_next(&self) -> bool
+        ensures { result ≡ nat_lt (walk_front (values_walk self.now)) (walk_back (values_walk self.now)) }
+    {
+        self.front < self.back
+    }
 
     /// The next value, to write, where one is left.
     pub fn next(&mut self) -> Option<&mut V>
-        ensures* writes_back { sem 𝓛 (lends_next_value K.row V.row self.entry result) }
+        ensures* writes_back { sem 𝓛 (lends_next_value_if K.row V.row self.entry result) }
         ensures value { let s = values_walk self.old in MatchOption result (walk_back s ≤ walk_front s) (λ r. (walk_front s < walk_back s) × (option_map (λ p. p.value) (slice_get (walk_map s).now.pairs (walk_front s)) ≡ Some r.now)) }
     {
         if self.front < self.back {
-            let i = self.front;
-            self.front = i + 1;
-            Some(self.map.value_at_mut(i))
+            Some(self.next_value())
         } else {
             None
         }
@@ -61,15 +74,35 @@ impl<'a, K: Ord, V> ValuesMut<'a, K, V> {
 
     /// The last value that is left, to write.
     pub fn next_back(&mut self) -> Option<&mut V>
-        ensures* writes_back { sem 𝓛 (lends_next_value_back K.row V.row self.entry result) }
+        ensures* writes_back { sem 𝓛 (lends_next_value_back_if K.row V.row self.entry result) }
         ensures value { let s = values_walk self.old in MatchOption result (walk_back s ≤ walk_front s) (λ r. (walk_front s < walk_back s) × (option_map (λ p. p.value) (slice_get (walk_map s).now.pairs (walk_back s - 1)) ≡ Some r.now)) }
     {
         if self.front < self.back {
-            let i = self.back - 1;
-            self.back = i;
-            Some(self.map.value_at_mut(i))
+            Some(self.next_value_back())
         } else {
             None
         }
+    }
+
+    /// The next value, to write.
+    pub fn next_value(&mut self) -> &mut V
+        requires { let s = values_walk self.old in walk_front s < walk_back s }
+        ensures* writes_back { sem 𝓛 (lends_next_value K.row V.row self.entry result) }
+        ensures value { let s = values_walk self.old in option_map (λ p. p.value) (slice_get (walk_map s).now.pairs (walk_front s)) ≡ Some result.now }
+    {
+        let i = self.front;
+        self.front = i + 1;
+        self.map.value_at_mut(i)
+    }
+
+    /// The last value that is left, to write.
+    pub fn next_value_back(&mut self) -> &mut V
+        requires { let s = values_walk self.old in walk_front s < walk_back s }
+        ensures* writes_back { sem 𝓛 (lends_next_value_back K.row V.row self.entry result) }
+        ensures value { let s = values_walk self.old in option_map (λ p. p.value) (slice_get (walk_map s).now.pairs (walk_back s - 1)) ≡ Some result.now }
+    {
+        let i = self.back - 1;
+        self.back = i;
+        self.map.value_at_mut(i)
     }
 }
