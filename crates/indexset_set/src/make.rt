@@ -68,6 +68,7 @@ impl<T: Ord + Drop> BTreeSet<T> {
     }
 
     /// The same elements in the same nodes, each element cloned. A refused call changes nothing.
+    /// Unlike `Clone::clone`, it keeps the nodes, for clones that are identical to their elements.
     pub fn clone(&self) -> Result<Self, Refusal>
     where
         T: Clone,
