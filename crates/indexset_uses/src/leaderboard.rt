@@ -1,5 +1,6 @@
 //! A leaderboard: scores with their ranks.
-ghost use Rattle.std.specs.Prelude.{◌≡◌, ◌+◌, ◌-◌, true, [], length, slice_get, IfOk, IfSome};
+ghost use Rattle.std.specs.Prelude.{◌≡◌, ◌+◌, ◌-◌, ◌<◌, ◌≤◌, true, [], length, slice_get, IfOk, OnOk, IfSome};
+ghost use Rattle.std.specs.List.{All};
 ghost use Rattle.std.specs.Option.{option_copied};
 ghost use Rattle.std.specs.Ordering.{nat_cmp};
 ghost use Rattle.indexset.specs.Words.{above, items, rank};
@@ -28,4 +29,12 @@ pub fn scores_from(board: &BTreeSet<u64>, score: u64) -> usize
     ensures { result + rank nat_cmp (items board.now) score ≡ length (items board.now) }
 {
     board.len() - board.rank(&score)
+}
+
+/// Takes the scores from one on off the board, and returns them.
+pub fn take_from(board: &mut BTreeSet<u64>, score: u64) -> Result<BTreeSet<u64>, Refusal>
+    ensures left { OnOk result (All (λ x. x < score) (items board.new)) }
+    ensures taken { IfOk result (λ taken. All (λ x. score ≤ x) (items taken)) }
+{
+    board.split_off(&score)
 }

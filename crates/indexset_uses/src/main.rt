@@ -32,6 +32,10 @@ fn show_leaderboard(rt: &HostRuntime) -> Result<()> {
         listing::page(rt.alloc(), &board, 2, 2)?
     )?;
     println!(rt; "pages: {}", listing::page_count(&board, 2))?;
+    println!(rt;
+        "taken from 35: {:?}",
+        leaderboard::take_from(&mut board, 35)?
+    )?;
     Ok(())
 }
 
