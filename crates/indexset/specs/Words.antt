@@ -6,7 +6,7 @@ pub use Rattle.indexset_core.specs.Digits.{digits}
 pub use Rattle.indexset_core.specs.Pairs.{by_key, entry_of, has_key, key_rank, pair, pair_keys, pair_of, pair_values, pairs_within, put_value, set_value, value_of, without_key}
 pub use Rattle.indexset_set.specs.SetAlgebra.{difference, intersection, symmetric_difference, union, put_all}
 pub use Rattle.indexset_set.specs.SetRanges.{not_below}
-pub use Rattle.indexset_map.specs.Contents.{with_pairs, with_put, without_pair, without_at}
+pub use Rattle.indexset_map.specs.Contents.{with_entry, with_pairs, without_at, without_entry}
 pub use Rattle.indexset_map.specs.Walk.{HasWritten, walk_back, walk_front, written}
 pub use Rattle.indexset_core.specs.Nodes.{joined}
 pub use Rattle.indexset_log.specs.Tree.{Tree}

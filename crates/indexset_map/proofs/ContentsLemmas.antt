@@ -16,7 +16,7 @@ use Rattle.indexset_core.specs.Pairs.{pair, valued, by_key, set_value_at, has_ke
 use Rattle.indexset_set.specs.SetPairs as cut
 use Rattle.indexset_core.proofs.CallerLemmas.{gap_put, is_some-find}
 use Rattle.indexset_set.proofs.CallerLemmas.{items-with_value_at, size-with_value_at}
-use Rattle.indexset_map.specs.Contents.{Contents, contents, with_value_at}
+use Rattle.indexset_map.specs.Contents.{Contents, contents, with_written}
 use Rattle.indexset_spine.proofs.CallerLemmas.{node_lengths-set_joined}
 
 module _ {K V : Type 0} where
@@ -27,8 +27,8 @@ module _ {K V : Type 0} where
   ]
 
   -- a write in the set is one in the map
-  pub contents_written : (s : Cut (Pair K V)) (m : Contents K V) (i : ℕ) (w : V) → contents s ≡ m → contents (cut.with_value_at s i w) ≡ with_value_at m i w
-  contents_written s m i w e = (λ j. record { pairs = items-with_value_at s i w j; lengths = node_lengths-with_value_at s i w j; size = size-with_value_at s i w j }) ∙ ap (λ (n : Contents K V). with_value_at n i w) e
+  pub contents_written : (s : Cut (Pair K V)) (m : Contents K V) (i : ℕ) (w : V) → contents s ≡ m → contents (cut.with_value_at s i w) ≡ with_written m i w
+  contents_written s m i w e = (λ j. record { pairs = items-with_value_at s i w j; lengths = node_lengths-with_value_at s i w j; size = size-with_value_at s i w j }) ∙ ap (λ (n : Contents K V). with_written n i w) e
 
   pub set_cons : (q : Pair K V) (l : List (Pair K V)) (j : ℕ) (w : V) → q ∷ set_value_at l j w ≡ set_value_at (q ∷ l) (suc j) w
   set_cons q l j w = elim (slice_get l j) as (λ o. q ∷ option_map_or (λ p. slice_set l j (valued p w)) o l ≡ option_map_or (λ p. slice_set (q ∷ l) (suc j) (valued p w)) o (q ∷ l)) [

@@ -9,7 +9,7 @@ use Rattle.indexset_spine.specs.Cut.{Cut, IsCut, items, with_inserted}
 use Rattle.indexset_core.specs.Order.{IsAscending, has_equal, keep, put}
 use Rattle.indexset_core.specs.Pairs.{pair, by_key, has_key, key_rank, put_value, without_key}
 use Rattle.indexset_core.proofs.CallerLemmas.{found_rank, found_without, parted_by_key, key_there, key_found, key_inside, key_written, absent_without, without-pair}
-use Rattle.indexset_map.specs.Contents.{Contents, contents, with_put, with_value_at, without_at, without_pair}
+use Rattle.indexset_map.specs.Contents.{Contents, contents, with_entry, with_written, without_at, without_entry}
 use Rattle.indexset_spine.specs.Lengths.{lengths_with, lengths_without}
 use Rattle.indexset_map.proofs.ContentsLemmas.{put_new, put_there}
 use Rattle.indexset_map.proofs.LengthLemmas.{node_lengths-put}
@@ -41,15 +41,15 @@ module _ {K V : Type 0} (cmp : K → K → Ordering) where
   -- what an insert into the set does to the map
   pub contents_put : (s t : Cut (Pair K V)) (m : Contents K V) (k : K) (v : V) → contents s ≡ m → has_key cmp m.pairs k ≡ false
       → items t ≡ keep (by_key cmp) (items s) (pair k v) → t.nodes ≡ nodes_kept (by_key cmp) s (pair k v) → t.size ≡ s.size
-      → IsTotalOrder (by_key {V = V} cmp) → IsAscending (by_key cmp) (items s) → IsCut (node_lengths s.nodes) s.size → contents t ≡ with_put cmp m k v
+      → IsTotalOrder (by_key {V = V} cmp) → IsAscending (by_key cmp) (items s) → IsCut (node_lengths s.nodes) s.size → contents t ≡ with_entry cmp m k v
   contents_put s t m k v e h is nodes size total up cut =
       let none : has_key cmp (items s) k ≡ false = ap (λ (n : Contents K V). has_key cmp n.pairs k) e ∙ h in
       let new : items t ≡ put_value cmp (items s) k v = is ∙ (keep_new (items s) (pair k v) none ∙ sym (put_new cmp (items s) k none v)) in
       let lengths : node_lengths t.nodes ≡ lengths_with s.size (node_lengths s.nodes) (key_rank cmp (items s) k)
       = ap node_lengths nodes ∙ (ap node_lengths (nodes_new s (pair k v) none) ∙ node_lengths-put (by_key cmp) s.size s.nodes (pair k v) total up cut) in
       let chosen = lengths ∙ sym (ap (λ (b : Bool). if b then node_lengths s.nodes else lengths_with s.size (node_lengths s.nodes) (key_rank cmp (items s) k)) none) in
-      let same : contents t ≡ with_put cmp (contents s) k v = λ j. record { pairs = new j; lengths = chosen j; size = size j } in
-      same ∙ ap (λ (n : Contents K V). with_put cmp n k v) e
+      let same : contents t ≡ with_entry cmp (contents s) k v = λ j. record { pairs = new j; lengths = chosen j; size = size j } in
+      same ∙ ap (λ (n : Contents K V). with_entry cmp n k v) e
 
 -- what is taken out of the set is taken out of the map
 pub contents_removed : {K V : Type 0} (s t : Cut (Pair K V)) (m : Contents K V) (i : ℕ) → contents s ≡ m → items t ≡ remove (items s) i
@@ -64,7 +64,7 @@ module _ {K V : Type 0} (cmp : K → K → Ordering) (m : Contents K V) (k : K) 
     there : has_key cmp m.pairs k ≡ true
     there = key_there cmp m.pairs k i h
 
-    pub put_found : (w : V) → with_value_at m i w ≡ with_put cmp m k w
+    pub put_found : (w : V) → with_written m i w ≡ with_entry cmp m k w
     put_found w =
         let pairs = key_written cmp m.pairs k i h w ∙ sym (put_there cmp m.pairs k there w) in
         let lengths = ap (λ (b : Bool). if b then m.lengths else lengths_with m.size m.lengths (key_rank cmp m.pairs k)) there in
@@ -77,13 +77,13 @@ module _ {K V : Type 0} (cmp : K → K → Ordering) (m : Contents K V) (k : K) 
           let w = (get_or_inside m.pairs i (key_inside cmp m.pairs k i h)).value in
           found_rank (by_key cmp) m.pairs (pair k w) i (key_found cmp m.pairs k i h parted w) parted
 
-      pub without_found : without_at m i ≡ without_pair cmp m k
+      pub without_found : without_at m i ≡ without_entry cmp m k
       without_found =
           let pairs = key_taken cmp m.pairs k total up i h in
           let lengths = ap (λ (b : Bool). if b then lengths_without m.lengths (key_rank cmp m.pairs k) else m.lengths) there ∙ ap (lengths_without m.lengths) key_place in
           λ j. record { pairs = pairs j; lengths = sym lengths j; size = m.size }
 
-  pub without_absent : has_key cmp m.pairs k ≡ false → without_pair cmp m k ≡ m
+  pub without_absent : has_key cmp m.pairs k ≡ false → without_entry cmp m k ≡ m
   without_absent h =
       let pairs = absent_without cmp m.pairs k h in
       let lengths = ap (λ (b : Bool). if b then lengths_without m.lengths (key_rank cmp m.pairs k) else m.lengths) h in

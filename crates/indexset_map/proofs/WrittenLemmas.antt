@@ -8,7 +8,7 @@ use Rattle.std.specs.declared.cmp.PartialOrd as partial
 use Rattle.indexset_core.specs.declared.pair.Pair.{Pair}
 use Rattle.indexset_core.specs.Pairs.{pair, entry_of, set_value_at, valued}
 use Rattle.indexset_map.specs.declared.iter_mut.IterMut.{IterMut}
-use Rattle.indexset_map.specs.Contents.{Contents, with_pairs, with_value_at}
+use Rattle.indexset_map.specs.Contents.{Contents, with_pairs, with_written}
 use Rattle.indexset_map.specs.Walk.{HasWritten, IsSpan, after_first, written}
 use Rattle.indexset_map.proofs.ContentsLemmas.{set_cons}
 use Rattle.indexset_map.proofs.SpanLemmas.{span_mapped}
@@ -101,7 +101,7 @@ module _ {K V : Type 0} (h : Pair K V → V) where
             same_back = was.same_back;
             order = omega (arith, order);
             up_to_back = omega (arith, lt);
-            done = ap (λ (m : Contents K V). with_value_at m t.front w) was.done
+            done = ap (λ (m : Contents K V). with_written m t.front w) was.done
                 ∙ ap (with_pairs s.map.now) (ap (set_value_at (written h s.map.now.pairs s.front t.front) t.front) made ∙ written_more s.map.now.pairs s.front t.front p order there);
           }
 

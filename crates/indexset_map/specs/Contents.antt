@@ -29,8 +29,8 @@ module _ {K V : Type 0} where
   with_pairs m l = record { pairs = l; lengths = m.lengths; size = m.size }
 
   -- the map, once w is the value at the position
-  abbrev pub with_value_at : Contents K V → ℕ → V → Contents K V
-  with_value_at m i w = with_pairs m (set_value_at m.pairs i w)
+  abbrev pub with_written : Contents K V → ℕ → V → Contents K V
+  with_written m i w = with_pairs m (set_value_at m.pairs i w)
 
   -- the map without the pair at the position
   abbrev pub without_at : Contents K V → ℕ → Contents K V
@@ -42,8 +42,8 @@ module _ {K V : Type 0} where
     with_value m k w = with_pairs m (set_value cmp m.pairs k w)
 
     -- the map, once w is the value of the key, which is put where it is not there
-    abbrev pub with_put : Contents K V → K → V → Contents K V
-    with_put m k w = record {
+    abbrev pub with_entry : Contents K V → K → V → Contents K V
+    with_entry m k w = record {
       pairs = put_value cmp m.pairs k w;
       lengths = if has_key cmp m.pairs k then m.lengths else lengths_with m.size m.lengths (key_rank cmp m.pairs k);
       size = m.size;
@@ -51,11 +51,11 @@ module _ {K V : Type 0} where
 
     -- the map, once each entry was put in its place in turn
     abbrev pub with_all : Contents K V → List (K × V) → Contents K V
-    with_all m entries = fold (λ n e. with_put n e.0 e.1) m entries
+    with_all m entries = fold (λ n e. with_entry n e.0 e.1) m entries
 
     -- the map without the pair of the key
-    abbrev pub without_pair : Contents K V → K → Contents K V
-    without_pair m k = record {
+    abbrev pub without_entry : Contents K V → K → Contents K V
+    without_entry m k = record {
       pairs = without_key cmp m.pairs k;
       lengths = if has_key cmp m.pairs k then lengths_without m.lengths (key_rank cmp m.pairs k) else m.lengths;
       size = m.size;
@@ -72,8 +72,8 @@ module _ {K V : Type 0} where
   contents_code k v = code_by (List (K × V) × (List ℕ × ℕ)) (coded× (coded_list (coded× k v)) (coded× (coded_list coded_ℕ) coded_ℕ)) (λ m. (map entry_of m.pairs, (m.lengths, m.size)))
       (λ e. record { pairs = map (λ t. pair t.0 t.1) e.0; lengths = e.1.0; size = e.1.1 }) (λ m. ap (λ l. with_pairs m l) (pairs_back m.pairs))
 
-  pub length-with_value_at : (l : List (Pair K V)) (i : ℕ) (w : V) → length (set_value_at l i w) ≡ length l
-  length-with_value_at l i w = elim (slice_get l i) as (λ o. length (option_map_or (λ p. slice_set l i (valued p w)) o l) ≡ length l) [
+  pub length-with_written : (l : List (Pair K V)) (i : ℕ) (w : V) → length (set_value_at l i w) ≡ length l
+  length-with_written l i w = elim (slice_get l i) as (λ o. length (option_map_or (λ p. slice_set l i (valued p w)) o l) ≡ length l) [
     | Some p ↦ length-set l i (valued p w)
     | None ↦ refl
   ]

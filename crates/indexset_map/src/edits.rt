@@ -3,7 +3,7 @@ ghost use Rattle.std.specs.Prelude.{◌≡◌, ◌-◌, ◌<◌, ◌++◌, true,
 ghost use Rattle.std.specs.Option.{option_map, option_to_list};
 ghost use Rattle.std.specs.List.Retain.{RetainsInTurn};
 ghost use Rattle.indexset_core.specs.Pairs.{CalledOnPair, entry_of, has_key, pair_of, value_of};
-ghost use Rattle.indexset_map.specs.Contents.{no_pairs, with_put, without_at, without_pair};
+ghost use Rattle.indexset_map.specs.Contents.{no_pairs, with_entry, without_at, without_entry};
 
 use super::BTreeMap;
 use indexset_core::pair::Pair;
@@ -15,7 +15,7 @@ impl<K: Ord + Drop, V: Drop> BTreeMap<K, V> {
     /// answer, and no memory is taken. A refused call hands both back and changes nothing.
     pub fn insert(&mut self, key: K, value: V) -> Result<Option<V>, Refused<(K, V)>>
         ensures old { IfOk result (λ o. o ≡ value_of K.cmp self.old.pairs key) }
-        ensures ok { OnOk result (self.new ≡ with_put K.cmp self.old key value) }
+        ensures ok { OnOk result (self.new ≡ with_entry K.cmp self.old key value) }
         ensures there { OnOk result (value_of K.cmp self.new.pairs key ≡ Some value) }
         ensures no_memory { has_key K.cmp self.old.pairs key ≡ true → IsOk result }
         ensures given_back { IfErr result (λ e. (e.value ≡ (key, value)) × (e.cause ≡ Refusal.Memory)) }
@@ -33,7 +33,7 @@ impl<K: Ord + Drop, V: Drop> BTreeMap<K, V> {
     /// Takes out the pair of a key, where there is one. It takes no memory.
     pub fn remove_entry(&mut self, key: &K) -> Option<(K, V)>
         ensures value { result ≡ option_map entry_of (pair_of K.cmp self.old.pairs key.now) }
-        ensures rest { self.new ≡ without_pair K.cmp self.old key.now }
+        ensures rest { self.new ≡ without_entry K.cmp self.old key.now }
         ensures gone { has_key K.cmp self.new.pairs key.now ≡ false }
         ensures no_value { value_of K.cmp self.new.pairs key.now ≡ None }
     {
@@ -46,7 +46,7 @@ impl<K: Ord + Drop, V: Drop> BTreeMap<K, V> {
     /// Takes out the pair of a key, and answers its value, where there is one. It takes no memory.
     pub fn remove(&mut self, key: &K) -> Option<V>
         ensures value { result ≡ value_of K.cmp self.old.pairs key.now }
-        ensures rest { self.new ≡ without_pair K.cmp self.old key.now }
+        ensures rest { self.new ≡ without_entry K.cmp self.old key.now }
         ensures gone { has_key K.cmp self.new.pairs key.now ≡ false }
         ensures no_value { value_of K.cmp self.new.pairs key.now ≡ None }
     {

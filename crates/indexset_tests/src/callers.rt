@@ -4,7 +4,7 @@ ghost use Rattle.std.specs.List.{fold};
 ghost use Rattle.std.specs.Ordering.{nat_cmp};
 ghost use Rattle.std.specs.declared.ops.Bound.TheVariants.{Included, Excluded};
 ghost use Rattle.indexset_core.specs.Pairs.{value_of};
-ghost use Rattle.indexset_map.specs.Contents.{with_pairs, with_value, with_value_at, without_pair};
+ghost use Rattle.indexset_map.specs.Contents.{with_pairs, with_value, with_written, without_entry};
 ghost use Rattle.indexset_tests.specs.Callers.{counted, more, raised, raised_within};
 
 use indexset_core::refusal::Refused;
@@ -50,7 +50,7 @@ pub fn count_words(counts: &mut BTreeMap<u8, u32>, words: &[u8]) -> Result<(), R
 
 /// Takes a key out.
 pub fn take_out(m: &mut BTreeMap<u8, u32>, key: u8) -> Option<u32>
-    ensures rest { m.new ≡ without_pair nat_cmp m.old key }
+    ensures rest { m.new ≡ without_entry nat_cmp m.old key }
     ensures value { result ≡ value_of nat_cmp m.old.pairs key }
 {
     match m.entry(key) {
@@ -61,7 +61,7 @@ pub fn take_out(m: &mut BTreeMap<u8, u32>, key: u8) -> Option<u32>
 
 /// Writes 0 in place of the first value.
 pub fn first_to_zero(m: &mut BTreeMap<u8, u32>)
-    ensures { m.new ≡ with_value_at m.old 0 0 }
+    ensures { m.new ≡ with_written m.old 0 0 }
 {
     if let Some(mut entry) = m.first_entry() {
         *entry.get_mut() = 0;

@@ -3,7 +3,7 @@ use Rattle.std.proofs.lemmas.Bool.{false≢true}
 use Rattle.std.specs.Option.{option_map}
 use Rattle.indexset_core.proofs.CallerLemmas.{key_pair, key_no_pair, key_absent}
 use Rattle.indexset_core.specs.Pairs.{value_of}
-use Rattle.indexset_map.specs.Contents.{with_put, with_value_at}
+use Rattle.indexset_map.specs.Contents.{with_entry, with_written}
 use Rattle.indexset_map.proofs.KeyLemmas.{put_found}
 use Rattle.indexset_map.proofs.ThereLemmas.{value_there}
 use Rattle.indexset_map.proofs.BTreeMap.insert.Goals as goal
@@ -20,7 +20,7 @@ returns-in-Ok-clause-old g c =
 
 pub returns-in-Ok-clause-ok : goal.returns-in-Ok-clause-ok
 returns-in-Ok-clause-ok g c =
-    ap (λ w. with_value_at c.args.self.now c.in-Ok.i w) c.replace.ensures.after ∙ put_found g.K.Ord.cmp c.args.self.now c.args.key c.in-Ok.i (c.in-Ok.ensures {u = tt}).found _
+    ap (λ w. with_written c.args.self.now c.in-Ok.i w) c.replace.ensures.after ∙ put_found g.K.Ord.cmp c.args.self.now c.args.key c.in-Ok.i (c.in-Ok.ensures {u = tt}).found _
 
 pub returns-in_ok-put-in-Err-clause-old : goal.returns-in_ok-put-in-Err-clause-old
 returns-in_ok-put-in-Err-clause-old g c = sym (ap (option_map (λ p. p.value)) (key_no_pair g.K.Ord.cmp _ _ (c.in-Err.ensures {u = tt}).absent))
@@ -30,8 +30,8 @@ returns-in_ok-put-in-Err-clause-ok g c = (c.in_ok-put-in-Err.ensures {u = tt}).o
 
 pub returns-in-Ok-clause-there : goal.returns-in-Ok-clause-there
 returns-in-Ok-clause-there g c =
-    let put : with_value_at c.args.self.now c.in-Ok.i c.replace.new.dest ≡ with_put g.K.Ord.cmp c.args.self.now c.args.key c.args.value
-    = ap (λ w. with_value_at c.args.self.now c.in-Ok.i w) c.replace.ensures.after ∙ put_found g.K.Ord.cmp c.args.self.now c.args.key c.in-Ok.i (c.in-Ok.ensures {u = tt}).found _ in
+    let put : with_written c.args.self.now c.in-Ok.i c.replace.new.dest ≡ with_entry g.K.Ord.cmp c.args.self.now c.args.key c.args.value
+    = ap (λ w. with_written c.args.self.now c.in-Ok.i w) c.replace.ensures.after ∙ put_found g.K.Ord.cmp c.args.self.now c.args.key c.in-Ok.i (c.in-Ok.ensures {u = tt}).found _ in
     ap (λ m. value_of g.K.Ord.cmp m.pairs c.args.key) put ∙ value_there g.K.Ord.cmp g.met.K.Ord.total c.args.self.now.pairs c.args.key c.args.value
 
 pub returns-in_ok-put-in-Err-clause-there : goal.returns-in_ok-put-in-Err-clause-there

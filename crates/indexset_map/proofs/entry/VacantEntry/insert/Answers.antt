@@ -1,7 +1,7 @@
 use Rattle.std.proofs.Common.{◌≡◌, ◌<◌, Some, length, slice_get, sym, ap, subst, ◌∙◌, inl}
 use Rattle.std.specs.Option.{option_map}
 use Rattle.indexset_core.proofs.CallerLemmas.{parted_by_key, absent_gap}
-use Rattle.indexset_map.specs.Contents.{Contents, with_pairs, with_put, with_value_at}
+use Rattle.indexset_map.specs.Contents.{Contents, with_pairs, with_entry, with_written}
 use Rattle.indexset_map.proofs.ContentsLemmas.{kept_inside, kept_read, kept_written}
 use Rattle.indexset_map.proofs.entry.VacantEntry.insert.Goals as goal
 
@@ -19,8 +19,8 @@ returns g c =
     let read : Some c.value_at_mut.result.now ≡ Some v =
     sym c.value_at_mut.ensures.value ∙ (ap (λ (m : Contents g.row.K.Denot g.row.V.Denot). option_map (λ p. p.value) (slice_get m.pairs e.index)) ok ∙ kept_read g.K.Ord.cmp e.map.now.pairs e.key e.index gap e.absent v) in
     let writes = λ (w : g.row.V.Denot).
-    ap (λ (m : Contents g.row.K.Denot g.row.V.Denot). with_value_at m e.index w) ok
-    ∙ ap (with_pairs (with_put g.K.Ord.cmp e.map.now e.key v)) (kept_written g.K.Ord.cmp e.map.now.pairs e.key e.index gap e.absent v w) in (
+    ap (λ (m : Contents g.row.K.Denot g.row.V.Denot). with_written m e.index w) ok
+    ∙ ap (with_pairs (with_entry g.K.Ord.cmp e.map.now e.key v)) (kept_written g.K.Ord.cmp e.map.now.pairs e.key e.index gap e.absent v w) in (
       (λ j. inl (c.value_at_mut.result.ghost_name, λ w. writes w j)),
       record { writes_back = tt; value = cc; given_back = tt },
     )
