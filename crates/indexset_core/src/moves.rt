@@ -36,3 +36,17 @@ pub fn move_tail<T: Drop>(items: &mut Vec<T>, index: usize, other: &mut Vec<T>)
         other.push_reserved(item);
     }
 }
+
+/// Moves the first items of a list behind those of another list that has room for them.
+pub fn move_front<T: Drop>(items: &mut Vec<T>, count: usize, other: &mut Vec<T>)
+    requires within { count ≤ length items.old.items }
+    requires room { vec_len other.old + count ≤ vec_capacity other.old }
+    ensures left { items.new.items ≡ drop count items.old.items }
+    ensures moved { other.new.items ≡ other.old.items ++ take count items.old.items }
+    ensures capacity { vec_capacity items.new ≡ vec_capacity items.old }
+    ensures other_capacity { vec_capacity other.new ≡ vec_capacity other.old }
+{
+    for item in items.drain(..count) {
+        other.push_reserved(item);
+    }
+}

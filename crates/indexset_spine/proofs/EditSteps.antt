@@ -34,7 +34,7 @@ module _ {A : Type 0} (ns : List A) (k : ℕ) (l r : A) (h : k < length ns) wher
   set_left : (m : A) → slice_set (splice ns k (k + 1) (l ∷ r ∷ [])) k m ≡ splice ns k (k + 1) (m ∷ r ∷ [])
   set_left m = set_at (take k ns) l (r ∷ drop (k + 1) ns) m k before
 
-  get_right : (d : A) → get_or (splice ns k (k + 1) (l ∷ r ∷ [])) (k + 1) d ≡ r
+  pub get_right : (d : A) → get_or (splice ns k (k + 1) (l ∷ r ∷ [])) (k + 1) d ≡ r
   get_right d =
       ap (λ ms. get_or ms (k + 1) d) (sym (append_assoc (take k ns) (l ∷ []) (r ∷ drop (k + 1) ns)))
       ∙ get_or_at (take k ns ++ l ∷ []) r (drop (k + 1) ns) d (k + 1) (omega (arith, before, length-append (take k ns) (l ∷ [])))
@@ -46,7 +46,7 @@ module _ {A : Type 0} (ns : List A) (k : ℕ) (l r : A) (h : k < length ns) wher
       ∙ append_assoc (take k ns) (l ∷ []) (m ∷ drop (k + 1) ns))
 
 module _ {X : Type 0} where
-  put_short : (size : ℕ) (ns : List (List X)) (s : Spot) (v : X) → s.node < length ns → length (node_at ns s.node) < size → with_item_in ns s v ≡ with_inserted size ns s v
+  pub put_short : (size : ℕ) (ns : List (List X)) (s : Spot) (v : X) → s.node < length ns → length (node_at ns s.node) < size → with_item_in ns s v ≡ with_inserted size ns s v
   unfolding with_item_in with_inserted parts_with
   put_short size ns s v h short =
       let t : nat_lt (length (node_at ns s.node)) size ≡ true = grind (arith, nat_tests) in
@@ -119,7 +119,7 @@ module _ {X Z : Type 0} where
     half_is : vec_len w ≡ length u.items / 2
     half_is = w.ok.0 ∙ (ap (λ (l : List X). length l) cut.left ∙ length-take-le (length u.items / 2) u.items (omega arith))
 
-    half_of : vec_len w ≡ length (node_at ns s.node) / 2
+    pub half_of : vec_len w ≡ length (node_at ns s.node) / 2
     half_of = half_is ∙ (ap (λ n. length n / 2) (sym (node_is vs s.node u cut.node_in cut.node)) ∙ ap (λ ms. length (node_at ms s.node) / 2) cut.same)
 
     inside : s.node < length ns

@@ -116,19 +116,24 @@ module _ {X : Type 0} where
       let ms = drop s.offset (node_at ns s.node) ∷ drop (s.node + 1) ns in
       omega (arith, (emptied_keeps ms 0 (omega arith)).few, length-drop (s.node + 1) ns, h.node_in)
 
+  -- the nodes that are not empty are not more
+  filter_few : (test : List X → Bool) (ns : List (List X)) → length (filter test ns) ≤ length ns
+  filter_few test [] = omega arith
+  filter_few test (n ∷ ns) = elim (test n) as (λ b. length (if b then n ∷ filter test ns else filter test ns) ≤ suc (length ns)) [ true ↦ omega (arith, filter_few test ns) | false ↦ omega (arith, filter_few test ns) ]
+
+  one_few : (ns : List (List X)) (k : ℕ) → length ns ≤ k → 1 ≤ k → length (or_one_empty ns) ≤ k
+  one_few [] k h one = omega arith
+  one_few (n ∷ ns) k h one = h
+
+  pub emptied_few : (ns : List (List X)) → 1 ≤ length ns → length (without_all_emptied ns) ≤ length ns
+  unfolding without_all_emptied
+  emptied_few ns some = one_few (filter (λ n. not (length n == 0)) ns) (length ns) (filter_few (λ n. not (length n == 0)) ns) some
+
   -- the nodes that are left of some are not more
   module _ {S : Type 0} (R : S → X → Bool → S → X → Type 0) where
     each_as_many : (s : S) (ns ms : List (List X)) → RetainsEach R s ns ms → length ms ≡ length ns
     each_as_many s [] ms h = ap (λ (l : List (List X)). length l) h
     each_as_many s (n ∷ ns) ms (m, t, here, ls, more, is) = ap (λ (l : List (List X)). length l) is ∙ ap suc (each_as_many t ns ls more)
-
-    filter_few : (test : List X → Bool) (ns : List (List X)) → length (filter test ns) ≤ length ns
-    filter_few test [] = omega arith
-    filter_few test (n ∷ ns) = elim (test n) as (λ b. length (if b then n ∷ filter test ns else filter test ns) ≤ suc (length ns)) [ true ↦ omega (arith, filter_few test ns) | false ↦ omega (arith, filter_few test ns) ]
-
-    one_few : (ns : List (List X)) (k : ℕ) → length ns ≤ k → 1 ≤ k → length (or_one_empty ns) ≤ k
-    one_few [] k h one = omega arith
-    one_few (n ∷ ns) k h one = h
 
     pub retained_few : (s : S) (ns ms : List (List X)) → RetainsNodes R s ns ms → 1 ≤ length ns → length ms ≤ length ns
     unfolding without_all_emptied

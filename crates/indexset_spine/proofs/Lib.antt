@@ -1,3 +1,4 @@
+pub mod AppendLemmas
 pub mod CallerLemmas
 pub mod CellExamples
 pub mod CellLemmas
@@ -7,6 +8,7 @@ pub mod CutJoins
 pub mod CutLemmas
 pub mod CutSplits
 pub mod EditSteps
+pub mod EndLemmas
 pub mod FindLemmas
 pub mod IndexLemmas
 pub mod IterLemmas
@@ -21,4 +23,5 @@ pub mod RunLemmas
 pub mod SpineReads
 pub mod SplitSteps
 pub mod SpotLemmas
+pub mod TakenLemmas
 pub mod VecNodes

@@ -26,7 +26,7 @@ module _ {X : Type 0} (ns : List (List X)) where
   place_within q stop = offset-le ns q.node q.offset stop.node_in stop.offset_in
 
   -- the end of the last node
-  last_place : (k o : ℕ) → k + 1 ≡ length ns → o ≡ length (node_at ns k) → length (joined (take k ns)) + o ≡ length (joined ns)
+  pub last_place : (k o : ℕ) → k + 1 ≡ length ns → o ≡ length (node_at ns k) → length (joined (take k ns)) + o ≡ length (joined ns)
   last_place k o last at =
       omega (arith, length-joined-more ns k (omega arith), ap (λ (l : List (List X)). length (joined l)) (take_all (k + 1) ns (omega arith)))
 

@@ -1,6 +1,6 @@
 -- A list that is cut into nodes.
-use Rattle.std.specs.Prelude.{◌≡◌, ℕ, ◌+◌, ◌-◌, ◌/◌, ◌<◌, ◌≤◌, ◌==◌, ◌&&◌, true, List, [], ◌∷◌, length, map, sum, take, drop, refl, slice_set, insert, remove, if◌then◌else◌, nat_lt}
-use Rattle.std.specs.List.{All, splice}
+use Rattle.std.specs.Prelude.{◌≡◌, ℕ, ◌+◌, ◌-◌, ◌/◌, ◌<◌, ◌≤◌, ◌==◌, ◌&&◌, true, false, List, [], ◌∷◌, length, map, sum, take, drop, refl, slice_set, insert, remove, if◌then◌else◌, nat_lt}
+use Rattle.std.specs.List.{All, fold, splice}
 use Rattle.std.specs.Coded.{Coded, code_by, coded×, coded_ℕ, coded_list}
 use Rattle.indexset_core.specs.Nodes.{joined, node_at}
 use Rattle.indexset_spine.specs.declared.spot.Spot.{Spot}
@@ -67,6 +67,18 @@ module _ {X : Type 0} where
   -- the nodes with v inserted at the spot
   unfoldable pub with_inserted : ℕ → List (List X) → Spot → X → List (List X)
   with_inserted size ns s v = splice ns s.node (s.node + 1) (parts_with size (node_at ns s.node) s.offset v)
+
+  -- the spot behind the last item
+  abbrev pub end_spot : List (List X) → Spot
+  end_spot ns = record { node = length ns - 1; offset = length (node_at ns (length ns - 1)); found = false }
+
+  -- the nodes with v inserted behind the last item
+  abbrev pub with_last : ℕ → List (List X) → X → List (List X)
+  with_last size ns v = with_inserted size ns (end_spot ns) v
+
+  -- the nodes with each of xs in turn inserted so
+  unfoldable pub with_all_last : ℕ → List (List X) → List X → List (List X)
+  with_all_last size ns xs = fold (with_last size) ns xs
 
   -- the nodes without the item at the spot: an emptied node goes too, unless it is the only one
   unfoldable pub without_item : List (List X) → Spot → List (List X)

@@ -1,8 +1,12 @@
 -- What the steps of an edit do to the nodes.
-use Rattle.std.specs.Prelude.{◌≡◌, ℕ, ◌+◌, ◌/◌, ◌==◌, ◌&&◌, Bool, List, [], ◌∷◌, ◌++◌, length, not, cond, filter, take, drop, slice_set, insert, remove, if◌then◌else◌, nat_lt}
-use Rattle.std.specs.List.{splice}
+use Rattle.std.specs.Prelude.{◌≡◌, ℕ, ◌+◌, ◌/◌, ◌<◌, ◌==◌, ◌&&◌, Bool, List, [], ◌∷◌, ◌++◌, length, not, cond, filter, take, drop, slice_set, insert, remove, if◌then◌else◌, nat_lt}
+use Rattle.std.specs.List.{fold, splice}
 use Rattle.indexset_spine.specs.declared.spot.Spot.{Spot}
 use Rattle.indexset_core.specs.Nodes.{node_at}
+
+-- f took some first items of xs in turn, from a on, which gave b, and the rest is left
+abbrev pub TakesSome : {A B : Type 0} → (B → A → B) → B → List A → B → List A → Type 0
+TakesSome {A} f a xs b rest = (front : List A) × (xs ≡ front ++ rest) × (b ≡ fold f a front)
 
 module _ {X : Type 0} where
   -- the nodes with v inserted into the node of the spot
@@ -14,6 +18,12 @@ module _ {X : Type 0} where
   with_halved ns k =
       let half = length (node_at ns k) / 2 in
       splice ns k (k + 1) (take half (node_at ns k) ∷ drop half (node_at ns k) ∷ [])
+
+  -- the spot is behind the last item, in a node that holds less than the size
+  pub record IsShortEnd (size : ℕ) (ns : List (List X)) (s : Spot) : Type 0 where
+    pub last : s.node + 1 ≡ length ns
+    pub end : s.offset ≡ length (node_at ns s.node)
+    pub short : s.offset < size
 
   -- one empty node where there is none
   abbrev pub or_one_empty : List (List X) → List (List X)

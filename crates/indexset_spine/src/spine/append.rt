@@ -1,40 +1,111 @@
-//! A spine moved behind another.
-ghost use Rattle.std.specs.Prelude.{◌≡◌, ◌<◌, ◌≤◌, [], ◌∷◌, ◌++◌, OnOk, IfErr, OnErr, length};
-ghost use Rattle.indexset_spine.specs.Cut.{items};
+//! Items moved behind those of a spine, as many at once as a node has room for.
+ghost use Rattle.std.specs.Prelude.{◌≡◌, ℕ, ◌<◌, ◌≤◌, [], ◌∷◌, ◌++◌, OnOk, IfErr, OnErr, length};
+ghost use Rattle.std.specs.List.{All};
+ghost use Rattle.indexset_core.specs.Nodes.{joined, node_lengths, vec_items};
+ghost use Rattle.indexset_spine.specs.Cut.{items, with_last, with_all_last};
+ghost use Rattle.indexset_spine.specs.Edits.{TakesSome, without_all_emptied};
 
 use super::Spine;
+use super::insert::make_room;
+use crate::lengths;
+use indexset_core::moves::move_front;
 use indexset_core::refusal::Refusal;
 
-impl<T> Spine<T> {
-    /// Moves the nodes of another spine behind those of this one, and leaves the other one empty node.
-    /// Both have items, and the other's node size is not larger.
-    /// It is refused for want of memory, and where the lengths add up to more than the greatest usize;
-    /// a refused call changes neither.
+impl<T: Drop> Spine<T> {
+    /// Moves the items of another spine behind those of this one, as `append_items` does, and leaves the
+    /// other one empty node.
     pub fn append(&mut self, other: &mut Spine<T>) -> Result<(), Refusal>
-        requires some { 0 < length (items self.old) }
-        requires other_some { 0 < length (items other.old) }
-        requires fits { other.old.size ≤ self.old.size }
-        ensures nodes { OnOk result (self.new.nodes ≡ self.old.nodes ++ other.old.nodes) }
-        ensures items { OnOk result (items self.new ≡ items self.old ++ items other.old) }
+        ensures nodes { OnOk result (self.new.nodes ≡ with_all_last self.old.size self.old.nodes (items other.old)) }
+        ensures items { items self.new ++ items other.new ≡ items self.old ++ items other.old }
         ensures emptied { OnOk result (other.new.nodes ≡ [] ∷ []) }
         ensures size { self.new.size ≡ self.old.size }
         ensures other_size { other.new.size ≡ other.old.size }
         ensures refusal { IfErr result (λ e. e ≡ Refusal.Memory) }
-        ensures unchanged { OnErr result (self.new ≡ self.old) }
-        ensures other_unchanged { OnErr result (other.new ≡ other.old) }
+        ensures moved { TakesSome (with_last self.old.size) self.old.nodes (items other.old) self.new.nodes (items other.new) }
+        ensures some_left { OnErr result (0 < length (items other.new)) }
     {
-        let len = self.len.checked_add(other.len).ok_or(Refusal::Memory)?;
-        let first = self.nodes.len();
-        self.index.reserve(other.nodes.len())?;
-        self.nodes.append(&mut other.nodes)?;
-        self.index.rebuild_from(first, self.nodes.as_slice());
-        self.len = len;
-        // There is room for as many nodes and lengths as there were.
+        let _count = self.node_count();
+        let moved = move_nodes(self, &mut other.nodes);
+        drop_emptied(&mut other.nodes);
+        other.len = lengths::count_items(other.nodes.as_slice());
+        // There is room for as many lengths as there were.
         let _count = other.index.len();
-        let empty = Vec::new(*other.nodes.allocator());
-        other.nodes.push_reserved(empty);
         other.index.rebuild(other.nodes.as_slice());
-        other.len = 0;
+        moved
+    }
+
+    /// Moves the items of a list behind those of this spine, each as `insert` puts it there: only a full
+    /// node is halved. They move by blocks, as many at once as the last node has room for. A refused call
+    /// has moved some first items so, and leaves the others.
+    pub fn append_items(&mut self, from: &mut Vec<T>) -> Result<(), Refusal>
+        ensures nodes { OnOk result (self.new.nodes ≡ with_all_last self.old.size self.old.nodes from.old.items) }
+        ensures items { items self.new ++ from.new.items ≡ items self.old ++ from.old.items }
+        ensures emptied { OnOk result (from.new.items ≡ []) }
+        ensures size { self.new.size ≡ self.old.size }
+        ensures refusal { IfErr result (λ e. e ≡ Refusal.Memory) }
+        ensures moved { TakesSome (with_last self.old.size) self.old.nodes from.old.items self.new.nodes from.new.items }
+        ensures some_left { OnErr result (0 < length from.new.items) }
+    {
+        let _count = self.node_count();
+        while !from.is_empty() {
+            self.append_block(from)?;
+        }
         Ok(())
+    }
+
+    // Moves as many first items of a list as the last node has room for, once it was halved if it was
+    // full. A refused call changes neither.
+    fn append_block(&mut self, from: &mut Vec<T>) -> Result<(), Refusal>
+        requires { 0 < length from.old.items }
+        ensures moved { TakesSome (with_last self.old.size) self.old.nodes from.old.items self.new.nodes from.new.items }
+        ensures fewer { OnOk result (length from.new.items < length from.old.items) }
+        ensures size { self.new.size ≡ self.old.size }
+        ensures refusal { IfErr result (λ e. e ≡ Refusal.Memory) }
+        ensures unchanged { OnErr result (self.new ≡ self.old) }
+        ensures from_unchanged { OnErr result (from.new.items ≡ from.old.items) }
+    {
+        if self.len == usize::MAX {
+            return Err(Refusal::Memory);
+        }
+        let end = self.end();
+        let to = make_room(&mut self.nodes, &mut self.index, self.size, end)?;
+        let node = &mut self.nodes[to.node];
+        let room = self.size.min(node.capacity()) - node.len();
+        let count = room.min(from.len()).min(usize::MAX - self.len);
+        move_front(from, count, node);
+        self.index.add(to.node, count);
+        self.len += count;
+        Ok(())
+    }
+}
+
+// Moves the items of nodes behind those of a spine, first to last, and leaves each node that it moved
+// empty. A refused call has moved some first items so.
+fn move_nodes<T: Drop>(spine: &mut Spine<T>, from: &mut Vec<Vec<T>>) -> Result<(), Refusal>
+    ensures moved { TakesSome (with_last spine.old.size) spine.old.nodes (joined (vec_items from.old.items)) spine.new.nodes (joined (vec_items from.new.items)) }
+    ensures emptied { OnOk result (joined (vec_items from.new.items) ≡ []) }
+    ensures size { spine.new.size ≡ spine.old.size }
+    ensures as_many { length from.new.items ≡ length from.old.items }
+    ensures bounded { (n : ℕ) → All (λ l. l ≤ n) (node_lengths (vec_items from.old.items)) → All (λ l. l ≤ n) (node_lengths (vec_items from.new.items)) }
+    ensures refusal { IfErr result (λ e. e ≡ Refusal.Memory) }
+    ensures some_left { OnErr result (0 < length (joined (vec_items from.new.items))) }
+{
+    let mut k = 0;
+    while k < from.len() {
+        spine.append_items(&mut from[k])?;
+        k += 1;
+    }
+    Ok(())
+}
+
+// Takes out the empty nodes, and puts in one where all are.
+fn drop_emptied<T: Drop>(nodes: &mut Vec<Vec<T>>)
+    requires { 0 < length nodes.old.items }
+    ensures { vec_items nodes.new.items ≡ without_all_emptied (vec_items nodes.old.items) }
+{
+    let alloc = *nodes.allocator();
+    nodes.retain(|node| !node.is_empty());
+    if nodes.is_empty() {
+        nodes.push_reserved(Vec::new(alloc));
     }
 }

@@ -3,7 +3,7 @@ ghost use Rattle.std.specs.Prelude.{◌≡◌, ◌+◌, ◌^◌, ◌<◌, ◌≤
 ghost use Rattle.std.specs.List.{HoldsAt};
 ghost use Rattle.indexset_core.specs.Nodes.{node_at, node_lengths, vec_items};
 ghost use Rattle.indexset_spine.specs.Cut.{items, IsSpot, position_of, with_inserted, without_item, first_spot};
-ghost use Rattle.indexset_spine.specs.Edits.{with_item_in, with_halved};
+ghost use Rattle.indexset_spine.specs.Edits.{IsShortEnd, with_item_in, with_halved};
 
 use super::Spine;
 use crate::fenwick::Fenwick;
@@ -74,7 +74,7 @@ impl<T: Drop> Spine<T> {
 
 // Makes room for one more item at a spot, and answers the spot where it then goes: a full node is
 // halved first. The index stays that of the nodes. A refused call changes nothing.
-fn make_room<T>(
+pub(super) fn make_room<T>(
     nodes: &mut Vec<Vec<T>>,
     index: &mut Fenwick,
     size: usize,
@@ -87,6 +87,7 @@ fn make_room<T>(
     ensures spot { IfOk result (λ to. IsSpot (vec_items nodes.new.items) to) }
     ensures room { IfOk result (λ to. HoldsAt (λ node. vec_len node < vec_capacity node) nodes.new.items to.node) }
     ensures nodes { IfOk result (λ to. (value : T) → with_item_in (vec_items nodes.new.items) to value ≡ with_inserted size (vec_items nodes.old.items) spot value) }
+    ensures end { IsShortEnd (size + 1) (vec_items nodes.old.items) spot → IfOk result (λ to. IsShortEnd size (vec_items nodes.new.items) to) }
     ensures index { index.new.lengths ≡ node_lengths (vec_items nodes.new.items) }
     ensures sum { sum index.new.lengths ≡ sum index.old.lengths }
     ensures refusal { IfErr result (λ e. e ≡ Refusal.Memory) }
@@ -109,6 +110,7 @@ fn halve_at<T>(nodes: &mut Vec<Vec<T>>, spot: Spot) -> Result<Spot, Refusal>
     ensures spot { IfOk result (λ to. IsSpot (vec_items nodes.new.items) to) }
     ensures room { IfOk result (λ to. HoldsAt (λ node. vec_len node < vec_capacity node) nodes.new.items to.node) }
     ensures nodes { IfOk result (λ to. (value : T) → with_item_in (vec_items nodes.new.items) to value ≡ with_inserted (length (node_at (vec_items nodes.old.items) spot.node)) (vec_items nodes.old.items) spot value) }
+    ensures end { IsShortEnd (spot.offset + 1) (vec_items nodes.old.items) spot → IfOk result (λ to. IsShortEnd spot.offset (vec_items nodes.new.items) to) }
     ensures halved { OnOk result (vec_items nodes.new.items ≡ with_halved (vec_items nodes.old.items) spot.node) }
     ensures refusal { IfErr result (λ e. e ≡ Refusal.Memory) }
     ensures unchanged { OnErr result (vec_items nodes.new.items ≡ vec_items nodes.old.items) }

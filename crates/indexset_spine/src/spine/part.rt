@@ -2,7 +2,7 @@
 ghost use Rattle.std.specs.Prelude.{◌≡◌, ◌+◌, ◌≤◌, length};
 ghost use Rattle.std.specs.List.{between};
 ghost use Rattle.std.specs.Map.Iter.{ShowsInOrder, ShowsInReverse, deref};
-ghost use Rattle.indexset_spine.specs.Cut.{items, IsSpot, position_of};
+ghost use Rattle.indexset_spine.specs.Cut.{items, IsSpot, end_spot, position_of};
 
 use super::Spine;
 use crate::iter::Iter;
@@ -26,6 +26,7 @@ impl<T> Spine<T> {
     /// The spot after the last item.
     pub fn end(&self) -> Spot
         ensures spot { IsSpot self.now.nodes result }
+        ensures place { result ≡ end_spot self.now.nodes }
         ensures position { position_of self.now.nodes result ≡ length (items self.now) }
     {
         let node = self.nodes.len() - 1;

@@ -1,7 +1,8 @@
-use Rattle.std.proofs.Common.{◌∙◌, ap}
+use Rattle.std.proofs.Common.{◌∙◌, ◌-◌, ap, arith, refl}
 use Rattle.indexset_core.specs.Nodes.{vec_items}
 use Rattle.indexset_core.proofs.CallerLemmas.{on_err}
-use Rattle.indexset_spine.proofs.EditSteps.{IsHalved, lists_kept, right_puts, left_puts, right_room, left_room, halved_lists}
+use Rattle.indexset_spine.proofs.AppendLemmas.{halved_end}
+use Rattle.indexset_spine.proofs.EditSteps.{IsHalved, lists_kept, right_puts, left_puts, right_room, left_room, halved_lists, half_of}
 use Rattle.indexset_spine.proofs.spine.insert.halve_at.Given.{Over}
 use Rattle.indexset_spine.proofs.spine.insert.halve_at.Goals as goal
 use Rattle.indexset_spine.proofs.spine.insert.halve_at.Goals.{In_ok-right}
@@ -46,3 +47,14 @@ returns-then-half-spot-clause-halved g c =
 pub returns-clause-halved : goal.returns-clause-halved
 returns-clause-halved g c =
     ap vec_items c.insert_item.ensures.items ∙ halved_lists (halved g (goal.at.returns-clause-halved g c).In_ok-right)
+
+pub returns-then-half-spot-clause-end : goal.returns-then-half-spot-clause-end
+returns-then-half-spot-clause-end g c =
+    let cut = halved g (goal.at.returns-then-half-spot-clause-end g c).In_ok-right in
+    λ at. rw (ap vec_items c.insert_item.ensures.items ∙ halved_lists cut)
+    (halved_end (vec_items c.args.nodes.now.items) c.args.spot _ at c.requires.two refl (ap (λ i. c.args.spot.offset - i) (c.len-half.ensures ∙ half_of cut)))
+
+pub returns-clause-end : goal.returns-clause-end
+returns-clause-end g c =
+    let cut = halved g (goal.at.returns-clause-end g c).In_ok-right in
+    λ at. absurd (omega (arith, at.end, c.requires.two, c.if-half-spot.false, c.len-half.ensures, half_of cut))

@@ -1,4 +1,4 @@
-use Rattle.std.proofs.Common.{List, ◌∙◌, arith, ap, sym, sum, take, length}
+use Rattle.std.proofs.Common.{◌≡◌, List, ◌∙◌, arith, ap, sym, sum, take, length}
 use Rattle.indexset_core.specs.Nodes.{node_lengths, vec_items}
 use Rattle.indexset_core.proofs.CallerLemmas.{on_err}
 use Rattle.indexset_spine.proofs.EditSteps.{lists_kept, room_puts, node_len, inserted_full}
@@ -65,3 +65,16 @@ returns-clause-sum g c =
     let ns = vec_items c.args.nodes.now.items in
     let nodes = ap (λ v. vec_items v) c.as_slice.ensures.value ∙ c.in_ok-to.ensures.halved in
     ap sum c.rebuild_from.ensures.lengths ∙ (ap (λ (l : List (List g.row.T.Denot)). sum (node_lengths l)) nodes ∙ (halved_sum ns c.args.spot.node c.requires.spot.node_in ∙ ap sum (sym c.requires.index)))
+
+pub returns-then-len-size-clause-end : goal.returns-then-len-size-clause-end
+returns-then-len-size-clause-end g c =
+    let e = lists_kept c.args.nodes.now.items c.args.spot.node _ c.reserve.new.self c.requires.spot.node_in c.index_mut.ensures.value c.reserve.ensures.items in
+    let long = node_len c.args.nodes.now.items c.args.spot.node _ c.requires.spot.node_in c.index.ensures in
+    λ at. rw e (record { last = at.last; end = at.end; short = omega (arith, at.end, long, c.len.ensures) })
+
+pub returns-clause-end : goal.returns-clause-end
+returns-clause-end g c =
+    let long = node_len c.args.nodes.now.items c.args.spot.node _ c.requires.spot.node_in c.index.ensures in
+    λ at.
+    let full : c.args.spot.offset ≡ c.args.size = omega (arith, at.end, at.short, long, c.len.ensures) in
+    rw (← full) (c.in_ok-to.ensures.end record { last = at.last; end = at.end; short = omega arith })
