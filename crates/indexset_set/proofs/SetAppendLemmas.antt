@@ -1,19 +1,25 @@
 -- Two ascending lists, one behind the other.
-use Rattle.std.proofs.Common.{◌≡◌, suc, ◌+◌, ◌-◌, ◌<◌, ◌↔◌, true, List, [], ◌∷◌, ◌++◌, length, get_or, Ordering, Some, slice_get, ap, sym, ◌∙◌, inl, inr, subst, arith, length-append, append_assoc}
+use Rattle.std.proofs.Common.{◌≡◌, ℕ, suc, ◌+◌, ◌-◌, ◌<◌, ◌↔◌, true, false, List, [], ◌∷◌, ◌++◌, length, take, drop, get_or, Ordering, Some, slice_get, refl, ap, sym, ◌∙◌, inl, inr, subst, arith, length-append, append_assoc}
 use Rattle.std.specs.declared.cmp.Ordering.TheVariants.{Less}
 use Rattle.std.specs.Cmp.{IsTotalOrder}
-use Rattle.std.specs.List.{All, AllPairs}
+use Rattle.std.specs.List.{All, AllPairs, fold}
 use Rattle.std.specs.Ordering.{is_lt}
 use Rattle.std.proofs.lemmas.Bool.{cases_lt}
-use Rattle.std.proofs.lemmas.List.{append-nil, get_or_append_left, get_or-append-add}
+use Rattle.std.proofs.lemmas.List.{append-nil, drop_at, get_or_append_left, get_or-append-add, length-map, take_at}
 use Rattle.std.proofs.lemmas.List.Edits.{insert_end}
 use Rattle.std.proofs.lemmas.List.Elements.{All-append}
 use Rattle.std.proofs.lemmas.List.Kept.{AllPairs-cons}
 use Rattle.std.proofs.lemmas.Option.{get_or_from_slice_get, slice_get_within}
-use Rattle.indexset_core.specs.Order.{IsAscending, put}
-use Rattle.indexset_core.proofs.CallerLemmas.{gap_put, less_from}
+use Rattle.indexset_core.specs.Nodes.{joined, node_lengths}
+use Rattle.indexset_core.specs.Order.{IsAscending, IsGapFor, has_equal, put}
+use Rattle.indexset_core.proofs.CallerLemmas.{gap_has_equal, gap_put, less_from}
+use Rattle.indexset_spine.specs.Cut.{Cut, IsCut, cut, end_spot, with_last}
+use Rattle.indexset_spine.specs.Edits.{TakesSome}
+use Rattle.indexset_spine.proofs.CallerLemmas.{cut_last, end_node, end_offset, joined_all_last, joined_last, takes_all}
 use Rattle.indexset_set.specs.SetAlgebra.{put_all}
+use Rattle.indexset_set.specs.SetNodes.{PutsSome, nodes_kept, nodes_put, nodes_put_all, spot_of}
 use Rattle.indexset_set.proofs.SetCloneLemmas.{gap_behind}
+use Rattle.indexset_set.proofs.SetNodeLemmas.{kept_new, put_new, spot_told}
 
 -- what holds within each of two lists, and across from one to the other
 module _ {T : Type 0} (R : T → T → Type 0) where
@@ -40,7 +46,7 @@ module _ {T : Type 0} (cmp : T → T → Ordering) (l r : List T) (last first : 
   inside : length l - 1 < length l
   inside = slice_get_within l (length l - 1) last last_is
 
-  some : 0 < length r
+  pub some : 0 < length r
   some = slice_get_within r 0 first first_is
 
   appended_ascending : IsTotalOrder cmp → IsAscending cmp l → IsAscending cmp r → cmp last first ≡ Less → IsAscending cmp (l ++ r)
@@ -58,8 +64,8 @@ module _ {T : Type 0} (cmp : T → T → Ordering) (l r : List T) (last first : 
       rw (at_last, at_first) at (up (length l - 1) (length l + 0) last (omega (arith, inside)) (omega (arith, some, length-append l r)))
 
   -- where these two ascend, so do both lists as one
-  pub ends_tell : IsTotalOrder cmp → IsAscending cmp l → IsAscending cmp r → (is_lt (cmp last first) ≡ true) ↔ ((0 < length l) × (0 < length r) × IsAscending cmp (l ++ r))
-  ends_tell o up later = (λ less. (omega (arith, inside), some, appended_ascending o up later (less_from _ less)), λ apart. ap is_lt (appended_less apart.2))
+  pub ends_tell : IsTotalOrder cmp → IsAscending cmp l → IsAscending cmp r → (is_lt (cmp last first) ≡ true) ↔ IsAscending cmp (l ++ r)
+  ends_tell o up later = (λ less. appended_ascending o up later (less_from _ less), λ apart. ap is_lt (appended_less apart))
 
 -- elements that are above all others are put behind them
 module _ {T : Type 0} (cmp : T → T → Ordering) where
@@ -70,3 +76,81 @@ module _ {T : Type 0} (cmp : T → T → Ordering) where
       let split : (l ++ x ∷ []) ++ xs ≡ l ++ x ∷ xs = append_assoc l (x ∷ []) xs in
       let behind : l ++ x ∷ [] ≡ put cmp l x = sym (gap_put cmp l x (length l) (gap_behind cmp l x xs up) ∙ insert_end l x) in
       sym split ∙ (put_all_behind (l ++ x ∷ []) xs (subst (IsAscending cmp) (sym split) up) ∙ ap (λ m. put_all cmp m xs) behind)
+
+-- the first elements of what ascends behind a list
+pub front_ascending : {T : Type 0} (cmp : T → T → Ordering) (l front rest : List T) → IsAscending cmp (l ++ (front ++ rest)) → IsAscending cmp (l ++ front)
+front_ascending cmp l front rest up i j d lt inside =
+    let whole = rw (← append_assoc l front rest) at up in
+    rw (← get_or_append_left (l ++ front) rest d i (omega arith), ← get_or_append_left (l ++ front) rest d j inside) (whole i j d lt (omega (arith, inside, length-append (l ++ front) rest)))
+
+-- and the others
+pub back_ascending : {T : Type 0} (cmp : T → T → Ordering) (front rest : List T) → IsAscending cmp (front ++ rest) → IsAscending cmp rest
+back_ascending cmp front rest up i j d lt inside =
+    rw (← get_or-append-add front rest i d, ← get_or-append-add front rest j d) (up (length front + i) (length front + j) d (omega arith) (omega (arith, length-append front rest)))
+
+-- an empty list on either side
+pub behind_none : {T : Type 0} (cmp : T → T → Ordering) (l r : List T) → length l ≡ 0 → IsAscending cmp r → IsAscending cmp (l ++ r)
+behind_none cmp [] r none up = up
+behind_none cmp (x ∷ l) r none up = absurd (omega arith)
+
+pub before_none : {T : Type 0} (cmp : T → T → Ordering) (l r : List T) → length r ≡ 0 → IsAscending cmp l → IsAscending cmp (l ++ r)
+before_none cmp l [] none up = subst (IsAscending cmp) (sym (append-nil l)) up
+before_none cmp l (x ∷ r) none up = absurd (omega arith)
+
+-- where v is above all elements of the nodes ns, it goes behind the last
+module _ {T : Type 0} (cmp : T → T → Ordering) (size : ℕ) where
+  module _ (ns : List (List T)) (v : T) (rest : List T) (is : IsCut (node_lengths ns) size) (up : IsAscending cmp (joined ns ++ v ∷ rest)) where
+    gap : IsGapFor cmp (joined ns) v (length (joined ns))
+    gap = gap_behind cmp (joined ns) v rest up
+
+    none : has_equal cmp (joined ns) v ≡ false
+    none = gap_has_equal cmp (joined ns) v _ gap
+
+    all : All (λ x. cmp x v ≡ Less) (joined ns)
+    all k d lt = gap.below_before k d (omega arith) lt
+
+    place : end_spot ns ≡ spot_of cmp ns v
+    place = spot_told cmp ns v v (end_spot ns) refl (end_node (λ x. cmp x v) size ns is all) (end_offset (λ x. cmp x v) size ns is all) (sym none)
+
+    pub put_last : nodes_put cmp (cut ns size) v ≡ with_last size ns v
+    put_last = sym (put_new cmp (cut ns size) v (end_spot ns) (with_last size ns v) place none refl)
+
+    pub kept_last : nodes_kept cmp (cut ns size) v ≡ with_last size ns v
+    kept_last = sym (kept_new cmp (cut ns size) v (end_spot ns) (with_last size ns v) place none refl)
+
+    pub still_up : IsAscending cmp (joined (with_last size ns v) ++ rest)
+    still_up = rw (joined_last size ns v (omega (arith, is.some, length-map ns (λ (n : List T). length n))), append_assoc (joined ns) (v ∷ []) rest) up
+
+  pub put_all_last : (ns : List (List T)) (xs : List T) → IsCut (node_lengths ns) size → IsAscending cmp (joined ns ++ xs) → fold (λ ms x. nodes_put cmp (cut ms size) x) ns xs ≡ fold (with_last size) ns xs
+  put_all_last ns [] is up = refl
+  put_all_last ns (x ∷ xs) is up =
+      ap (λ ms. fold (λ ms x. nodes_put cmp (cut ms size) x) ms xs) (put_last ns x xs is up)
+      ∙ put_all_last (with_last size ns x) xs (cut_last size ns x is) (still_up ns x xs is up)
+
+  -- some first ones of those above
+  module _ (ns ms : List (List T)) (xs rest : List T) (is : IsCut (node_lengths ns) size) (up : IsAscending cmp (joined ns ++ xs)) (taken : TakesSome (with_last size) ns xs ms rest) where
+    front_up : IsAscending cmp (joined ns ++ taken.0)
+    front_up = front_ascending cmp (joined ns) taken.0 rest (rw taken.1 at up)
+
+    made : joined ms ≡ joined ns ++ taken.0
+    made = ap joined taken.2 ∙ joined_all_last size ns taken.0 is
+
+    pub taken_ascending : IsAscending cmp (joined ms)
+    taken_ascending = rw made front_up
+
+    pub taken_put : TakesSome (put cmp) (joined ns) xs (joined ms) rest
+    unfolding put_all
+    taken_put = (taken.0, taken.1, made ∙ put_all_behind cmp (joined ns) taken.0 front_up)
+
+    pub taken_nodes : TakesSome (λ ms x. nodes_put cmp (cut ms size) x) ns xs ms rest
+    taken_nodes = (taken.0, taken.1, taken.2 ∙ sym (put_all_last ns taken.0 is front_up))
+
+  -- the nodes, once all were put, or some
+  pub nodes_all : (s : Cut T) (xs rest : List T) (ms : List (List T)) → size ≡ s.size → TakesSome (λ ms x. nodes_put cmp (cut ms size) x) s.nodes xs ms rest → rest ≡ [] → ms ≡ nodes_put_all cmp s xs
+  unfolding nodes_put_all
+  nodes_all s xs rest ms same h none = rw (← same) (takes_all (λ ms x. nodes_put cmp (cut ms size) x) s.nodes ms xs rest h none)
+
+  pub puts_some : (s : Cut T) (xs rest : List T) (ms : List (List T)) → size ≡ s.size → TakesSome (λ ms x. nodes_put cmp (cut ms size) x) s.nodes xs ms rest → PutsSome cmp s xs ms rest
+  unfolding nodes_put_all
+  puts_some s xs rest ms same (front, is, made) =
+      (length front, rw (← same) (made ∙ ap (fold (λ ms x. nodes_put cmp (cut ms size) x) s.nodes) (sym (ap (take (length front)) is ∙ take_at front rest (length front) refl))), sym (ap (drop (length front)) is ∙ drop_at front rest (length front) refl))

@@ -5,12 +5,12 @@ use Rattle.std.specs.Cmp.{IsTotalOrder}
 use Rattle.std.specs.List.{All, AllPairs, fold, items_where_true}
 use Rattle.std.specs.List.Retain.{RetainsInTurn, IsFiltered}
 use Rattle.std.specs.Ordering.{is_lt}
-use Rattle.std.proofs.lemmas.List.{take-append-drop}
+use Rattle.std.proofs.lemmas.List.{take-append-drop, drop_at, take_at}
 use Rattle.std.proofs.lemmas.List.Elements.{filter_passes}
 use Rattle.std.proofs.lemmas.List.Kept.{AllPairs-cons}
-use Rattle.std.proofs.lemmas.List.Sums.{fold-append}
 use Rattle.indexset_core.specs.Order.{IsAscending, below, rank, put}
-use Rattle.indexset_spine.specs.Cut.{Cut, items}
+use Rattle.indexset_spine.specs.Edits.{TakesSome}
+use Rattle.indexset_spine.proofs.CallerLemmas.{takes_all}
 use Rattle.indexset_set.specs.SetAlgebra.{put_all, MovesSome}
 use Rattle.indexset_set.specs.SetRanges.{not_below}
 use Rattle.indexset_core.proofs.CallerLemmas.{parted_by_item, Parts, count_parts, front-is_lt, filter_front, filter_back}
@@ -66,36 +66,14 @@ rest_ascending cmp (x ∷ xs) up i j d lt inside = up (suc i) (suc j) d (omega a
 
 -- elements put in one after another
 module _ {T : Type 0} (cmp : T → T → Ordering) where
-  pub moved_none : (l xs : List T) → MovesSome cmp l xs l xs
+  pub moves_some : (l xs m rest : List T) → TakesSome (put cmp) l xs m rest → MovesSome cmp l xs m rest
   unfolding put_all
-  moved_none l xs = (0, refl, refl)
+  moves_some l xs m rest (front, is, made) =
+      (length front, made ∙ ap (fold (put cmp) l) (sym (ap (take (length front)) is ∙ take_at front rest (length front) refl)), sym (ap (drop (length front)) is ∙ drop_at front rest (length front) refl))
 
-  -- a call that changes nothing where it is refused
-  pub refused_moves_none : {U E : Type 0} (r : Result U E) (s t s' t' : Cut T) → OnErr r (s' ≡ s) → OnErr r (t' ≡ t) → OnErr r (MovesSome cmp (items s) (items t) (items s') (items t'))
-  refused_moves_none (Ok u) s t s' t' kept other_kept = tt
-  refused_moves_none (Err e) s t s' t' kept other_kept = rw (kept, other_kept) (moved_none (items s) (items t))
-
-  next_of : (k : ℕ) (xs : List T) (y : T) (ys : List T) → drop k xs ≡ y ∷ ys → (take (suc k) xs ≡ take k xs ++ y ∷ []) × (drop (suc k) xs ≡ ys)
-  next_of zero [] y ys e = absurd (cc)
-  next_of zero (x ∷ xs) y ys e = let same : x ≡ y = cc in let rest : xs ≡ ys = cc in (ap (λ z. z ∷ []) same, rest)
-  next_of (suc k) [] y ys e = absurd (cc)
-  next_of (suc k) (x ∷ xs) y ys e = let h = next_of k xs y ys e in (ap (λ l. x ∷ l) h.0, h.1)
-
-  pub moved_more : (l xs m rest m' rest' : List T) → MovesSome cmp l xs m rest → 0 < length rest → IfSome (slice_get rest 0) (λ x. m' ≡ put cmp m x) → rest' ≡ drop 1 rest → MovesSome cmp l xs m' rest'
+  pub moved_all : (l xs m rest : List T) → TakesSome (put cmp) l xs m rest → rest ≡ [] → m ≡ put_all cmp l xs
   unfolding put_all
-  moved_more l xs m [] m' rest' h some ok is = absurd (omega arith)
-  moved_more l xs m (y ∷ ys) m' rest' h some ok is =
-      let next = next_of h.0 xs y ys (sym h.2) in
-      (suc h.0, ok ∙ (ap (λ z. put cmp z y) h.1 ∙ (sym (fold-append (put cmp) l (take h.0 xs) (y ∷ [])) ∙ ap (λ z. fold (put cmp) l z) (sym next.0))), is ∙ sym next.1)
-
-  taken : (k : ℕ) (xs : List T) → length (drop k xs) ≡ 0 → take k xs ≡ xs
-  taken zero [] e = refl
-  taken zero (x ∷ xs) e = absurd (omega arith)
-  taken (suc k) [] e = refl
-  taken (suc k) (x ∷ xs) e = ap (λ l. x ∷ l) (taken k xs e)
-
-  pub moved_all : (l xs m rest : List T) → MovesSome cmp l xs m rest → length rest ≡ 0 → m ≡ put_all cmp l xs
-  moved_all l xs m rest h none = h.1 ∙ ap (put_all cmp l) (taken h.0 xs (ap (λ z. length z) (sym h.2) ∙ none))
+  moved_all l xs m rest h none = takes_all (put cmp) l m xs rest h none
 
 pub nothing_left : {T : Type 0} (l : List T) → length l ≡ 0 → l ≡ []
 nothing_left [] e = refl

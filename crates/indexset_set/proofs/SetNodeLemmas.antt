@@ -12,7 +12,7 @@ use Rattle.indexset_set.specs.SetNodes.{spot_of, nodes_kept, nodes_put, nodes_wi
 
 module _ {T : Type 0} (cmp : T → T → Ordering) where
   -- a search that answers the place of w, which is v
-  spot_told : (ns : List (List T)) (v w : T) (s : Spot) → w ≡ v → s.node ≡ node_for (λ x. cmp x w) ns → s.offset ≡ less_count (λ x. cmp x w) (node_at ns s.node) → s.found ≡ has_equal cmp (joined ns) v → s ≡ spot_of cmp ns v
+  pub spot_told : (ns : List (List T)) (v w : T) (s : Spot) → w ≡ v → s.node ≡ node_for (λ x. cmp x w) ns → s.offset ≡ less_count (λ x. cmp x w) (node_at ns s.node) → s.found ≡ has_equal cmp (joined ns) v → s ≡ spot_of cmp ns v
   spot_told ns v w s same node offset found =
       let node' : s.node ≡ node_for (λ x. cmp x v) ns = node ∙ ap (λ u. node_for (λ x. cmp x u) ns) same in
       let offset' : s.offset ≡ less_count (λ x. cmp x v) (node_at ns (node_for (λ x. cmp x v) ns))

@@ -1,9 +1,10 @@
--- The nodes of a set, once a value was put in or taken out.
-use Rattle.std.specs.Prelude.{◌≡◌, ℕ, List, if◌then◌else◌}
+-- The nodes of a set, once values were put in or taken out.
+use Rattle.std.specs.Prelude.{◌≡◌, ℕ, List, take, drop, if◌then◌else◌}
+use Rattle.std.specs.List.{fold}
 use Rattle.std.specs.declared.cmp.Ordering.{Ordering}
 use Rattle.indexset_spine.specs.declared.spot.Spot.{Spot}
 use Rattle.indexset_core.specs.Nodes.{joined, node_at, node_for}
-use Rattle.indexset_spine.specs.Cut.{Cut, IsItemSpot, items, position_of, with_inserted, with_replaced, without_item}
+use Rattle.indexset_spine.specs.Cut.{Cut, cut, IsItemSpot, items, position_of, with_inserted, with_replaced, without_item}
 use Rattle.indexset_core.specs.Order.{has_equal}
 use Rattle.indexset_core.specs.Parted.{less_count}
 
@@ -32,3 +33,15 @@ module _ {T : Type 0} (cmp : T → T → Ordering) where
   -- without the element equal to v
   unfoldable pub nodes_without : Cut T → T → List (List T)
   nodes_without s v = if has_equal cmp (items s) v then without_item s.nodes (spot_of s.nodes v) else s.nodes
+
+  -- each of xs in turn in its place, where no equal element is there
+  unfoldable pub nodes_kept_all : Cut T → List T → List (List T)
+  nodes_kept_all s xs = fold (λ ns x. nodes_kept (cut ns s.size) x) s.nodes xs
+
+  -- each of xs in turn in its place, for any equal element
+  unfoldable pub nodes_put_all : Cut T → List T → List (List T)
+  nodes_put_all s xs = fold (λ ns x. nodes_put (cut ns s.size) x) s.nodes xs
+
+  -- some first elements of xs were put in turn, which left the nodes, and the others are left
+  abbrev pub PutsSome : Cut T → List T → List (List T) → List T → Type 0
+  PutsSome s xs ns rest = (k : ℕ) × (ns ≡ nodes_put_all s (take k xs)) × (rest ≡ drop k xs)

@@ -4,9 +4,11 @@ ghost use Rattle.std.specs.Fn.{CalledAt};
 ghost use Rattle.std.specs.List.{All};
 ghost use Rattle.std.specs.List.Retain.{IsFiltered};
 ghost use Rattle.std.specs.Ordering.{is_lt};
-ghost use Rattle.indexset_spine.specs.Cut.{items};
+ghost use Rattle.indexset_spine.specs.Cut.{items, cut};
+ghost use Rattle.indexset_spine.specs.Edits.{TakesSome};
 ghost use Rattle.indexset_core.specs.Order.{IsAscending, below, put};
 ghost use Rattle.indexset_set.specs.SetAlgebra.{put_all, MovesSome};
+ghost use Rattle.indexset_set.specs.SetNodes.{PutsSome, nodes_put, nodes_put_all};
 ghost use Rattle.indexset_set.specs.SetRanges.{not_below};
 
 use super::BTreeSet;
@@ -64,56 +66,52 @@ impl<T: Ord + Drop> BTreeSet<T> {
         Ok(BTreeSet { spine })
     }
 
-    /// Puts the elements of another set in their places, first to last, each for the equal one where
-    /// there is one, and takes them out of the other. A refused call has moved some first elements and
-    /// leaves the others. Where all of them are above those here, and the other's node size is not
-    /// larger, whole nodes move.
+    /// Puts the elements of another set in their places, first to last, each as `replace` puts it, and takes
+    /// them out of the other. A refused call has moved some first elements and leaves the others. Elements
+    /// above all here move by blocks, and are compared with none.
     pub fn append(&mut self, other: &mut Self) -> Result<(), Refusal>
         ensures ok { OnOk result (items self.new ≡ put_all T.cmp (items self.old) (items other.old)) }
+        ensures nodes { OnOk result (self.new.nodes ≡ nodes_put_all T.cmp self.old (items other.old)) }
         ensures emptied { OnOk result (items other.new ≡ []) }
         ensures size { self.new.size ≡ self.old.size }
         ensures other_size { other.new.size ≡ other.old.size }
         ensures refusal { IfErr result (λ e. e ≡ Refusal.Memory) }
         ensures err { OnErr result (MovesSome T.cmp (items self.old) (items other.old) (items self.new) (items other.new)) }
+        ensures err_nodes { OnErr result (PutsSome T.cmp self.old (items other.old) self.new.nodes (items other.new)) }
         ensures some_left { OnErr result (0 < length (items other.new)) }
     {
-        if other.maximum_node_size() <= self.maximum_node_size() && self.is_below(other) {
-            return self.append_nodes(other);
-        }
         let mut near = 0;
-        while !other.is_empty() {
+        while !self.is_below(other) {
             near = self.put_first_of(other, near)?;
         }
-        Ok(())
+        self.append_above(other)
     }
 
-    // Whether both sets have elements, and each here is below each there. It compares once at most.
+    // Whether each element here is below each there, by one comparison at most.
     fn is_below(&self, other: &Self) -> bool
-        ensures { IsTrue result ↔ ((0 < length (items self.now)) × (0 < length (items other.now)) × IsAscending T.cmp (items self.now ++ items other.now)) }
+        ensures value { IsTrue result ↔ IsAscending T.cmp (items self.now ++ items other.now) }
+        ensures some { result ≡ false → 0 < length (items other.now) }
     {
         let (Some(last), Some(first)) = (self.spine.last_spot(), other.spine.first_spot()) else {
-            return false;
+            return true;
         };
         self.spine.item(&last).cmp(other.spine.item(&first)).is_lt()
     }
 
-    // Moves the nodes of another set, whose elements are above those here, behind the nodes here. A
-    // refused call changes neither.
-    fn append_nodes(&mut self, other: &mut Self) -> Result<(), Refusal>
-        requires some { 0 < length (items self.old) }
-        requires other_some { 0 < length (items other.old) }
-        requires fits { other.old.size ≤ self.old.size }
+    // Puts the elements of another set, which are above those here, behind them. A refused call has moved
+    // some first elements and leaves the others.
+    fn append_above(&mut self, other: &mut Self) -> Result<(), Refusal>
         requires order { IsAscending T.cmp (items self.old ++ items other.old) }
-        ensures ok { OnOk result (items self.new ≡ put_all T.cmp (items self.old) (items other.old)) }
+        ensures moved { TakesSome (put T.cmp) (items self.old) (items other.old) (items self.new) (items other.new) }
+        ensures nodes { TakesSome (λ ns x. nodes_put T.cmp (cut ns self.old.size) x) self.old.nodes (items other.old) self.new.nodes (items other.new) }
         ensures emptied { OnOk result (items other.new ≡ []) }
         ensures size { self.new.size ≡ self.old.size }
         ensures other_size { other.new.size ≡ other.old.size }
         ensures refusal { IfErr result (λ e. e ≡ Refusal.Memory) }
-        ensures unchanged { OnErr result (self.new ≡ self.old) }
-        ensures other_unchanged { OnErr result (other.new ≡ other.old) }
+        ensures some_left { OnErr result (0 < length (items other.new)) }
     {
-        self.spine.append(&mut other.spine)?;
-        Ok(())
+        let _count = self.spine.node_count();
+        self.spine.append(&mut other.spine)
     }
 
     // Puts the first element of another set in its place, takes it out of the other, and answers the
@@ -121,6 +119,7 @@ impl<T: Ord + Drop> BTreeSet<T> {
     fn put_first_of(&mut self, other: &mut Self, near: usize) -> Result<usize, Refusal>
         requires some { 0 < length (items other.old) }
         ensures ok { OnOk result (IfSome (slice_get (items other.old) 0) (λ x. items self.new ≡ put T.cmp (items self.old) x)) }
+        ensures nodes { OnOk result (IfSome (slice_get (items other.old) 0) (λ x. self.new.nodes ≡ nodes_put T.cmp self.old x)) }
         ensures rest { OnOk result (items other.new ≡ drop 1 (items other.old)) }
         ensures size { self.new.size ≡ self.old.size }
         ensures other_size { other.new.size ≡ other.old.size }
