@@ -7,33 +7,41 @@ use Rattle.std.specs.declared.cmp.Ordering.{Ordering}
 use Rattle.std.specs.declared.ops.Bound.{Bound}
 use Rattle.std.specs.declared.ops.Bound.TheVariants.{Included, Excluded, Unbounded}
 
-module _ {T : Type 0} (cmp : T → T → Ordering) where
+-- P holds of what the bound names, where it names something
+abbrev pub IfBounded : {Q : Type 0} → (Q → Type 0) → Bound Q → Type 0
+IfBounded P (Included v) = P v
+IfBounded P (Excluded v) = P v
+IfBounded P Unbounded = Unit {0}
+
+-- an item is compared with what a bound names, which may be of another type
+module _ {T Q : Type 0} (cmp : T → Q → Ordering) where
   -- x stands before the start
-  abbrev pub is_before : Bound T → T → Bool
+  abbrev pub is_before : Bound Q → T → Bool
   is_before (Included v) x = is_lt (cmp x v)
   is_before (Excluded v) x = is_le (cmp x v)
   is_before Unbounded x = false
 
   -- x is not before the start
-  abbrev pub is_from_start : Bound T → T → Bool
+  abbrev pub is_from_start : Bound Q → T → Bool
   is_from_start (Included v) x = is_ge (cmp x v)
   is_from_start (Excluded v) x = is_gt (cmp x v)
   is_from_start Unbounded x = true
 
   -- x is not past the end
-  abbrev pub is_up_to_end : Bound T → T → Bool
+  abbrev pub is_up_to_end : Bound Q → T → Bool
   is_up_to_end (Included v) x = is_le (cmp x v)
   is_up_to_end (Excluded v) x = is_lt (cmp x v)
   is_up_to_end Unbounded x = true
 
   -- x satisfies both bounds
-  abbrev pub is_within : Bound T → Bound T → T → Bool
+  abbrev pub is_within : Bound Q → Bound Q → T → Bool
   is_within start end x = is_from_start start x && is_up_to_end end x
 
   -- the elements that satisfy both bounds
-  abbrev pub in_range : List T → Bound T → Bound T → List T
+  abbrev pub in_range : List T → Bound Q → Bound Q → List T
   in_range l start end = filter (is_within start end) l
 
+module _ {T : Type 0} (cmp : T → T → Ordering) where
   -- the start is not above the end, nor equal to it where both are excluded
   abbrev pub are_ordered : Bound T → Bound T → Bool
   are_ordered Unbounded end = true

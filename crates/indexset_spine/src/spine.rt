@@ -10,6 +10,7 @@ ghost use Rattle.indexset_core.specs.Nodes.{node_at, node_for, equal_at, node_le
 ghost use Rattle.indexset_spine.specs.Cut.{items, IsCut, IsSpot, IsItemSpot, position_of};
 
 mod append;
+mod bounds;
 mod ends;
 mod insert;
 mod make;

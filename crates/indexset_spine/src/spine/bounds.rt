@@ -1,0 +1,39 @@
+//! Bounds as spots, each by one search.
+ghost use Rattle.std.specs.Prelude.{◌≡◌};
+ghost use Rattle.std.specs.List.{count_by};
+ghost use Rattle.indexset_core.specs.Bounds.{IfBounded, is_before, is_up_to_end};
+ghost use Rattle.indexset_core.specs.Parted.{IsParted};
+ghost use Rattle.indexset_spine.specs.Cut.{items, IsSpot, position_of};
+
+use super::Spine;
+use crate::spot::Spot;
+use indexset_core::probe::{Past, Probe};
+use std::ops::Bound;
+
+impl<T> Spine<T> {
+    /// The spot after the items before the start.
+    pub fn start_of<P: Probe<T> + Drop>(&self, start: Bound<P>) -> Spot
+        requires { IfBounded (λ p. IsParted (P.answer p) (items self.now)) start }
+        ensures spot { IsSpot self.now.nodes result }
+        ensures position { position_of self.now.nodes result ≡ count_by (is_before (λ x p. P.answer p x) start) (items self.now) }
+    {
+        match start {
+            Bound::Included(mut probe) => self.locate_by(&mut probe),
+            Bound::Excluded(probe) => self.locate_by(&mut Past::new(probe)),
+            Bound::Unbounded => self.start(),
+        }
+    }
+
+    /// The spot after the items that are not past the end.
+    pub fn end_of<P: Probe<T> + Drop>(&self, end: Bound<P>) -> Spot
+        requires { IfBounded (λ p. IsParted (P.answer p) (items self.now)) end }
+        ensures spot { IsSpot self.now.nodes result }
+        ensures position { position_of self.now.nodes result ≡ count_by (is_up_to_end (λ x p. P.answer p x) end) (items self.now) }
+    {
+        match end {
+            Bound::Included(probe) => self.locate_by(&mut Past::new(probe)),
+            Bound::Excluded(mut probe) => self.locate_by(&mut probe),
+            Bound::Unbounded => self.end(),
+        }
+    }
+}
