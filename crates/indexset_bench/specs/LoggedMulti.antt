@@ -7,7 +7,7 @@ use Rattle.indexset_core.specs.Nodes.{joined}
 use Rattle.indexset_core.specs.Order.{put}
 use Rattle.indexset_core.specs.declared.multipair.MultiPair.{MultiPair}
 use Rattle.indexset_log.specs.declared.change.ChangeEventUnassigned.{ChangeEventUnassigned}
-use Rattle.indexset_multi.specs.Keys.{entry_of, equal_pair, first_pair, kept_number, without_pair}
+use Rattle.indexset_multi.specs.Keys.{equal_pair, first_pair, kept_number, key_and_value, without_named}
 use Rattle.indexset_multi.specs.Tree.{MultiTree, insertion_events, lacks_number, pair_removal_events}
 use Rattle.indexset_bench.specs.declared.logged.multimap.LoggedMultiCommand.{LoggedMultiCommand}
 use Rattle.indexset_bench.specs.declared.logged.multimap.LoggedMultiCommand.TheVariants.{Insert, RemoveSome, Remove}
@@ -24,14 +24,14 @@ module _ {K V : Type 0} (cmp : K → K → Ordering) (eq : V → V → Bool) whe
   -- the reply to a command
   abbrev pub logged_multi_reply : MultiState K V → LoggedMultiCommand K V → LoggedMultiReply K V
   logged_multi_reply s (Insert k w) = OldValue (option_map (λ p. p.value) (equal_pair cmp eq s.pairs k w))
-  logged_multi_reply s (RemoveSome k) = Out (option_map entry_of (first_pair cmp s.pairs k))
-  logged_multi_reply s (Remove k w) = Out (option_map entry_of (equal_pair cmp eq s.pairs k w))
+  logged_multi_reply s (RemoveSome k) = Out (option_map key_and_value (first_pair cmp s.pairs k))
+  logged_multi_reply s (Remove k w) = Out (option_map key_and_value (equal_pair cmp eq s.pairs k w))
 
   -- the pairs after it
   abbrev pub logged_multi_pairs : MultiState K V → LoggedMultiCommand K V → List (MultiPair K V)
   logged_multi_pairs s (Insert k w) = put (by_number cmp) s.pairs (numbered_pair k w (unwrap_or (kept_number cmp eq s.pairs k w) s.pair_next))
-  logged_multi_pairs s (RemoveSome k) = without_pair cmp s.pairs (first_pair cmp s.pairs k)
-  logged_multi_pairs s (Remove k w) = without_pair cmp s.pairs (equal_pair cmp eq s.pairs k w)
+  logged_multi_pairs s (RemoveSome k) = without_named cmp s.pairs (first_pair cmp s.pairs k)
+  logged_multi_pairs s (Remove k w) = without_named cmp s.pairs (equal_pair cmp eq s.pairs k w)
 
   -- the number of the next new pair after it: one more where a new pair was put in
   abbrev pub logged_multi_next : MultiState K V → LoggedMultiCommand K V → ℕ

@@ -15,7 +15,7 @@ use Rattle.indexset_core.specs.Nodes.{joined}
 use Rattle.indexset_core.specs.Order.{IsAscending, put, without}
 use Rattle.indexset_core.proofs.CallerLemmas.{equal_from}
 use Rattle.indexset_log.proofs.CallerLemmas.{Each, all_each, around, each-map, parts-put, parts-without, rises}
-use Rattle.indexset_multi.specs.Keys.{AreNumberedBelow, equal_pair, first_pair, kept_number, pairs_of, without_first, without_pair}
+use Rattle.indexset_multi.specs.Keys.{AreNumberedBelow, equal_pair, first_pair, kept_number, pairs_of, without_first, without_named}
 use Rattle.indexset_multi.specs.Tree.{MultiTree, inserted_pair, takes_number}
 use Rattle.indexset_multi.proofs.Numbers.{below_less, numbers_total}
 
@@ -235,15 +235,15 @@ module _ {K V : Type 0} (cmp : K → K → Ordering) (o : IsTotalOrder cmp) wher
         l (rises (by_number cmp) l up)
 
   -- the list of a key after its first pair that passes is removed, where there is one
-  pub pair_gone : (k : K) (q : MultiPair K V → Bool) (l : List (MultiPair K V)) → IsAscending (by_number cmp) l → pairs_of cmp (without_pair cmp l (find q (pairs_of cmp l k))) k ≡ without_first q (pairs_of cmp l k)
+  pub pair_gone : (k : K) (q : MultiPair K V → Bool) (l : List (MultiPair K V)) → IsAscending (by_number cmp) l → pairs_of cmp (without_named cmp l (find q (pairs_of cmp l k))) k ≡ without_first q (pairs_of cmp l k)
   pair_gone k q l up =
-      elim (find q (pairs_of cmp l k)) as (λ f. find q (pairs_of cmp l k) ≡ f → pairs_of cmp (without_pair cmp l f) k ≡ without_first q (pairs_of cmp l k)) [
+      elim (find q (pairs_of cmp l k)) as (λ f. find q (pairs_of cmp l k) ≡ f → pairs_of cmp (without_named cmp l f) k ≡ without_first q (pairs_of cmp l k)) [
         | None ↦ λ e. sym (none_first q (pairs_of cmp l k) e)
         | Some x ↦ λ e. gone k q x l up e
       ] refl
 
-  pub first_pair_gone : (k : K) (l : List (MultiPair K V)) → IsAscending (by_number cmp) l → pairs_of cmp (without_pair cmp l (first_pair cmp l k)) k ≡ drop 1 (pairs_of cmp l k)
-  first_pair_gone k l up = ap (λ f. pairs_of cmp (without_pair cmp l f) k) (first_filtered (λ p. is_eq (cmp p.key k)) l) ∙ (pair_gone k (λ _. true) l up ∙ any_first (pairs_of cmp l k))
+  pub first_pair_gone : (k : K) (l : List (MultiPair K V)) → IsAscending (by_number cmp) l → pairs_of cmp (without_named cmp l (first_pair cmp l k)) k ≡ drop 1 (pairs_of cmp l k)
+  first_pair_gone k l up = ap (λ f. pairs_of cmp (without_named cmp l f) k) (first_filtered (λ p. is_eq (cmp p.key k)) l) ∙ (pair_gone k (λ _. true) l up ∙ any_first (pairs_of cmp l k))
 
   -- the pairs of other keys stay
   module _ (k : K) (q : MultiPair K V → Bool) (l : List (MultiPair K V)) (other : K) (ne : is_eq (cmp other k) ≡ false) where
@@ -256,15 +256,15 @@ module _ {K V : Type 0} (cmp : K → K → Ordering) (o : IsTotalOrder cmp) wher
         let same : cmp x.key other ≡ Equal = sym (o.congr p.key x.key other (keys_tied p x tied)) ∙ here in
         unequal (cmp other k) ne (sym (alike_right o x.key k other (equal_from (cmp x.key k) found.1)) ∙ tied_back o x.key other same))) l (any_each l))
 
-    pub others_left : pairs_of cmp (without_pair cmp l (find q (pairs_of cmp l k))) other ≡ pairs_of cmp l other
+    pub others_left : pairs_of cmp (without_named cmp l (find q (pairs_of cmp l k))) other ≡ pairs_of cmp l other
     others_left =
-        elim (find q (pairs_of cmp l k)) as (λ f. find q (pairs_of cmp l k) ≡ f → pairs_of cmp (without_pair cmp l f) other ≡ pairs_of cmp l other) [
+        elim (find q (pairs_of cmp l k)) as (λ f. find q (pairs_of cmp l k) ≡ f → pairs_of cmp (without_named cmp l f) other ≡ pairs_of cmp l other) [
           | None ↦ λ e. refl
           | Some x ↦ λ e. pair_left x e
         ] refl
 
-  pub others_left_first : (k : K) (l : List (MultiPair K V)) (other : K) → is_eq (cmp other k) ≡ false → pairs_of cmp (without_pair cmp l (first_pair cmp l k)) other ≡ pairs_of cmp l other
-  others_left_first k l other ne = ap (λ f. pairs_of cmp (without_pair cmp l f) other) (first_filtered (λ p. is_eq (cmp p.key k)) l) ∙ others_left k (λ _. true) l other ne
+  pub others_left_first : (k : K) (l : List (MultiPair K V)) (other : K) → is_eq (cmp other k) ≡ false → pairs_of cmp (without_named cmp l (first_pair cmp l k)) other ≡ pairs_of cmp l other
+  others_left_first k l other ne = ap (λ f. pairs_of cmp (without_named cmp l f) other) (first_filtered (λ p. is_eq (cmp p.key k)) l) ∙ others_left k (λ _. true) l other ne
 
 -- an insertion into a map
 module _ {K V : Type 0} (cmp : K → K → Ordering) (o : IsTotalOrder cmp) (eq : V → V → Bool) (m : MultiTree K V) (k : K) (w : V) where

@@ -14,7 +14,7 @@ use Rattle.indexset_log.specs.Located.{located}
 use Rattle.indexset_log.specs.Places.{items_before}
 use Rattle.indexset_log.proofs.CallerLemmas.{IsEnd, end_at, end_found, end_node, end_offset, gap_at, gap_found, last_before, lawful_ascends, lawful_filled}
 use Rattle.indexset_multi.specs.Keys.{AreNumberedBelow}
-use Rattle.indexset_multi.specs.Places.{item_at, IsItemPlace}
+use Rattle.indexset_multi.specs.Places.{IsItemPlace, placed_item}
 use Rattle.indexset_multi.proofs.Numbers.{answer_to, parted_keys, parted_numbers, up_to_number}
 
 module _ {T : Type 0} (cmp : T → T → Ordering) (size : ℕ) (ns : List (List T)) (law : IsLawful cmp size ns) (answer : T → Ordering) (parted : IsParted answer (joined ns)) (r : Result (ℕ × ℕ) (ℕ × ℕ)) (e : r ≡ located answer ns) where
@@ -26,8 +26,8 @@ module _ {T : Type 0} (cmp : T → T → Ordering) (size : ℕ) (ns : List (List
   ] refl
 
   -- which is the first that is answered Equal
-  pub ok_item : item_at ns (result_ok r) ≡ find (λ x. is_eq (answer x)) (joined ns)
-  ok_item = elim r as (λ s. r ≡ s → item_at ns (result_ok s) ≡ find (λ x. is_eq (answer x)) (joined ns)) [
+  pub ok_item : placed_item ns (result_ok r) ≡ find (λ x. is_eq (answer x)) (joined ns)
+  ok_item = elim r as (λ s. r ≡ s → placed_item ns (result_ok s) ≡ find (λ x. is_eq (answer x)) (joined ns)) [
     | Ok p ↦ λ is. sym (end_found answer ns (lawful_filled cmp size ns law) parted r e p is)
     | Err p ↦ λ is. sym (gap_found answer ns (lawful_filled cmp size ns law) parted r e p is)
   ] refl
@@ -39,7 +39,7 @@ module _ {T : Type 0} (cmp : T → T → Ordering) (size : ℕ) (ns : List (List
     some_read (x ∷ xs) zero lt = refl
     some_read (x ∷ xs) (suc i) lt = some_read xs i (omega arith)
 
-    told : (r : Result (ℕ × ℕ) (ℕ × ℕ)) → IsItemPlace ns (result_ok r) → is_ok r ≡ is_some (item_at ns (result_ok r))
+    told : (r : Result (ℕ × ℕ) (ℕ × ℕ)) → IsItemPlace ns (result_ok r) → is_ok r ≡ is_some (placed_item ns (result_ok r))
     told (Ok p) place = sym (some_read (node_at ns p.0) p.1 place.1)
     told (Err p) place = refl
 

@@ -8,8 +8,8 @@ use Rattle.indexset_log.specs.declared.change.ChangeEventUnassigned.{ChangeEvent
 use Rattle.indexset_log.specs.Replay.{replay, numbered_from}
 use Rattle.indexset_log.specs.Table.{taking_count, taking_events}
 use Rattle.indexset_log.proofs.CallerLemmas.{place_contents, place_events, removal_few, taking_length}
-use Rattle.indexset_multi.specs.Keys.{AreNumberedBelow, without_pair}
-use Rattle.indexset_multi.specs.Places.{item_at, IsItemPlace}
+use Rattle.indexset_multi.specs.Keys.{AreNumberedBelow, without_named}
+use Rattle.indexset_multi.specs.Places.{IsItemPlace, placed_item}
 use Rattle.indexset_multi.specs.Tree.{MultiTree, pair_removal_events}
 use Rattle.indexset_multi.proofs.Below.{below_without}
 use Rattle.indexset_multi.proofs.Numbers.{numbers_total}
@@ -26,13 +26,13 @@ some_read (x ∷ xs) (suc i) lt = some_read xs i (omega arith)
 module _ {K V : Type 0} (cmp : K → K → Ordering) where
   -- the events that the contract names for the removal of the pair at a place
   abbrev place_removal : MultiTree K V → Option (ℕ × ℕ) → List (ChangeEventUnassigned (MultiPair K V))
-  place_removal m place = pair_removal_events cmp m.size m.nodes (item_at m.nodes place)
+  place_removal m place = pair_removal_events cmp m.size m.nodes (placed_item m.nodes place)
 
   -- a removal from nodes ns, whose first event has the number s, made a map m hold the nodes after
   pub record Taken (size : ℕ) (ns : List (List (MultiPair K V))) (s : ℕ) (m : MultiTree K V) (place : Option (ℕ × ℕ)) (p : ℕ × ℕ) (x : MultiPair K V) (after : List (List (MultiPair K V))) : Type 0 where
     pub told : numbered_from s (taking_events size ns p.0 p.1 x) ≡ numbered_from m.next (place_removal m place)
     pub replayed : replay (by_number cmp) m.nodes (numbered_from m.next (place_removal m place)) ≡ Some after
-    pub contents : joined after ≡ without_pair cmp (joined m.nodes) (item_at m.nodes place)
+    pub contents : joined after ≡ without_named cmp (joined m.nodes) (placed_item m.nodes place)
     pub below : (n : ℕ) → AreNumberedBelow n (joined ns) → AreNumberedBelow n (joined after)
 
   module _ (o : IsTotalOrder cmp) {ns : List (List (MultiPair K V))} {size next pair_next : ℕ} {m : MultiTree K V} (seen : (let t : MultiTree K V = record { nodes = ns; size = size; next = next; pair_next = pair_next } in t) ≡ m) (law : IsLawful (by_number cmp) size ns) {place : Option (ℕ × ℕ)} {p : ℕ × ℕ} (is : place ≡ Some p) (at : IsItemPlace m.nodes place) where
@@ -43,10 +43,10 @@ module _ {K V : Type 0} (cmp : K → K → Ordering) where
     inside = rw is at (rw (← same) at at)
 
     module _ {x : MultiPair K V} (here : slice_get (node_at ns p.0) p.1 ≡ Some x) where
-      item : item_at ns place ≡ Some x
+      item : placed_item ns place ≡ Some x
       item = rw is here
 
-      events : pair_removal_events cmp size ns (item_at ns place) ≡ taking_events size ns p.0 p.1 x
+      events : pair_removal_events cmp size ns (placed_item ns place) ≡ taking_events size ns p.0 p.1 x
       events = rw item (place_events (by_number cmp) (numbers_total cmp o) size ns law p inside.0 x here)
 
       pub taken : {after : List (List (MultiPair K V))} → replay (by_number cmp) ns (numbered_from next (taking_events size ns p.0 p.1 x)) ≡ Some after → Taken size ns next m place p x after

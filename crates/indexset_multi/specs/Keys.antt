@@ -19,8 +19,8 @@ without_first test (x ∷ l) = if test x then l else x ∷ without_first test l
 
 module _ {K V : Type 0} where
   -- the key and the value
-  abbrev pub entry_of : MultiPair K V → K × V
-  entry_of p = (p.key, p.value)
+  abbrev pub key_and_value : MultiPair K V → K × V
+  key_and_value p = (p.key, p.value)
 
   -- what a `(&K, &u64, &V)` points to
   abbrev pub number_shown : Bor K × Bor ℕ × Bor V → MultiPair K V
@@ -36,8 +36,8 @@ module _ {K V : Type 0} where
 
   module _ (cmp : K → K → Ordering) where
     -- a pair has the key
-    abbrev pub has_key : List (MultiPair K V) → K → Bool
-    has_key l k = list_any (λ p. is_eq (cmp p.key k)) l
+    abbrev pub has_pair_of : List (MultiPair K V) → K → Bool
+    has_pair_of l k = list_any (λ p. is_eq (cmp p.key k)) l
 
     -- the pairs of the key
     abbrev pub pairs_of : List (MultiPair K V) → K → List (MultiPair K V)
@@ -60,5 +60,5 @@ module _ {K V : Type 0} where
     pairs_between l start end = filter (λ p. is_within cmp start end p.key) l
 
     -- the pairs without the one that is named, where one is
-    abbrev pub without_pair : List (MultiPair K V) → Option (MultiPair K V) → List (MultiPair K V)
-    without_pair l pair = option_map_or (λ p. without (by_number cmp) l p) pair l
+    abbrev pub without_named : List (MultiPair K V) → Option (MultiPair K V) → List (MultiPair K V)
+    without_named l pair = option_map_or (λ p. without (by_number cmp) l p) pair l

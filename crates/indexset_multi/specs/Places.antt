@@ -5,8 +5,8 @@ use Rattle.indexset_core.specs.Nodes.{node_at}
 
 module _ {X : Type 0} where
   -- the item at the place, where a place is given
-  abbrev pub item_at : List (List X) → Option (ℕ × ℕ) → Option X
-  item_at ns place = option_and_then (λ p. slice_get (node_at ns p.0) p.1) place
+  abbrev pub placed_item : List (List X) → Option (ℕ × ℕ) → Option X
+  placed_item ns place = option_and_then (λ p. slice_get (node_at ns p.0) p.1) place
 
   -- an item stands at the place, where one is given
   abbrev pub IsItemPlace : List (List X) → Option (ℕ × ℕ) → Type 0

@@ -4,7 +4,7 @@ ghost use Rattle.std.specs.Map.Iter.{ShowsInOrder, ShowsInReverse, deref};
 ghost use Rattle.indexset_core.specs.MultiPairs.{by_number};
 ghost use Rattle.indexset_core.specs.Nodes.{joined, IsLawful};
 ghost use Rattle.indexset_log.specs.Located.{located};
-ghost use Rattle.indexset_multi.specs.Keys.{has_key, AreNumberedBelow};
+ghost use Rattle.indexset_multi.specs.Keys.{AreNumberedBelow, has_pair_of};
 
 mod attach;
 pub mod iter;
@@ -136,7 +136,7 @@ impl<K: Ord + Clone + Drop, V: Eq + Clone + Drop, Node: NodeLike<MultiPair<K, V>
 
     /// Whether a pair has the key.
     pub fn contains_key(&self, key: &K) -> bool
-        ensures { result ≡ has_key K.cmp (joined self.now.nodes) key.now }
+        ensures { result ≡ has_pair_of K.cmp (joined self.now.nodes) key.now }
     {
         self.locate(key).is_ok()
     }

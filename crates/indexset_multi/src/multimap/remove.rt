@@ -7,8 +7,8 @@ ghost use Rattle.indexset_core.specs.Nodes.{joined, IsLawful};
 ghost use Rattle.indexset_log.specs.Joining.{IsSpaced};
 ghost use Rattle.indexset_log.specs.Replay.{replay, numbered_from, IsNumberedFrom};
 ghost use Rattle.indexset_log.specs.Tree.{refusal_for};
-ghost use Rattle.indexset_multi.specs.Keys.{entry_of, equal_pair, first_pair, pairs_of, without_first, without_pair};
-ghost use Rattle.indexset_multi.specs.Places.{item_at, IsItemPlace};
+ghost use Rattle.indexset_multi.specs.Keys.{equal_pair, first_pair, key_and_value, pairs_of, without_first, without_named};
+ghost use Rattle.indexset_multi.specs.Places.{IsItemPlace, placed_item};
 ghost use Rattle.indexset_multi.specs.Tree.{pair_removal_events};
 
 use super::BTreeMultiMap;
@@ -30,8 +30,8 @@ impl<K: Ord + Clone + Drop, V: Eq + Clone + Drop, Node: NodeLike<MultiPair<K, V>
     ) -> Result<(Option<(K, V)>, Vec<ChangeEvent<MultiPair<K, V>>>), Refusal>
         requires keys { (x y : K) → K.is_clone x y → y ≡ x }
         requires values { (x y : V) → V.is_clone x y → y ≡ x }
-        ensures answer { IfOk result (λ r. r.0 ≡ option_map entry_of (first_pair K.cmp (joined self.old.nodes) key.now)) }
-        ensures contents { OnOk result (joined self.new.nodes ≡ without_pair K.cmp (joined self.old.nodes) (first_pair K.cmp (joined self.old.nodes) key.now)) }
+        ensures answer { IfOk result (λ r. r.0 ≡ option_map key_and_value (first_pair K.cmp (joined self.old.nodes) key.now)) }
+        ensures contents { OnOk result (joined self.new.nodes ≡ without_named K.cmp (joined self.old.nodes) (first_pair K.cmp (joined self.old.nodes) key.now)) }
         ensures gone { OnOk result (pairs_of K.cmp (joined self.new.nodes) key.now ≡ drop 1 (pairs_of K.cmp (joined self.old.nodes) key.now)) }
         ensures others { OnOk result ((other : K) → is_eq (K.cmp other key.now) ≡ false → pairs_of K.cmp (joined self.new.nodes) other ≡ pairs_of K.cmp (joined self.old.nodes) other) }
         ensures events { IfOk result (λ r. r.1.items ≡ numbered_from self.old.next (pair_removal_events K.cmp self.old.size self.old.nodes (first_pair K.cmp (joined self.old.nodes) key.now))) }
@@ -54,8 +54,8 @@ impl<K: Ord + Clone + Drop, V: Eq + Clone + Drop, Node: NodeLike<MultiPair<K, V>
     /// Takes out the first pair of a key, where there is one. It uses up as many numbers as
     /// `remove_some_cdc`, and is refused where they don't fit. It takes memory only where it joins two nodes.
     pub fn remove_some(&mut self, key: &K) -> Result<Option<(K, V)>, Refusal>
-        ensures answer { IfOk result (λ entry. entry ≡ option_map entry_of (first_pair K.cmp (joined self.old.nodes) key.now)) }
-        ensures contents { OnOk result (joined self.new.nodes ≡ without_pair K.cmp (joined self.old.nodes) (first_pair K.cmp (joined self.old.nodes) key.now)) }
+        ensures answer { IfOk result (λ entry. entry ≡ option_map key_and_value (first_pair K.cmp (joined self.old.nodes) key.now)) }
+        ensures contents { OnOk result (joined self.new.nodes ≡ without_named K.cmp (joined self.old.nodes) (first_pair K.cmp (joined self.old.nodes) key.now)) }
         ensures gone { OnOk result (pairs_of K.cmp (joined self.new.nodes) key.now ≡ drop 1 (pairs_of K.cmp (joined self.old.nodes) key.now)) }
         ensures others { OnOk result ((other : K) → is_eq (K.cmp other key.now) ≡ false → pairs_of K.cmp (joined self.new.nodes) other ≡ pairs_of K.cmp (joined self.old.nodes) other) }
         ensures replay { OnOk result (replay (by_number K.cmp) self.old.nodes (numbered_from self.old.next (pair_removal_events K.cmp self.old.size self.old.nodes (first_pair K.cmp (joined self.old.nodes) key.now))) ≡ Some self.new.nodes) }
@@ -84,8 +84,8 @@ impl<K: Ord + Clone + Drop, V: Eq + Clone + Drop, Node: NodeLike<MultiPair<K, V>
     ) -> Result<(Option<(K, V)>, Vec<ChangeEvent<MultiPair<K, V>>>), Refusal>
         requires keys { (x y : K) → K.is_clone x y → y ≡ x }
         requires values { (x y : V) → V.is_clone x y → y ≡ x }
-        ensures answer { IfOk result (λ r. r.0 ≡ option_map entry_of (equal_pair K.cmp V.eq (joined self.old.nodes) key.now value.now)) }
-        ensures contents { OnOk result (joined self.new.nodes ≡ without_pair K.cmp (joined self.old.nodes) (equal_pair K.cmp V.eq (joined self.old.nodes) key.now value.now)) }
+        ensures answer { IfOk result (λ r. r.0 ≡ option_map key_and_value (equal_pair K.cmp V.eq (joined self.old.nodes) key.now value.now)) }
+        ensures contents { OnOk result (joined self.new.nodes ≡ without_named K.cmp (joined self.old.nodes) (equal_pair K.cmp V.eq (joined self.old.nodes) key.now value.now)) }
         ensures gone { OnOk result (pairs_of K.cmp (joined self.new.nodes) key.now ≡ without_first (λ p. V.eq p.value value.now) (pairs_of K.cmp (joined self.old.nodes) key.now)) }
         ensures others { OnOk result ((other : K) → is_eq (K.cmp other key.now) ≡ false → pairs_of K.cmp (joined self.new.nodes) other ≡ pairs_of K.cmp (joined self.old.nodes) other) }
         ensures events { IfOk result (λ r. r.1.items ≡ numbered_from self.old.next (pair_removal_events K.cmp self.old.size self.old.nodes (equal_pair K.cmp V.eq (joined self.old.nodes) key.now value.now))) }
@@ -108,8 +108,8 @@ impl<K: Ord + Clone + Drop, V: Eq + Clone + Drop, Node: NodeLike<MultiPair<K, V>
     /// Takes out the first pair of a key whose value is equal, where there is one. It uses up as many
     /// numbers as `remove_cdc`, and is refused where they don't fit. It takes memory only where it joins two nodes.
     pub fn remove(&mut self, key: &K, value: &V) -> Result<Option<(K, V)>, Refusal>
-        ensures answer { IfOk result (λ entry. entry ≡ option_map entry_of (equal_pair K.cmp V.eq (joined self.old.nodes) key.now value.now)) }
-        ensures contents { OnOk result (joined self.new.nodes ≡ without_pair K.cmp (joined self.old.nodes) (equal_pair K.cmp V.eq (joined self.old.nodes) key.now value.now)) }
+        ensures answer { IfOk result (λ entry. entry ≡ option_map key_and_value (equal_pair K.cmp V.eq (joined self.old.nodes) key.now value.now)) }
+        ensures contents { OnOk result (joined self.new.nodes ≡ without_named K.cmp (joined self.old.nodes) (equal_pair K.cmp V.eq (joined self.old.nodes) key.now value.now)) }
         ensures gone { OnOk result (pairs_of K.cmp (joined self.new.nodes) key.now ≡ without_first (λ p. V.eq p.value value.now) (pairs_of K.cmp (joined self.old.nodes) key.now)) }
         ensures others { OnOk result ((other : K) → is_eq (K.cmp other key.now) ≡ false → pairs_of K.cmp (joined self.new.nodes) other ≡ pairs_of K.cmp (joined self.old.nodes) other) }
         ensures replay { OnOk result (replay (by_number K.cmp) self.old.nodes (numbered_from self.old.next (pair_removal_events K.cmp self.old.size self.old.nodes (equal_pair K.cmp V.eq (joined self.old.nodes) key.now value.now))) ≡ Some self.new.nodes) }
@@ -132,7 +132,7 @@ impl<K: Ord + Clone + Drop, V: Eq + Clone + Drop, Node: NodeLike<MultiPair<K, V>
     // Where the first pair of a key stands.
     fn first_place(&self, key: &K) -> Option<(usize, usize)>
         ensures place { IsItemPlace self.now.nodes result }
-        ensures pair { item_at self.now.nodes result ≡ first_pair K.cmp (joined self.now.nodes) key.now }
+        ensures pair { placed_item self.now.nodes result ≡ first_pair K.cmp (joined self.now.nodes) key.now }
     {
         self.locate(key).ok()
     }
@@ -140,7 +140,7 @@ impl<K: Ord + Clone + Drop, V: Eq + Clone + Drop, Node: NodeLike<MultiPair<K, V>
     // Where the first pair of a key with an equal value stands.
     fn equal_place(&self, key: &K, value: &V) -> Option<(usize, usize)>
         ensures place { IsItemPlace self.now.nodes result }
-        ensures pair { item_at self.now.nodes result ≡ equal_pair K.cmp V.eq (joined self.now.nodes) key.now value.now }
+        ensures pair { placed_item self.now.nodes result ≡ equal_pair K.cmp V.eq (joined self.now.nodes) key.now value.now }
     {
         match self.kept_number(key, value) {
             Some(number) => self.locate_number(key, number).ok(),
@@ -156,20 +156,20 @@ impl<K: Ord + Clone + Drop, V: Eq + Clone + Drop, Node: NodeLike<MultiPair<K, V>
         requires keys { (x y : K) → K.is_clone x y → y ≡ x }
         requires values { (x y : V) → V.is_clone x y → y ≡ x }
         requires place { IsItemPlace self.old.nodes place }
-        ensures answer { IfOk result (λ r. r.0 ≡ option_map entry_of (item_at self.old.nodes place)) }
-        ensures contents { OnOk result (joined self.new.nodes ≡ without_pair K.cmp (joined self.old.nodes) (item_at self.old.nodes place)) }
+        ensures answer { IfOk result (λ r. r.0 ≡ option_map key_and_value (placed_item self.old.nodes place)) }
+        ensures contents { OnOk result (joined self.new.nodes ≡ without_named K.cmp (joined self.old.nodes) (placed_item self.old.nodes place)) }
         ensures lawful { IsLawful (by_number K.cmp) self.old.size self.old.nodes }
-        ensures events { IfOk result (λ r. r.1.items ≡ numbered_from self.old.next (pair_removal_events K.cmp self.old.size self.old.nodes (item_at self.old.nodes place))) }
+        ensures events { IfOk result (λ r. r.1.items ≡ numbered_from self.old.next (pair_removal_events K.cmp self.old.size self.old.nodes (placed_item self.old.nodes place))) }
         ensures numbered { IfOk result (λ r. IsNumberedFrom self.old.next r.1.items) }
         ensures replay { IfOk result (λ r. replay (by_number K.cmp) self.old.nodes r.1.items ≡ Some self.new.nodes) }
         ensures few { IfOk result (λ r. length r.1.items ≤ 3) }
         ensures size { self.new.size ≡ self.old.size }
         ensures spaced { IsSpaced (self.old.size / 2) self.old.nodes → IsSpaced (self.new.size / 2) self.new.nodes }
-        ensures next { OnOk result (self.new.next ≡ self.old.next + length (pair_removal_events K.cmp self.old.size self.old.nodes (item_at self.old.nodes place))) }
+        ensures next { OnOk result (self.new.next ≡ self.old.next + length (pair_removal_events K.cmp self.old.size self.old.nodes (placed_item self.old.nodes place))) }
         ensures pair_next { self.new.pair_next ≡ self.old.pair_next }
-        ensures fits { OnOk result (self.old.next + length (pair_removal_events K.cmp self.old.size self.old.nodes (item_at self.old.nodes place)) ≤ u64.MAX) }
-        ensures refusal { IfErr result (λ e. e ≡ refusal_for self.old.next (length (pair_removal_events K.cmp self.old.size self.old.nodes (item_at self.old.nodes place)))) }
-        ensures no_event { pair_removal_events K.cmp self.old.size self.old.nodes (item_at self.old.nodes place) ≡ [] → IsOk result }
+        ensures fits { OnOk result (self.old.next + length (pair_removal_events K.cmp self.old.size self.old.nodes (placed_item self.old.nodes place)) ≤ u64.MAX) }
+        ensures refusal { IfErr result (λ e. e ≡ refusal_for self.old.next (length (pair_removal_events K.cmp self.old.size self.old.nodes (placed_item self.old.nodes place)))) }
+        ensures no_event { pair_removal_events K.cmp self.old.size self.old.nodes (placed_item self.old.nodes place) ≡ [] → IsOk result }
         ensures unchanged { OnErr result (self.new ≡ self.old) }
     {
         // A set says here what it is.
@@ -188,20 +188,20 @@ impl<K: Ord + Clone + Drop, V: Eq + Clone + Drop, Node: NodeLike<MultiPair<K, V>
     // Takes out the pair at a place, where one is given.
     fn take(&mut self, place: Option<(usize, usize)>) -> Result<Option<(K, V)>, Refusal>
         requires { IsItemPlace self.old.nodes place }
-        ensures answer { IfOk result (λ entry. entry ≡ option_map entry_of (item_at self.old.nodes place)) }
-        ensures contents { OnOk result (joined self.new.nodes ≡ without_pair K.cmp (joined self.old.nodes) (item_at self.old.nodes place)) }
+        ensures answer { IfOk result (λ entry. entry ≡ option_map key_and_value (placed_item self.old.nodes place)) }
+        ensures contents { OnOk result (joined self.new.nodes ≡ without_named K.cmp (joined self.old.nodes) (placed_item self.old.nodes place)) }
         ensures lawful { IsLawful (by_number K.cmp) self.old.size self.old.nodes }
-        ensures replay { OnOk result (replay (by_number K.cmp) self.old.nodes (numbered_from self.old.next (pair_removal_events K.cmp self.old.size self.old.nodes (item_at self.old.nodes place))) ≡ Some self.new.nodes) }
-        ensures few { length (pair_removal_events K.cmp self.old.size self.old.nodes (item_at self.old.nodes place)) ≤ 3 }
+        ensures replay { OnOk result (replay (by_number K.cmp) self.old.nodes (numbered_from self.old.next (pair_removal_events K.cmp self.old.size self.old.nodes (placed_item self.old.nodes place))) ≡ Some self.new.nodes) }
+        ensures few { length (pair_removal_events K.cmp self.old.size self.old.nodes (placed_item self.old.nodes place)) ≤ 3 }
         ensures size { self.new.size ≡ self.old.size }
         ensures spaced { IsSpaced (self.old.size / 2) self.old.nodes → IsSpaced (self.new.size / 2) self.new.nodes }
-        ensures next { OnOk result (self.new.next ≡ self.old.next + length (pair_removal_events K.cmp self.old.size self.old.nodes (item_at self.old.nodes place))) }
+        ensures next { OnOk result (self.new.next ≡ self.old.next + length (pair_removal_events K.cmp self.old.size self.old.nodes (placed_item self.old.nodes place))) }
         ensures pair_next { self.new.pair_next ≡ self.old.pair_next }
-        ensures fits { OnOk result (self.old.next + length (pair_removal_events K.cmp self.old.size self.old.nodes (item_at self.old.nodes place)) ≤ u64.MAX) }
-        ensures refusal { IfErr result (λ e. e ≡ refusal_for self.old.next (length (pair_removal_events K.cmp self.old.size self.old.nodes (item_at self.old.nodes place)))) }
-        ensures no_event { pair_removal_events K.cmp self.old.size self.old.nodes (item_at self.old.nodes place) ≡ [] → IsOk result }
-        ensures no_memory { length (pair_removal_events K.cmp self.old.size self.old.nodes (item_at self.old.nodes place)) ≤ 1 → self.old.next + length (pair_removal_events K.cmp self.old.size self.old.nodes (item_at self.old.nodes place)) ≤ u64.MAX → IsOk result }
-        ensures never { Node.allocates ≡ false → self.old.next + length (pair_removal_events K.cmp self.old.size self.old.nodes (item_at self.old.nodes place)) ≤ u64.MAX → IsOk result }
+        ensures fits { OnOk result (self.old.next + length (pair_removal_events K.cmp self.old.size self.old.nodes (placed_item self.old.nodes place)) ≤ u64.MAX) }
+        ensures refusal { IfErr result (λ e. e ≡ refusal_for self.old.next (length (pair_removal_events K.cmp self.old.size self.old.nodes (placed_item self.old.nodes place)))) }
+        ensures no_event { pair_removal_events K.cmp self.old.size self.old.nodes (placed_item self.old.nodes place) ≡ [] → IsOk result }
+        ensures no_memory { length (pair_removal_events K.cmp self.old.size self.old.nodes (placed_item self.old.nodes place)) ≤ 1 → self.old.next + length (pair_removal_events K.cmp self.old.size self.old.nodes (placed_item self.old.nodes place)) ≤ u64.MAX → IsOk result }
+        ensures never { Node.allocates ≡ false → self.old.next + length (pair_removal_events K.cmp self.old.size self.old.nodes (placed_item self.old.nodes place)) ≤ u64.MAX → IsOk result }
         ensures unchanged { OnErr result (self.new ≡ self.old) }
     {
         // A set says here what it is.

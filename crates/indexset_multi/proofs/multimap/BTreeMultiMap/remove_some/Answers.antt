@@ -2,7 +2,7 @@ use Rattle.std.proofs.Common.{ap, ◌∙◌}
 use Rattle.indexset_core.specs.MultiPairs.{by_number}
 use Rattle.indexset_core.specs.Nodes.{joined}
 use Rattle.indexset_log.proofs.CallerLemmas.{lawful_ascends, on_ok_map}
-use Rattle.indexset_multi.specs.Keys.{pairs_of, without_pair}
+use Rattle.indexset_multi.specs.Keys.{pairs_of, without_named}
 use Rattle.indexset_multi.proofs.Lists.{first_pair_gone, others_left_first}
 use Rattle.indexset_multi.proofs.multimap.BTreeMultiMap.remove_some.Goals as goal
 
@@ -11,10 +11,10 @@ returns-clause-gone g c =
     let cmp = g.K.Ord.cmp in
     let m = c.args.self.now in
     let up = lawful_ascends (by_number cmp) m.size m.nodes c.take.ensures.lawful in
-    on_ok_map c.take.result c.take.ensures.contents (λ left. ap (λ l. pairs_of cmp l c.args.key.now) (left ∙ ap (without_pair cmp (joined m.nodes)) c.first_place-place.ensures.pair) ∙ first_pair_gone cmp g.met.K.Ord.total c.args.key.now (joined m.nodes) up)
+    on_ok_map c.take.result c.take.ensures.contents (λ left. ap (λ l. pairs_of cmp l c.args.key.now) (left ∙ ap (without_named cmp (joined m.nodes)) c.first_place-place.ensures.pair) ∙ first_pair_gone cmp g.met.K.Ord.total c.args.key.now (joined m.nodes) up)
 
 pub returns-clause-others : goal.returns-clause-others
 returns-clause-others g c =
     let cmp = g.K.Ord.cmp in
     let l = joined c.args.self.now.nodes in
-    on_ok_map c.take.result c.take.ensures.contents (λ left other ne. ap (λ l. pairs_of cmp l other) (left ∙ ap (without_pair cmp l) c.first_place-place.ensures.pair) ∙ others_left_first cmp g.met.K.Ord.total c.args.key.now l other ne)
+    on_ok_map c.take.result c.take.ensures.contents (λ left other ne. ap (λ l. pairs_of cmp l other) (left ∙ ap (without_named cmp l) c.first_place-place.ensures.pair) ∙ others_left_first cmp g.met.K.Ord.total c.args.key.now l other ne)

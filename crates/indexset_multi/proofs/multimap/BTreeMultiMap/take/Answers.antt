@@ -1,7 +1,7 @@
 use Rattle.std.proofs.Common.{rules, ◌≡◌, IfErr, subst, ap, length, arith}
 use Rattle.std.proofs.lemmas.Bool.{false≢true}
 use Rattle.indexset_log.proofs.CallerLemmas.{some_taken}
-use Rattle.indexset_multi.specs.Places.{item_at}
+use Rattle.indexset_multi.specs.Places.{placed_item}
 use Rattle.indexset_multi.proofs.Takes.{pair_removal_few, taken, taken_count}
 use Rattle.indexset_multi.proofs.multimap.BTreeMultiMap.take.Goals as goal
 
@@ -50,13 +50,13 @@ returns-in_err-pair-in-Some-clause-no_memory g c =
     λ few fits. absurd (false≢true (c.in_err-pair-in-Some.ensures.no_memory (omega (arith, count, few, some)) (omega (arith, count, fits, some, next))))
 
 pub returns-in_err-pair-in-Some-clause-few : goal.returns-in_err-pair-in-Some-clause-few
-returns-in_err-pair-in-Some-clause-few g c = pair_removal_few g.K.Ord.cmp c.args.self.now.size c.args.self.now.nodes (item_at c.args.self.now.nodes c.args.place)
+returns-in_err-pair-in-Some-clause-few g c = pair_removal_few g.K.Ord.cmp c.args.self.now.size c.args.self.now.nodes (placed_item c.args.self.now.nodes c.args.place)
 
 pub returns-in_ok-pair-in-Some-clause-few : goal.returns-in_ok-pair-in-Some-clause-few
-returns-in_ok-pair-in-Some-clause-few g c = pair_removal_few g.K.Ord.cmp c.args.self.now.size c.args.self.now.nodes (item_at c.args.self.now.nodes c.args.place)
+returns-in_ok-pair-in-Some-clause-few g c = pair_removal_few g.K.Ord.cmp c.args.self.now.size c.args.self.now.nodes (placed_item c.args.self.now.nodes c.args.place)
 
 pub returns-in-None-clause-few : goal.returns-in-None-clause-few
-returns-in-None-clause-few g c = pair_removal_few g.K.Ord.cmp c.args.self.now.size c.args.self.now.nodes (item_at c.args.self.now.nodes c.args.place)
+returns-in-None-clause-few g c = pair_removal_few g.K.Ord.cmp c.args.self.now.size c.args.self.now.nodes (placed_item c.args.self.now.nodes c.args.place)
 
 pub returns-in_err-pair-in-Some-clause-no_event : goal.returns-in_err-pair-in-Some-clause-no_event
 returns-in_err-pair-in-Some-clause-no_event g c =
