@@ -129,7 +129,7 @@ module _ {T : Type 0} (cmp : T → T → Ordering) (o : IsTotalOrder cmp) (size 
       (λ b m a. at_place (λ m i x. Ruled cmp (b ++ m ∷ a) → Each (λ n. length n ≤ size) (b ++ m ∷ a) → Taken (b ++ m ∷ a) (length b) m i x) (λ l x r. taken_at b l x r a) m)
       ns k n at
 
--- an item taken out of lawful nodes
+-- an item removed from lawful nodes
 module _ {T : Type 0} {cmp : T → T → Ordering} {size : ℕ} {ns : List (List T)} (o : IsTotalOrder cmp) (law : IsLawful cmp size ns) where
   module _ (k i : ℕ) {x : T} (inside : k < length ns) (here : slice_get (node_at ns k) i ≡ Some x) where
     did : Taken cmp o size ns k (node_at ns k) i x

@@ -1,4 +1,4 @@
--- Trees made of items, and ranges taken out.
+-- Trees made of items, and removal of ranges.
 use Rattle.std.specs.Prelude.{◌+◌, length, not, List, filter, map}
 use Rattle.std.specs.declared.cmp.Ordering.{Ordering}
 use Rattle.std.specs.declared.ops.Bound.{Bound}

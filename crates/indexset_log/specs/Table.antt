@@ -63,7 +63,7 @@ taking_event n i x = if length n == 1 then RemoveNode x else RemoveAt (last_of n
 abbrev pub joining_event : {T : Type 0} → List (List T) → T → ℕ → ChangeEventUnassigned T
 joining_event ns d j = MergeNodes (last_of (node_at ns j) d) (last_of (node_at ns (j + 1)) d)
 
--- the item x at place i of the node at place k is taken out: small neighbours are joined
+-- the item x at place i of the node at place k is removed, and small neighbours are joined
 abbrev pub taking_events : {T : Type 0} → ℕ → List (List T) → ℕ → ℕ → T → List (ChangeEventUnassigned T)
 taking_events size ns k i x = taking_event (node_at ns k) i x ∷ option_map_or (λ j. joining_event (without_item ns k i) x j ∷ []) (join_after size ns k i) []
 

@@ -145,7 +145,7 @@ impl<K: Ord + Clone + Drop, V: Clone + Drop, Node: NodeLike<Pair<K, V>>> BTreeMa
     pub fn get(&self, key: &K) -> Option<&Pair<K, V>>
         ensures { option_copied result ≡ pair_of K.cmp (joined self.now.nodes) key.now }
     {
-        // A set says here that its pairs ascend, so a probe by key may go by them.
+        // The contract of `node_count` says that the pairs ascend, as a search by key requires.
         let _nodes = self.set.node_count();
         self.set.get_by(&mut ByKey::new(key))
     }
@@ -165,7 +165,7 @@ impl<K: Ord + Clone + Drop, V: Clone + Drop, Node: NodeLike<Pair<K, V>>> BTreeMa
         ensures within { self.now.size ≤ usize.MAX }
         ensures number { self.now.next ≤ u64.MAX }
     {
-        // A set says here that its pairs ascend, so a probe by key may go by them.
+        // The contract of `node_count` says that the pairs ascend, as a search by key requires.
         let _nodes = self.set.node_count();
         let _size = self.set.maximum_node_size();
         let _next = self.set.events_issued();

@@ -120,8 +120,8 @@ pub(crate) fn fit_together(left: usize, right: usize, most: usize) -> bool
     left <= most && right <= most - left
 }
 
-/// Takes out the item at a place, and makes the node at `left` and the one after it one: the item is in
-/// either. Room is asked for first, and a refused call leaves the items as they are.
+/// Removes the item at a place, and joins the node at `left` with the one after it: the item is in
+/// either. Room is asked for first. A failed call leaves the items as they are.
 pub(crate) fn take_and_join<T: Ord + Drop, Node: NodeLike<T>>(
     nodes: &mut Vec<Node>,
     node: usize,

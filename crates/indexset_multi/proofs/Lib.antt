@@ -1,4 +1,5 @@
 pub mod Below
+pub mod CallerLemmas
 pub mod Free
 pub mod Lists
 pub mod Numbers

@@ -1,6 +1,7 @@
 -- What insertions and removals make of the pairs of a key.
-use Rattle.std.proofs.Common.{◌≡◌, ℕ, ◌<◌, Bool, true, false, not, cond, List, [], ◌∷◌, ◌++◌, drop, filter, find, Option, Some, None, is_none, Ordering, refl, ap, sym, ◌∙◌, subst}
+use Rattle.std.proofs.Common.{◌≡◌, ℕ, ◌<◌, ◌||◌, Bool, true, false, not, cond, List, [], ◌∷◌, ◌++◌, drop, filter, find, Option, Some, None, is_none, is_some, Ordering, refl, ap, sym, ◌∙◌, subst}
 use Rattle.std.specs.Cmp.{IsTotalOrder}
+use Rattle.std.specs.List.{list_any}
 use Rattle.std.specs.Option.{option_map, option_or, unwrap_or}
 use Rattle.std.specs.Ordering.{is_eq, is_gt, is_lt, nat_cmp, ordering_reverse, ordering_then}
 use Rattle.std.specs.declared.cmp.Ordering.TheVariants.{Less, Equal, Greater}
@@ -10,12 +11,13 @@ use Rattle.std.proofs.lemmas.List.Elements.{filter-append}
 use Rattle.std.proofs.lemmas.List.Folds.{find-append}
 use Rattle.std.proofs.lemmas.Option.{none-some, same_Some}
 use Rattle.indexset_core.specs.declared.multipair.MultiPair.{MultiPair}
+use Rattle.indexset_core.specs.declared.pair.Pair.{Pair}
 use Rattle.indexset_core.specs.MultiPairs.{by_number, numbered_pair}
 use Rattle.indexset_core.specs.Nodes.{joined}
 use Rattle.indexset_core.specs.Order.{IsAscending, put, without}
-use Rattle.indexset_core.proofs.CallerLemmas.{equal_from}
+use Rattle.indexset_core.proofs.CallerLemmas.{equal_from, is_some-find}
 use Rattle.indexset_log.proofs.CallerLemmas.{Each, all_each, around, each-map, parts-put, parts-without, rises}
-use Rattle.indexset_multi.specs.Keys.{AreNumberedBelow, equal_pair, first_pair, kept_number, pairs_of, without_first, without_named}
+use Rattle.indexset_multi.specs.Keys.{AreNumberedBelow, entries, equal_pair, first_pair, has_pair_of, kept_number, pairs_of, without_first, without_named}
 use Rattle.indexset_multi.specs.Tree.{MultiTree, inserted_pair, takes_number}
 use Rattle.indexset_multi.proofs.Numbers.{below_less, numbers_total}
 
@@ -285,3 +287,23 @@ module _ {K V : Type 0} (cmp : K → K → Ordering) (o : IsTotalOrder cmp) (eq 
 
   pub inserted_others : IsAscending (by_number cmp) (joined m.nodes) → (other : K) → is_eq (cmp other k) ≡ false → pairs_of cmp (put (by_number cmp) (joined m.nodes) (inserted_pair cmp eq m k w)) other ≡ pairs_of cmp (joined m.nodes) other
   inserted_others up other ne = put_others cmp o k (inserted_pair cmp eq m k w) keyed (joined m.nodes) up other ne
+
+-- a pair that is found has the key, and its value is among those of the key
+module _ {K V : Type 0} (cmp : K → K → Ordering) (eq : V → V → Bool) (l : List (MultiPair K V)) (k : K) (w : V) {x : MultiPair K V} where
+  pub found_keyed : equal_pair cmp eq l k w ≡ Some x → has_pair_of cmp l k ≡ true
+  found_keyed e = any_of l e
+    where
+      any_of : (l : List (MultiPair K V)) → equal_pair cmp eq l k w ≡ Some x → has_pair_of cmp l k ≡ true
+      any_of [] e = absurd (none-some x e)
+      any_of (p ∷ l) e =
+          elim (is_eq (cmp p.key k)) as (λ b. find (λ y. eq y.value w) (cond b (p ∷ pairs_of cmp l k) (pairs_of cmp l k)) ≡ Some x → (b || has_pair_of cmp l k) ≡ true) [
+            | true ↦ λ _. refl
+            | false ↦ λ e. any_of l e
+          ] e
+
+  pub found_value : equal_pair cmp eq l k w ≡ Some x → list_any (λ p. eq p.value w) (entries (pairs_of cmp l k)) ≡ true
+  found_value e = any_entry (pairs_of cmp l k) ∙ (sym (is_some-find (λ p. eq p.value w) (pairs_of cmp l k)) ∙ ap is_some e)
+    where
+      any_entry : (l : List (MultiPair K V)) → list_any (λ (p : Pair K V). eq p.value w) (entries l) ≡ list_any (λ p. eq p.value w) l
+      any_entry [] = refl
+      any_entry (p ∷ l) = ap (λ b. eq p.value w || b) (any_entry l)

@@ -146,7 +146,7 @@ impl<K: Ord + Clone + Drop, V: Eq + Clone + Drop, Node: NodeLike<MultiPair<K, V>
         ensures place { result ≡ located (λ p. K.cmp p.key key.now) self.now.nodes }
         ensures lawful { IsLawful (by_number K.cmp) self.now.size self.now.nodes }
     {
-        // A set says here that its pairs ascend, so a probe by key may go by them.
+        // The contract of `node_count` says that the pairs ascend, as a search by key requires.
         let _nodes = self.set.node_count();
         self.set.locate_by(&mut ByKey::new(key))
     }

@@ -33,7 +33,8 @@ impl<K: Ord + Clone + Drop, V: Clone + Drop, Node: NodeLike<Pair<K, V>>> BTreeMa
         ensures runs { ShowsInOrder (pair_shown {K = K} {V = V}) }
         ensures runs_back { ShowsInReverse (pair_shown {K = K} {V = V}) }
     {
-        // A set says here that its pairs ascend, so the two places cut out the range.
+        // The contract of `node_count` says that the pairs ascend, so the range is what lies between the
+        // two places.
         let _nodes = self.set.node_count();
         let from = self.place_from(range.0);
         let to = self.place_to(range.1);

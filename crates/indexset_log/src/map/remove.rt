@@ -1,4 +1,4 @@
-//! Calls that take pairs out.
+//! Calls that remove pairs.
 ghost use Rattle.std.specs.Prelude.{◌≡◌, ◌+◌, ◌/◌, ◌<◌, ◌≤◌, [], length, Some, false, IfOk, OnOk, IfErr, OnErr, IsOk};
 ghost use Rattle.std.specs.Option.{option_map};
 ghost use Rattle.indexset_core.specs.Nodes.{joined};
@@ -15,8 +15,9 @@ use indexset_core::pair::Pair;
 use indexset_core::refusal::Refusal;
 
 impl<K: Ord + Clone + Drop, V: Clone + Drop, Node: NodeLike<Pair<K, V>>> BTreeMap<K, V, Node> {
-    /// Takes out the pair of a key, where there is one, and tells the events: a node that is left small
-    /// is joined with a small neighbour. A refused call changes nothing.
+    /// Removes the pair of a key, if any, and returns it with the events. A node that is left small is
+    /// joined with a small neighbour. Fails with `Numbers` where the events do not fit the counter, else
+    /// with `Memory`. A failed call changes nothing.
     pub fn remove_cdc(
         &mut self,
         key: &K,
@@ -48,8 +49,9 @@ impl<K: Ord + Clone + Drop, V: Clone + Drop, Node: NodeLike<Pair<K, V>>> BTreeMa
         }
     }
 
-    /// Takes out the pair of a key, where there is one. It uses up as many numbers as `remove_cdc`, and
-    /// is refused where they don't fit. It takes memory only where it joins two nodes.
+    /// Removes the pair of a key, if any, and returns it. It uses up as many numbers as `remove_cdc`, and
+    /// fails with `Numbers` where they do not fit. It allocates only where it joins two nodes of a type
+    /// that allocates, and else does not fail with `Memory`. A failed call changes nothing.
     pub fn remove(&mut self, key: &K) -> Result<Option<(K, V)>, Refusal>
         ensures answer { IfOk result (λ entry. entry ≡ option_map entry_of (pair_of K.cmp (joined self.old.nodes) key.now)) }
         ensures contents { OnOk result (joined self.new.nodes ≡ without_key K.cmp (joined self.old.nodes) key.now) }

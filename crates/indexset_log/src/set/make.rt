@@ -14,8 +14,8 @@ use std::alloc::Global;
 
 impl<T: Ord + Clone + Drop> BTreeSet<T, Vec<T>> {
     /// The tree of what an iterator gives, each item put in by `insert`: of equal ones the first
-    /// stays. Refused for want of memory, or of numbers for the events of the items that came, and then
-    /// all are let go.
+    /// stays. Fails with `Memory`, or with `Numbers` where the events of the items that came do not fit,
+    /// and then all are dropped.
     pub fn from_iter<I: IntoIterator<Item = T>>(alloc: Global, iter: I) -> Result<Self, Refusal>
         requires { IsFiniteIterable I.into_iter_gives I.IntoIter.can_next I.IntoIter.remaining iter }
         ensures contents { IfOk result (λ s. (it : I.IntoIter) × I.into_iter_gives iter it

@@ -67,7 +67,7 @@ impl<T: Ord + Clone + Drop, Node: NodeLike<T>> BTreeSet<T, Node> {
         ensures given_back { IfErr result (λ e. e.value ≡ value) }
         ensures unchanged { OnErr result (self.new ≡ self.old) }
     {
-        // The counter is a u64, so no number is wanting where none is used up.
+        // The counter fits a u64, so a call without events lacks no number.
         let _next = self.next;
         let aim = self.aim(&value);
         if finds_equal(&aim) {
@@ -119,7 +119,7 @@ impl<T: Ord + Clone + Drop, Node: NodeLike<T>> BTreeSet<T, Node> {
         ensures given_back { IfErr result (λ e. e.value ≡ value) }
         ensures unchanged { OnErr result (self.new ≡ self.old) }
     {
-        // The counter is a u64, so no number is wanting where none is used up.
+        // The counter fits a u64, so a call without events lacks no number.
         let _next = self.next;
         let aim = self.aim(&value);
         if finds_equal(&aim) {

@@ -1,4 +1,4 @@
-//! Calls that take items out.
+//! Calls that remove items.
 ghost use Rattle.std.specs.Prelude.{◌≡◌, ℕ, ◌+◌, ◌/◌, ◌<◌, ◌≤◌, [], length, set, remove, slice_get, Some, None, false, IfOk, OnOk, IfErr, OnErr, IsOk, IfSome};
 ghost use Rattle.indexset_core.specs.Nodes.{joined, node_at};
 ghost use Rattle.indexset_core.specs.Order.{equal_element, has_equal, without};
@@ -17,8 +17,9 @@ use indexset_core::node::NodeLike;
 use indexset_core::refusal::Refusal;
 
 impl<T: Ord + Clone + Drop, Node: NodeLike<T>> BTreeSet<T, Node> {
-    /// Takes out the equal item, and tells the events: a node that is left small is joined with a small
-    /// neighbour. A refused call changes nothing.
+    /// Removes the equal item, if any, and returns it with the events. A node that is left small is
+    /// joined with a small neighbour. Fails with `Numbers` where the events do not fit the counter, else
+    /// with `Memory`. A failed call changes nothing.
     pub fn remove_cdc(&mut self, value: &T) -> Result<(Option<T>, Vec<ChangeEvent<T>>), Refusal>
         requires clones { (x y : T) → T.is_clone x y → y ≡ x }
         ensures answer { IfOk result (λ r. r.0 ≡ equal_element T.cmp (joined self.old.nodes) value.now) }
@@ -45,8 +46,8 @@ impl<T: Ord + Clone + Drop, Node: NodeLike<T>> BTreeSet<T, Node> {
         }
     }
 
-    /// Takes out the item at a place, and tells the events: a node that is left small is joined with a
-    /// small neighbour. A refused call changes nothing.
+    /// Removes the item at a place, and returns it with the events. A node that is left small is joined
+    /// with a small neighbour. Fails as `remove_cdc` does, and then changes nothing.
     pub fn remove_at_cdc(
         &mut self,
         node: usize,
@@ -77,8 +78,9 @@ impl<T: Ord + Clone + Drop, Node: NodeLike<T>> BTreeSet<T, Node> {
         Ok((item, events))
     }
 
-    /// Takes out the equal item. It uses up as many numbers as `remove_cdc`, and is refused where they
-    /// don't fit. It takes memory only where it joins two nodes.
+    /// Removes the equal item, if any, and returns it. It uses up as many numbers as `remove_cdc`, and
+    /// fails with `Numbers` where they do not fit. It allocates only where it joins two nodes of a type
+    /// that allocates, and else does not fail with `Memory`. A failed call changes nothing.
     pub fn remove(&mut self, value: &T) -> Result<Option<T>, Refusal>
         ensures answer { IfOk result (λ item. item ≡ equal_element T.cmp (joined self.old.nodes) value.now) }
         ensures contents { OnOk result (joined self.new.nodes ≡ without T.cmp (joined self.old.nodes) value.now) }
@@ -95,7 +97,7 @@ impl<T: Ord + Clone + Drop, Node: NodeLike<T>> BTreeSet<T, Node> {
         ensures never { Node.allocates ≡ false → self.old.next + length (removal_events T.cmp self.old.size self.old.nodes value.now) ≤ u64.MAX → IsOk result }
         ensures unchanged { OnErr result (self.new ≡ self.old) }
     {
-        // The counter is a u64, so no number is wanting where none is used up.
+        // The counter fits a u64, so a call without events lacks no number.
         let _next = self.next;
         match self.find(value) {
             Some((node, offset)) => Ok(Some(self.remove_at(node, offset)?)),
@@ -103,8 +105,9 @@ impl<T: Ord + Clone + Drop, Node: NodeLike<T>> BTreeSet<T, Node> {
         }
     }
 
-    /// Takes out the item at a place. It uses up as many numbers as `remove_at_cdc`, and is refused where
-    /// they don't fit. It takes memory only where it joins two nodes.
+    /// Removes the item at a place, and returns it. It uses up as many numbers as `remove_at_cdc`, and
+    /// fails with `Numbers` where they do not fit. It allocates only where it joins two nodes of a type
+    /// that allocates, and else does not fail with `Memory`. A failed call changes nothing.
     pub fn remove_at(&mut self, node: usize, offset: usize) -> Result<T, Refusal>
         requires node { node < length self.old.nodes }
         requires offset { offset < length (node_at self.old.nodes node) }
@@ -209,7 +212,7 @@ impl<T: Ord + Clone + Drop, Node: NodeLike<T>> BTreeSet<T, Node> {
         }
     }
 
-    // The event of the item at a place that goes.
+    // The event of the removal of the item at a place.
     fn taking_event(&self, node: usize, offset: usize) -> Result<ChangeEventUnassigned<T>, Refusal>
         requires clones { (x y : T) → T.is_clone x y → y ≡ x }
         requires node { node < length self.now.nodes }
@@ -267,7 +270,7 @@ impl<T: Ord + Clone + Drop, Node: NodeLike<T>> BTreeSet<T, Node> {
         }
     }
 
-    // Takes out the item at a place, and joins the nodes named. A refused call changes nothing.
+    // Removes the item at a place, and joins the nodes named. A failed call changes nothing.
     fn take(&mut self, node: usize, offset: usize, join: Option<usize>) -> Result<T, Refusal>
         requires node { node < length self.old.nodes }
         requires offset { offset < length (node_at self.old.nodes node) }
@@ -288,8 +291,8 @@ impl<T: Ord + Clone + Drop, Node: NodeLike<T>> BTreeSet<T, Node> {
         }
     }
 
-    // Takes out the item at a place, and makes the node at `left` and the one after it one. A refused
-    // call changes nothing.
+    // Removes the item at a place, and joins the node at `left` with the one after it. A failed call
+    // changes nothing.
     fn take_joining(&mut self, node: usize, offset: usize, left: usize) -> Result<T, Refusal>
         requires node { node < length self.old.nodes }
         requires offset { offset < length (node_at self.old.nodes node) }
@@ -309,7 +312,7 @@ impl<T: Ord + Clone + Drop, Node: NodeLike<T>> BTreeSet<T, Node> {
         Ok(item)
     }
 
-    // Takes out the item at a place, and a node that it leaves empty.
+    // Removes the item at a place, and a node that it leaves empty.
     fn take_out(&mut self, node: usize, offset: usize) -> T
         requires node { node < length self.old.nodes }
         requires offset { offset < length (node_at self.old.nodes node) }

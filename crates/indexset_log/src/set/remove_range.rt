@@ -1,4 +1,4 @@
-//! Ranges taken out.
+//! Removal of ranges.
 ghost use Rattle.std.specs.Prelude.{◌≡◌, ◌^◌, ◌<◌, ℕ, length, map};
 ghost use Rattle.std.specs.Range.Bound.{bound_map};
 ghost use Rattle.indexset_core.specs.Bounds.{is_within};
@@ -9,9 +9,9 @@ use super::BTreeSet;
 use std::ops::Bound;
 
 impl<T: Ord + Clone + Drop> BTreeSet<T, Vec<T>> {
-    /// Takes out the items that satisfy both bounds. Each node loses just its own, and one that is left
-    /// empty goes. No event is given, no number is used up and no memory is taken. Bounds that are the
-    /// wrong way round hold nothing. (The Rust crate panics there.)
+    /// Removes the items that satisfy both bounds. Each node loses just its own, and one that is left
+    /// empty is removed. No nodes are joined, no event is emitted, no number is used up and nothing is
+    /// allocated. Bounds that are the wrong way round hold nothing. (The Rust crate panics there.)
     pub fn remove_range(&mut self, range: (Bound<&T>, Bound<&T>))
         ensures nodes { self.new.nodes ≡ without_range T.cmp self.old.nodes (bound_map (λ v. v.now) range.entry.0) (bound_map (λ v. v.now) range.entry.1) }
         ensures contents { joined self.new.nodes ≡ outside T.cmp (bound_map (λ v. v.now) range.entry.0) (bound_map (λ v. v.now) range.entry.1) (joined self.old.nodes) }
@@ -23,7 +23,7 @@ impl<T: Ord + Clone + Drop> BTreeSet<T, Vec<T>> {
     }
 }
 
-// Takes the items that satisfy both bounds out of each node, and answers how many are left.
+// Removes the items that satisfy both bounds from each node, and returns how many remain.
 fn remove_within<T: Ord + Drop>(nodes: &mut [Vec<T>], range: (Bound<&T>, Bound<&T>)) -> usize
     requires { length (joined (map (λ v. v.items) nodes.old)) < 2 ^ 64 }
     ensures nodes { map (λ v. v.items) nodes.new ≡ map (outside T.cmp (bound_map (λ v. v.now) range.entry.0) (bound_map (λ v. v.now) range.entry.1)) (map (λ v. v.items) nodes.old) }

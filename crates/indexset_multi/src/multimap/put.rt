@@ -22,11 +22,11 @@ impl<K: Ord + Clone + Drop, V: Eq + Clone + Drop, Node: NodeLike<MultiPair<K, V>
     V,
     Node,
 > {
-    /// Puts a pair in, and tells the events. Where the key has pairs of an equal value, the first of
-    /// them is replaced in its place, keeps its number, and its value is the answer; else the pair gets
-    /// the next number. A refused call hands key and value back and changes nothing: it is for want of
-    /// `Numbers` where the events do not fit, or where a new number is needed and none is left, else of
-    /// `Memory`.
+    /// Inserts a pair, and returns the events. Where the key has pairs of an equal value, the first of
+    /// them is replaced in its place and keeps its number, and its value is returned. Else the pair gets
+    /// the next number and is the last of its key. Fails with `Numbers` where the events do not fit, or
+    /// where a new number is needed and none is left, else with `Memory`. A failed call hands key and
+    /// value back and changes nothing.
     pub fn insert_cdc(
         &mut self,
         key: K,
@@ -60,7 +60,7 @@ impl<K: Ord + Clone + Drop, V: Eq + Clone + Drop, Node: NodeLike<MultiPair<K, V>
         Ok((old.map(|pair| pair.value), events))
     }
 
-    /// Puts a pair in, as `insert_cdc` does, with as many numbers used up. A refused call hands key and
+    /// Inserts a pair, as `insert_cdc` does, and uses up as many numbers. A failed call hands key and
     /// value back and changes nothing.
     pub fn insert(&mut self, key: K, value: V) -> Result<Option<V>, Refused<(K, V)>>
         ensures answer { IfOk result (λ old. old ≡ option_map (λ p. p.value) (equal_pair K.cmp V.eq (joined self.old.nodes) key value)) }
@@ -100,7 +100,7 @@ impl<K: Ord + Clone + Drop, V: Eq + Clone + Drop, Node: NodeLike<MultiPair<K, V>
         ensures cause { IfErr result (λ e. e.cause ≡ Refusal.Numbers) }
         ensures given_back { IfErr result (λ e. e.value ≡ (key, value)) }
     {
-        // A set says here that its pairs ascend, with numbers below the next one.
+        // The contract of `node_count` says that the pairs ascend.
         let _nodes = self.set.node_count();
         let number = self.pair_next;
         if let Some(kept) = self.kept_number(&key, &value) {

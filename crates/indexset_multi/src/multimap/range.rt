@@ -224,7 +224,8 @@ impl<K: Ord + Clone + Drop, V: Eq + Clone + Drop, Node: NodeLike<MultiPair<K, V>
         ensures rest { result ≡ pairs_between K.cmp (joined self.now.nodes) (bound_map (λ k. k.now) range.entry.0) (bound_map (λ k. k.now) range.entry.1) }
         ensures runs { ShowsInOrder (deref {X = MultiPair K V}) }
     {
-        // A set says here that its pairs ascend, so the two places cut out the range.
+        // The contract of `node_count` says that the pairs ascend, so the range is what lies between the
+        // two places.
         let _nodes = self.set.node_count();
         let from = self.place_from(range.0);
         let to = self.place_to(range.1);
@@ -297,7 +298,7 @@ impl<K: Ord + Clone + Drop, V: Eq + Clone + Drop, Node: NodeLike<MultiPair<K, V>
         ensures place { result ≡ located (λ p. ordering_then (K.cmp p.key key.now) (nat_cmp p.discriminator number)) self.now.nodes }
         ensures lawful { IsLawful (by_number K.cmp) self.now.size self.now.nodes }
     {
-        // A set says here that its pairs ascend, so a probe by number may go by them.
+        // The contract of `node_count` says that the pairs ascend, as a search by number requires.
         let _nodes = self.set.node_count();
         self.set.locate_by(&mut ByNumber::new(key, number))
     }

@@ -1,4 +1,4 @@
-//! Calls that take pairs out.
+//! Calls that remove pairs.
 ghost use Rattle.std.specs.Prelude.{◌≡◌, ◌+◌, ◌/◌, ◌<◌, ◌≤◌, [], drop, length, false, Some, IfOk, OnOk, IfErr, OnErr, IsOk};
 ghost use Rattle.std.specs.Option.{option_map};
 ghost use Rattle.std.specs.Ordering.{is_eq};
@@ -22,8 +22,9 @@ impl<K: Ord + Clone + Drop, V: Eq + Clone + Drop, Node: NodeLike<MultiPair<K, V>
     V,
     Node,
 > {
-    /// Takes out the first pair of a key, where there is one, and tells the events. A refused call
-    /// changes nothing.
+    /// Removes the first pair of a key, if any, and returns it with the events. A node that is left small
+    /// is joined with a small neighbour. Fails with `Numbers` where the events do not fit the counter,
+    /// else with `Memory`. A failed call changes nothing.
     pub fn remove_some_cdc(
         &mut self,
         key: &K,
@@ -51,8 +52,10 @@ impl<K: Ord + Clone + Drop, V: Eq + Clone + Drop, Node: NodeLike<MultiPair<K, V>
         self.take_cdc(place)
     }
 
-    /// Takes out the first pair of a key, where there is one. It uses up as many numbers as
-    /// `remove_some_cdc`, and is refused where they don't fit. It takes memory only where it joins two nodes.
+    /// Removes the first pair of a key, if any, and returns it. It uses up as many numbers as
+    /// `remove_some_cdc`, and fails with `Numbers` where they do not fit. It allocates only where it joins
+    /// two nodes of a type that allocates, and else does not fail with `Memory`. A failed call changes
+    /// nothing.
     pub fn remove_some(&mut self, key: &K) -> Result<Option<(K, V)>, Refusal>
         ensures answer { IfOk result (λ entry. entry ≡ option_map key_and_value (first_pair K.cmp (joined self.old.nodes) key.now)) }
         ensures contents { OnOk result (joined self.new.nodes ≡ without_named K.cmp (joined self.old.nodes) (first_pair K.cmp (joined self.old.nodes) key.now)) }
@@ -75,8 +78,9 @@ impl<K: Ord + Clone + Drop, V: Eq + Clone + Drop, Node: NodeLike<MultiPair<K, V>
         self.take(place)
     }
 
-    /// Takes out the first pair of a key whose value is equal, where there is one, and tells the
-    /// events. A refused call changes nothing.
+    /// Removes the first pair of a key whose value is equal, if any, and returns it with the events. Other
+    /// such pairs of the key stay. A node that is left small is joined with a small neighbour. Fails as
+    /// `remove_some_cdc` does, and then changes nothing.
     pub fn remove_cdc(
         &mut self,
         key: &K,
@@ -105,8 +109,10 @@ impl<K: Ord + Clone + Drop, V: Eq + Clone + Drop, Node: NodeLike<MultiPair<K, V>
         self.take_cdc(place)
     }
 
-    /// Takes out the first pair of a key whose value is equal, where there is one. It uses up as many
-    /// numbers as `remove_cdc`, and is refused where they don't fit. It takes memory only where it joins two nodes.
+    /// Removes the first pair of a key whose value is equal, if any, and returns it. It uses up as many
+    /// numbers as `remove_cdc`, and fails with `Numbers` where they do not fit. It allocates only where it
+    /// joins two nodes of a type that allocates, and else does not fail with `Memory`. A failed call
+    /// changes nothing.
     pub fn remove(&mut self, key: &K, value: &V) -> Result<Option<(K, V)>, Refusal>
         ensures answer { IfOk result (λ entry. entry ≡ option_map key_and_value (equal_pair K.cmp V.eq (joined self.old.nodes) key.now value.now)) }
         ensures contents { OnOk result (joined self.new.nodes ≡ without_named K.cmp (joined self.old.nodes) (equal_pair K.cmp V.eq (joined self.old.nodes) key.now value.now)) }
@@ -148,7 +154,7 @@ impl<K: Ord + Clone + Drop, V: Eq + Clone + Drop, Node: NodeLike<MultiPair<K, V>
         }
     }
 
-    // Takes out the pair at a place, where one is given, and tells the events.
+    // Removes the pair at a place, where one is given, and returns it with the events.
     fn take_cdc(
         &mut self,
         place: Option<(usize, usize)>,
@@ -172,7 +178,7 @@ impl<K: Ord + Clone + Drop, V: Eq + Clone + Drop, Node: NodeLike<MultiPair<K, V>
         ensures no_event { pair_removal_events K.cmp self.old.size self.old.nodes (placed_item self.old.nodes place) ≡ [] → IsOk result }
         ensures unchanged { OnErr result (self.new ≡ self.old) }
     {
-        // A set says here what it is.
+        // The contracts of these say that the nodes are lawful, and that size and counter fit.
         let _nodes = self.set.node_count();
         let _size = self.set.maximum_node_size();
         let _next = self.set.events_issued();
@@ -185,7 +191,7 @@ impl<K: Ord + Clone + Drop, V: Eq + Clone + Drop, Node: NodeLike<MultiPair<K, V>
         }
     }
 
-    // Takes out the pair at a place, where one is given.
+    // Removes the pair at a place, where one is given.
     fn take(&mut self, place: Option<(usize, usize)>) -> Result<Option<(K, V)>, Refusal>
         requires { IsItemPlace self.old.nodes place }
         ensures answer { IfOk result (λ entry. entry ≡ option_map key_and_value (placed_item self.old.nodes place)) }
@@ -204,7 +210,7 @@ impl<K: Ord + Clone + Drop, V: Eq + Clone + Drop, Node: NodeLike<MultiPair<K, V>
         ensures never { Node.allocates ≡ false → self.old.next + length (pair_removal_events K.cmp self.old.size self.old.nodes (placed_item self.old.nodes place)) ≤ u64.MAX → IsOk result }
         ensures unchanged { OnErr result (self.new ≡ self.old) }
     {
-        // A set says here what it is.
+        // The contracts of these say that the nodes are lawful, and that size and counter fit.
         let _nodes = self.set.node_count();
         let _size = self.set.maximum_node_size();
         let _next = self.set.events_issued();
