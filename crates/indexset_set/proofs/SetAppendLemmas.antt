@@ -1,5 +1,5 @@
 -- Two ascending lists, one behind the other.
-use Rattle.std.proofs.Common.{◌≡◌, ℕ, suc, ◌+◌, ◌-◌, ◌<◌, ◌↔◌, true, false, List, [], ◌∷◌, ◌++◌, length, take, drop, get_or, Ordering, Some, slice_get, refl, ap, sym, ◌∙◌, inl, inr, subst, arith, length-append, append_assoc}
+use Rattle.std.proofs.Common.{◌≡◌, ℕ, suc, ◌+◌, ◌-◌, ◌<◌, ◌↔◌, ◌⊎◌, true, false, List, [], ◌∷◌, ◌++◌, length, take, drop, get_or, Ordering, Some, slice_get, refl, ap, sym, ◌∙◌, inl, inr, subst, arith, length-append, append_assoc}
 use Rattle.std.specs.declared.cmp.Ordering.TheVariants.{Less}
 use Rattle.std.specs.Cmp.{IsTotalOrder}
 use Rattle.std.specs.List.{All, AllPairs, fold}
@@ -9,16 +9,17 @@ use Rattle.std.proofs.lemmas.List.{append-nil, drop_at, get_or_append_left, get_
 use Rattle.std.proofs.lemmas.List.Edits.{insert_end}
 use Rattle.std.proofs.lemmas.List.Elements.{All-append}
 use Rattle.std.proofs.lemmas.List.Kept.{AllPairs-cons}
+use Rattle.std.proofs.lemmas.List.Sums.{fold-append}
 use Rattle.std.proofs.lemmas.Option.{get_or_from_slice_get, slice_get_within}
 use Rattle.indexset_core.specs.Nodes.{joined, node_lengths}
-use Rattle.indexset_core.specs.Order.{IsAscending, IsGapFor, has_equal, put}
-use Rattle.indexset_core.proofs.CallerLemmas.{gap_has_equal, gap_put, less_from}
-use Rattle.indexset_spine.specs.Cut.{Cut, IsCut, cut, end_spot, with_last}
+use Rattle.indexset_core.specs.Order.{IsAscending, IsGapFor, has_equal, keep, put}
+use Rattle.indexset_core.proofs.CallerLemmas.{gap_has_equal, gap_put, less_from, slice_get-right}
+use Rattle.indexset_spine.specs.Cut.{Cut, IsCut, cut, end_spot, with_all_last, with_last}
 use Rattle.indexset_spine.specs.Edits.{TakesSome}
-use Rattle.indexset_spine.proofs.CallerLemmas.{cut_last, end_node, end_offset, joined_all_last, joined_last, takes_all}
+use Rattle.indexset_spine.proofs.CallerLemmas.{cut_all_last, cut_last, end_node, end_offset, joined_all_last, joined_last, takes_all}
 use Rattle.indexset_set.specs.SetAlgebra.{put_all}
 use Rattle.indexset_set.specs.SetNodes.{PutsSome, nodes_kept, nodes_put, nodes_put_all, spot_of}
-use Rattle.indexset_set.proofs.SetCloneLemmas.{gap_behind}
+use Rattle.indexset_set.proofs.SetCloneLemmas.{gap_behind, keep_behind}
 use Rattle.indexset_set.proofs.SetNodeLemmas.{kept_new, put_new, spot_told}
 
 -- what holds within each of two lists, and across from one to the other
@@ -49,7 +50,7 @@ module _ {T : Type 0} (cmp : T → T → Ordering) (l r : List T) (last first : 
   pub some : 0 < length r
   some = slice_get_within r 0 first first_is
 
-  appended_ascending : IsTotalOrder cmp → IsAscending cmp l → IsAscending cmp r → cmp last first ≡ Less → IsAscending cmp (l ++ r)
+  pub appended_ascending : IsTotalOrder cmp → IsAscending cmp l → IsAscending cmp r → cmp last first ≡ Less → IsAscending cmp (l ++ r)
   appended_ascending o up later less = all_pairs_append (λ x y. cmp x y ≡ Less) l r up later (λ i d lt k e le.
       let low : cmp (get_or l i d) first ≡ Less = upto_last o up less i d lt in
       elim (cases_lt 0 k) [
@@ -154,3 +155,53 @@ module _ {T : Type 0} (cmp : T → T → Ordering) (size : ℕ) where
   unfolding nodes_put_all
   puts_some s xs rest ms same (front, is, made) =
       (length front, rw (← same) (made ∙ ap (fold (λ ms x. nodes_put cmp (cut ms size) x) s.nodes) (sym (ap (take (length front)) is ∙ take_at front rest (length front) refl))), sym (ap (drop (length front)) is ∙ drop_at front rest (length front) refl))
+
+  -- a run behind the nodes ns, some first ones of which may have gone in, which left ms and the others
+  module _ (ns ms : List (List T)) (run others : List T) (v : T) (is : IsCut (node_lengths ns) size) (up : IsAscending cmp (joined ns ++ (run ++ v ∷ []))) where
+    run_up : IsAscending cmp ((joined ns ++ run) ++ v ∷ [])
+    run_up = rw (append_assoc (joined ns) run (v ∷ [])) up
+
+    pub run_order : joined ms ++ others ≡ joined ns ++ run → IsAscending cmp (joined ms ++ (others ++ v ∷ []))
+    run_order same = rw (← append_assoc (joined ms) others (v ∷ []), same) run_up
+
+    pub run_kept : joined ms ++ others ≡ joined ns ++ run → joined ms ++ (others ++ v ∷ []) ≡ keep cmp (joined ns ++ run) v
+    run_kept same = sym (append_assoc (joined ms) others (v ∷ [])) ∙ (ap (λ l. l ++ v ∷ []) same ∙ sym (keep_behind cmp (joined ns ++ run) v [] run_up))
+
+    pub run_nodes : with_all_last size ms others ≡ with_all_last size ns run → with_all_last size ms (others ++ v ∷ []) ≡ nodes_kept cmp (cut (with_all_last size ns run) size) v
+    unfolding with_all_last
+    run_nodes same =
+        fold-append (with_last size) ms others (v ∷ [])
+        ∙ (ap (λ z. with_last size z v) same
+        ∙ sym (kept_last (fold (with_last size) ns run) v [] (cut_all_last size ns run is) (rw (joined_all_last size ns run is) run_up)))
+
+  -- all of the run went in, and then v
+  pub run_inserted : (s : Cut T) (all ms : List (List T)) (others : List T) (v : T) → others ≡ [] → with_all_last size s.nodes others ≡ all → s.size ≡ size → ms ≡ nodes_kept cmp s v → with_all_last size ms others ≡ nodes_kept cmp (cut all size) v
+  unfolding with_all_last
+  run_inserted s all ms others v none there same is =
+      let nodes : s.nodes ≡ all = sym (ap (λ xs. fold (with_last size) s.nodes xs) none) ∙ there in
+      ap (λ xs. fold (with_last size) ms xs) none ∙ (is ∙ (ap (λ ns. nodes_kept cmp (cut ns s.size) v) nodes ∙ ap (λ n. nodes_kept cmp (cut all n) v) same))
+
+-- a run of which nothing is left
+module _ {T : Type 0} (others : List T) (none : others ≡ []) where
+  pub all_items : (l all : List T) → l ++ others ≡ all → l ≡ all
+  all_items l all is = sym (append-nil l) ∙ (ap (λ xs. l ++ xs) (sym none) ∙ is)
+
+  pub all_nodes : (size : ℕ) (ms all : List (List T)) → with_all_last size ms others ≡ all → ms ≡ all
+  unfolding with_all_last
+  all_nodes size ms all is = ap (λ xs. fold (with_last size) ms xs) (sym none) ∙ is
+
+-- v above a list and a run behind it
+module _ {T : Type 0} (cmp : T → T → Ordering) (o : IsTotalOrder cmp) (l : List T) (v : T) where
+  one_up : IsAscending cmp (v ∷ [])
+  one_up i j d lt inside = absurd (omega (arith, lt, inside))
+
+  pub joins_run : (run : List T) (last : T) → IsAscending cmp (l ++ run) → slice_get run (length run - 1) ≡ Some last → is_lt (cmp last v) ≡ true → IsAscending cmp (l ++ (run ++ v ∷ []))
+  joins_run run last up is less =
+      let inside = slice_get_within run (length run - 1) last is in
+      let there : slice_get (l ++ run) (length (l ++ run) - 1) ≡ Some last = slice_get-right l run (length (l ++ run) - 1) (length run - 1) (omega (arith, inside, length-append l run)) ∙ is in
+      rw (← append_assoc l run (v ∷ [])) (appended_ascending cmp (l ++ run) (v ∷ []) last v there refl o up one_up (less_from _ less))
+
+  pub joins_none : (run : List T) → length run ≡ 0 → (length l ≡ 0) ⊎ ((last : T) × (slice_get l (length l - 1) ≡ Some last) × (is_lt (cmp last v) ≡ true)) → IsAscending cmp (l ++ run) → IsAscending cmp (l ++ (run ++ v ∷ []))
+  joins_none [] e (inl none) up = behind_none cmp l (v ∷ []) none one_up
+  joins_none [] e (inr (last, is, less)) up = appended_ascending cmp l (v ∷ []) last v is refl o (subst (IsAscending cmp) (append-nil l) up) one_up (less_from _ less)
+  joins_none (x ∷ run) e h up = absurd (omega arith)

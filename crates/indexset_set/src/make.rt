@@ -2,8 +2,9 @@
 ghost use Rattle.std.specs.Prelude.{◌≡◌, ◌≤◌, List, [], ◌∷◌, IfOk, IfErr, fold};
 ghost use Rattle.std.specs.Iterator.{IsFiniteIterable};
 ghost use Rattle.std.specs.Iterator.Runs.{WholeRun};
-ghost use Rattle.indexset_spine.specs.Cut.{items};
+ghost use Rattle.indexset_spine.specs.Cut.{cut, items};
 ghost use Rattle.indexset_core.specs.Order.{keep};
+ghost use Rattle.indexset_set.specs.SetNodes.{nodes_kept_all};
 
 use super::BTreeSet;
 use indexset_core::constants::DEFAULT_INNER_SIZE;
@@ -47,20 +48,25 @@ impl<T: Ord + Drop> BTreeSet<T> {
         requires { IsFiniteIterable I.into_iter_gives I.IntoIter.can_next I.IntoIter.remaining iter }
         ensures kept { IfOk result (λ s. (it : I.IntoIter) × I.into_iter_gives iter it
             × WholeRun I.IntoIter.next_gives it (λ run. items s ≡ fold (keep T.cmp) [] run.items)) }
+        ensures nodes { IfOk result (λ s. (it : I.IntoIter) × I.into_iter_gives iter it
+            × WholeRun I.IntoIter.next_gives it (λ run. s.nodes ≡ nodes_kept_all T.cmp (cut ([] ∷ []) DEFAULT_INNER_SIZE) run.items)) }
         ensures size { IfOk result (λ s. s.size ≡ DEFAULT_INNER_SIZE) }
         ensures refusal { IfErr result (λ e. e ≡ Refusal.Memory) }
     {
         let rest = iter.into_iter();
         let mut set = Self::default(alloc)?;
+        let mut run = Vec::new(alloc);
         for value in rest {
-            set.insert(value).map_err(|refused| refused.cause)?;
+            set.keep_behind(&mut run, value)?;
         }
+        set.take_run(&mut run)?;
         Ok(set)
     }
 
     /// The set of the values, as `from_iter` makes it.
     pub fn from(alloc: Global, values: Vec<T>) -> Result<Self, Refusal>
         ensures kept { IfOk result (λ s. items s ≡ fold (keep T.cmp) [] values.items) }
+        ensures nodes { IfOk result (λ s. s.nodes ≡ nodes_kept_all T.cmp (cut ([] ∷ []) DEFAULT_INNER_SIZE) values.items) }
         ensures size { IfOk result (λ s. s.size ≡ DEFAULT_INNER_SIZE) }
         ensures refusal { IfErr result (λ e. e ≡ Refusal.Memory) }
     {

@@ -3,7 +3,7 @@
 use super::{failure, report};
 use indexset_set::BTreeSet;
 use std::alloc::Global;
-use std::io;
+use std::io::{self, ErrorKind};
 use std::time::Instant;
 
 fn insert_ascending(alloc: Global, keys: u64) -> io::Result<BTreeSet<u64>> {
@@ -40,6 +40,20 @@ fn popped_from_the_front(set: &mut BTreeSet<u64>) -> u64 {
     sum
 }
 
+/// The set of keys, each the i-th times a factor: in ascending order, or in one that looks random.
+fn made_from(rt: &HostRuntime, what: &str, factor: u64, keys: u64) -> io::Result<usize> {
+    let mut values = Vec::new(rt.alloc());
+    for i in 0..keys {
+        values
+            .push(i.wrapping_mul(factor))
+            .map_err(|_| io::Error::from(ErrorKind::OutOfMemory))?;
+    }
+    let start = Instant::now(rt)?;
+    let set = BTreeSet::from(rt.alloc(), values).map_err(failure)?;
+    report(rt, what, start, keys)?;
+    Ok(set.len())
+}
+
 /// Prints a line a call.
 pub(crate) fn measure(rt: &HostRuntime, keys: u64) -> io::Result<()> {
     let start = Instant::now(rt)?;
@@ -62,5 +76,7 @@ pub(crate) fn measure(rt: &HostRuntime, keys: u64) -> io::Result<()> {
     let start = Instant::now(rt)?;
     even.append(&mut odd).map_err(failure)?;
     report(rt, "append of every second element", start, keys / 2)?;
-    println!(rt; "check {same} {back} {front} {}", even.len())
+    let ascending = made_from(rt, "from, ascending order", 1, keys)?;
+    let random = made_from(rt, "from, random order", 0x9e37_79b9_7f4a_7c15, keys)?;
+    println!(rt; "check {same} {back} {front} {} {ascending} {random}", even.len())
 }

@@ -1,7 +1,7 @@
 -- What crates above this one may cite of its proofs.
-pub use Rattle.indexset_spine.proofs.AppendLemmas.{cut_last, joined_all_last, joined_last, takes_items}
+pub use Rattle.indexset_spine.proofs.AppendLemmas.{cut_all_last, cut_last, joined_all_last, joined_last, takes_items}
 pub use Rattle.indexset_spine.proofs.CutEdits.{node_filled}
 pub use Rattle.indexset_spine.proofs.CutLemmas.{joined-set}
 pub use Rattle.indexset_spine.proofs.EndLemmas.{end_node, end_offset}
 pub use Rattle.indexset_spine.proofs.NodeLengthLemmas.{node_lengths-inserted, node_lengths-set_joined, node_lengths-without}
-pub use Rattle.indexset_spine.proofs.TakenLemmas.{takes_all, takes_first, takes_more, takes_none}
+pub use Rattle.indexset_spine.proofs.TakenLemmas.{takes_all, takes_first, takes_more, takes_none, takes_rest}

@@ -17,6 +17,10 @@ module _ {A B : Type 0} (f : B → A → B) where
   pub takes_all : (a b : B) (xs rest : List A) → TakesSome f a xs b rest → rest ≡ [] → b ≡ fold f a xs
   takes_all a b xs rest h none = h.2 ∙ ap (fold f a) (sym (h.1 ∙ (ap (λ l. h.0 ++ l) none ∙ append-nil h.0)))
 
+  -- the rest is taken then
+  pub takes_rest : (a b : B) (xs rest : List A) → TakesSome f a xs b rest → fold f b rest ≡ fold f a xs
+  takes_rest a b xs rest h = ap (λ z. fold f z rest) h.2 ∙ (sym (fold-append f a h.0 rest) ∙ ap (fold f a) (sym h.1))
+
   -- and others come behind
   pub takes_within : (a b : B) (xs rest more : List A) → TakesSome f a xs b rest → TakesSome f a (xs ++ more) b (rest ++ more)
   takes_within a b xs rest more h = (h.0, ap (λ l. l ++ more) h.1 ∙ append_assoc h.0 rest more, h.2)

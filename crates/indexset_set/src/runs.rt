@@ -1,0 +1,74 @@
+//! Values in ascending order, gathered in a run that goes in by blocks.
+ghost use Rattle.std.specs.Prelude.{◌≡◌, [], ◌∷◌, ◌++◌, IsTrue, OnOk, IfErr};
+ghost use Rattle.indexset_core.specs.Order.{IsAscending, keep};
+ghost use Rattle.indexset_spine.specs.Cut.{cut, items, with_all_last};
+ghost use Rattle.indexset_set.specs.SetNodes.{nodes_kept};
+
+use super::BTreeSet;
+use indexset_core::refusal::Refusal;
+
+impl<T: Ord + Drop> BTreeSet<T> {
+    /// Keeps a value as `insert` does, where the values of a run are yet to go behind the elements: one
+    /// above all joins the run, and before any other the run goes in. A refused call lets the value go.
+    pub(super) fn keep_behind(&mut self, run: &mut Vec<T>, value: T) -> Result<(), Refusal>
+        requires order { IsAscending T.cmp (items self.old ++ run.old.items) }
+        ensures order { OnOk result (IsAscending T.cmp (items self.new ++ run.new.items)) }
+        ensures kept { OnOk result (items self.new ++ run.new.items ≡ keep T.cmp (items self.old ++ run.old.items) value) }
+        ensures nodes { OnOk result (with_all_last self.old.size self.new.nodes run.new.items ≡ nodes_kept T.cmp (cut (with_all_last self.old.size self.old.nodes run.old.items) self.old.size) value) }
+        ensures size { self.new.size ≡ self.old.size }
+        ensures refusal { IfErr result (λ e. e ≡ Refusal.Memory) }
+    {
+        let _count = self.node_count();
+        if !self.is_above(run.as_slice(), &value) {
+            self.take_run(run)?;
+            self.insert(value).map_err(|refused| refused.cause)?;
+            let _len = self.len();
+            return Ok(());
+        }
+        self.take_full_run(run)?;
+        run.reserve(1)?;
+        run.push_reserved(value);
+        Ok(())
+    }
+
+    /// Puts the values of a run behind the elements. A refused call has put some first ones.
+    pub(super) fn take_run(&mut self, run: &mut Vec<T>) -> Result<(), Refusal>
+        requires order { IsAscending T.cmp (items self.old ++ run.old.items) }
+        ensures items { items self.new ++ run.new.items ≡ items self.old ++ run.old.items }
+        ensures nodes { with_all_last self.old.size self.new.nodes run.new.items ≡ with_all_last self.old.size self.old.nodes run.old.items }
+        ensures emptied { OnOk result (run.new.items ≡ []) }
+        ensures size { self.new.size ≡ self.old.size }
+        ensures refusal { IfErr result (λ e. e ≡ Refusal.Memory) }
+    {
+        let _count = self.spine.node_count();
+        self.spine.append_items(run)
+    }
+
+    // The same, where a node holds no more than the run does.
+    fn take_full_run(&mut self, run: &mut Vec<T>) -> Result<(), Refusal>
+        requires order { IsAscending T.cmp (items self.old ++ run.old.items) }
+        ensures items { items self.new ++ run.new.items ≡ items self.old ++ run.old.items }
+        ensures nodes { with_all_last self.old.size self.new.nodes run.new.items ≡ with_all_last self.old.size self.old.nodes run.old.items }
+        ensures size { self.new.size ≡ self.old.size }
+        ensures refusal { IfErr result (λ e. e ≡ Refusal.Memory) }
+    {
+        if run.len() < self.maximum_node_size() {
+            return Ok(());
+        }
+        self.take_run(run)
+    }
+
+    // Whether a value is above the elements and a run behind them, by one comparison.
+    fn is_above(&self, run: &[T], value: &T) -> bool
+        requires order { IsAscending T.cmp (items self.now ++ run.now) }
+        ensures { IsTrue result → IsAscending T.cmp (items self.now ++ (run.now ++ value.now ∷ [])) }
+    {
+        if let Some(last) = run.last() {
+            return last.cmp(value).is_lt();
+        }
+        match self.spine.last_spot() {
+            Some(last) => self.spine.item(&last).cmp(value).is_lt(),
+            None => true,
+        }
+    }
+}
