@@ -13,10 +13,10 @@ use Rattle.std.proofs.lemmas.Option.{none-some, same_Some}
 use Rattle.indexset_core.specs.declared.multipair.MultiPair.{MultiPair}
 use Rattle.indexset_core.specs.declared.pair.Pair.{Pair}
 use Rattle.indexset_core.specs.MultiPairs.{by_number, numbered_pair}
-use Rattle.indexset_core.specs.Nodes.{joined}
+use Rattle.indexset_core.specs.Nodes.{joined, IsLawful}
 use Rattle.indexset_core.specs.Order.{IsAscending, put, without}
 use Rattle.indexset_core.proofs.CallerLemmas.{equal_from, is_some-find}
-use Rattle.indexset_log.proofs.CallerLemmas.{Each, all_each, around, each-map, parts-put, parts-without, rises}
+use Rattle.indexset_log.proofs.CallerLemmas.{Each, all_each, around, each-map, lawful_ascends, parts-put, parts-without, rises}
 use Rattle.indexset_multi.specs.Keys.{AreNumberedBelow, entries, equal_pair, first_pair, has_pair_of, kept_number, pairs_of, without_first, without_named}
 use Rattle.indexset_multi.specs.Tree.{MultiTree, inserted_pair, takes_number}
 use Rattle.indexset_multi.proofs.Numbers.{below_less, numbers_total}
@@ -273,10 +273,10 @@ module _ {K V : Type 0} (cmp : K → K → Ordering) (o : IsTotalOrder cmp) (eq 
   keyed : cmp k k ≡ Equal
   keyed = tied_itself o k
 
-  pub inserted_there : ((x : V) → eq x x ≡ true) → IsAscending (by_number cmp) (joined m.nodes) → equal_pair cmp eq (put (by_number cmp) (joined m.nodes) (inserted_pair cmp eq m k w)) k w ≡ Some (inserted_pair cmp eq m k w)
+  inserted_there : ((x : V) → eq x x ≡ true) → IsAscending (by_number cmp) (joined m.nodes) → equal_pair cmp eq (put (by_number cmp) (joined m.nodes) (inserted_pair cmp eq m k w)) k w ≡ Some (inserted_pair cmp eq m k w)
   inserted_there same up = put_there cmp o k (inserted_pair cmp eq m k w) keyed (λ p. eq p.value w) (same w) (joined m.nodes) up (λ x e. rw e refl)
 
-  pub inserted_last : AreNumberedBelow m.pair_next (joined m.nodes) → takes_number cmp eq m k w ≡ true → pairs_of cmp (put (by_number cmp) (joined m.nodes) (inserted_pair cmp eq m k w)) k ≡ pairs_of cmp (joined m.nodes) k ++ inserted_pair cmp eq m k w ∷ []
+  inserted_last : AreNumberedBelow m.pair_next (joined m.nodes) → takes_number cmp eq m k w ≡ true → pairs_of cmp (put (by_number cmp) (joined m.nodes) (inserted_pair cmp eq m k w)) k ≡ pairs_of cmp (joined m.nodes) k ++ inserted_pair cmp eq m k w ∷ []
   inserted_last low new =
       let number : unwrap_or (kept_number cmp eq (joined m.nodes) k w) m.pair_next ≡ m.pair_next = no_other (kept_number cmp eq (joined m.nodes) k w) new in
       put_last cmp o k (inserted_pair cmp eq m k w) keyed (joined m.nodes) (subst (λ n. AreNumberedBelow n (joined m.nodes)) (sym number) low)
@@ -285,8 +285,20 @@ module _ {K V : Type 0} (cmp : K → K → Ordering) (o : IsTotalOrder cmp) (eq 
       no_other None e = refl
       no_other (Some n) e = absurd (false≢true e)
 
-  pub inserted_others : IsAscending (by_number cmp) (joined m.nodes) → (other : K) → is_eq (cmp other k) ≡ false → pairs_of cmp (put (by_number cmp) (joined m.nodes) (inserted_pair cmp eq m k w)) other ≡ pairs_of cmp (joined m.nodes) other
+  inserted_others : IsAscending (by_number cmp) (joined m.nodes) → (other : K) → is_eq (cmp other k) ≡ false → pairs_of cmp (put (by_number cmp) (joined m.nodes) (inserted_pair cmp eq m k w)) other ≡ pairs_of cmp (joined m.nodes) other
   inserted_others up other ne = put_others cmp o k (inserted_pair cmp eq m k w) keyed (joined m.nodes) up other ne
+
+  -- the pairs after an insertion, as a caller meets them
+  pub record Inserted (after : List (MultiPair K V)) : Type 0 where
+    pub there : equal_pair cmp eq after k w ≡ Some (inserted_pair cmp eq m k w)
+    pub last : takes_number cmp eq m k w ≡ true → pairs_of cmp after k ≡ pairs_of cmp (joined m.nodes) k ++ inserted_pair cmp eq m k w ∷ []
+    pub others : (other : K) → is_eq (cmp other k) ≡ false → pairs_of cmp after other ≡ pairs_of cmp (joined m.nodes) other
+
+  pub inserted : ((x : V) → eq x x ≡ true) → IsLawful (by_number cmp) m.size m.nodes → AreNumberedBelow m.pair_next (joined m.nodes) → {ns : List (List (MultiPair K V))} {pair : MultiPair K V} {after : List (MultiPair K V)} → ns ≡ m.nodes → pair ≡ inserted_pair cmp eq m k w → after ≡ put (by_number cmp) (joined ns) pair → Inserted after
+  inserted same law low {ns = ns} nodes pair made =
+      let up = lawful_ascends (by_number cmp) m.size m.nodes law in
+      let is = made ∙ (ap (put (by_number cmp) (joined ns)) pair ∙ ap (λ q. put (by_number cmp) (joined q) (inserted_pair cmp eq m k w)) nodes) in
+      record { there = rw is (inserted_there same up); last = rw is (inserted_last low); others = rw is (inserted_others up) }
 
 -- a pair that is found has the key, and its value is among those of the key
 module _ {K V : Type 0} (cmp : K → K → Ordering) (eq : V → V → Bool) (l : List (MultiPair K V)) (k : K) (w : V) {x : MultiPair K V} where

@@ -1,10 +1,8 @@
 use Rattle.std.proofs.Common.{◌≡◌, ◌/◌, ap, subst, sym, arith}
 use Rattle.std.proofs.lemmas.Grind.{common_steps}
-use Rattle.indexset_core.specs.MultiPairs.{by_number}
 use Rattle.indexset_log.specs.Joining.{IsSpaced}
-use Rattle.indexset_log.proofs.CallerLemmas.{lawful_ascends}
 use Rattle.indexset_multi.specs.Keys.{AreNumberedBelow}
-use Rattle.indexset_multi.proofs.Lists.{inserted_last, inserted_others, inserted_there}
+use Rattle.indexset_multi.proofs.Lists.{inserted}
 use Rattle.indexset_multi.proofs.multimap.BTreeMultiMap.insert_cdc.Goals as goal
 
 pub returns-in_err-old-clause-refusal : goal.returns-in_err-old-clause-refusal
@@ -37,24 +35,21 @@ returns-clause-next g c =
 
 pub returns-clause-there : goal.returns-clause-there
 returns-clause-there g c =
-    let m = c.args.self.now in
-    let same : c.self.inside.set.nodes ≡ m.nodes = ap (λ t. t.nodes) c.self.view_is in
-    let made = rw (c.in_ok-pair.ensures.pair, same) at c.in_ok-old.ensures.contents in
-    rw made (inserted_there g.K.Ord.cmp g.met.K.Ord.total g.V.PartialEq.eq m c.args.key c.args.value g.met.V.Eq.laws.refl (lawful_ascends (by_number g.K.Ord.cmp) m.size m.nodes c.in_ok-pair.ensures.lawful))
+    let done = c.in_ok-pair.ensures in
+    let d = inserted g.K.Ord.cmp g.met.K.Ord.total g.V.PartialEq.eq c.args.self.now c.args.key c.args.value g.met.V.Eq.laws.refl done.lawful done.below (ap (λ m. m.nodes) c.self.view_is) done.pair c.in_ok-old.ensures.contents in
+    d.there
 
 pub returns-clause-last : goal.returns-clause-last
 returns-clause-last g c =
-    let m = c.args.self.now in
-    let same : c.self.inside.set.nodes ≡ m.nodes = ap (λ t. t.nodes) c.self.view_is in
-    let made = rw (c.in_ok-pair.ensures.pair, same) at c.in_ok-old.ensures.contents in
-    rw made (inserted_last g.K.Ord.cmp g.met.K.Ord.total g.V.PartialEq.eq m c.args.key c.args.value c.in_ok-pair.ensures.below)
+    let done = c.in_ok-pair.ensures in
+    let d = inserted g.K.Ord.cmp g.met.K.Ord.total g.V.PartialEq.eq c.args.self.now c.args.key c.args.value g.met.V.Eq.laws.refl done.lawful done.below (ap (λ m. m.nodes) c.self.view_is) done.pair c.in_ok-old.ensures.contents in
+    d.last
 
 pub returns-clause-others : goal.returns-clause-others
 returns-clause-others g c =
-    let m = c.args.self.now in
-    let same : c.self.inside.set.nodes ≡ m.nodes = ap (λ t. t.nodes) c.self.view_is in
-    let made = rw (c.in_ok-pair.ensures.pair, same) at c.in_ok-old.ensures.contents in
-    rw made (inserted_others g.K.Ord.cmp g.met.K.Ord.total g.V.PartialEq.eq m c.args.key c.args.value (lawful_ascends (by_number g.K.Ord.cmp) m.size m.nodes c.in_ok-pair.ensures.lawful))
+    let done = c.in_ok-pair.ensures in
+    let d = inserted g.K.Ord.cmp g.met.K.Ord.total g.V.PartialEq.eq c.args.self.now c.args.key c.args.value g.met.V.Eq.laws.refl done.lawful done.below (ap (λ m. m.nodes) c.self.view_is) done.pair c.in_ok-old.ensures.contents in
+    d.others
 
 pub returns-clause-spaced : goal.returns-clause-spaced
 returns-clause-spaced g c =
