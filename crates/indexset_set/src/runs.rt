@@ -44,7 +44,7 @@ impl<T: Ord + Drop> BTreeSet<T> {
         self.spine.append_items(run)
     }
 
-    // The same, where a node holds no more than the run does.
+    // The same, where the run fills the half of a node, so that it goes whole into one that was just halved.
     fn take_full_run(&mut self, run: &mut Vec<T>) -> Result<(), Refusal>
         requires order { IsAscending T.cmp (items self.old ++ run.old.items) }
         ensures items { items self.new ++ run.new.items ≡ items self.old ++ run.old.items }
@@ -52,7 +52,7 @@ impl<T: Ord + Drop> BTreeSet<T> {
         ensures size { self.new.size ≡ self.old.size }
         ensures refusal { IfErr result (λ e. e ≡ Refusal.Memory) }
     {
-        if run.len() < self.maximum_node_size() {
+        if run.len() < self.maximum_node_size() / 2 {
             return Ok(());
         }
         self.take_run(run)

@@ -187,18 +187,30 @@ fn clones_and_clears(rt: HostRuntime) -> Result<(), Fail> {
 #[test]
 fn one_spine_behind_another(rt: HostRuntime) -> Result<(), Fail> {
     let mut spine = ascending(rt.alloc())?;
-    let mut other = Spine::new(rt.alloc(), 2)?;
-    for x in 8..10 {
+    let mut other = Spine::new(rt.alloc(), 5)?;
+    for x in 8..11 {
         other.insert(end_spot(&other), x)?;
     }
-    let fits = other.maximum_node_size() <= spine.maximum_node_size();
-    if fits && spine.len() > 0 && other.len() > 0 {
-        spine.append(&mut other)?;
-    }
-    assert!(rt; shows(&spine, &[&[1], &[2], &[3], &[4], &[5], &[6, 7], &[8, 9]]));
+    spine.append(&mut other)?;
+    assert!(rt;
+        shows(
+            &spine,
+            &[&[1], &[2], &[3], &[4], &[5], &[6], &[7], &[8], &[9, 10]]
+        )
+    );
     assert!(rt; shows(&other, &[&[]]));
     assert_eq!(rt; spine.first_spot(), spine.spot(0));
-    assert_eq!(rt; spine.last_spot(), spine.spot(8));
+    assert_eq!(rt; spine.last_spot(), spine.spot(9));
     assert!(rt; other.first_spot().is_none() && other.last_spot().is_none());
+    Ok(())
+}
+
+#[test]
+fn a_list_behind_a_spine(rt: HostRuntime) -> Result<(), Fail> {
+    let mut spine = Spine::new(rt.alloc(), 4)?;
+    let mut list = vec![in rt.alloc(); 1u64, 2, 3, 4, 5, 6, 7, 8, 9, 10]?;
+    spine.append_items(&mut list)?;
+    assert!(rt; shows(&spine, &[&[1, 2], &[3, 4], &[5, 6], &[7, 8, 9, 10]]));
+    assert!(rt; list.is_empty());
     Ok(())
 }

@@ -68,7 +68,8 @@ impl<T: Drop> Spine<T> {
             return Err(Refusal::Memory);
         }
         let end = self.end();
-        let to = make_room(&mut self.nodes, &mut self.index, self.size, end)?;
+        let more = (self.size - end.offset).min(from.len()).max(1);
+        let to = make_room(&mut self.nodes, &mut self.index, self.size, end, more)?;
         let node = &mut self.nodes[to.node];
         let room = self.size.min(node.capacity()) - node.len();
         let count = room.min(from.len()).min(usize::MAX - self.len);

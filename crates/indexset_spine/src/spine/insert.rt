@@ -29,7 +29,7 @@ impl<T: Drop> Spine<T> {
                 cause: Refusal::Memory,
             });
         }
-        match make_room(&mut self.nodes, &mut self.index, self.size, spot) {
+        match make_room(&mut self.nodes, &mut self.index, self.size, spot, 1) {
             Ok(to) => {
                 insert_in_room(&mut self.nodes, &mut self.index, to, value);
                 self.len += 1;
@@ -57,7 +57,7 @@ impl<T: Drop> Spine<T> {
         if self.len == usize::MAX {
             return Err(Refusal::Memory);
         }
-        let to = make_room(&mut self.nodes, &mut self.index, self.size, spot)?;
+        let to = make_room(&mut self.nodes, &mut self.index, self.size, spot, 1)?;
         let first = Spot {
             node: 0,
             offset: 0,
@@ -72,16 +72,19 @@ impl<T: Drop> Spine<T> {
     }
 }
 
-// Makes room for one more item at a spot, and answers the spot where it then goes: a full node is
-// halved first. The index stays that of the nodes. A refused call changes nothing.
+// Makes room for more items at a spot, and answers the spot where the first then goes: a full node is
+// halved first, into nodes that have room for as many as it held. The index stays that of the nodes. A
+// refused call changes nothing.
 pub(super) fn make_room<T>(
     nodes: &mut Vec<Vec<T>>,
     index: &mut Fenwick,
     size: usize,
     spot: Spot,
+    more: usize,
 ) -> Result<Spot, Refusal>
     requires spot { IsSpot (vec_items nodes.old.items) spot }
     requires two { 2 ≤ size }
+    requires some { 1 ≤ more }
     requires index { index.old.lengths ≡ node_lengths (vec_items nodes.old.items) }
     requires fits { sum index.old.lengths < 2 ^ 64 }
     ensures spot { IfOk result (λ to. IsSpot (vec_items nodes.new.items) to) }
@@ -94,7 +97,7 @@ pub(super) fn make_room<T>(
     ensures unchanged { OnErr result (vec_items nodes.new.items ≡ vec_items nodes.old.items) }
 {
     if nodes[spot.node].len() < size {
-        nodes[spot.node].reserve(1)?;
+        nodes[spot.node].reserve(more)?;
         return Ok(spot);
     }
     index.reserve_one()?;

@@ -49,8 +49,30 @@ fn two_sets_in_one(rt: HostRuntime) -> Result<(), Fail> {
     Ok(())
 }
 
+// Takes out the elements of the first node, and tells whether it held so many: it goes with its last one,
+// unless it is the only one.
+fn first_node_held(set: &mut BTreeSet<u64>, length: usize) -> bool {
+    let nodes = set.node_count();
+    for _ in 1..length {
+        if set.pop_first().is_none() || set.node_count() != nodes {
+            return false;
+        }
+    }
+    set.pop_first().is_some() && (set.node_count() < nodes || set.is_empty())
+}
+
+// Whether the nodes hold so many elements each. It takes them out.
+fn nodes_held(mut set: BTreeSet<u64>, lengths: &[usize]) -> bool {
+    for length in lengths {
+        if !first_node_held(&mut set, *length) {
+            return false;
+        }
+    }
+    set.is_empty()
+}
+
 #[test]
-fn whole_nodes_go_behind(rt: HostRuntime) -> Result<(), Fail> {
+fn those_above_go_behind(rt: HostRuntime) -> Result<(), Fail> {
     let mut set = one_to_seven(rt.alloc())?;
     let mut other = BTreeSet::with_maximum_node_size(rt.alloc(), 2)?;
     for key in 8..11 {
@@ -58,10 +80,75 @@ fn whole_nodes_go_behind(rt: HostRuntime) -> Result<(), Fail> {
     }
     set.append(&mut other)?;
     assert!(rt; set.iter().copied().eq(1..11));
-    assert_eq!(rt; set.node_count(), 8);
     assert_eq!(rt; set.get_index(7).copied(), Some(8));
     assert_eq!(rt; set.rank(&10), 9);
+    assert!(rt; nodes_held(set, &[1, 1, 1, 1, 1, 1, 1, 1, 2]));
     assert!(rt; add(&mut other, 5)?);
     assert!(rt; other.iter().copied().eq([5]));
+    Ok(())
+}
+
+#[test]
+fn nodes_of_any_size_give_the_same(rt: HostRuntime) -> Result<(), Fail> {
+    for size in [2, 4, 1024] {
+        let mut set = BTreeSet::with_maximum_node_size(rt.alloc(), 4)?;
+        let mut other = ascending(rt.alloc(), size, 10)?;
+        set.append(&mut other)?;
+        assert!(rt; set.iter().copied().eq(0..10));
+        assert!(rt; nodes_held(set, &[2, 2, 2, 4]), "from nodes of {size}");
+    }
+    Ok(())
+}
+
+#[test]
+fn forty_of_one_make_one_node(rt: HostRuntime) -> Result<(), Fail> {
+    let mut set = BTreeSet::new(rt.alloc())?;
+    for key in 0..40u64 {
+        let mut one = BTreeSet::new(rt.alloc())?;
+        add(&mut one, key)?;
+        set.append(&mut one)?;
+    }
+    assert!(rt; set.iter().copied().eq(0..40));
+    assert_eq!(rt; set.node_count(), 1);
+    Ok(())
+}
+
+#[test]
+fn some_between_and_some_behind(rt: HostRuntime) -> Result<(), Fail> {
+    let mut set = BTreeSet::with_maximum_node_size(rt.alloc(), 2)?;
+    add(&mut set, 0)?;
+    add(&mut set, 5)?;
+    let mut other = BTreeSet::from(rt.alloc(), vec![in rt.alloc(); 3u64, 6, 7, 8, 9]?)?;
+    set.append(&mut other)?;
+    assert!(rt; set.iter().copied().eq([0, 3, 5, 6, 7, 8, 9]));
+    assert!(rt; nodes_held(set, &[2, 1, 1, 1, 2]));
+    Ok(())
+}
+
+#[test]
+fn made_of_many_in_order(rt: HostRuntime) -> Result<(), Fail> {
+    let mut keys = Vec::new(rt.alloc());
+    for key in 0..3000 {
+        keys.push(key).map_err(|_| "memory")?;
+    }
+    let set = BTreeSet::from(rt.alloc(), keys)?;
+    assert!(rt; set.iter().copied().eq(0..3000));
+    assert!(rt; nodes_held(set, &[512, 512, 512, 512, 952]));
+    Ok(())
+}
+
+// What holds however many allocations were granted: the first elements were moved, and the others stay.
+#[test]
+fn a_refused_append_moves_a_beginning(rt: HostRuntime) -> Result<(), Fail> {
+    let mut set = ascending(rt.alloc(), 4, 40)?;
+    let mut other = BTreeSet::with_maximum_node_size(rt.alloc(), 3)?;
+    for key in 40..100 {
+        add(&mut other, key)?;
+    }
+    let appended = set.append(&mut other);
+    let moved = set.len() as u64;
+    assert_eq!(rt; appended.is_ok(), moved == 100);
+    assert!(rt; set.iter().copied().eq(0..moved));
+    assert!(rt; other.iter().copied().eq(moved..100));
     Ok(())
 }
