@@ -10,5 +10,6 @@ pub use Rattle.indexset_core.proofs.OrderLemmas.{equal_from, found_after, found_
 pub use Rattle.indexset_core.proofs.PairLemmas.{absent_gap, absent_without, find_absent, find_position, key_absent, key_found, key_inside, key_no_pair, key_pair, key_there, key_written, parted_by_key, value_ascending, without-pair}
 pub use Rattle.indexset_core.proofs.PartedLemmas.{Parts, count_parted, count_parts, count_past, filter_back, filter_front, front-is_le, front-is_lt, parted_past}
 pub use Rattle.indexset_core.proofs.PlaceLemmas.{between_across, between_in, places_order}
+pub use Rattle.indexset_core.proofs.ProbeLemmas.{each_bounded, probed_before, probed_up_to}
 pub use Rattle.indexset_core.proofs.RangeLemmas.{count_each, count_no, found_not_above, gap_not_above, keyed_range_is, keyed_range_order, not_before, range_is, range_order}
 pub use Rattle.indexset_core.proofs.ResultLemmas.{on_err}

@@ -2,13 +2,13 @@
 ghost use Rattle.std.specs.Prelude.{◌≡◌, IsTrue};
 ghost use Rattle.std.specs.List.{count_by};
 ghost use Rattle.std.specs.Map.Iter.{ShowsInOrder, ShowsInReverse};
-ghost use Rattle.std.specs.Ordering.{is_le};
 ghost use Rattle.std.specs.Range.Bound.{bound_map};
 ghost use Rattle.indexset_core.specs.Bounds.{are_ordered, in_positions, is_before, is_up_to_end};
 ghost use Rattle.indexset_core.specs.Pairs.{pair_shown, pairs_within};
 
 use super::BTreeMap;
 use super::iter::IterMap;
+use indexset_core::probe::ByKey;
 use std::ops::Bound;
 
 /// The pairs of a part of a map that are left, from both ends.
@@ -50,33 +50,17 @@ impl<K: Ord, V> BTreeMap<K, V> {
     pub(super) fn start_position(&self, start: Bound<&K>) -> usize
         ensures { result ≡ count_by (λ p. is_before K.cmp (bound_map (λ k. k.now) start.entry) p.key) self.now.pairs }
     {
-        match start {
-            Bound::Unbounded => 0,
-            Bound::Included(key) => self.rank(key),
-            Bound::Excluded(key) => self.position_past(key),
-        }
+        // The pairs ascend, as in `find`.
+        let _len = self.set.len();
+        self.set.count_before(start.map(ByKey::new))
     }
 
     // The first position whose key is past the end, or the length where there is none.
     pub(super) fn end_position(&self, end: Bound<&K>) -> usize
         ensures { result ≡ count_by (λ p. is_up_to_end K.cmp (bound_map (λ k. k.now) end.entry) p.key) self.now.pairs }
     {
-        match end {
-            Bound::Unbounded => self.len(),
-            Bound::Excluded(key) => self.rank(key),
-            Bound::Included(key) => self.position_past(key),
-        }
-    }
-
-    // The first position whose key is above the key, or the length where there is none.
-    fn position_past(&self, key: &K) -> usize
-        ensures { result ≡ count_by (λ p. is_le (K.cmp p.key key.now)) self.now.pairs }
-    {
-        // The length fits, and so does one more than a position.
-        let _len = self.len();
-        match self.find(key) {
-            Ok(i) => i + 1,
-            Err(i) => i,
-        }
+        // The pairs ascend, as in `find`.
+        let _len = self.set.len();
+        self.set.count_up_to(end.map(ByKey::new))
     }
 }

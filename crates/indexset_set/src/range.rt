@@ -2,16 +2,14 @@
 ghost use Rattle.std.specs.Prelude.{◌≡◌, IsTrue, min};
 ghost use Rattle.std.specs.List.{count_by};
 ghost use Rattle.std.specs.Map.Iter.{ShowsInOrder, ShowsInReverse, deref};
-ghost use Rattle.std.specs.Ordering.{is_le};
 ghost use Rattle.std.specs.Range.Bound.{bound_map, start_index, end_index};
-ghost use Rattle.indexset_core.specs.Bounds.{are_ordered, in_range, in_positions, is_before, is_up_to_end};
-ghost use Rattle.indexset_core.specs.Order.{rank};
-ghost use Rattle.indexset_spine.specs.Cut.{IsSpot, items, position_of};
+ghost use Rattle.indexset_core.specs.Bounds.{IfBounded, are_ordered, in_positions, in_range, is_before, is_up_to_end};
+ghost use Rattle.indexset_spine.specs.Cut.{items};
+ghost use Rattle.indexset_set.specs.SetProbes.{FindsInOrder};
 
 use super::BTreeSet;
 use super::iter::Iter;
-use super::lookup::locate;
-use indexset_spine::spot::Spot;
+use indexset_core::probe::{ByItem, Probe};
 use std::ops::Bound;
 
 /// The elements of a part of a set that are left, from both ends.
@@ -31,7 +29,8 @@ impl<T: Ord> BTreeSet<T> {
         ensures runs { ShowsInOrder (deref {X = T}) }
         ensures runs_back { ShowsInReverse (deref {X = T}) }
     {
-        let (from, to) = (self.start_of(range.0), self.end_of(range.1));
+        let from = self.spine.start_of(range.0.map(ByItem::new));
+        let to = self.spine.end_of(range.1.map(ByItem::new));
         Iter::of(self.spine.iter_from_to(&from, &to))
     }
 
@@ -53,50 +52,20 @@ impl<T: Ord> BTreeSet<T> {
         Iter::of(self.spine.iter_between(from, to))
     }
 
-    // The spot after the elements before the start.
-    fn start_of(&self, start: Bound<&T>) -> Spot
-        ensures spot { IsSpot self.now.nodes result }
-        ensures position { position_of self.now.nodes result ≡ count_by (is_before T.cmp (bound_map (λ v. v.now) start.entry)) (items self.now) }
+    /// How many elements stand before the start, a bound on what a probe seeks.
+    pub fn count_before<P: Probe<T> + Drop>(&self, start: Bound<P>) -> usize
+        requires { IfBounded (λ p. FindsInOrder (P.answer p) (items self.now)) start }
+        ensures { result ≡ count_by (is_before (λ x p. P.answer p x) start) (items self.now) }
     {
-        match start {
-            Bound::Included(v) => self.after_below(v),
-            Bound::Excluded(v) => self.after_up_to(v),
-            Bound::Unbounded => self.spine.start(),
-        }
+        self.spine.position(&self.spine.start_of(start))
     }
 
-    // The spot after the elements that are not past the end.
-    fn end_of(&self, end: Bound<&T>) -> Spot
-        ensures spot { IsSpot self.now.nodes result }
-        ensures position { position_of self.now.nodes result ≡ count_by (is_up_to_end T.cmp (bound_map (λ v. v.now) end.entry)) (items self.now) }
+    /// How many elements are not past the end, a bound on what a probe seeks.
+    pub fn count_up_to<P: Probe<T> + Drop>(&self, end: Bound<P>) -> usize
+        requires { IfBounded (λ p. FindsInOrder (P.answer p) (items self.now)) end }
+        ensures { result ≡ count_by (is_up_to_end (λ x p. P.answer p x) end) (items self.now) }
     {
-        match end {
-            Bound::Included(v) => self.after_up_to(v),
-            Bound::Excluded(v) => self.after_below(v),
-            Bound::Unbounded => self.spine.end(),
-        }
-    }
-
-    // The spot after the elements that are below the value.
-    fn after_below(&self, value: &T) -> Spot
-        ensures spot { IsSpot self.now.nodes result }
-        ensures position { position_of self.now.nodes result ≡ rank T.cmp (items self.now) value.now }
-    {
-        locate(&self.spine, value)
-    }
-
-    // The spot after the elements that are below the value or equal to it.
-    fn after_up_to(&self, value: &T) -> Spot
-        ensures spot { IsSpot self.now.nodes result }
-        ensures position { position_of self.now.nodes result ≡ count_by (λ x. is_le (T.cmp x value.now)) (items self.now) }
-    {
-        // The length fits, and so does one more than an offset.
-        let _len = self.len();
-        let mut spot = locate(&self.spine, value);
-        if spot.found {
-            spot.offset += 1;
-        }
-        spot
+        self.spine.position(&self.spine.end_of(end))
     }
 }
 

@@ -1,5 +1,16 @@
-use Rattle.indexset_core.proofs.CallerLemmas.{count_no}
+use Rattle.std.proofs.Common.{◌≡◌, ◌∙◌, ℕ}
+use Rattle.indexset_spine.specs.Cut.{items}
+use Rattle.indexset_core.proofs.CallerLemmas.{each_bounded, parted_by_key, probed_before}
+use Rattle.indexset_set.proofs.CallerLemmas.{in_order}
+use Rattle.indexset_set.specs.SetProbes.{FindsInOrder}
 use Rattle.indexset_map.proofs.BTreeMap.start_position.Goals as goal
 
-pub returns-in-Unbounded : goal.returns-in-Unbounded
-returns-in-Unbounded g c = rw c.in-Unbounded.is (count_no c.args.self.now.pairs)
+pub count_before-requires : goal.count_before-requires
+count_before-requires g c =
+    let l = items c.self.inside.set in
+    each_bounded (λ (q : g.row.K.Denot × ℕ). FindsInOrder (λ p. g.K.Ord.cmp p.key q.0) l)
+    (λ q. in_order (λ p. g.K.Ord.cmp p.key q.0) l (parted_by_key g.K.Ord.cmp g.met.K.Ord.total l c.len-len.ensures.ascending q.0)) c.map.result
+
+pub returns : goal.returns
+returns g c =
+    rw (← c.self.view_is) (c.count_before.ensures ∙ probed_before g.K.Ord.cmp (λ k. k.now) (λ p. p.key) (items c.self.inside.set) c.args.start c.map.result c.map.ensures)

@@ -1,11 +1,18 @@
-use Rattle.std.proofs.Common.{◌∙◌}
-use Rattle.indexset_core.proofs.CallerLemmas.{key_range_is, key_range_order}
+use Rattle.std.proofs.Common.{◌≡◌, ◌∙◌}
+use Rattle.indexset_spine.specs.Cut.{items, position_of}
+use Rattle.indexset_core.proofs.CallerLemmas.{key_range_is, key_range_order, probed_before, probed_up_to}
 use Rattle.indexset_set.proofs.key_range.BTreeSet+Pair+K+V.range_by_key.Goals as goal
 
 pub iter_from_to-requires-clause-order : goal.iter_from_to-requires-clause-order
 iter_from_to-requires-clause-order g c =
-    key_range_order g.K.Ord.cmp g.met.K.Ord.total _ c.self.invariant _ _ c.requires _ _ (rw (← c.self.view_is) at c.start_of_keys-from.ensures.position) (rw (← c.self.view_is) at c.end_of_keys-to.ensures.position)
+    let l = items c.self.inside.spine in
+    key_range_order g.K.Ord.cmp g.met.K.Ord.total l c.self.invariant _ _ c.requires _ _
+    (c.start_of-from.ensures.position ∙ probed_before g.K.Ord.cmp (λ k. k.now) (λ p. p.key) l c.args.range.0 _ c.map.ensures)
+    (c.end_of-to.ensures.position ∙ probed_up_to g.K.Ord.cmp (λ k. k.now) (λ p. p.key) l c.args.range.1 _ c.map-2.ensures)
 
 pub returns-clause-rest : goal.returns-clause-rest
 returns-clause-rest g c =
-    rw (← c.self.view_is) (c.of.ensures ∙ c.iter_from_to.ensures.rest ∙ key_range_is g.K.Ord.cmp g.met.K.Ord.total _ c.self.invariant _ _ c.requires _ _ (rw (← c.self.view_is) at c.start_of_keys-from.ensures.position) (rw (← c.self.view_is) at c.end_of_keys-to.ensures.position))
+    let l = items c.self.inside.spine in
+    rw (← c.self.view_is) (c.of.ensures ∙ c.iter_from_to.ensures.rest ∙ key_range_is g.K.Ord.cmp g.met.K.Ord.total l c.self.invariant _ _ c.requires _ _
+    (c.start_of-from.ensures.position ∙ probed_before g.K.Ord.cmp (λ k. k.now) (λ p. p.key) l c.args.range.0 _ c.map.ensures)
+    (c.end_of-to.ensures.position ∙ probed_up_to g.K.Ord.cmp (λ k. k.now) (λ p. p.key) l c.args.range.1 _ c.map-2.ensures))

@@ -1,8 +1,0 @@
-use Rattle.std.proofs.Common.{◌∙◌}
-use Rattle.indexset_spine.specs.Cut.{items}
-use Rattle.indexset_core.proofs.CallerLemmas.{count_no}
-use Rattle.indexset_set.proofs.key_range.BTreeSet+Pair+K+V.start_of_keys.Goals as goal
-
-pub returns-in-Unbounded-clause-position : goal.returns-in-Unbounded-clause-position
-returns-in-Unbounded-clause-position g c =
-    rw (c.in-Unbounded.is, ← c.self.view_is) (c.start.ensures.position ∙ count_no (items c.self.inside.spine))
