@@ -1,6 +1,7 @@
-//! How often a look-up compares, told by keys that count.
+//! How often a call compares, told by keys that count, and how often `retain_pairs` asks.
 use super::add;
 use crate::counted::Counted;
+use indexset_core::pair::Pair;
 use indexset_core::refusal::Refusal;
 use indexset_set::BTreeSet;
 use std::alloc::Global;
@@ -59,7 +60,7 @@ fn few_comparisons_of_calls_that_change(rt: HostRuntime) -> Result<(), Fail> {
             asked: &asked,
         };
         assert_eq!(rt; set.range((Included(&sought), Excluded(&next))).len(), 1);
-        assert!(rt; asked.replace(0) <= 35, "range from {key}");
+        assert!(rt; asked.replace(0) <= 34, "range from {key}");
         assert!(rt; set.take(&sought).is_some());
         assert!(rt; asked.replace(0) <= 17, "take of {key}");
         assert!(rt; !set.remove(&sought));
@@ -71,5 +72,23 @@ fn few_comparisons_of_calls_that_change(rt: HostRuntime) -> Result<(), Fail> {
     };
     assert_eq!(rt; set.split_off(&sought)?.len(), 5119);
     assert!(rt; asked.get() <= 17, "split_off at 5120");
+    Ok(())
+}
+
+#[test]
+fn retain_pairs_asks_once_a_pair(rt: HostRuntime) -> Result<(), Fail> {
+    let mut set = BTreeSet::with_maximum_node_size(rt.alloc(), 2)?;
+    for key in 1..8u64 {
+        add(&mut set, Pair { key, value: 0u64 })?;
+    }
+    let mut asked = 0u64;
+    set.retain_pairs(|key: &u64, value: &mut u64| -> bool {
+        asked = asked.wrapping_add(1);
+        *value = asked;
+        key % 2 == 1
+    });
+    assert_eq!(rt; asked, 7);
+    assert!(rt; set.iter().map(|pair| pair.key).eq([1, 3, 5, 7]));
+    assert!(rt; set.iter().map(|pair| pair.value).eq([1, 3, 5, 7]));
     Ok(())
 }
