@@ -2,7 +2,7 @@
 use Rattle.std.proofs.Common.{◌≡◌, ℕ, ◌<◌, ◌||◌, Bool, true, false, not, cond, List, [], ◌∷◌, ◌++◌, drop, filter, find, Option, Some, None, is_none, is_some, Ordering, refl, ap, sym, ◌∙◌, subst}
 use Rattle.std.specs.Cmp.{IsTotalOrder}
 use Rattle.std.specs.List.{list_any}
-use Rattle.std.specs.Option.{option_map, option_or, unwrap_or}
+use Rattle.std.specs.Option.{unwrap_or}
 use Rattle.std.specs.Ordering.{is_eq, is_gt, is_lt, nat_cmp, ordering_reverse, ordering_then}
 use Rattle.std.specs.declared.cmp.Ordering.TheVariants.{Less, Equal, Greater}
 use Rattle.std.proofs.lemmas.Bool.{false≢true, true≢false}
@@ -12,7 +12,7 @@ use Rattle.std.proofs.lemmas.List.Folds.{find-append}
 use Rattle.std.proofs.lemmas.Option.{none-some, same_Some}
 use Rattle.indexset_core.specs.declared.multipair.MultiPair.{MultiPair}
 use Rattle.indexset_core.specs.declared.pair.Pair.{Pair}
-use Rattle.indexset_core.specs.MultiPairs.{by_number, numbered_pair}
+use Rattle.indexset_core.specs.MultiPairs.{by_number}
 use Rattle.indexset_core.specs.Nodes.{joined, IsLawful}
 use Rattle.indexset_core.specs.Order.{IsAscending, put, without}
 use Rattle.indexset_core.proofs.CallerLemmas.{equal_from, is_some-find}
@@ -147,7 +147,7 @@ module _ {K V : Type 0} (cmp : K → K → Ordering) (o : IsTotalOrder cmp) wher
     put_others l up other ne =
         let p : MultiPair K V → Bool = λ x. is_eq (cmp x.key other) in
         let out : (x : MultiPair K V) → cmp x.key v.key ≡ Equal → p x ≡ false = λ x e.
-            ap is_eq (o.congr x.key v.key other e ∙ o.congr v.key k other at) ∙ turned other ne in
+        ap is_eq (o.congr x.key v.key other e ∙ o.congr v.key k other at) ∙ turned other ne in
         around (by_number cmp) (numbers_total cmp o) v (λ l. filter p (put (by_number cmp) l v) ≡ filter p l)
         (λ l r low high. rw (parts-put (by_number cmp) (numbers_total cmp o) l [] r v low tt high, filter-append p l (v ∷ r), out v (tied_itself o v.key)) (sym (filter-append p l r)))
         (λ l x r low same high. rw (parts-put (by_number cmp) (numbers_total cmp o) l (x ∷ []) r v low (same, tt) high, filter-append p l (v ∷ r), out v (tied_itself o v.key), filter-append p l (x ∷ r), out x (keys_tied x v same)) refl)
@@ -208,21 +208,21 @@ module _ {K V : Type 0} (cmp : K → K → Ordering) (o : IsTotalOrder cmp) wher
         let p : MultiPair K V → Bool = λ z. is_eq (cmp z.key k) in
         let parts = filter-append p l (y ∷ r) in
         let keyed : p y ≡ true =
-            let found = found_each p q (λ z. Unit {0}) (l ++ y ∷ r) x (any_each (l ++ y ∷ r)) e in
-            ap is_eq (o.congr y.key x.key k (keys_tied y x tied)) ∙ found.1 in
+        let found = found_each p q (λ z. Unit {0}) (l ++ y ∷ r) x (any_each (l ++ y ∷ r)) e in
+        ap is_eq (o.congr y.key x.key k (keys_tied y x tied)) ∙ found.1 in
         let next : filter p (y ∷ r) ≡ y ∷ filter p r = rw keyed refl in
         let seen : find q (filter p l ++ y ∷ filter p r) ≡ Some x = rw (parts, next) at e in
         let none : find q (filter p l) ≡ None =
-            elim (find q (filter p l)) as (λ f. find q (filter p l) ≡ f → f ≡ None) [
-              | None ↦ λ _. refl
-              | Some z ↦ λ g. absurd (not_below l low (g ∙ (sym (found_left q (filter p l) (y ∷ filter p r) z g) ∙ seen)))
-            ] refl in
+        elim (find q (filter p l)) as (λ f. find q (filter p l) ≡ f → f ≡ None) [
+          | None ↦ λ _. refl
+          | Some z ↦ λ g. absurd (not_below l low (g ∙ (sym (found_left q (filter p l) (y ∷ filter p r) z g) ∙ seen)))
+        ] refl in
         let rest : find q (y ∷ filter p r) ≡ Some x = sym (found_right q (filter p l) (y ∷ filter p r) none) ∙ seen in
         let passes : q y ≡ true =
-            elim (q y) as (λ b. cond b (Some y) (find q (filter p r)) ≡ Some x → b ≡ true) [
-              | true ↦ λ _. refl
-              | false ↦ λ g. absurd (not_above r high g)
-            ] rest in
+        elim (q y) as (λ b. cond b (Some y) (find q (filter p r)) ≡ Some x → b ≡ true) [
+          | true ↦ λ _. refl
+          | false ↦ λ g. absurd (not_above r high g)
+        ] rest in
         rw (parts, next, filter-append p l r) (sym (first_after q (filter p l) y (filter p r) none passes))
 
     gone : (l : List (MultiPair K V)) → IsAscending (by_number cmp) l → find q (pairs_of cmp l k) ≡ Some x → pairs_of cmp (without (by_number cmp) l x) k ≡ without_first q (pairs_of cmp l k)
