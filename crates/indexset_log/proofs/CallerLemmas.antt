@@ -2,7 +2,7 @@
 pub use Rattle.indexset_log.proofs.Attaches.{Attaches, ascending_answer, attaches_node, filled_first, map_insert, not_refused, refused_empty, refused_overlap, refused_unsorted}
 pub use Rattle.indexset_log.proofs.Joins.{at_pair, first_list, next_list, two_seen}
 pub use Rattle.indexset_log.proofs.PlaceTakes.{place_contents, place_events}
-pub use Rattle.indexset_log.proofs.Places.{IsEnd, end_at, end_found, end_node, end_offset, ends_equal, ends_gap, gap_at, gap_found, last_before, located_end, place_le}
+pub use Rattle.indexset_log.proofs.Places.{IsEnd, end_at, end_found, end_node, end_offset, gap_at, gap_found, last_before, located_end, place_le}
 pub use Rattle.indexset_log.proofs.Puts.{halved_view}
 pub use Rattle.indexset_log.proofs.Replays.{not_reaching, over_rest, reaching}
 pub use Rattle.indexset_log.proofs.Spaced.{few_nodes}

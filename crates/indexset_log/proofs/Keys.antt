@@ -1,23 +1,22 @@
 -- What a search for a key tells of lawful nodes of pairs.
-use Rattle.std.proofs.Common.{◌≡◌, ℕ, ◌+◌, ◌<◌, ◌≤◌, true, false, List, [], ◌∷◌, length, get_or, Some, None, Result, Ok, Err, Ordering, slice_get, refl, ap, sym, ◌∙◌, subst, arith}
+use Rattle.std.proofs.Common.{◌≡◌, ℕ, ◌<◌, ◌≤◌, true, false, List, [], ◌∷◌, length, get_or, Some, None, Result, Ok, Err, Ordering, slice_get, refl, ap, sym, ◌∙◌, subst, arith}
 use Rattle.std.specs.Cmp.{IsTotalOrder}
-use Rattle.std.specs.List.{All, count_by, position}
+use Rattle.std.specs.List.{All, position}
 use Rattle.std.specs.Option.{option_map_or}
-use Rattle.std.specs.Ordering.{is_eq, is_le}
+use Rattle.std.specs.Ordering.{is_eq}
 use Rattle.std.specs.declared.cmp.Ordering.TheVariants.{Equal}
 use Rattle.std.proofs.lemmas.Cmp.{alike_right}
 use Rattle.std.proofs.lemmas.Option.{slice_get-get_or}
 use Rattle.indexset_core.specs.declared.pair.Pair.{Pair}
 use Rattle.indexset_core.specs.Nodes.{joined, node_at, node_lengths, IsLawful}
 use Rattle.indexset_core.specs.Parted.{IsParted}
-use Rattle.indexset_core.specs.Pairs.{by_key, key_rank, pair_of, without_key}
-use Rattle.indexset_core.proofs.CallerLemmas.{absent_without, equal_from, key_absent, pairs_total, parted_by_key, past_absent, past_found}
+use Rattle.indexset_core.specs.Pairs.{by_key, pair_of, without_key}
+use Rattle.indexset_core.proofs.CallerLemmas.{absent_without, equal_from, key_absent, pairs_total, parted_by_key}
 use Rattle.indexset_log.specs.Keys.{key_removal_events}
 use Rattle.indexset_log.specs.Located.{located, IsFoundIn}
-use Rattle.indexset_log.specs.Places.{items_before}
 use Rattle.indexset_log.specs.Edits.{with_taken}
 use Rattle.indexset_log.specs.Table.{removal_events, taking_count, taking_events}
-use Rattle.indexset_log.proofs.Places.{IsEnd, found_at, end_at, end_found, end_position, gap_at, end_offset, end_read, gap_found, gap_position}
+use Rattle.indexset_log.proofs.Places.{IsEnd, found_at, end_at, end_found, end_offset, end_read, gap_found, gap_position}
 use Rattle.indexset_log.proofs.Takes.{found_events, removal_few, taken_contents, taking_length}
 use Rattle.indexset_log.proofs.Views.{lawful_ascends, lawful_filled}
 
@@ -54,7 +53,7 @@ module _ {K V : Type 0} {cmp : K → K → Ordering} {size : ℕ} {ns : List (Li
 
   module _ {r : Result (ℕ × ℕ) (ℕ × ℕ)} (e : r ≡ located answer ns) {p : ℕ × ℕ} where
     module _ (is : r ≡ Ok p) where
-      pub key_end : IsEnd answer true ns p
+      key_end : IsEnd answer true ns p
       key_end = end_at answer ns filled parted_keys r e p is
 
       pub key_offset : p.1 < length (node_at ns p.0)
@@ -88,11 +87,6 @@ module _ {K V : Type 0} {cmp : K → K → Ordering} {size : ℕ} {ns : List (Li
           first_of [] some = absurd (omega arith)
           first_of (x ∷ l) some = x
 
-      pub key_through : items_before ns (p.0, p.1 + 1) ≡ count_by (λ q. is_le (cmp q.key k)) (joined ns)
-      key_through =
-          let d = key_end in
-          omega (arith, d.before, past_found cmp o (joined ns) (lawful_ascends (by_key cmp) size ns law) k (key_rank cmp (joined ns) k) (end_position answer ns filled parted_keys r e p is))
-
     module _ (is : r ≡ Err p) where
       none_at : position (λ q. is_eq (answer q)) (joined ns) ≡ None
       none_at = gap_position answer ns filled parted_keys r e p is
@@ -102,9 +96,3 @@ module _ {K V : Type 0} {cmp : K → K → Ordering} {size : ℕ} {ns : List (Li
       no_key =
           let none = gap_found answer ns filled parted_keys r e p is in
           record { pair_is = none; events = rw none refl; contents = sym (absent_without cmp (joined ns) k (key_absent cmp (joined ns) k none_at)) }
-
-      pub key_gap : IsEnd answer false ns p
-      key_gap = gap_at answer ns filled parted_keys r e p is
-
-      pub gap_through : items_before ns p ≡ count_by (λ q. is_le (cmp q.key k)) (joined ns)
-      gap_through = past_absent cmp o (joined ns) (lawful_ascends (by_key cmp) size ns law) k (items_before ns p) none_at (let d = key_gap in d.before)

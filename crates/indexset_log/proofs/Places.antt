@@ -1,8 +1,8 @@
 -- Where the places of a search stand, and what a walk between two places has left.
 use Rattle.std.proofs.Common.{◌≡◌, ℕ, zero, suc, ◌+◌, ◌-◌, ◌<◌, ◌≤◌, Bool, true, false, if◌then◌else◌, List, [], ◌∷◌, ◌++◌, length, map, take, drop, get_or, Result, Ok, Err, IfOk, IfErr, Ordering, Option, Some, None, is_some, slice_get, refl, ap, sym, ◌∙◌, max, subst, arith, append_assoc, length-append}
 use Rattle.std.specs.Cmp.{IsTotalOrder}
-use Rattle.std.specs.List.{All, between, count_by, find, position}
-use Rattle.std.specs.Ordering.{is_lt, is_le, is_eq}
+use Rattle.std.specs.List.{All, between, find, position}
+use Rattle.std.specs.Ordering.{is_lt, is_eq}
 use Rattle.std.proofs.lemmas.List.{append-nil, length-map, take-map, drop-map, take_all, take_rest}
 use Rattle.std.specs.Result.{result_ok}
 use Rattle.std.specs.Prelude.{MatchOption}
@@ -11,12 +11,12 @@ use Rattle.std.proofs.lemmas.Option.{slice_get-get_or}
 use Rattle.std.proofs.lemmas.List.Sums.{count_by-le-length}
 use Rattle.std.proofs.lemmas.List.Edits.{length-between}
 use Rattle.indexset_core.specs.Nodes.{joined, node_lengths, node_at, node_for, equal_at, IsLawful}
-use Rattle.indexset_core.specs.Order.{rank, has_equal, equal_element}
+use Rattle.indexset_core.specs.Order.{has_equal, equal_element}
 use Rattle.indexset_core.specs.Parted.{IsParted, less_count}
-use Rattle.indexset_core.proofs.CallerLemmas.{between_in, between_across, equal_inside, find_absent, find_position, found_not_above, gap_not_above, get_in_node, is_some-find, position_absent, position_found, located_found, located_gap, node_read, offset-le, length-joined-mono, length-joined-more, parted_node, place_for}
+use Rattle.indexset_core.proofs.CallerLemmas.{between_in, between_across, equal_inside, find_absent, find_position, get_in_node, is_some-find, position_absent, position_found, located_found, node_read, offset-le, length-joined-mono, length-joined-more, parted_node, place_for}
 use Rattle.indexset_log.specs.Located.{located, IsFoundIn}
 use Rattle.indexset_log.specs.Places.{IsPlace, items_before}
-use Rattle.indexset_log.proofs.Views.{lawful_filled, lawful_small, lawful_ascends, lawful_parted, equal_joined, node_inside}
+use Rattle.indexset_log.proofs.Views.{lawful_filled, lawful_parted, equal_joined, node_inside}
 
 -- where a search ends: the place before the first item not answered Less, which the next one follows where it is answered Equal
 module _ {T : Type 0} (answer : T → Ordering) where
@@ -94,27 +94,16 @@ module _ {T : Type 0} (answer : T → Ordering) (ns : List (List T)) (filled : A
     pub gap_found : find (λ x. is_eq (answer x)) (joined ns) ≡ None
     gap_found = find_absent (λ x. is_eq (answer x)) (joined ns) gap_position
 
--- the same of a search for an item, as the code takes its answer apart
+-- the same of a search for an item, as the code passes its answer on
 module _ {T : Type 0} (cmp : T → T → Ordering) (o : IsTotalOrder cmp) (v : T) (size : ℕ) (ns : List (List T)) (law : IsLawful cmp size ns) where
   abbrev answer : T → Ordering
   answer x = cmp x v
 
-  abbrev not_above : ℕ
-  not_above = count_by (λ x. is_le (cmp x v)) (joined ns)
-
-  module _ (r : Result (ℕ × ℕ) (ℕ × ℕ)) (e : r ≡ located answer ns) (p : ℕ × ℕ) where
-    pub ends_equal : r ≡ Ok p → IsEnd answer true ns p
-    ends_equal = end_at answer ns (lawful_filled cmp size ns law) (lawful_parted cmp size ns law o v) r e p
-
-    pub ends_gap : r ≡ Err p → IsEnd answer false ns p
-    ends_gap = gap_at answer ns (lawful_filled cmp size ns law) (lawful_parted cmp size ns law o v) r e p
-
-  -- the answer of a search as the code passes it on
   pub found_at : (r : Result (ℕ × ℕ) (ℕ × ℕ)) → r ≡ located answer ns → (p : ℕ × ℕ) → r ≡ Ok p → IsFoundIn cmp ns v p.0 p.1
   found_at r e p is =
       let filled = lawful_filled cmp size ns law in
       let parted = lawful_parted cmp size ns law o v in
-      let end = ends_equal r e p is in
+      let end = end_at answer ns filled parted r e p is in
       let inside = end_node answer ns filled parted r e p is in
       record {
         node_in = inside;
@@ -126,19 +115,6 @@ module _ {T : Type 0} (cmp : T → T → Ordering) (o : IsTotalOrder cmp) (v : T
   pub found_told : (r : Result (ℕ × ℕ) (ℕ × ℕ)) → r ≡ located answer ns → MatchOption (result_ok r) (equal_element cmp (joined ns) v ≡ None) (λ p. IsFoundIn cmp ns v p.0 p.1)
   found_told (Ok p) e = found_at (Ok p) e p refl
   found_told (Err p) e = gap_found answer ns (lawful_filled cmp size ns law) (lawful_parted cmp size ns law o v) (Err p) e p refl
-
-  -- the items up to an equal one, and those before a gap
-  pub end_through : (p : ℕ × ℕ) → IsEnd answer true ns p → items_before ns (p.0, p.1 + 1) ≡ not_above
-  end_through p end =
-      let parted = lawful_parted cmp size ns law o v in
-      let found = located_found cmp (joined ns) v (rank cmp (joined ns) v) parted refl end.equal in
-      omega (arith, end.before, found_not_above cmp (joined ns) v (rank cmp (joined ns) v) o (lawful_ascends cmp size ns law) found)
-
-  pub gap_through : (p : ℕ × ℕ) → IsEnd answer false ns p → items_before ns p ≡ not_above
-  gap_through p end =
-      let parted = lawful_parted cmp size ns law o v in
-      let gap = located_gap cmp (joined ns) v (rank cmp (joined ns) v) parted refl end.equal in
-      end.before ∙ sym (gap_not_above cmp (joined ns) v (rank cmp (joined ns) v) gap)
 
 pub found_is : {T : Type 0} (cmp : T → T → Ordering) (v : T) (ns : List (List T)) (s : Option (ℕ × ℕ)) → MatchOption s (equal_element cmp (joined ns) v ≡ None) (λ p. IsFoundIn cmp ns v p.0 p.1) → is_some s ≡ has_equal cmp (joined ns) v
 found_is cmp v ns None h = ap is_some (sym h) ∙ is_some-find (λ x. is_eq (cmp x v)) (joined ns)
@@ -157,11 +133,6 @@ module _ {T N : Type 0} (f : N → List T) where
 
   pub between-map : (ns : List N) (i j : ℕ) → map f (between i j ns) ≡ between i j (map f ns)
   between-map ns i j = sym (ap (λ l. take (j - i) l) (drop-map f i ns) ∙ take-map f (j - i) (drop i ns))
-
--- the offset of a place is within the size
-pub place_small : {T : Type 0} (cmp : T → T → Ordering) (size : ℕ) (ns : List (List T)) → IsLawful cmp size ns → (p : ℕ × ℕ) → IsPlace ns p → p.1 ≤ size
-place_small cmp size [] law p place = omega (arith, place.offset_in)
-place_small cmp size (n ∷ ns) law p place = omega (arith, place.offset_in, lawful_small cmp size (n ∷ ns) law p.0 (omega (arith, place.node_in)))
 
 -- the place behind the last item
 pub last_before : {T : Type 0} (ns : List (List T)) (k o : ℕ) → 1 ≤ length ns → k ≡ length ns - 1 → o ≡ length (node_at ns k) → items_before ns (k, o) ≡ length (joined ns)

@@ -162,7 +162,6 @@ impl<K: Ord + Clone + Drop, V: Clone + Drop, Node: NodeLike<Pair<K, V>>> BTreeMa
         ensures place { result ≡ located (λ p. K.cmp p.key key.now) self.now.nodes }
         ensures lawful { IsLawful (by_key K.cmp) self.now.size self.now.nodes }
         ensures two { 2 ≤ self.now.size }
-        ensures within { self.now.size ≤ usize.MAX }
         ensures number { self.now.next ≤ u64.MAX }
     {
         // The contract of `node_count` says that the pairs ascend, as a search by key requires.

@@ -73,15 +73,6 @@ module _ {K V : Type 0} (cmp : K → K → Ordering) where
       let other : (a : Ordering) → is_eq (ordering_then a Less) ≡ false = elim [ Less ↦ refl | Equal ↦ refl | Greater ↦ refl ] in
       rw less (rw (other (cmp p.key k)) (none_numbered l k n (All-tail (λ p. p.discriminator < n) p l below)))
 
-  -- what is before a number that all are below has the key, or one below it
-  pub up_to_number : (l : List (MultiPair K V)) (k : K) (n : ℕ) → AreNumberedBelow n l → less_count (answer_to k n) l ≡ count_by (λ p. is_le (cmp p.key k)) l
-  up_to_number [] k n below = refl
-  up_to_number (p ∷ l) k n below =
-      let less : nat_cmp p.discriminator n ≡ Less = below_less p.discriminator n (All-head (λ p. p.discriminator < n) p l below) in
-      let same : (a : Ordering) → is_lt (ordering_then a Less) ≡ is_le a = elim [ Less ↦ refl | Equal ↦ refl | Greater ↦ refl ] in
-      let here : is_lt (answer_to k n p) ≡ is_le (cmp p.key k) = rw less (same (cmp p.key k)) in
-      sum_by-cons (λ p. cond (is_lt (answer_to k n p)) 1 0) p l ∙ (rw here (ap (λ m. cond (is_le (cmp p.key k)) 1 0 + m) (up_to_number l k n (All-tail (λ p. p.discriminator < n) p l below))) ∙ sym (sum_by-cons (λ p. cond (is_le (cmp p.key k)) 1 0) p l))
-
   -- the pairs between a key and itself are those of the key
   pub between_one : (l : List (MultiPair K V)) (k : K) → pairs_between cmp l (Included k) (Included k) ≡ pairs_of cmp l k
   between_one l k = let same : (a : Ordering) → is_ge a && is_le a ≡ is_eq a = elim [ Less ↦ refl | Equal ↦ refl | Greater ↦ refl ] in λ j. filter (λ p. same (cmp p.key k) j) l

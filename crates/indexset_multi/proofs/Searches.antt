@@ -15,7 +15,7 @@ use Rattle.indexset_log.specs.Places.{items_before}
 use Rattle.indexset_log.proofs.CallerLemmas.{IsEnd, end_at, end_found, end_node, end_offset, gap_at, gap_found, last_before, lawful_ascends, lawful_filled}
 use Rattle.indexset_multi.specs.Keys.{AreNumberedBelow}
 use Rattle.indexset_multi.specs.Places.{IsItemPlace, placed_item}
-use Rattle.indexset_multi.proofs.Numbers.{answer_to, parted_keys, parted_numbers, up_to_number}
+use Rattle.indexset_multi.proofs.Numbers.{answer_to, parted_keys, parted_numbers}
 
 module _ {T : Type 0} (cmp : T → T → Ordering) (size : ℕ) (ns : List (List T)) (law : IsLawful cmp size ns) (answer : T → Ordering) (parted : IsParted answer (joined ns)) (r : Result (ℕ × ℕ) (ℕ × ℕ)) (e : r ≡ located answer ns) where
   -- it stands at an item where it has found one
@@ -43,13 +43,6 @@ module _ {T : Type 0} (cmp : T → T → Ordering) (size : ℕ) (ns : List (List
     told (Ok p) place = sym (some_read (node_at ns p.0) p.1 place.1)
     told (Err p) place = refl
 
-  -- the first item not answered Less stands there
-  pub ok_before : (p : ℕ × ℕ) → r ≡ Ok p → items_before ns p ≡ less_count answer (joined ns)
-  ok_before p is = let end : IsEnd answer true ns p = end_at answer ns (lawful_filled cmp size ns law) parted r e p is in end.before
-
-  pub err_before : (p : ℕ × ℕ) → r ≡ Err p → items_before ns p ≡ less_count answer (joined ns)
-  err_before p is = let end : IsEnd answer false ns p = gap_at answer ns (lawful_filled cmp size ns law) parted r e p is in end.before
-
 -- probes by a key, and by a key and a number, find the pairs of lawful nodes in order
 module _ {K V : Type 0} (cmp : K → K → Ordering) (o : IsTotalOrder cmp) (size : ℕ) (ns : List (List (MultiPair K V))) (law : IsLawful (by_number cmp) size ns) (k : K) where
   pub lawful_keys : IsParted (λ p. cmp p.key k) (joined ns)
@@ -57,24 +50,3 @@ module _ {K V : Type 0} (cmp : K → K → Ordering) (o : IsTotalOrder cmp) (siz
 
   pub lawful_numbers : (n : ℕ) → IsParted (answer_to cmp k n) (joined ns)
   lawful_numbers n = parted_numbers cmp o (joined ns) (lawful_ascends (by_number cmp) size ns law) k n
-
-  -- a search for a number that all are below ends before the first greater key
-  module _ (n : ℕ) (below : AreNumberedBelow n (joined ns)) (r : Result (ℕ × ℕ) (ℕ × ℕ)) (e : r ≡ located (answer_to cmp k n) ns) (p : ℕ × ℕ) where
-    pub ok_above : r ≡ Ok p → items_before ns p ≡ count_by (λ q. is_le (cmp q.key k)) (joined ns)
-    ok_above is = ok_before (by_number cmp) size ns law (answer_to cmp k n) (lawful_numbers n) r e p is ∙ up_to_number cmp (joined ns) k n below
-
-    pub err_above : r ≡ Err p → items_before ns p ≡ count_by (λ q. is_le (cmp q.key k)) (joined ns)
-    err_above is = err_before (by_number cmp) size ns law (answer_to cmp k n) (lawful_numbers n) r e p is ∙ up_to_number cmp (joined ns) k n below
-
--- the last of the nodes as the code holds them: f tells the list of each
-last_node : {T N : Type 0} (f : N → List T) (s : List N) (n : N) → node_at (map f (s ++ n ∷ [])) (length s) ≡ f n
-last_node f [] n = refl
-last_node f (m ∷ s) n = last_node f s n
-
--- the place behind it
-pub last_place : {T N : Type 0} (f : N → List T) (s : List N) (n : N) (ns : List (List T)) → map f (s ++ n ∷ []) ≡ ns → (k o : ℕ) → k ≡ length ns - 1 → o ≡ length (f n) → items_before ns (k, o) ≡ length (joined ns)
-last_place f s n ns same k o last end =
-    let long : length ns ≡ length s + 1 = ap (λ l. length l) (sym same) ∙ (length-map (s ++ n ∷ []) f ∙ length-append s (n ∷ [])) in
-    let at : k ≡ length s = omega arith in
-    let node : node_at ns k ≡ f n = rw (← same, at) (last_node f s n) in
-    last_before ns k o (omega arith) last (end ∙ ap (λ l. length l) (sym node))

@@ -4,17 +4,16 @@ ghost use Rattle.std.specs.Iterator.{UpTo, at_most};
 ghost use Rattle.std.specs.Iterator.SizeHint.{IsWithinCount};
 ghost use Rattle.std.specs.List.{between, count_by};
 ghost use Rattle.std.specs.Map.Iter.{TakesFirst, TakesLast, ShowsInOrder, ShowsInReverse, deref};
-ghost use Rattle.std.specs.Ordering.{is_le};
 ghost use Rattle.std.specs.Range.Bound.{bound_map};
-ghost use Rattle.indexset_core.specs.Bounds.{are_ordered, in_range, is_before, is_up_to_end};
+ghost use Rattle.indexset_core.specs.Bounds.{IfBounded, are_ordered, in_range, is_before, is_up_to_end};
 ghost use Rattle.indexset_core.specs.Nodes.{joined};
-ghost use Rattle.indexset_core.specs.Order.{rank};
+ghost use Rattle.indexset_core.specs.Parted.{IsParted, less_count};
 ghost use Rattle.indexset_log.specs.Places.{IsPlace, items_before};
 
 use super::BTreeSet;
 use super::iter::Iter;
 use indexset_core::node::NodeLike;
-use indexset_core::probe::ByItem;
+use indexset_core::probe::{ByItem, Past, Probe};
 use std::iter::FusedIterator;
 use std::marker::Model;
 use std::ops::Bound;
@@ -97,8 +96,8 @@ impl<T: Ord + Clone + Drop, Node: NodeLike<T>> BTreeSet<T, Node> {
     {
         // The nodes are lawful, so their items ascend.
         let _nodes = &self.nodes;
-        let from = self.place_from(range.0);
-        let to = self.place_to(range.1);
+        let from = self.place_from(range.0.map(ByItem::new));
+        let to = self.place_to(range.1.map(ByItem::new));
         self.range_between(from, to)
     }
 
@@ -121,59 +120,50 @@ impl<T: Ord + Clone + Drop, Node: NodeLike<T>> BTreeSet<T, Node> {
         }
     }
 
-    // The place before the first item that does not stand before the start.
-    fn place_from(&self, start: Bound<&T>) -> (usize, usize)
+    /// The place after the items before the start, by two binary searches, or none where it is unbounded.
+    /// Its probe must find the items in order. (It is not in the Rust crate.)
+    pub fn place_from<P: Probe<T> + Drop>(&self, start: Bound<P>) -> (usize, usize)
+        requires { IfBounded (λ p. IsParted (P.answer p) (joined self.now.nodes)) start }
         ensures place { IsPlace self.now.nodes result }
-        ensures before { items_before self.now.nodes result ≡ count_by (is_before T.cmp (bound_map (λ v. v.now) start.entry)) (joined self.now.nodes) }
+        ensures before { items_before self.now.nodes result ≡ count_by (is_before (λ x p. P.answer p x) start) (joined self.now.nodes) }
     {
         match start {
-            Bound::Included(value) => self.place_not_below(value),
-            Bound::Excluded(value) => self.place_above(value),
+            Bound::Included(mut probe) => self.place_by(&mut probe),
+            Bound::Excluded(probe) => self.place_by(&mut Past::new(probe)),
             Bound::Unbounded => (0, 0),
         }
     }
 
-    // The place before the first item that stands past the end.
-    #[tactic(auto, using(indexset_core::proofs::CallerLemmas::count_each))]
-    fn place_to(&self, end: Bound<&T>) -> (usize, usize)
+    /// The place after the items that are not past the end, by two binary searches, or none where it is
+    /// unbounded. Its probe must find the items in order. (It is not in the Rust crate.)
+    pub fn place_to<P: Probe<T> + Drop>(&self, end: Bound<P>) -> (usize, usize)
+        requires { IfBounded (λ p. IsParted (P.answer p) (joined self.now.nodes)) end }
         ensures place { IsPlace self.now.nodes result }
-        ensures before { items_before self.now.nodes result ≡ count_by (is_up_to_end T.cmp (bound_map (λ v. v.now) end.entry)) (joined self.now.nodes) }
+        ensures before { items_before self.now.nodes result ≡ count_by (is_up_to_end (λ x p. P.answer p x) end) (joined self.now.nodes) }
     {
         match end {
-            Bound::Included(value) => self.place_above(value),
-            Bound::Excluded(value) => self.place_not_below(value),
+            Bound::Included(probe) => self.place_by(&mut Past::new(probe)),
+            Bound::Excluded(mut probe) => self.place_by(&mut probe),
             Bound::Unbounded => self.last_place(),
         }
     }
 
-    // The place before the first item that is not below the value.
-    fn place_not_below(&self, value: &T) -> (usize, usize)
+    // The place before the first item that the probe does not answer Less.
+    fn place_by<P: Probe<T>>(&self, probe: &mut P) -> (usize, usize)
+        requires { IsParted (P.answer probe.old) (joined self.now.nodes) }
         ensures place { IsPlace self.now.nodes result }
-        ensures before { items_before self.now.nodes result ≡ rank T.cmp (joined self.now.nodes) value.now }
+        ensures before { items_before self.now.nodes result ≡ less_count (P.answer probe.old) (joined self.now.nodes) }
     {
-        // The nodes are lawful, so a search by an item may go by them.
+        // The nodes are lawful, so the search ends at a place.
         let _nodes = &self.nodes;
-        match self.locate_by(&mut ByItem::new(value)) {
+        match self.locate_by(probe) {
             Ok(place) => place,
             Err(place) => place,
         }
     }
 
-    // The place before the first item above the value.
-    fn place_above(&self, value: &T) -> (usize, usize)
-        ensures place { IsPlace self.now.nodes result }
-        ensures before { items_before self.now.nodes result ≡ count_by (λ x. is_le (T.cmp x value.now)) (joined self.now.nodes) }
-    {
-        // The nodes are lawful, and an offset in one is at most this size.
-        let _size = self.size;
-        match self.locate_by(&mut ByItem::new(value)) {
-            Ok((node, offset)) => (node, offset + 1),
-            Err(place) => place,
-        }
-    }
-
-    /// The place behind all items.
-    pub(crate) fn last_place(&self) -> (usize, usize)
+    // The place behind all items.
+    fn last_place(&self) -> (usize, usize)
         ensures place { IsPlace self.now.nodes result }
         ensures before { items_before self.now.nodes result ≡ length (joined self.now.nodes) }
     {

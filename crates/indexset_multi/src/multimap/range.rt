@@ -2,23 +2,17 @@
 ghost use Rattle.std.specs.Prelude.{◌≡◌, IsTrue, length, IfSome, Some};
 ghost use Rattle.std.specs.Iterator.{UpTo, at_most};
 ghost use Rattle.std.specs.Iterator.SizeHint.{IsWithinCount};
-ghost use Rattle.std.specs.List.{count_by};
 ghost use Rattle.std.specs.Map.Iter.{TakesFirst, TakesLast, ShowsInOrder, ShowsInReverse, deref};
-ghost use Rattle.std.specs.Ordering.{is_le, nat_cmp, ordering_then};
 ghost use Rattle.std.specs.Range.Bound.{bound_map};
-ghost use Rattle.indexset_core.specs.Bounds.{are_ordered, is_before, is_up_to_end};
-ghost use Rattle.indexset_core.specs.MultiPairs.{by_number};
-ghost use Rattle.indexset_core.specs.Nodes.{joined, IsLawful};
+ghost use Rattle.indexset_core.specs.Bounds.{are_ordered};
+ghost use Rattle.indexset_core.specs.Nodes.{joined};
 ghost use Rattle.indexset_core.specs.Pairs.{pair_shown};
-ghost use Rattle.indexset_core.specs.Parted.{less_count};
-ghost use Rattle.indexset_log.specs.Located.{located};
-ghost use Rattle.indexset_log.specs.Places.{IsPlace, items_before};
 ghost use Rattle.indexset_multi.specs.Keys.{entries, number_shown, pairs_between, pairs_of};
 
 use super::BTreeMultiMap;
-use crate::number::ByNumber;
 use indexset_core::multipair::MultiPair;
 use indexset_core::node::NodeLike;
+use indexset_core::probe::ByKey;
 use indexset_log::set::range;
 use std::iter::FusedIterator;
 use std::marker::Model;
@@ -227,79 +221,8 @@ impl<K: Ord + Clone + Drop, V: Eq + Clone + Drop, Node: NodeLike<MultiPair<K, V>
         // The contract of `node_count` says that the pairs ascend, so the range is what lies between the
         // two places.
         let _nodes = self.set.node_count();
-        let from = self.place_from(range.0);
-        let to = self.place_to(range.1);
+        let from = self.set.place_from(range.0.map(ByKey::new));
+        let to = self.set.place_to(range.1.map(ByKey::new));
         self.set.range_between(from, to)
-    }
-
-    // The place before the first key that does not stand before the start.
-    fn place_from(&self, start: Bound<&K>) -> (usize, usize)
-        ensures place { IsPlace self.now.nodes result }
-        ensures before { items_before self.now.nodes result ≡ count_by (λ p. is_before K.cmp (bound_map (λ k. k.now) start.entry) p.key) (joined self.now.nodes) }
-    {
-        match start {
-            Bound::Included(key) => self.place_not_below(key),
-            Bound::Excluded(key) => self.place_above(key),
-            Bound::Unbounded => (0, 0),
-        }
-    }
-
-    // The place before the first key that stands past the end.
-    fn place_to(&self, end: Bound<&K>) -> (usize, usize)
-        ensures place { IsPlace self.now.nodes result }
-        ensures before { items_before self.now.nodes result ≡ count_by (λ p. is_up_to_end K.cmp (bound_map (λ k. k.now) end.entry) p.key) (joined self.now.nodes) }
-    {
-        match end {
-            Bound::Included(key) => self.place_above(key),
-            Bound::Excluded(key) => self.place_not_below(key),
-            Bound::Unbounded => self.last_place(),
-        }
-    }
-
-    // The place before the first key that is not below the key.
-    fn place_not_below(&self, key: &K) -> (usize, usize)
-        ensures place { IsPlace self.now.nodes result }
-        ensures before { items_before self.now.nodes result ≡ less_count (λ p. K.cmp p.key key.now) (joined self.now.nodes) }
-    {
-        match self.locate(key) {
-            Ok(place) => place,
-            Err(place) => place,
-        }
-    }
-
-    // The place before the first key above the key: no pair has the number of the next new one.
-    fn place_above(&self, key: &K) -> (usize, usize)
-        ensures place { IsPlace self.now.nodes result }
-        ensures before { items_before self.now.nodes result ≡ count_by (λ p. is_le (K.cmp p.key key.now)) (joined self.now.nodes) }
-    {
-        match self.locate_number(key, self.pair_next) {
-            Ok(place) => place,
-            Err(place) => place,
-        }
-    }
-
-    // The place behind all pairs.
-    fn last_place(&self) -> (usize, usize)
-        ensures place { IsPlace self.now.nodes result }
-        ensures before { items_before self.now.nodes result ≡ length (joined self.now.nodes) }
-    {
-        match self.set.iter_nodes().next_back() {
-            Some(last) => (self.set.node_count() - 1, last.len()),
-            None => (0, 0),
-        }
-    }
-
-    // Where a search for a pair of this number ends.
-    pub(super) fn locate_number(
-        &self,
-        key: &K,
-        number: u64,
-    ) -> Result<(usize, usize), (usize, usize)>
-        ensures place { result ≡ located (λ p. ordering_then (K.cmp p.key key.now) (nat_cmp p.discriminator number)) self.now.nodes }
-        ensures lawful { IsLawful (by_number K.cmp) self.now.size self.now.nodes }
-    {
-        // The contract of `node_count` says that the pairs ascend, as a search by number requires.
-        let _nodes = self.set.node_count();
-        self.set.locate_by(&mut ByNumber::new(key, number))
     }
 }
