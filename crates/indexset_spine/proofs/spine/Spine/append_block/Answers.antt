@@ -65,10 +65,11 @@ invariant_of-self-2 g c =
 
 pub returns-clause-moved : goal.returns-clause-moved
 returns-clause-moved g c =
-    let at = (goal.at.returns-clause-moved g c).After-move_front in
-    (moved g at,
-    sym (ap (λ l. moved g at ++ l) c.move_front.ensures.left ∙ take-append-drop c.min-count.result c.args.from.now.items),
-    writes g at ∙ (nodes g at ∙ ap (λ (t : Cut g.row.T.Denot). fold (with_last t.size) t.nodes (moved g at)) c.self.view_is))
+    let at = (goal.at.returns-clause-moved g c).After-move_front in (
+      moved g at,
+      sym (ap (λ l. moved g at ++ l) c.move_front.ensures.left ∙ take-append-drop c.min-count.result c.args.from.now.items),
+      writes g at ∙ (nodes g at ∙ ap (λ (t : Cut g.row.T.Denot). fold (with_last t.size) t.nodes (moved g at)) c.self.view_is),
+    )
 
 pub returns-clause-fewer : goal.returns-clause-fewer
 returns-clause-fewer g c =
