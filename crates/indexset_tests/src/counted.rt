@@ -9,7 +9,7 @@ use std::cell::Cell;
 use std::cmp::Ordering;
 
 /// Its order counts, in a cell that the keys share, how often it is asked.
-#[derive(Drop)]
+#[derive(Clone, Drop)]
 pub struct Counted<'a> {
     pub key: u64,
     pub asked: &'a Cell<u64>,

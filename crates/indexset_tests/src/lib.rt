@@ -10,6 +10,8 @@ mod fenwick;
 #[cfg(test)]
 mod logged;
 #[cfg(test)]
+mod logged_counted;
+#[cfg(test)]
 mod logged_map;
 #[cfg(test)]
 mod logged_run;
