@@ -8,6 +8,8 @@ mod counted;
 #[cfg(test)]
 mod fenwick;
 #[cfg(test)]
+mod joining;
+#[cfg(test)]
 mod logged;
 #[cfg(test)]
 mod logged_counted;
@@ -47,3 +49,5 @@ mod spine;
 mod tagged;
 #[cfg(test)]
 mod terminal;
+#[cfg(test)]
+mod told;

@@ -40,6 +40,11 @@ fn row_of(event: &ChangeEvent<u64>) -> (u64, &'static str, u64, u64, usize) {
             split_index,
             ..
         } => (id, "split", *max_value, 0, *split_index),
+        ChangeEvent::MergeNodes {
+            max_value,
+            next_max_value,
+            ..
+        } => (id, "merge", *max_value, *next_max_value, 0),
     }
 }
 

@@ -1,12 +1,12 @@
 //! Worked examples of the logged map, over either node type.
 
-use indexset_replica::Replica;
 use indexset_core::array_node::ArrayNode;
 use indexset_core::node::NodeLike;
 use indexset_core::pair::Pair;
 use indexset_core::refusal::Refused;
 use indexset_log::change::ChangeEvent;
 use indexset_log::map::BTreeMap;
+use indexset_replica::Replica;
 use std::alloc::Global;
 use std::ops::Bound::{Excluded, Included, Unbounded};
 use std::slice;
@@ -57,6 +57,17 @@ fn row_of(event: &ChangeEvent<Letters>) -> Row {
             split_index,
             ..
         } => (id, "split", entry_of(max_value), None, *split_index),
+        ChangeEvent::MergeNodes {
+            max_value,
+            next_max_value,
+            ..
+        } => (
+            id,
+            "merge",
+            entry_of(max_value),
+            Some(entry_of(next_max_value)),
+            0,
+        ),
     }
 }
 

@@ -61,6 +61,17 @@ fn row_of(event: &ChangeEvent<Letters>) -> Row {
             split_index,
             ..
         } => (id, "split", numbered(max_value), None, *split_index),
+        ChangeEvent::MergeNodes {
+            max_value,
+            next_max_value,
+            ..
+        } => (
+            id,
+            "merge",
+            numbered(max_value),
+            Some(numbered(next_max_value)),
+            0,
+        ),
     }
 }
 

@@ -24,6 +24,7 @@ fn refusals_have_their_numbers(rt: HostRuntime) {
         (Refusal::WouldBeEmpty, 15),
         (Refusal::OutOfOrder, 16),
         (Refusal::BadSplit, 17),
+        (Refusal::NotNeighbours, 18),
     ];
     for (refusal, number) in numbered {
         assert_eq!(rt; refusal.number(), number, "{refusal:?}");

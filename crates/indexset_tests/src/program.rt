@@ -132,7 +132,14 @@ fn answers_each_line(rt: HostRuntime) -> Result<(), Fail> {
 
 #[test]
 fn tells_events(rt: HostRuntime) -> Result<(), Fail> {
-    let cases: [(&[u8], &[u8]); 3] = [
+    let cases: [(&[u8], &[u8]); 4] = [
+        (
+            b"put 0 0\nput 1 1\nput 2 2\nput 3 3\nput 4 4\ncut 4\ncut 3\ncut 1\nnodes\n",
+            b"new\n0 create 0:0\nnew\n1 insert 0:0 1:1 1\nnew\n2 insert 1:1 2:2 2\n\
+            new\n3 insert 2:2 3:3 3\nnew\n4 split 3:3 2\n5 insert 3:3 4:4 2\n\
+            gone 4\n6 remove 4:4 4:4 2\ngone 3\n7 remove 3:3 3:3 1\n\
+            gone 1\n8 remove 1:1 1:1 1\n9 merge 0:0 2:2\n0:0 2:2\n",
+        ),
         (
             b"put 0 10\nput 1 11\nput 2 12\nput 3 13\nput 1 99\nnodes\ncut 0\n",
             b"new\n0 create 0:10\nnew\n1 insert 0:10 1:11 1\nnew\n2 insert 1:11 2:12 2\n\
