@@ -1,7 +1,7 @@
 -- Ascending lists of numbered pairs: searches by key, and by key and number.
 use Rattle.std.proofs.Common.{◌≡◌, ℕ, suc, ◌+◌, ◌<◌, ◌&&◌, Bool, true, false, cond, List, [], ◌∷◌, filter, get_or, Ordering, Some, None, slice_get, refl, ap, sym, ◌∙◌, arith}
 use Rattle.std.specs.Cmp.{IsTotalOrder}
-use Rattle.std.specs.List.{count_by, find, list_any}
+use Rattle.std.specs.List.{find, list_any}
 use Rattle.std.specs.Option.{option_map}
 use Rattle.std.specs.Ordering.{is_eq, is_ge, is_le, is_lt, nat_cmp, ordering_then}
 use Rattle.std.specs.declared.cmp.Ordering.TheVariants.{Less, Equal, Greater}
@@ -11,12 +11,11 @@ use Rattle.std.proofs.lemmas.Cmp.{alike_right, nat_cmp_total, on_total, then_tot
 use Rattle.std.proofs.lemmas.List.Elements.{All-head, All-tail}
 use Rattle.std.proofs.lemmas.List.Folds.{list_any_at}
 use Rattle.std.proofs.lemmas.List.Sorted.{searchable_from_sorted}
-use Rattle.std.proofs.lemmas.List.Sums.{sum_by-cons}
 use Rattle.std.proofs.lemmas.Option.{get_or_from_slice_get, none-some, same_Some, slice_get_within}
 use Rattle.indexset_core.specs.declared.multipair.MultiPair.{MultiPair}
 use Rattle.indexset_core.specs.MultiPairs.{by_number}
 use Rattle.indexset_core.specs.Order.{IsAscending, equal_element, has_equal, rank}
-use Rattle.indexset_core.specs.Parted.{IsParted, less_count}
+use Rattle.indexset_core.specs.Parted.{IsParted}
 use Rattle.indexset_core.proofs.CallerLemmas.{equal_from, rank-slice_get, slice_get-rank_equal}
 use Rattle.indexset_multi.specs.Keys.{AreNumberedBelow, equal_pair, kept_number, pairs_between, pairs_of}
 

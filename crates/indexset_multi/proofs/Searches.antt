@@ -1,19 +1,16 @@
 -- Where a search of lawful nodes ends, as the code passes it on.
-use Rattle.std.proofs.Common.{◌≡◌, ℕ, ◌+◌, ◌-◌, ◌<◌, zero, suc, true, false, List, slice_get, [], ◌∷◌, ◌++◌, length, map, Result, Ok, Err, is_ok, is_some, Ordering, refl, ap, sym, ◌∙◌, arith, length-append}
+use Rattle.std.proofs.Common.{◌≡◌, ℕ, ◌<◌, zero, suc, true, List, slice_get, [], ◌∷◌, length, Result, Ok, Err, is_ok, is_some, Ordering, refl, ap, sym, ◌∙◌, arith}
 use Rattle.std.specs.Cmp.{IsTotalOrder}
-use Rattle.std.specs.List.{count_by, find, list_any}
-use Rattle.std.specs.Ordering.{is_eq, is_le}
+use Rattle.std.specs.List.{find, list_any}
+use Rattle.std.specs.Ordering.{is_eq}
 use Rattle.std.specs.Result.{result_ok}
-use Rattle.std.proofs.lemmas.List.{length-map}
 use Rattle.indexset_core.specs.declared.multipair.MultiPair.{MultiPair}
 use Rattle.indexset_core.specs.MultiPairs.{by_number}
 use Rattle.indexset_core.specs.Nodes.{joined, node_at, IsLawful}
-use Rattle.indexset_core.specs.Parted.{IsParted, less_count}
+use Rattle.indexset_core.specs.Parted.{IsParted}
 use Rattle.indexset_core.proofs.CallerLemmas.{is_some-find}
 use Rattle.indexset_log.specs.Located.{located}
-use Rattle.indexset_log.specs.Places.{items_before}
-use Rattle.indexset_log.proofs.CallerLemmas.{IsEnd, end_at, end_found, end_node, end_offset, gap_at, gap_found, last_before, lawful_ascends, lawful_filled}
-use Rattle.indexset_multi.specs.Keys.{AreNumberedBelow}
+use Rattle.indexset_log.proofs.CallerLemmas.{end_found, end_node, end_offset, gap_found, lawful_ascends, lawful_filled}
 use Rattle.indexset_multi.specs.Places.{IsItemPlace, placed_item}
 use Rattle.indexset_multi.proofs.Numbers.{answer_to, parted_keys, parted_numbers}
 

@@ -157,11 +157,7 @@ impl<K: Ord + Clone + Drop, V: Eq + Clone + Drop, Node: NodeLike<MultiPair<K, V>
     }
 
     // Where a search for a pair of this number ends.
-    fn locate_number(
-        &self,
-        key: &K,
-        number: u64,
-    ) -> Result<(usize, usize), (usize, usize)>
+    fn locate_number(&self, key: &K, number: u64) -> Result<(usize, usize), (usize, usize)>
         ensures place { result ≡ located (λ p. ordering_then (K.cmp p.key key.now) (nat_cmp p.discriminator number)) self.now.nodes }
         ensures lawful { IsLawful (by_number K.cmp) self.now.size self.now.nodes }
     {
