@@ -1,42 +1,25 @@
-//! Worked examples of the library, as tests: the values are typed from its documents, and each
-//! public call runs once with ample memory.
+//! Worked examples of the plain family and of what both families stand on, as tests: the values are
+//! typed from the library's documents, and each public call runs once with ample memory. Those of the
+//! logged family stand in `indexset_log_tests`.
 #![tactic(auto)]
 
 pub mod callers;
-#[cfg(test)]
-mod counted;
+pub mod counted;
 #[cfg(test)]
 mod fenwick;
 #[cfg(test)]
-mod joining;
-#[cfg(test)]
-mod logged;
-#[cfg(test)]
-mod logged_counted;
-#[cfg(test)]
-mod logged_map;
-#[cfg(test)]
-mod logged_run;
-#[cfg(test)]
-mod logged_walks;
-#[cfg(test)]
 mod map;
 #[cfg(test)]
-mod multimap;
-#[cfg(test)]
 mod node;
+pub mod nodes;
 #[cfg(test)]
 mod paths;
 #[cfg(test)]
 mod probe;
 #[cfg(test)]
-mod program;
-#[cfg(test)]
 mod readme;
 #[cfg(test)]
 mod refusal;
-#[cfg(test)]
-mod replica;
 #[cfg(test)]
 mod run_map;
 #[cfg(test)]
@@ -45,9 +28,4 @@ mod run_set;
 mod set;
 #[cfg(test)]
 mod spine;
-#[cfg(test)]
-mod tagged;
-#[cfg(test)]
-mod terminal;
-#[cfg(test)]
-mod told;
+pub mod tagged;

@@ -1,28 +1,13 @@
 //! Worked examples of the Vec node, through the trait.
-ghost use Rattle.std.specs.Prelude.{◌≤◌, length, IfOk};
 ghost use Rattle.std.specs.Ordering.{nat_cmp};
 ghost use Rattle.indexset_core.specs.Order.{IsAscending};
 
+use crate::nodes::node_of;
 use crate::tagged::Tagged;
 use indexset_core::node::NodeLike;
 use indexset_core::probe::{ByItem, Counting};
-use std::alloc::Global;
 use std::ops::Bound;
 use std::test::Fail;
-
-/// A node of these values, put in one after another.
-pub(crate) fn node_of<Node: NodeLike<u64>>(alloc: Global, values: &[u64]) -> Result<Node, Fail>
-    requires { length values.now ≤ Node.most }
-    ensures { IfOk result (λ node. IsAscending nat_cmp (Node.list node)) }
-{
-    let mut node = Node::with_capacity(alloc, values.len())?;
-    for value in values {
-        if node.len() < Node::limit() {
-            node.insert(*value).map_err(|refused| refused.cause)?;
-        }
-    }
-    Ok(node)
-}
 
 #[test]
 fn an_insert_finds_its_place(rt: HostRuntime) -> Result<(), Fail> {

@@ -2,9 +2,13 @@
 
 use indexset::base::bounds::bounds_are_ordered;
 use indexset::base::constants::DEFAULT_INNER_SIZE;
+use indexset::base::multipair::MultiPair;
 use indexset::base::node::NodeLike;
 use indexset::base::pair::Pair;
 use indexset::base::refusal::Refusal;
+use indexset::cdc::change::ChangeEvent;
+use indexset::concurrent::{map, multimap};
+use indexset::replica::Replica;
 use indexset::{BTreeMap, BTreeSet, IntoIterMap, IterMap, RangeMap};
 use std::alloc::Global;
 use std::ops::Bound;
@@ -49,5 +53,24 @@ fn a_node_and_a_refusal(rt: HostRuntime) -> Result<(), Fail> {
     let node = vec![in rt.alloc(); 1u64, 3]?;
     assert_eq!(rt; NodeLike::max(&node), Some(&3));
     assert_eq!(rt; Refusal::Memory.number(), 1);
+    Ok(())
+}
+
+#[test]
+fn a_logged_map_and_a_multimap(rt: HostRuntime) -> Result<(), Fail> {
+    let mut prices: map::BTreeMap<u64, char, Vec<Pair<u64, char>>> =
+        map::BTreeMap::with_maximum_node_size(rt.alloc(), 4);
+    let (old, events) = prices.insert_cdc(1, 'a').map_err(|refused| refused.cause)?;
+    assert_eq!(rt; old, None);
+    assert_eq!(rt; events.len(), 1);
+    assert!(rt; matches!(&events[0], ChangeEvent::CreateNode { .. }));
+    let mut copy: Replica<Pair<u64, char>> = Replica::new(rt.alloc(), 0);
+    copy.apply(&events[0])?;
+    assert_eq!(rt; copy.next(), 1);
+    let mut tags: multimap::BTreeMultiMap<u64, char, Vec<MultiPair<u64, char>>> =
+        multimap::BTreeMultiMap::with_maximum_node_size(rt.alloc(), 4);
+    let added = tags.insert(1, 'a').map_err(|refused| refused.cause)?;
+    assert_eq!(rt; added, None);
+    assert!(rt; tags.contains_key(&1));
     Ok(())
 }

@@ -46,7 +46,10 @@ fn few_comparisons_of_rank(rt: HostRuntime) -> Result<(), Fail> {
         asked.set(0);
         assert_eq!(rt; map.rank(&sought) as u64, key);
         assert!(rt; asked.replace(0) <= 17, "rank of {key}");
-        assert!(rt; map.get_key_value(&sought).is_some_and(|pair| *pair.1 == key));
+        assert!(rt;
+            map.get_key_value(&sought)
+                .is_some_and(|pair| *pair.1 == key)
+        );
         assert!(rt; asked.replace(0) <= 17, "get_key_value of {key}");
         let cursor = map.lower_bound(Included(&sought));
         assert_eq!(rt; cursor.value().copied(), Some(key));
@@ -68,7 +71,10 @@ fn few_comparisons_of_ranges(rt: HostRuntime) -> Result<(), Fail> {
         asked.set(0);
         assert_eq!(rt; map.range((Included(&sought), Excluded(&next))).len(), 1);
         assert!(rt; asked.replace(0) <= 34, "range from {key}");
-        assert_eq!(rt; map.range_mut((Included(&sought), Excluded(&next))).len(), 1);
+        assert_eq!(rt;
+            map.range_mut((Included(&sought), Excluded(&next))).len(),
+            1
+        );
         assert!(rt; asked.get() <= 34, "range_mut from {key}");
     }
     Ok(())
@@ -81,14 +87,20 @@ fn few_comparisons_of_calls_that_change(rt: HostRuntime) -> Result<(), Fail> {
     for key in [0, 5119, 10239] {
         let sought = Counted { key, asked: &asked };
         asked.set(0);
-        assert_eq!(rt; put(&mut map, Counted { key, asked: &asked }, key)?, Some(key));
+        assert_eq!(rt;
+            put(&mut map, Counted { key, asked: &asked }, key)?,
+            Some(key)
+        );
         assert!(rt; asked.replace(0) <= 17, "insert of {key}");
         assert_eq!(rt; map.remove(&sought), Some(key));
         assert!(rt; asked.replace(0) <= 17, "remove of {key}");
         assert!(rt; map.remove_entry(&sought).is_none());
         assert!(rt; asked.replace(0) <= 17, "remove_entry of {key}");
         assert!(rt; put(&mut map, sought, key)?.is_none());
-        assert!(rt; asked.get() <= 35, "insert of {key}, which looks before it goes in");
+        assert!(rt;
+            asked.get() <= 35,
+            "insert of {key}, which looks before it goes in"
+        );
     }
     let sought = Counted {
         key: 5120,

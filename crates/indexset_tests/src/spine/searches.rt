@@ -4,7 +4,7 @@ ghost use Rattle.std.specs.Ordering.{nat_cmp};
 ghost use Rattle.indexset_core.specs.Order.{IsAscending};
 ghost use Rattle.indexset_spine.specs.Cut.{items};
 
-use crate::node::node_of;
+use crate::nodes::node_of;
 use indexset_core::probe::{ByItem, Counting};
 use indexset_core::search;
 use indexset_spine::spine::Spine;

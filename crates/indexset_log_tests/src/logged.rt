@@ -2,14 +2,14 @@
 ghost use Rattle.std.specs.Prelude.{◌≤◌, ◌<◌, length, IfOk};
 ghost use Rattle.indexset_core.specs.Nodes.{node_at};
 
-use crate::node::node_of;
-use crate::tagged::Tagged;
 use indexset_core::array_node::ArrayNode;
 use indexset_core::node::NodeLike;
 use indexset_core::probe::ByItem;
 use indexset_core::refusal::{Refusal, Refused};
 use indexset_log::change::{ChangeEvent, ChangeEventUnassigned, Id};
 use indexset_log::set::BTreeSet;
+use indexset_tests::nodes::node_of;
+use indexset_tests::tagged::Tagged;
 use std::alloc::Global;
 use std::ops::Bound;
 use std::process::Abort;

@@ -1,6 +1,6 @@
 use Rattle.std.specs.Ordering.{nat_cmp}
 use Rattle.indexset_core.specs.Order.{IsAscending}
-use Rattle.indexset_tests.proofs.node.node_of.Given as goal
+use Rattle.indexset_tests.proofs.nodes.node_of.Given as goal
 
 abbrev pub invariant-loop-value : goal.invariant-loop-value
 invariant-loop-value g l = IsAscending nat_cmp (g.Node.NodeLike.list l.node)

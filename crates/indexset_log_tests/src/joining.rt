@@ -1,7 +1,6 @@
 //! Removals that join small neighbours, over either node type, and copies that follow.
 ghost use Rattle.std.specs.Prelude.{◌≤◌, ◌≡◌};
 
-use crate::node::node_of;
 use crate::told::{Told, Typed, are_copies, are_events, are_nodes, event};
 use indexset_core::array_node::ArrayNode;
 use indexset_core::multipair::MultiPair;
@@ -13,6 +12,7 @@ use indexset_log::map::BTreeMap;
 use indexset_log::set::BTreeSet;
 use indexset_multi::multimap::BTreeMultiMap;
 use indexset_replica::Replica;
+use indexset_tests::nodes::node_of;
 use std::alloc::Global;
 use std::process::Abort;
 use std::test::Fail;

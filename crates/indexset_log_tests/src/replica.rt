@@ -1,9 +1,9 @@
 //! Worked examples of a replica: events that arrive, and events that are refused.
 
-use crate::tagged::Tagged;
 use indexset_core::refusal::Refusal;
 use indexset_log::change::{ChangeEvent, Id};
 use indexset_replica::{Replica, laws};
+use indexset_tests::tagged::Tagged;
 use std::alloc::{AllocError, Global};
 use std::test::Fail;
 

@@ -1,11 +1,11 @@
 //! How often a call on a logged tree compares, told by keys that count.
-use crate::counted::Counted;
 use indexset_core::multipair::MultiPair;
 use indexset_core::pair::Pair;
 use indexset_core::refusal::Refusal;
 use indexset_log::map::BTreeMap;
 use indexset_log::set::BTreeSet;
 use indexset_multi::multimap::BTreeMultiMap;
+use indexset_tests::counted::Counted;
 use std::alloc::Global;
 use std::cell::Cell;
 use std::ops::Bound::{Excluded, Included};

@@ -3,7 +3,7 @@ use Rattle.std.specs.Cmp.{nat_cmp_total}
 use Rattle.indexset_core.proofs.CallerLemmas.{parted_by_item}
 use Rattle.indexset_core.specs.Nodes.{joined}
 use Rattle.indexset_log.proofs.CallerLemmas.{ends_equal, ends_gap}
-use Rattle.indexset_tests.proofs.logged_walks.place_of.Goals as goal
+use Rattle.indexset_log_tests.proofs.logged_walks.place_of.Goals as goal
 
 pub locate_by-requires : goal.locate_by-requires
 locate_by-requires g c = rw c.new.ensures (parted_by_item nat_cmp nat_cmp_total (joined c.args.set.now.nodes) c.node_count-nodes.ensures.lawful.nodes.ascending c.args.key.now)

@@ -1,11 +1,11 @@
 //! Events and nodes in a short form, to be typed in a test and compared.
 
-use crate::tagged::Tagged;
 use indexset_core::multipair::MultiPair;
 use indexset_core::node::NodeLike;
 use indexset_core::pair::Pair;
 use indexset_log::change::{ChangeEvent, Id};
 use indexset_log::set::nodes::Nodes;
+use indexset_tests::tagged::Tagged;
 use std::fmt::Debug;
 
 /// An event: its number, the last item of its node, and what else it names.
