@@ -78,5 +78,8 @@ pub(crate) fn measure(rt: &HostRuntime, keys: u64) -> io::Result<()> {
     report(rt, "append of every second element", start, keys / 2)?;
     let ascending = made_from(rt, "from, ascending order", 1, keys)?;
     let random = made_from(rt, "from, random order", 0x9e37_79b9_7f4a_7c15, keys)?;
-    println!(rt; "check {same} {back} {front} {} {ascending} {random}", even.len())
+    println!(rt;
+        "check {same} {back} {front} {} {ascending} {random}",
+        even.len()
+    )
 }
