@@ -1,19 +1,19 @@
 //! Calls that put items in.
-ghost use Rattle.std.specs.Prelude.{◌≡◌, ◌==◌, ◌+◌, ◌/◌, ◌≤◌, [], ◌++◌, cond, length, Some, None, IfOk, OnOk, IfErr, OnErr, IsOk, IfSome, is_none, not, true};
+ghost use Rattle.std.specs.Prelude.{◌≡◌, ◌+◌, ◌/◌, ◌≤◌, [], ◌++◌, length, Some, None, IfOk, OnOk, IfErr, OnErr, IsOk, IfSome, is_none, not, true};
 ghost use Rattle.indexset_core.specs.Nodes.{joined};
-ghost use Rattle.indexset_core.specs.Order.{IsAscending, IsFoundAt, IsGapFor, put, keep, has_equal, equal_element};
+ghost use Rattle.indexset_core.specs.Order.{put, keep, has_equal, equal_element};
 ghost use Rattle.indexset_log.specs.Aim.{IsAim, IsAimed, count_for, is_present};
 ghost use Rattle.indexset_log.specs.Edits.{with_put, with_checked_put};
 ghost use Rattle.indexset_log.specs.Joining.{IsSpaced};
 ghost use Rattle.indexset_log.specs.Replay.{replay, numbered_from, IsNumberedFrom};
-ghost use Rattle.indexset_log.specs.Table.{put_events, checked_put_events, halving_events, node_events};
+ghost use Rattle.indexset_log.specs.Table.{put_events, checked_put_events};
 ghost use Rattle.indexset_log.specs.Tree.{refusal_for};
 
 use super::BTreeSet;
 use crate::aim::{Aim, event_count, finds_equal};
 use crate::change::{ChangeEvent, ChangeEventUnassigned};
 use crate::locate::node_by;
-use crate::log::Log;
+use crate::log::{Log, add_halving, add_put};
 use crate::nodes::{first_node, make_room, part_of, put_in};
 use indexset_core::node::NodeLike;
 use indexset_core::probe::ByItem;
@@ -349,71 +349,5 @@ impl<T: Ord + Clone + Drop, Node: NodeLike<T>> BTreeSet<T, Node> {
             max_value: value.clone()?,
         })?;
         Ok(log.events)
-    }
-}
-
-// The event of a halving, where a node is full: whatever v, the node has a last item.
-fn add_halving<T: Clone + Drop>(log: &mut Log<T>, items: &[T], size: usize) -> Result<(), Refusal>
-    requires clones { (x y : T) → T.is_clone x y → y ≡ x }
-    requires some { 1 ≤ length items.now }
-    requires fits { log.old.next + cond (length items.now == size) 1 0 ≤ u64.MAX }
-    ensures events { (v : T) → OnOk result (log.new.events.items ≡ log.old.events.items ++ numbered_from log.old.next (halving_events size items.now v)) }
-    ensures next { OnOk result (log.new.next ≡ log.old.next + cond (length items.now == size) 1 0) }
-    ensures refusal { IfErr result (λ e. e ≡ Refusal.Memory) }
-{
-    if items.len() == size {
-        log.add(ChangeEventUnassigned::SplitNode {
-            max_value: items[items.len() - 1].clone()?,
-            split_index: items.len() / 2,
-        })?;
-    }
-    Ok(())
-}
-
-// The events of a put into a node, or into the half of one.
-fn add_put<T: Ord + Clone + Drop>(
-    log: &mut Log<T>,
-    part: &[T],
-    at: &Result<usize, usize>,
-    value: &T,
-) -> Result<(), Refusal>
-    requires clones { (x y : T) → T.is_clone x y → y ≡ x }
-    requires some { 1 ≤ length part.now }
-    requires ascending { IsAscending T.cmp part.now }
-    requires found { IfOk at.now (IsFoundAt T.cmp part.now value.now) }
-    requires gap { IfErr at.now (IsGapFor T.cmp part.now value.now) }
-    requires fits { log.old.next + length (node_events T.cmp part.now value.now) ≤ u64.MAX }
-    ensures events { OnOk result (log.new.events.items ≡ log.old.events.items ++ numbered_from log.old.next (node_events T.cmp part.now value.now)) }
-    ensures refusal { IfErr result (λ e. e ≡ Refusal.Memory) }
-{
-    let last = part.len() - 1;
-    let max_value = part[last].clone()?;
-    let copy = value.clone()?;
-    match *at {
-        Err(index) => log.add(ChangeEventUnassigned::InsertAt {
-            max_value,
-            value: copy,
-            index,
-        }),
-        Ok(_) if last == 0 => log.add_both(
-            ChangeEventUnassigned::RemoveNode { max_value },
-            ChangeEventUnassigned::CreateNode { max_value: copy },
-        ),
-        Ok(index) => {
-            let old = part[index].clone()?;
-            let name = part[if index == last { index - 1 } else { last }].clone()?;
-            log.add_both(
-                ChangeEventUnassigned::RemoveAt {
-                    max_value,
-                    value: old,
-                    index,
-                },
-                ChangeEventUnassigned::InsertAt {
-                    max_value: name,
-                    value: copy,
-                    index,
-                },
-            )
-        }
     }
 }

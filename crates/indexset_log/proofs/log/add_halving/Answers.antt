@@ -2,7 +2,7 @@ use Rattle.std.proofs.Common.{◌-◌, length, arith}
 use Rattle.std.proofs.lemmas.Bool.{eq-eqb}
 use Rattle.indexset_core.proofs.CallerLemmas.{read_item}
 use Rattle.indexset_log.proofs.Theorem.{last_some}
-use Rattle.indexset_log.proofs.set.put.add_halving.Goals as goal
+use Rattle.indexset_log.proofs.log.add_halving.Goals as goal
 
 pub add-requires : goal.add-requires
 add-requires g c =

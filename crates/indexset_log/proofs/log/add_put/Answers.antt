@@ -6,8 +6,8 @@ use Rattle.indexset_log.specs.Nodes.{last_of}
 use Rattle.indexset_log.specs.Table.{node_events}
 use Rattle.indexset_log.proofs.Puts.{gap_written, only_replaced, last_replaced, inner_replaced, node_count}
 use Rattle.indexset_log.proofs.Theorem.{last_some}
-use Rattle.indexset_log.proofs.set.put.add_put.Goals as goal
-use Rattle.indexset_log.proofs.set.put.add_put.Goals.{then-index-last, else-index-last}
+use Rattle.indexset_log.proofs.log.add_put.Goals as goal
+use Rattle.indexset_log.proofs.log.add_put.Goals.{then-index-last, else-index-last}
 
 pub add-requires : goal.add-requires
 add-requires g c =
