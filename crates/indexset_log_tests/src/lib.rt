@@ -22,6 +22,8 @@ mod program;
 #[cfg(test)]
 mod replica;
 #[cfg(test)]
+mod scarce;
+#[cfg(test)]
 mod terminal;
 #[cfg(test)]
 mod told;

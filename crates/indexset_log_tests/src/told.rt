@@ -1,5 +1,6 @@
 //! Events and nodes in a short form, to be typed in a test and compared.
 
+use crate::scarce::Scarce;
 use indexset_core::multipair::MultiPair;
 use indexset_core::node::NodeLike;
 use indexset_core::pair::Pair;
@@ -25,7 +26,10 @@ pub trait Typed {
 
     /// The plain value of the item.
     fn plain(&self) -> Self::Plain;
+}
 
+/// An item that its plain value makes.
+pub trait Made: Typed {
     /// The item of the plain value.
     fn item(plain: Self::Plain) -> Self;
 }
@@ -36,7 +40,9 @@ impl Typed for u64 {
     fn plain(&self) -> u64 {
         *self
     }
+}
 
+impl Made for u64 {
     fn item(plain: u64) -> u64 {
         plain
     }
@@ -48,9 +54,19 @@ impl Typed for Tagged {
     fn plain(&self) -> (u64, char) {
         (self.key, self.tag)
     }
+}
 
+impl Made for Tagged {
     fn item((key, tag): (u64, char)) -> Tagged {
         Tagged { key, tag }
+    }
+}
+
+impl Typed for Scarce<'_> {
+    type Plain = u64;
+
+    fn plain(&self) -> u64 {
+        self.key
     }
 }
 
@@ -60,7 +76,9 @@ impl Typed for Pair<u64, char> {
     fn plain(&self) -> (u64, char) {
         (self.key, self.value)
     }
+}
 
+impl Made for Pair<u64, char> {
     fn item((key, value): (u64, char)) -> Pair<u64, char> {
         Pair { key, value }
     }
@@ -72,7 +90,9 @@ impl Typed for MultiPair<u64, char> {
     fn plain(&self) -> (u64, u64, char) {
         (self.key, self.discriminator, self.value)
     }
+}
 
+impl Made for MultiPair<u64, char> {
     fn item((key, number, value): (u64, u64, char)) -> MultiPair<u64, char> {
         MultiPair::new(key, value, number)
     }
@@ -110,7 +130,7 @@ pub fn shown<T: Typed>(event: &ChangeEvent<T>) -> Told<T::Plain> {
 }
 
 /// The event whose short form this is.
-pub fn event<T: Typed>(told: Told<T::Plain>) -> ChangeEvent<T> {
+pub fn event<T: Made>(told: Told<T::Plain>) -> ChangeEvent<T> {
     match told {
         Told::Create(id, last) => ChangeEvent::CreateNode {
             event_id: Id::from(id),
