@@ -102,16 +102,13 @@ fn ranges_from_both_ends(rt: HostRuntime) -> Result<(), Fail> {
     ranges_of_keys::<ArrayNode<u64, 10>>(&rt, rt.alloc())
 }
 
-// Where a search for a key ends.
+// The place before the first key that is not below this one.
 fn place_of<Node: NodeLike<u64>>(set: &BTreeSet<u64, Node>, key: &u64) -> (usize, usize)
     ensures { IsPlace set.now.nodes result }
 {
     // Tells that the nodes are lawful.
     let _nodes = set.node_count();
-    match set.locate_by(&mut ByItem::new(key)) {
-        Ok(place) => place,
-        Err(place) => place,
-    }
+    set.place_from(Included(ByItem::new(key)))
 }
 
 fn nodes_of_four<Node: NodeLike<u64>>(rt: &impl Abort, alloc: Global) -> Result<(), Fail>
