@@ -42,7 +42,7 @@ position_le q (x ∷ xs) = elim (q x) as (λ b. q x ≡ b → position_or_len q 
   | false ↦ λ e. rw e (omega (arith, position_le q xs))
 ] refl
 
-false_unless : (b : Bool) → (b ≡ true → ⊥) → b ≡ false
+pub false_unless : (b : Bool) → (b ≡ true → ⊥) → b ≡ false
 false_unless true h = absurd (h refl)
 false_unless false h = refl
 
@@ -52,17 +52,17 @@ node_past (m ∷ b) a = node_past b a
 
 module _ {T : Type 0} (cmp : T → T → Ordering) where
   -- two ascending lists, one below the other
-  up_join : (xs ys : List T) → Up cmp xs → Up cmp ys → Each (λ x. Each (λ y. cmp x y ≡ Less) ys) xs → Up cmp (xs ++ ys)
+  pub up_join : (xs ys : List T) → Up cmp xs → Up cmp ys → Each (λ x. Each (λ y. cmp x y ≡ Less) ys) xs → Up cmp (xs ++ ys)
   up_join [] ys left right between = right
   up_join (x ∷ xs) ys left right between = (each-append _ xs ys left.0 between.0, up_join xs ys left.1 right between.1)
 
-  below_each : (l r : List T) → lies_below cmp l r ≡ true → Each (λ x. Each (λ y. cmp x y ≡ Less) r) l
+  pub below_each : (l r : List T) → lies_below cmp l r ≡ true → Each (λ x. Each (λ y. cmp x y ≡ Less) r) l
   below_each l r h = each-map _ _ (λ x e. each-map _ _ (λ y k. less_from (cmp x y) k) r (each_from_all _ r e)) l (each_from_all _ l h)
 
-  each_below : (l r : List T) → Each (λ x. Each (λ y. cmp x y ≡ Less) r) l → lies_below cmp l r ≡ true
+  pub each_below : (l r : List T) → Each (λ x. Each (λ y. cmp x y ≡ Less) r) l → lies_below cmp l r ≡ true
   each_below l r h = all_from_each _ l (each-map _ _ (λ x e. all_from_each (λ y. is_lt (cmp x y)) r (each-map _ _ (λ y k. ap is_lt k) r e)) l h)
 
-  both : (ys zs l : List T) → Each (λ x. Each (λ y. cmp x y ≡ Less) ys) l → Each (λ x. Each (λ y. cmp x y ≡ Less) zs) l → Each (λ x. Each (λ y. cmp x y ≡ Less) (ys ++ zs)) l
+  pub both : (ys zs l : List T) → Each (λ x. Each (λ y. cmp x y ≡ Less) ys) l → Each (λ x. Each (λ y. cmp x y ≡ Less) zs) l → Each (λ x. Each (λ y. cmp x y ≡ Less) (ys ++ zs)) l
   both ys zs [] h k = tt
   both ys zs (x ∷ l) h k = (each-append _ ys zs h.0 k.0, both ys zs l h.1 k.1)
 
@@ -253,13 +253,13 @@ module _ {T : Type 0} (cmp : T → T → Ordering) (size : ℕ) (ns : List (List
 
 -- what a node makes of lawful nodes that is not refused
 module _ {T : Type 0} (cmp : T → T → Ordering) (o : IsTotalOrder cmp) (size : ℕ) (ns : List (List T)) where
-  record Good (n : List T) : Type 0 where
+  pub record Good (n : List T) : Type 0 where
     pub full : is_filled n ≡ true
     pub fits : nat_lt size (length n) ≡ false
     pub up : is_ascending cmp n ≡ true
     pub apart : lies_apart cmp ns n ≡ true
 
-  good : (n : List T) → attach_refusal cmp size ns n ≡ None → Good n
+  pub good : (n : List T) → attach_refusal cmp size ns n ≡ None → Good n
   unfolding attach_refusal
   good n h = record { full = grind arith; fits = grind arith; up = grind arith; apart = grind arith }
 

@@ -1,7 +1,8 @@
 -- Replay of the numbered events of the table, from any lawful nodes.
-use Rattle.std.proofs.Common.{◌≡◌, ℕ, zero, suc, ◌+◌, ◌≤◌, true, false, if◌then◌else◌, List, [], ◌∷◌, ◌++◌, length, get_or, Option, Some, None, Ordering, option_and_then, ◌||◌, refl, ap, sym, ◌∙◌, subst, arith, ◌-◌, set, map, Result, Ok, Err, OnOk}
-use Rattle.std.proofs.lemmas.List.{map-set}
-use Rattle.std.proofs.lemmas.Bool.{false≢true}
+use Rattle.std.proofs.Common.{◌≡◌, ℕ, zero, suc, ◌+◌, ◌≤◌, true, false, if◌then◌else◌, List, [], ◌∷◌, ◌++◌, length, get_or, Option, Some, None, Ordering, option_and_then, ◌||◌, refl, ap, sym, ◌∙◌, subst, inl, inr, arith, length-append, ◌-◌, set, map, Result, Ok, Err, OnOk}
+use Rattle.std.proofs.lemmas.List.{get_or_append_left, map-set}
+use Rattle.std.proofs.lemmas.Bool.{cases_lt, false≢true}
+use Rattle.std.proofs.Math.Seq.{get_or-append_right}
 use Rattle.std.specs.List.{list_any, slice_get}
 use Rattle.std.proofs.lemmas.Option.{get_or_from_slice_get, slice_get-get_or}
 use Rattle.indexset_log.specs.Table.{checked_put_events, put_events, target_events, node_events, replace_events}
@@ -49,6 +50,14 @@ numbered_on s es items e = rw e (numbered_is s es)
 pub length-numbered : {T : Type 0} (s : ℕ) (es : List (ChangeEventUnassigned T)) → length (numbered_from s es) ≡ length es
 length-numbered s [] = refl
 length-numbered s (e ∷ es) = simp (length-numbered (s + 1) es)
+
+pub numbered-append : {T : Type 0} (s : ℕ) (a b : List (ChangeEvent T)) → IsNumberedFrom s a → IsNumberedFrom (s + length a) b → IsNumberedFrom s (a ++ b)
+numbered-append s a b first second i lt d =
+    let size = length-append a b in
+    elim (cases_lt i (length a)) [
+      | inl inside ↦ rw (get_or_append_left a b d i inside) (first i inside d)
+      | inr past ↦ rw (get_or-append_right a b i d past) (second (i - length a) (omega arith) d ∙ omega arith)
+    ]
 
 -- at most three events
 module _ {T : Type 0} (cmp : T → T → Ordering) (size : ℕ) (v : T) where

@@ -1,6 +1,7 @@
 -- A node given whole.
-use Rattle.std.specs.Prelude.{ℕ, Bool, not, ◌||◌, List, length, insert, if◌then◌else◌, nat_lt, Option, Some, None, count_by}
+use Rattle.std.specs.Prelude.{ℕ, Bool, not, ◌||◌, List, [], ◌∷◌, length, insert, if◌then◌else◌, nat_lt, Option, Some, None, count_by}
 use Rattle.std.specs.List.{list_all}
+use Rattle.std.specs.Option.{option_or}
 use Rattle.std.specs.Ordering.{is_lt}
 use Rattle.std.specs.declared.cmp.Ordering.{Ordering}
 use Rattle.indexset_core.specs.declared.refusal.Refusal.{Refusal}
@@ -32,3 +33,16 @@ module _ {T : Type 0} (cmp : T → T → Ordering) where
       else if not (is_ascending cmp n) then Some Unsorted
       else if not (lies_apart ns n) then Some Overlaps
       else None
+
+  -- why n is refused as the node that follows m: the first cause that applies, where one does
+  abbrev pub follow_refusal : ℕ → List T → List T → Option Refusal
+  follow_refusal size m n = option_or (attach_refusal size [] n) (if lies_below m n then None else Some Overlaps)
+
+  -- why the nodes that follow m are refused: the cause of the first that has one
+  abbrev pub refusal_after : ℕ → List T → List (List T) → Option Refusal
+  refusal_after size m [] = None
+  refusal_after size m (n ∷ ns) = option_or (follow_refusal size m n) (refusal_after size n ns)
+
+  -- why the nodes are refused as those of a tree: none where they are lawful
+  abbrev pub nodes_refusal : ℕ → List (List T) → Option Refusal
+  nodes_refusal size ns = refusal_after size [] ns

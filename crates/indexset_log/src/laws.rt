@@ -24,10 +24,16 @@ pub fn earlier_events_replayed<T: Ord>()
     ensures { (ns : List (List T)) (events : List (ChangeEvent T)) → list_any is_joining events ≡ false → earlier_replay T.cmp ns events ≡ replay T.cmp ns events }
 {}
 
+/// Events numbered from s, and then others numbered from the number after theirs, are numbered from s.
+pub fn numbered_in_parts<T>()
+    ensures { (s : ℕ) (first rest : List (ChangeEvent T)) → IsNumberedFrom s first → IsNumberedFrom (s + length first) rest → IsNumberedFrom s (first ++ rest) }
+{}
+
 /// `numbered_from s` gives the event at place i the number s + i, and changes nothing else.
 pub fn numbered_by_place<T>()
     ensures numbers { (s : ℕ) (events : List (ChangeEventUnassigned T)) → IsNumberedFrom s (numbered_from s events) }
     ensures same { (s : ℕ) (events : List (ChangeEventUnassigned T)) → map unassigned (numbered_from s events) ≡ events }
+    ensures count { (s : ℕ) (events : List (ChangeEventUnassigned T)) → length (numbered_from s events) ≡ length events }
 {}
 
 /// The test of nodes holds just where no node is empty and the items of all ascend, and a step leads

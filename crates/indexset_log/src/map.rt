@@ -1,12 +1,12 @@
 //! The logged map, a logged set of pairs.
-ghost use Rattle.std.specs.Prelude.{◌≡◌, ◌+◌, ◌≤◌, [], length, map, None, IfOk, OnOk, IfErr, OnErr, IsOk};
+ghost use Rattle.std.specs.Prelude.{◌≡◌, ◌+◌, ◌<◌, ◌≤◌, [], length, map, None, IfOk, OnOk, IfErr, OnErr, IsOk};
 ghost use Rattle.std.specs.Map.Iter.{ShowsInOrder, ShowsInReverse, deref};
 ghost use Rattle.std.specs.Option.{option_copied, unwrap_or};
 ghost use Rattle.indexset_core.specs.Nodes.{joined, IsLawful};
 ghost use Rattle.indexset_core.specs.Order.{IsAscending};
 ghost use Rattle.indexset_core.specs.Pairs.{by_key, has_key, pair_of};
 ghost use Rattle.indexset_core.specs.declared.refusal.Refusal.TheVariants.{Memory};
-ghost use Rattle.indexset_log.specs.Attach.{attached, attach_refusal};
+ghost use Rattle.indexset_log.specs.Attach.{attached, attach_refusal, nodes_refusal};
 ghost use Rattle.indexset_log.specs.Located.{located};
 
 pub mod iter;
@@ -51,6 +51,26 @@ impl<K: Ord + Clone + Drop, V: Clone + Drop, Node: NodeLike<Pair<K, V>>> BTreeMa
     {
         BTreeMap {
             set: BTreeSet::starting_at(alloc, size, next),
+        }
+    }
+
+    /// The map of these nodes, whose first event has the number `next`, as the set makes it: the nodes
+    /// are taken as they are, nothing is allocated, and no number is used up. A failed call hands the
+    /// nodes back, and no call fails where the nodes are lawful for this size and the number of items is
+    /// a usize. (It is not in the Rust crate.)
+    pub fn from_nodes(nodes: Vec<Node>, size: usize, next: u64) -> Result<Self, Refused<Vec<Node>>>
+        requires two { 2 ≤ size }
+        requires within { size ≤ Node.most }
+        ensures tree { IfOk result (λ t. t ≡ record { nodes = map Node.list nodes.items; size = size; next = next }) }
+        ensures good { OnOk result (nodes_refusal (by_key K.cmp) size (map Node.list nodes.items) ≡ None) }
+        ensures refusal { IfErr result (λ e. e.cause ≡ unwrap_or (nodes_refusal (by_key K.cmp) size (map Node.list nodes.items)) Memory) }
+        ensures memory { IfErr result (λ e. nodes_refusal (by_key K.cmp) size (map Node.list nodes.items) ≡ None → usize.MAX < length (joined (map Node.list nodes.items))) }
+        ensures lawful { IsLawful (by_key K.cmp) size (map Node.list nodes.items) → length (joined (map Node.list nodes.items)) ≤ usize.MAX → IsOk result }
+        ensures given_back { IfErr result (λ e. e.value ≡ nodes) }
+    {
+        match BTreeSet::from_nodes(nodes, size, next) {
+            Ok(set) => Ok(BTreeMap { set }),
+            Err(refused) => Err(refused),
         }
     }
 

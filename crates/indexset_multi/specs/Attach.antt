@@ -1,4 +1,4 @@
--- A node of numbered pairs, given whole.
+-- Nodes of numbered pairs, given whole.
 use Rattle.std.specs.Prelude.{ℕ, ◌+◌, ◌==◌, max, Bool, List, [], ◌∷◌, if◌then◌else◌, Option, Some}
 use Rattle.std.below.core.specs.declared.int.u64.TheConstants.{MAX}
 use Rattle.std.specs.List.{list_any}
@@ -7,7 +7,8 @@ use Rattle.indexset_core.specs.declared.multipair.MultiPair.{MultiPair}
 use Rattle.indexset_core.specs.declared.refusal.Refusal.{Refusal}
 use Rattle.indexset_core.specs.declared.refusal.Refusal.TheVariants.{PairNumber}
 use Rattle.indexset_core.specs.MultiPairs.{by_number}
-use Rattle.indexset_log.specs.Attach.{attach_refusal}
+use Rattle.indexset_core.specs.Nodes.{joined}
+use Rattle.indexset_log.specs.Attach.{attach_refusal, nodes_refusal}
 use Rattle.indexset_multi.specs.Tree.{MultiTree}
 
 module _ {K V : Type 0} where
@@ -23,3 +24,7 @@ module _ {K V : Type 0} where
   -- why n is refused: the first cause that applies, where one does
   abbrev pub pairs_refusal : (K → K → Ordering) → MultiTree K V → List (MultiPair K V) → Option Refusal
   pairs_refusal cmp m n = if has_greatest n then Some PairNumber else attach_refusal (by_number cmp) m.size m.nodes n
+
+  -- why the nodes are refused as those of a multimap: the first cause that applies, where one does
+  abbrev pub pair_nodes_refusal : (K → K → Ordering) → ℕ → List (List (MultiPair K V)) → Option Refusal
+  pair_nodes_refusal cmp size ns = if has_greatest (joined ns) then Some PairNumber else nodes_refusal (by_number cmp) size ns

@@ -103,7 +103,7 @@ impl<T: Ord + Clone + Drop, Node: NodeLike<T>> BTreeSet<T, Node> {
 }
 
 // Whether each item is below the next.
-fn is_ascending<T: Ord>(items: &[T]) -> bool
+pub(super) fn is_ascending<T: Ord>(items: &[T]) -> bool
     ensures { result ≡ is_ascending T.cmp items.now }
 {
     items.is_sorted_by(|item, next| item.cmp(next).is_lt())

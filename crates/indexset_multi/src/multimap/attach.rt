@@ -47,7 +47,7 @@ impl<K: Ord + Clone + Drop, V: Eq + Clone + Drop, Node: NodeLike<MultiPair<K, V>
 }
 
 // The least number above those of all pairs, if there is one.
-fn free_number<K, V>(pairs: &[MultiPair<K, V>]) -> Option<u64>
+pub(super) fn free_number<K, V>(pairs: &[MultiPair<K, V>]) -> Option<u64>
     ensures { MatchOption result (has_greatest pairs.now ≡ true) (λ free. (has_greatest pairs.now ≡ false) × (free ≡ free_number pairs.now)) }
 {
     let mut free: u64 = 0;
