@@ -1,3 +1,4 @@
+pub mod Deliveries
 pub mod ReplicaAttach
 pub mod ReplicaEdits
 pub mod ReplicaNodes

@@ -23,17 +23,17 @@ use Rattle.indexset_replica.specs.Replica.{IsEdit, apply_refusal, disorder, in_n
 
 -- ---- values of a chain
 
-none_some : {X P : Type 0} {x : X} → (let n : Option X = None in n) ≡ Some x → P
+pub none_some : {X P : Type 0} {x : X} → (let n : Option X = None in n) ≡ Some x → P
 none_some e = absurd (cc)
 
 some_none : {X P : Type 0} {x : X} → Some x ≡ None → P
 some_none e = absurd (cc)
 
-then_some : {X Y : Type 0} (o : Option X) (f : X → Option Y) (y : Y) → option_and_then f o ≡ Some y → (x : X) × (o ≡ Some x) × (f x ≡ Some y)
+pub then_some : {X Y : Type 0} (o : Option X) (f : X → Option Y) (y : Y) → option_and_then f o ≡ Some y → (x : X) × (o ≡ Some x) × (f x ≡ Some y)
 then_some None f y e = none_some e
 then_some (Some x) f y e = (x, refl, e)
 
-map_some : {X Y : Type 0} (o : Option X) (f : X → Y) (y : Y) → option_map f o ≡ Some y → (x : X) × (o ≡ Some x) × (f x ≡ y)
+pub map_some : {X Y : Type 0} (o : Option X) (f : X → Y) (y : Y) → option_map f o ≡ Some y → (x : X) × (o ≡ Some x) × (f x ≡ y)
 map_some None f y e = none_some e
 map_some (Some x) f y e = (x, refl, some_inj e)
 
@@ -41,11 +41,11 @@ if_some : {X : Type 0} (b : Bool) (x y : X) → (if b then Some x else None) ≡
 if_some true x y e = (refl, some_inj e)
 if_some false x y e = none_some e
 
-some_is : {X : Type 0} (o : Option X) → is_some o ≡ true → (x : X) × (o ≡ Some x)
+pub some_is : {X : Type 0} (o : Option X) → is_some o ≡ true → (x : X) × (o ≡ Some x)
 some_is None e = absurd (false≢true e)
 some_is (Some x) e = (x, refl)
 
-else_none : {X : Type 0} (b : Bool) (x : X) (o : Option X) → (if b then Some x else o) ≡ None → (b ≡ false) × (o ≡ None)
+pub else_none : {X : Type 0} (b : Bool) (x : X) (o : Option X) → (if b then Some x else o) ≡ None → (b ≡ false) × (o ≡ None)
 else_none true x o e = some_none e
 else_none false x o e = (refl, e)
 

@@ -1,13 +1,14 @@
 //! A copy of a logged tree's nodes that follows the tree by its events.
 //!
 //! [`Replica`] holds a list of nodes and the number of the next event. `new` returns one without nodes,
-//! `attach` gives it the nodes that the tree has when the copy begins, and `apply` makes the change of
-//! one event. It takes the next event alone, and fails with a `Refusal` that says why where an event is
-//! not the next or does not fit the nodes. Once the events of the tree's calls are applied, the nodes
-//! are those of the tree, boundaries included; `nodes`, `contains` and `next` read them. [`laws`] states
-//! what the definitions mean, whatever the code: `refused_unless_a_step` says that, memory aside, an
-//! event is refused exactly where it is no step from the nodes. What each kind of event changes is in
-//! `edits`, and the searches among the nodes are in `places`.
+//! `attach` gives it the nodes that the tree has when the copy begins, and `from_nodes` makes one of all
+//! of them at once. `apply` makes the change of one event. It takes the next event alone, and fails with
+//! a `Refusal` that says why where an event is not the next or does not fit the nodes. Once the events of
+//! the tree's calls are applied, the nodes are those of the tree, boundaries included; `nodes`,
+//! `contains`, `next` and the calls of [`lookup`] and [`iter`] read them. `follow` is for events that are
+//! delivered with losses, repeats and in any order. [`laws`] states what the definitions mean, whatever
+//! the code: memory aside, an event is refused exactly where it is no step from the nodes. What each kind
+//! of event changes is in `edits`, and the searches among the nodes are in `places`.
 #![tactic(auto)]
 
 ghost use Rattle.std.specs.Prelude.{◌≡◌, ◌+◌, [], length, None, Some, OnOk, IfErr, OnErr, unwrap_or};
@@ -18,7 +19,11 @@ ghost use Rattle.indexset_log.specs.Attach.{attached, attach_refusal};
 ghost use Rattle.indexset_log.specs.Replay.{step};
 
 mod edits;
+mod follow;
+mod from_nodes;
+pub mod iter;
 pub mod laws;
+pub mod lookup;
 mod places;
 
 use indexset_core::refusal::{Refusal, Refused};

@@ -79,7 +79,7 @@ pub(super) fn place_of_node<T: Ord>(nodes: &[Vec<T>], node: &[T]) -> Result<usiz
 }
 
 /// The last item of the nodes before a place.
-fn item_before<T>(nodes: &[Vec<T>], place: usize) -> Option<&T>
+pub(super) fn item_before<T>(nodes: &[Vec<T>], place: usize) -> Option<&T>
     requires filled { All (λ n. 1 ≤ n) (node_lengths (vec_items nodes.now)) }
     requires place { place ≤ length nodes.now }
     ensures { option_copied result ≡ last_item (joined (take place (vec_items nodes.now))) }
@@ -88,7 +88,7 @@ fn item_before<T>(nodes: &[Vec<T>], place: usize) -> Option<&T>
 }
 
 /// The first item of the nodes from a place on.
-fn item_from<T>(nodes: &[Vec<T>], place: usize) -> Option<&T>
+pub(super) fn item_from<T>(nodes: &[Vec<T>], place: usize) -> Option<&T>
     requires { All (λ n. 1 ≤ n) (node_lengths (vec_items nodes.now)) }
     ensures { option_copied result ≡ first_item (joined (drop place (vec_items nodes.now))) }
 {

@@ -1,0 +1,67 @@
+-- What a replica makes of events that are delivered with losses, repeats and in any order.
+use Rattle.std.specs.Prelude.{◌≡◌, ℕ, ◌+◌, ◌-◌, ◌<◌, ◌≤◌, ◌==◌, ◌⊎◌, ⊤, zero, suc, true, is_some, if◌then◌else◌, Option, Some, None, unwrap_or, IsSomeAnd, slice_get, List, [], ◌∷◌, length, take}
+use Rattle.std.below.core.specs.declared.int.u64.TheConstants.{MAX}
+use Rattle.std.specs.Option.{option_map, option_and_then}
+use Rattle.std.specs.declared.cmp.Ordering.{Ordering}
+use Rattle.indexset_core.specs.declared.refusal.Refusal.{Refusal}
+use Rattle.indexset_core.specs.declared.refusal.Refusal.TheVariants.{Memory}
+use Rattle.indexset_log.specs.Replay.{event_number, replay, step, IsNumberedFrom}
+use Rattle.indexset_log.specs.declared.change.ChangeEvent.{ChangeEvent}
+use Rattle.indexset_replica.specs.Replica.{ReplicaState, apply_refusal}
+
+-- the items xs are among the ys, in their order
+abbrev pub IsSubsequence : {A : Type 0} → List A → List A → Type 0
+IsSubsequence [] ys = ⊤
+IsSubsequence (x ∷ xs) [] = ⊥
+IsSubsequence (x ∷ xs) (y ∷ ys) = ((x ≡ y) × IsSubsequence xs ys) ⊎ IsSubsequence (x ∷ xs) ys
+
+-- the n numbers from j on
+abbrev pub numbers_from : ℕ → ℕ → List ℕ
+numbers_from j zero = []
+numbers_from j (suc n) = j ∷ numbers_from (j + 1) n
+
+-- m is the greatest number from j on for which j, j + 1, .. m - 1 are among the places, in this order
+pub record IsReached (j : ℕ) (order : List ℕ) (m : ℕ) : Type 0 where
+  pub from : j ≤ m
+  pub came : IsSubsequence (numbers_from j (m - j)) order
+  pub greatest : (n : ℕ) → j ≤ n → IsSubsequence (numbers_from j (n - j)) order → n ≤ m
+
+-- the number awaited after the event at place p was delivered to one that awaits m
+abbrev pub awaited : ℕ → ℕ → ℕ
+awaited m p = if p == m then m + 1 else m
+
+module _ {T : Type 0} (cmp : T → T → Ordering) where
+  -- the replica after an event: unchanged where the event is out of turn, and none where it does not fit
+  unfoldable pub delivered : ReplicaState T → ChangeEvent T → Option (ReplicaState T)
+  delivered r e = if event_number e == r.next then (if r.next == MAX then None else option_map (λ ns. record { nodes = ns; next = r.next + 1 }) (step cmp r.nodes e)) else Some r
+
+  -- the replica after the events at these places, one after the other
+  abbrev pub followed : List (ChangeEvent T) → ReplicaState T → List ℕ → Option (ReplicaState T)
+  followed es r [] = Some r
+  followed es r (p ∷ order) = option_and_then (λ q. followed es q order) (option_and_then (delivered r) (slice_get es p))
+
+  -- why a replica fails at this event, where it may fail for memory too
+  abbrev pub failure : ReplicaState T → ChangeEvent T → Refusal
+  failure r e = unwrap_or (apply_refusal cmp r.nodes r.next e) Memory
+
+  -- the replica failed at the event that it awaited, and is as the places before it left it
+  pub record IsStopped (es : List (ChangeEvent T)) (old : ReplicaState T) (order : List ℕ) (cause : Refusal) (new : ReplicaState T) : Type 0 where
+    pub count : ℕ
+    pub before : followed es old (take count order) ≡ Some new
+    pub at : IsSomeAnd (slice_get order count) (λ p. IsSomeAnd (slice_get es p) (λ e. (event_number e ≡ new.next) × (cause ≡ failure new e)))
+
+  -- the events are numbered from s on, they lead from these nodes, and a number is left after them
+  pub record IsFeed (s : ℕ) (ns : List (List T)) (es : List (ChangeEvent T)) : Type 0 where
+    pub numbered : IsNumberedFrom s es
+    pub defined : is_some (replay cmp ns es) ≡ true
+    pub fits : s + length es ≤ MAX
+
+  -- the replica holds what the first j events lead to, and awaits the event after them
+  pub record IsAt (s : ℕ) (ns : List (List T)) (es : List (ChangeEvent T)) (j : ℕ) (r : ReplicaState T) : Type 0 where
+    pub within : j ≤ length es
+    pub nodes : replay cmp ns (take j es) ≡ Some r.nodes
+    pub next : r.next ≡ s + j
+
+  -- the replica holds what the longest beginning leads to whose events came in turn, from event j on
+  abbrev pub IsDelivered : ℕ → List (List T) → List (ChangeEvent T) → ℕ → List ℕ → ReplicaState T → Type 0
+  IsDelivered s ns es j order r = (m : ℕ) → IsReached j order m → IsAt s ns es m r

@@ -1,0 +1,41 @@
+//! Replicas made of a tree's nodes.
+ghost use Rattle.std.specs.Prelude.{◌≡◌, None, Some, OnOk, IfErr, IfOk, IsOk};
+ghost use Rattle.indexset_core.specs.Nodes.{IsNodeList, vec_items};
+ghost use Rattle.indexset_log.specs.Attach.{nodes_refusal};
+
+use super::Replica;
+use indexset_core::refusal::Refused;
+use indexset_log::set::from_nodes::test_nodes;
+
+impl<T: Ord + Clone + Drop> Replica<T> {
+    /// Returns a replica of these nodes, whose first event is to have the number `next`: it follows a tree
+    /// from where the tree had these nodes and this next number. It takes the nodes as they are and
+    /// allocates nothing, and compares neighbouring items once. It fails at the first node that is
+    /// `Empty`, `Unsorted`, or `Overlaps` the one before, by the first of these that holds, and for no
+    /// other reason. A call that fails returns the nodes.
+    pub fn from_nodes(nodes: Vec<Vec<T>>, next: u64) -> Result<Self, Refused<Vec<Vec<T>>>>
+        ensures replica { IfOk result (λ r. r ≡ record { nodes = vec_items nodes.items; next = next }) }
+        ensures good { OnOk result (nodes_refusal T.cmp usize.MAX (vec_items nodes.items) ≡ None) }
+        ensures refusal { IfErr result (λ e. nodes_refusal T.cmp usize.MAX (vec_items nodes.items) ≡ Some e.cause) }
+        ensures lawful { IsNodeList T.cmp (vec_items nodes.items) → IsOk result }
+        ensures given_back { IfErr result (λ e. e.value ≡ nodes) }
+    {
+        // No node holds more items than the greatest usize.
+        match test_nodes(nodes.as_slice(), usize::MAX) {
+            Ok(()) => Ok(Replica { nodes, next }),
+            Err(cause) => Err(Refused {
+                value: nodes,
+                cause,
+            }),
+        }
+    }
+
+    /// Returns the nodes, in constant time. A logged tree made of them with `from_nodes` and the number
+    /// that `next` returned goes on where the replica stopped.
+    pub fn into_nodes(self) -> Vec<Vec<T>>
+        ensures value { vec_items result.items ≡ self.nodes }
+        ensures lawful { IsNodeList T.cmp self.nodes }
+    {
+        self.nodes
+    }
+}

@@ -1,0 +1,79 @@
+//! The item equal to a value, the first and the last item, and whether an event is the next.
+ghost use Rattle.std.specs.Prelude.{◌≡◌, ◌==◌, if◌then◌else◌, length, nat_lt};
+ghost use Rattle.std.specs.Option.{option_copied};
+ghost use Rattle.indexset_core.specs.Nodes.{joined};
+ghost use Rattle.indexset_core.specs.Order.{equal_element};
+ghost use Rattle.indexset_replica.specs.Replica.{first_item, last_item};
+ghost use Rattle.indexset_log.specs.Replay.{event_number};
+
+use super::Replica;
+use super::places::{first_reaching, item_before, item_from};
+use indexset_core::search;
+use indexset_log::change::ChangeEvent;
+
+/// Whether an event is the one that a replica waits for.
+#[derive(Clone, Copy, Debug, PartialEq, Eq)]
+pub enum Turn {
+    /// The event is the next one.
+    Next,
+    /// An event of that number was applied, or stands before the first: the event may be dropped.
+    Had,
+    /// Events between the last applied one and this one are missing.
+    Missing,
+}
+
+impl<T: Ord + Clone + Drop> Replica<T> {
+    /// Returns the held item equal to the value, or `None` where there is none, by two binary searches:
+    /// one among the nodes and one in a node.
+    pub fn get(&self, value: &T) -> Option<&T>
+        ensures { option_copied result ≡ equal_element T.cmp (joined self.now.nodes) value.now }
+    {
+        let place = first_reaching(self.nodes.as_slice(), value);
+        if place >= self.nodes.len() {
+            return None;
+        }
+        let node = self.nodes[place].as_slice();
+        match search::find(node, value) {
+            Ok(index) => Some(&node[index]),
+            Err(_) => None,
+        }
+    }
+
+    /// Returns whether no item is held, in constant time.
+    pub fn is_empty(&self) -> bool
+        ensures { result ≡ (length (joined self.now.nodes) == 0) }
+    {
+        self.nodes.is_empty()
+    }
+
+    /// Returns the least held item, or `None` where there is none, in constant time.
+    pub fn first(&self) -> Option<&T>
+        ensures { option_copied result ≡ first_item (joined self.now.nodes) }
+    {
+        item_from(self.nodes.as_slice(), 0)
+    }
+
+    /// Returns the greatest held item, or `None` where there is none, in constant time.
+    pub fn last(&self) -> Option<&T>
+        ensures { option_copied result ≡ last_item (joined self.now.nodes) }
+    {
+        let nodes = self.nodes.as_slice();
+        item_before(nodes, nodes.len())
+    }
+
+    /// Returns whether the event is the next one, is one that was applied already (`Had`), or comes
+    /// after events that are missing (`Missing`), in constant time. `apply` fails with `Gap` for the two
+    /// last. It looks at the number alone, not at whether the event fits the nodes.
+    pub fn expects(&self, event: &ChangeEvent<T>) -> Turn
+        ensures { result ≡ (if event_number event.now == self.now.next then Turn.Next else if nat_lt (event_number event.now) self.now.next then Turn.Had else Turn.Missing) }
+    {
+        let number = event.id().inner();
+        if number == self.next {
+            Turn::Next
+        } else if number < self.next {
+            Turn::Had
+        } else {
+            Turn::Missing
+        }
+    }
+}
