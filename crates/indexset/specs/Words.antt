@@ -8,7 +8,8 @@ pub use Rattle.indexset_set.specs.SetAlgebra.{difference, intersection, symmetri
 pub use Rattle.indexset_set.specs.SetRanges.{not_below}
 pub use Rattle.indexset_map.specs.Contents.{with_entry, with_pairs, without_at, without_entry}
 pub use Rattle.indexset_map.specs.Walk.{HasWritten, walk_back, walk_front, written}
-pub use Rattle.indexset_core.specs.Nodes.{joined}
+pub use Rattle.indexset_core.specs.Nodes.{joined, vec_items, IsNodeList}
 pub use Rattle.indexset_log.specs.Tree.{Tree}
 pub use Rattle.indexset_log.specs.Table.{put_events, checked_put_events, removal_events}
 pub use Rattle.indexset_log.specs.Replay.{IsNumberedFrom, numbered_from, replay, step}
+pub use Rattle.indexset_replica.specs.Delivery.{IsAt, IsDelivered, IsFeed, IsReached, IsSubsequence, numbers_from}

@@ -22,14 +22,14 @@ pub mod concurrent {
     pub use indexset_multi::multimap;
 }
 
-/// The events of a tree's changes.
+/// The events of a tree's changes, and laws on lists of them.
 pub mod cdc {
-    pub use indexset_log::change;
+    pub use indexset_log::{change, laws};
 }
 
 /// A copy kept elsewhere that follows a tree by its events. (In the Rust crate a helper of the tests.)
 pub mod replica {
-    pub use indexset_replica::{Replica, laws};
+    pub use indexset_replica::{Replica, laws, lookup};
 }
 
 pub use indexset_map::{

@@ -8,27 +8,10 @@ use Rattle.std.specs.List.{fold}
 use Rattle.indexset_log.specs.declared.change.ChangeEvent.{ChangeEvent}
 use Rattle.indexset_log.specs.declared.change.ChangeEventUnassigned.{ChangeEventUnassigned}
 use Rattle.indexset_log.specs.Replay.{replay, step, numbered_from, assigned, IsNumberedFrom}
-use Rattle.indexset_log.proofs.CallerLemmas.{few_nodes, length-numbered, numbered_is}
+use Rattle.indexset_log.proofs.CallerLemmas.{few_nodes, length-numbered, numbered-append, numbered_is, replay-append}
 use Rattle.indexset_core.specs.Nodes.{joined}
 use Rattle.indexset_log.specs.Joining.{IsSpaced}
 use Rattle.indexset_bench.specs.Told.{events_in_turn}
-
-module _ {T : Type 0} (cmp : T → T → Ordering) where
-  pub replay-append : (ns : List (List T)) (a b : List (ChangeEvent T)) → replay cmp ns (a ++ b) ≡ option_and_then (λ r. replay cmp r b) (replay cmp ns a)
-  replay-append ns [] b = refl
-  replay-append ns (e ∷ a) b =
-      elim (step cmp ns e) as (λ q. option_and_then (λ r. replay cmp r (a ++ b)) q ≡ option_and_then (λ r. replay cmp r b) (option_and_then (λ r. replay cmp r a) q)) [
-        | None ↦ refl
-        | Some r ↦ replay-append r a b
-      ]
-
-numbered-append : {T : Type 0} (s : ℕ) (a b : List (ChangeEvent T)) → IsNumberedFrom s a → IsNumberedFrom (s + length a) b → IsNumberedFrom s (a ++ b)
-numbered-append s a b first second i lt d =
-    let size = length-append a b in
-    elim (cases_lt i (length a)) [
-      | inl inside ↦ rw (get_or_append_left a b d i inside) (first i inside d)
-      | inr past ↦ rw (get_or-append_right a b i d past) (second (i - length a) (omega arith) d ∙ omega arith)
-    ]
 
 -- the events so far lead from the nodes before to those now, in order of their numbers
 pub record LogSoFar {T : Type 0} (cmp : T → T → Ordering) (ns now : List (List T)) (from next count : ℕ) (events : List (ChangeEvent T)) : Type 0 where
