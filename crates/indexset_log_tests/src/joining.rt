@@ -1,8 +1,7 @@
 //! Removals that join small neighbours, over either node type, and copies that follow.
 ghost use Rattle.std.specs.Prelude.{◌≤◌, ◌≡◌};
 
-use crate::scarce::Scarce;
-use crate::told::{Made, Told, are_copies, are_events, are_nodes, event};
+use crate::told::{Told, are_copies, are_events, are_nodes};
 use indexset_core::array_node::ArrayNode;
 use indexset_core::multipair::MultiPair;
 use indexset_core::node::NodeLike;
@@ -15,9 +14,11 @@ use indexset_multi::multimap::BTreeMultiMap;
 use indexset_replica::Replica;
 use indexset_tests::nodes::node_of;
 use std::alloc::Global;
-use std::cell::Cell;
 use std::process::Abort;
 use std::test::Fail;
+
+mod older;
+mod refused;
 
 /// The numbers from 0 up to, but not with, the end, put ascending.
 fn ascending<Node: NodeLike<u64>>(
@@ -150,110 +151,6 @@ fn remove_cdc_wants_two_numbers_to_join(rt: HostRuntime) -> Result<(), Fail> {
     at_the_last_number::<ArrayNode<u64, 4>>(&rt, rt.alloc())
 }
 
-/// A tree with the nodes [0, 1] and [2], which have no room to spare.
-fn two_nodes<Node: NodeLike<u64>>(alloc: Global) -> Result<BTreeSet<u64, Node>, Refusal>
-    requires { 4 ≤ Node.most }
-{
-    let mut tree = BTreeSet::with_maximum_node_size(alloc, 4);
-    tree.attach_node(node_of(alloc, &[0, 1])?)?;
-    tree.attach_node(node_of(alloc, &[2])?)?;
-    Ok(tree)
-}
-
-/// The same where one allocation fails.
-fn two_nodes_at_last<Node: NodeLike<u64>>(alloc: Global) -> Result<BTreeSet<u64, Node>, Refusal>
-    requires { 4 ≤ Node.most }
-{
-    match two_nodes(alloc) {
-        Ok(tree) => Ok(tree),
-        Err(_) => two_nodes(alloc),
-    }
-}
-
-fn where_memory_fails<Node: NodeLike<u64>>(rt: &impl Abort, alloc: Global) -> Result<(), Fail>
-    requires { 4 ≤ Node.most }
-{
-    let mut tree: BTreeSet<u64, Node> = two_nodes_at_last(alloc)?;
-    let (item, events) = match tree.remove_cdc(&1) {
-        Ok(told) => told,
-        Err(refusal) => {
-            assert_eq!(rt; refusal, Refusal::Memory);
-            assert!(rt; are_nodes(tree.iter_nodes(), &[&[0, 1], &[2]]));
-            assert_eq!(rt; tree.events_issued(), 0);
-            tree.remove_cdc(&1)?
-        }
-    };
-    assert_eq!(rt; item, Some(1));
-    assert!(rt;
-        are_events(
-            events.as_slice(),
-            &[Told::Remove(0, 1, 1, 1), Told::Merge(1, 0, 2)]
-        )
-    );
-    assert!(rt; are_nodes(tree.iter_nodes(), &[&[0, 2]]));
-    Ok(())
-}
-
-// These two pass whichever allocation fails, as `rt try --test --fail-alloc 1..` shows.
-#[test]
-fn remove_cdc_joins_once_memory_is_there(rt: HostRuntime) -> Result<(), Fail> {
-    where_memory_fails::<Vec<u64>>(&rt, rt.alloc())?;
-    where_memory_fails::<ArrayNode<u64, 4>>(&rt, rt.alloc())
-}
-
-#[test]
-fn remove_joins_array_nodes_without_memory(rt: HostRuntime) -> Result<(), Fail> {
-    let mut tree: BTreeSet<u64, ArrayNode<u64, 4>> = two_nodes_at_last(rt.alloc())?;
-    assert_eq!(rt; tree.remove(&1), Ok(Some(1)));
-    assert!(rt; are_nodes(tree.iter_nodes(), &[&[0, 2]]));
-    Ok(())
-}
-
-type ScarceSet<'a> = BTreeSet<Scarce<'a>, Vec<Scarce<'a>>>;
-
-/// A tree with the nodes [0, 1] and [2], whose items are cloned as often as the cell says.
-fn scarce_nodes(alloc: Global, clones: &Cell<u64>) -> Result<ScarceSet<'_>, Refusal> {
-    let mut tree = BTreeSet::with_maximum_node_size(alloc, 4);
-    for key in 0..5 {
-        tree.insert(Scarce { key, clones })?;
-    }
-    for key in [4, 3] {
-        tree.remove(&Scarce { key, clones })?;
-    }
-    Ok(tree)
-}
-
-/// Removes 1 with so many clones; whether the events are those of a joining.
-fn removes_with<'a>(
-    tree: &mut ScarceSet<'a>,
-    clones: &'a Cell<u64>,
-    count: u64,
-) -> Result<bool, Refusal> {
-    clones.set(count);
-    let (_, told) = tree.remove_cdc(&Scarce { key: 1, clones })?;
-    Ok(are_events(
-        told.as_slice(),
-        &[Told::Remove(8, 1, 1, 1), Told::Merge(9, 0, 2)],
-    ))
-}
-
-#[test]
-fn remove_cdc_joins_once_clones_are_there(rt: HostRuntime) -> Result<(), Fail> {
-    let clones = Cell::new(0);
-    let mut tree = scarce_nodes(rt.alloc(), &clones)?;
-    for count in 0..4 {
-        assert_eq!(rt;
-            removes_with(&mut tree, &clones, count),
-            Err(Refusal::Memory)
-        );
-        assert!(rt; are_nodes(tree.iter_nodes(), &[&[0, 1], &[2]]));
-        assert_eq!(rt; tree.events_issued(), 8);
-    }
-    assert_eq!(rt; removes_with(&mut tree, &clones, 4), Ok(true));
-    assert!(rt; are_nodes(tree.iter_nodes(), &[&[0, 2]]));
-    Ok(())
-}
-
 /// Applies the events; whether the copy then has the nodes of the tree, and they are few.
 fn follows<Node: NodeLike<u64>>(
     replica: &mut Replica<u64>,
@@ -300,119 +197,6 @@ fn put_and_removed<Node: NodeLike<u64>>(rt: &impl Abort, alloc: Global) -> Resul
 fn a_thousand_numbers_in_few_nodes(rt: HostRuntime) -> Result<(), Fail> {
     put_and_removed::<Vec<u64>>(&rt, rt.alloc())?;
     put_and_removed::<ArrayNode<u64, 4>>(&rt, rt.alloc())
-}
-
-/// Applies the events to a copy, in turn.
-fn apply<T: Made + Ord + Clone + Drop>(
-    replica: &mut Replica<T>,
-    events: &[Told<T::Plain>],
-) -> Result<(), Refusal>
-    requires { (x y : T) → T.is_clone x y → y ≡ x }
-{
-    for told in events {
-        replica.apply(&event(*told))?;
-    }
-    Ok(())
-}
-
-/// The events that made nodes of four from the numbers 0 to 9, before small neighbours were joined.
-const TEN_PUT: [Told<u64>; 13] = [
-    Told::Create(0, 0),
-    Told::Insert(1, 0, 1, 1),
-    Told::Insert(2, 1, 2, 2),
-    Told::Insert(3, 2, 3, 3),
-    Told::Split(4, 3, 2),
-    Told::Insert(5, 3, 4, 2),
-    Told::Insert(6, 4, 5, 3),
-    Told::Split(7, 5, 2),
-    Told::Insert(8, 5, 6, 2),
-    Told::Insert(9, 6, 7, 3),
-    Told::Split(10, 7, 2),
-    Told::Insert(11, 7, 8, 2),
-    Told::Insert(12, 8, 9, 3),
-];
-
-#[test]
-fn apply_goes_on_from_older_events(rt: HostRuntime) -> Result<(), Fail> {
-    let mut replica: Replica<u64> = Replica::new(rt.alloc(), 0);
-    apply(&mut replica, &TEN_PUT)?;
-    assert!(rt; are_copies(replica.nodes(), &[&[0, 1], &[2, 3], &[4, 5], &[6, 7, 8, 9]]));
-    let newer = [
-        Told::Remove(13, 3, 3, 1),
-        Told::Remove(14, 1, 1, 1),
-        Told::Merge(15, 0, 2),
-    ];
-    apply(&mut replica, &newer)?;
-    assert!(rt; are_copies(replica.nodes(), &[&[0, 2], &[4, 5], &[6, 7, 8, 9]]));
-    assert_eq!(rt; replica.next(), 16);
-    Ok(())
-}
-
-#[test]
-fn apply_of_older_events_to_numbers(rt: HostRuntime) -> Result<(), Fail> {
-    let mut replica: Replica<u64> = Replica::new(rt.alloc(), 18446744073709551614);
-    apply(&mut replica, &[Told::Create(18446744073709551614, 1)])?;
-    assert!(rt; are_copies(replica.nodes(), &[&[1]]));
-    let mut replica: Replica<u64> = Replica::new(rt.alloc(), 0);
-    apply(
-        &mut replica,
-        &[Told::Create(0, 7), Told::Leave(1, 7), Told::Create(2, 8)],
-    )?;
-    assert!(rt; are_copies(replica.nodes(), &[&[8]]));
-    Ok(())
-}
-
-#[test]
-fn apply_of_older_events_to_pairs(rt: HostRuntime) -> Result<(), Fail> {
-    let mut replica: Replica<Pair<u64, char>> = Replica::new(rt.alloc(), 0);
-    let of_four = [
-        Told::Create(0, (0, 'a')),
-        Told::Insert(1, (0, 'a'), (1, 'b'), 1),
-        Told::Insert(2, (1, 'b'), (2, 'c'), 2),
-        Told::Insert(3, (2, 'c'), (3, 'd'), 3),
-        Told::Split(4, (3, 'd'), 2),
-        Told::Remove(5, (1, 'b'), (1, 'b'), 1),
-        Told::Insert(6, (0, 'a'), (1, 'x'), 1),
-    ];
-    apply(&mut replica, &of_four)?;
-    assert!(rt;
-        are_copies(
-            replica.nodes(),
-            &[&[(0, 'a'), (1, 'x')], &[(2, 'c'), (3, 'd')]]
-        )
-    );
-    let mut replica: Replica<Pair<u64, char>> = Replica::new(rt.alloc(), 0);
-    let of_two = [
-        Told::Create(0, (5, 'a')),
-        Told::Insert(1, (5, 'a'), (6, 'b'), 1),
-        Told::Split(2, (6, 'b'), 1),
-        Told::Leave(3, (5, 'a')),
-        Told::Create(4, (5, 'x')),
-    ];
-    apply(&mut replica, &of_two)?;
-    assert!(rt; are_copies(replica.nodes(), &[&[(5, 'x')], &[(6, 'b')]]));
-    Ok(())
-}
-
-#[test]
-fn apply_joins_neighbours_alone(rt: HostRuntime) -> Result<(), Fail> {
-    let mut replica: Replica<u64> = Replica::new(rt.alloc(), 3);
-    for node in [[0, 1].as_slice(), &[2], &[5]] {
-        replica.attach(node.to_vec(rt.alloc())?)?;
-    }
-    let refused = [
-        (Told::Merge(3, 1, 4), Refusal::NoSuchNode),
-        (Told::Merge(3, 1, 5), Refusal::NotNeighbours),
-        (Told::Merge(3, 2, 1), Refusal::NotNeighbours),
-    ];
-    for (told, refusal) in refused {
-        assert_eq!(rt; replica.apply(&event(told)), Err(refusal));
-        assert!(rt; are_copies(replica.nodes(), &[&[0, 1], &[2], &[5]]));
-        assert_eq!(rt; replica.next(), 3);
-    }
-    assert_eq!(rt; replica.apply(&event(Told::Merge(3, 1, 2))), Ok(()));
-    assert!(rt; are_copies(replica.nodes(), &[&[0, 1, 2], &[5]]));
-    Ok(())
 }
 
 macro_rules! joined_pairs {

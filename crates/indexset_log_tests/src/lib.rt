@@ -4,7 +4,15 @@
 #![tactic(auto)]
 
 #[cfg(test)]
+mod events;
+#[cfg(test)]
+mod follow;
+#[cfg(test)]
+mod from_nodes;
+#[cfg(test)]
 mod joining;
+#[cfg(test)]
+mod last_numbers;
 #[cfg(test)]
 mod logged;
 #[cfg(test)]
@@ -17,6 +25,8 @@ mod logged_run;
 mod logged_walks;
 #[cfg(test)]
 mod multimap;
+#[cfg(test)]
+mod multimap_nodes;
 #[cfg(test)]
 mod program;
 #[cfg(test)]

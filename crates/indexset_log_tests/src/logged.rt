@@ -15,6 +15,8 @@ use std::ops::Bound;
 use std::process::Abort;
 use std::test::Fail;
 
+mod removed;
+
 type Set = BTreeSet<u64, Vec<u64>>;
 
 /// An event in a row: number, name, the node's last item, value and index, 0 where it has none.
@@ -49,7 +51,7 @@ fn row_of(event: &ChangeEvent<u64>) -> (u64, &'static str, u64, u64, usize) {
 }
 
 /// The rows of events, in order.
-fn rows_of(
+pub fn rows_of(
     alloc: Global,
     events: &[ChangeEvent<u64>],
 ) -> Result<Vec<(u64, &'static str, u64, u64, usize)>, Fail> {
@@ -364,30 +366,6 @@ fn numbers_one_after_another(rt: HostRuntime) {
         row_of(&change.assign_id(Id::from(9))),
         (9, "create", 3, 0, 0)
     );
-}
-
-#[test]
-fn all_items_removed_in_turn(rt: HostRuntime) -> Result<(), Fail> {
-    let mut tree: Set = BTreeSet::from_iter(rt.alloc(), 0..2048)?;
-    assert_eq!(rt; tree.len(), 2048);
-    for value in 0..2048 {
-        assert!(rt; tree.remove(&value)?.is_some());
-        assert!(rt; !tree.contains(&value));
-    }
-    assert_eq!(rt; tree.len(), 0);
-    Ok(())
-}
-
-#[test]
-fn ranges_taken_out_one_after_another(rt: HostRuntime) -> Result<(), Fail> {
-    let mut tree: Set = BTreeSet::from_iter(rt.alloc(), 0..2048)?;
-    tree.remove_range((Bound::Included(&5), Bound::Excluded(&15)));
-    assert_eq!(rt; tree.len(), 2038);
-    tree.remove_range((Bound::Included(&1019), Bound::Excluded(&1029)));
-    assert_eq!(rt; tree.len(), 2028);
-    tree.remove_range((Bound::Unbounded, Bound::Excluded(&512)));
-    assert_eq!(rt; tree.len(), 1526);
-    Ok(())
 }
 
 #[test]

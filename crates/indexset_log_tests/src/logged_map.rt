@@ -12,12 +12,12 @@ use std::ops::Bound::{Excluded, Included, Unbounded};
 use std::slice;
 use std::test::Fail;
 
-type Letters = Pair<u64, char>;
+pub type Letters = Pair<u64, char>;
 
 type Map = BTreeMap<u64, char, Vec<Letters>>;
 
 /// An event in a row: number, name, the node's last pair, the pair and the index, 0 where it has none.
-type Row = (u64, &'static str, (u64, char), Option<(u64, char)>, usize);
+pub type Row = (u64, &'static str, (u64, char), Option<(u64, char)>, usize);
 
 fn entry_of(pair: &Letters) -> (u64, char) {
     (pair.key, pair.value)
@@ -72,7 +72,7 @@ fn row_of(event: &ChangeEvent<Letters>) -> Row {
 }
 
 // Whether events are these rows.
-fn are_rows(events: &[ChangeEvent<Letters>], rows: &[Row]) -> bool {
+pub fn are_rows(events: &[ChangeEvent<Letters>], rows: &[Row]) -> bool {
     events.len() == rows.len()
         && events
             .iter()
@@ -81,7 +81,7 @@ fn are_rows(events: &[ChangeEvent<Letters>], rows: &[Row]) -> bool {
 }
 
 // Whether a node is of these pairs.
-fn are_pairs(node: slice::Iter<'_, Letters>, pairs: &[(u64, char)]) -> bool {
+pub fn are_pairs(node: slice::Iter<'_, Letters>, pairs: &[(u64, char)]) -> bool {
     node.len() == pairs.len()
         && node
             .zip(pairs)

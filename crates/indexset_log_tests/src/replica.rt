@@ -45,14 +45,14 @@ fn split(id: u64, max_value: Tagged, split_index: usize) -> ChangeEvent<Tagged> 
 }
 
 // Whether a node is of these keys and tags.
-fn is_node(node: &Vec<Tagged>, items: &[(u64, char)]) -> bool {
+pub fn is_node(node: &Vec<Tagged>, items: &[(u64, char)]) -> bool {
     let mut pairs = node.iter().zip(items);
     node.len() == items.len()
         && pairs.all(|(item, (key, tag))| item.key == *key && item.tag == *tag)
 }
 
 // The events of four first puts into a node of four, and of a put over the second item.
-fn events(alloc: Global) -> Result<Vec<ChangeEvent<Tagged>>, AllocError> {
+pub fn events(alloc: Global) -> Result<Vec<ChangeEvent<Tagged>>, AllocError> {
     let mut events = Vec::with_capacity(alloc, 7)?;
     events.push_reserved(create(0, item(0, 'a')));
     events.push_reserved(insert(1, item(0, 'a'), item(1, 'b'), 1));

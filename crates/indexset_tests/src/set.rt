@@ -176,6 +176,7 @@ fn once_again_changes_nothing(rt: HostRuntime) -> Result<(), Fail> {
 #[test]
 fn each_key_stands_at_itself(rt: HostRuntime) -> Result<(), Fail> {
     let set = descending(rt.alloc(), 1024, 1025)?;
+    assert!(rt; set.node_count() > 1);
     for i in 0..1025usize {
         let key = i as u64;
         assert_eq!(rt; set.get_index(i).copied(), Some(key));
@@ -189,7 +190,7 @@ fn each_key_stands_at_itself(rt: HostRuntime) -> Result<(), Fail> {
 
 #[test]
 fn removed_and_taken_to_the_last(rt: HostRuntime) -> Result<(), Fail> {
-    let mut removed = descending(rt.alloc(), 1024, 1025)?;
+    let mut removed = ascending(rt.alloc(), 1024, 1025)?;
     let mut taken = removed.clone()?;
     for key in 0..1025u64 {
         assert!(rt; removed.remove(&key));
@@ -204,7 +205,7 @@ fn removed_and_taken_to_the_last(rt: HostRuntime) -> Result<(), Fail> {
 
 #[test]
 fn popped_at_either_end(rt: HostRuntime) -> Result<(), Fail> {
-    let mut up = descending(rt.alloc(), 1024, 1025)?;
+    let mut up = ascending(rt.alloc(), 1024, 1025)?;
     let mut down = up.clone()?;
     for key in 0..1025u64 {
         assert_eq!(rt; up.pop_first(), Some(key));

@@ -199,8 +199,18 @@ fn one_spine_behind_another(rt: HostRuntime) -> Result<(), Fail> {
         )
     );
     assert!(rt; shows(&other, &[&[]]));
-    assert_eq!(rt; spine.first_spot(), spine.spot(0));
-    assert_eq!(rt; spine.last_spot(), spine.spot(9));
+    let first = Spot {
+        node: 0,
+        offset: 0,
+        found: true,
+    };
+    assert_eq!(rt; spine.first_spot(), Some(first));
+    let last = Spot {
+        node: 8,
+        offset: 1,
+        found: true,
+    };
+    assert_eq!(rt; spine.last_spot(), Some(last));
     assert!(rt; other.first_spot().is_none() && other.last_spot().is_none());
     Ok(())
 }

@@ -80,8 +80,13 @@ fn the_last_item_is_asked_for_first(rt: HostRuntime) -> Result<(), Fail> {
         found: false,
     };
     assert_eq!(rt; questions_from_the_end(&spine, 11), (end, 1));
+    let six = Spot {
+        node: 2,
+        offset: 0,
+        found: true,
+    };
     let (spot, asked) = questions_from_the_end(&spine, 6);
-    assert_eq!(rt; Some(spot), spine.spot(2));
+    assert_eq!(rt; spot, six);
     assert!(rt; asked <= 7);
     Ok(())
 }

@@ -1,0 +1,146 @@
+//! Worked examples of whole nodes that are given to a multimap.
+
+use indexset_core::multipair::MultiPair;
+use indexset_core::refusal::{Refusal, Refused};
+use indexset_multi::multimap::BTreeMultiMap;
+use std::alloc::{AllocError, Global};
+use std::test::Fail;
+
+type Letters = MultiPair<u64, char>;
+
+type Map = BTreeMultiMap<u64, char, Vec<Letters>>;
+
+// A node of pairs of these keys and numbers.
+fn node_of(alloc: Global, places: &[(u64, u64)]) -> Result<Vec<Letters>, AllocError> {
+    let mut node = Vec::new(alloc);
+    for (key, number) in places {
+        node.push(MultiPair::new(*key, 'a', *number))?;
+    }
+    Ok(node)
+}
+
+// Whether pairs have these keys and numbers.
+fn are_places(node: &[Letters], places: &[(u64, u64)]) -> bool {
+    node.iter()
+        .map(|pair| (pair.key, pair.discriminator))
+        .eq(places.iter().copied())
+}
+
+fn two_nodes(
+    alloc: Global,
+    first: &[(u64, u64)],
+    second: &[(u64, u64)],
+) -> Result<Vec<Vec<Letters>>, AllocError> {
+    let mut nodes = Vec::with_capacity(alloc, 2)?;
+    nodes.push_reserved(node_of(alloc, first)?);
+    nodes.push_reserved(node_of(alloc, second)?);
+    Ok(nodes)
+}
+
+// Why two nodes are refused, where they are handed back as they were.
+fn refusal_of(
+    alloc: Global,
+    first: &[(u64, u64)],
+    second: &[(u64, u64)],
+) -> Result<Option<Refusal>, AllocError> {
+    match Map::from_nodes(two_nodes(alloc, first, second)?, 3, 0) {
+        Ok(_) => Ok(None),
+        Err(Refused { value, cause }) => match value.as_slice() {
+            [left, right] if are_places(left, first) && are_places(right, second) => {
+                Ok(Some(cause))
+            }
+            _ => Ok(None),
+        },
+    }
+}
+
+// The nodes of a multimap, copied.
+fn copied(alloc: Global, map: &Map) -> Result<Vec<Vec<Letters>>, AllocError> {
+    let mut nodes = Vec::new(alloc);
+    for node in map.iter_nodes() {
+        nodes.push(node.clone()?)?;
+    }
+    Ok(nodes)
+}
+
+#[test]
+fn from_nodes_goes_on_where_another_stopped(rt: HostRuntime) -> Result<(), Fail> {
+    let alloc = rt.alloc();
+    let mut map = Map::with_maximum_node_size(alloc, 4);
+    for (key, value) in [(1, 'a'), (1, 'b'), (2, 'c'), (1, 'd'), (2, 'e')] {
+        map.insert(key, value)?;
+    }
+    let mut next = Map::from_nodes(copied(alloc, &map)?, 4, map.events_issued())?;
+    assert_eq!(rt; next.len(), 5);
+    assert_eq!(rt; next.node_count(), map.node_count());
+    assert_eq!(rt; next.events_issued(), map.events_issued());
+    assert_eq!(rt; next.insert(1, 'f')?, None);
+    assert!(rt;
+        next.raw_get(&1)
+            .map(|(_, number, _)| *number)
+            .eq([0, 1, 3, 5])
+    );
+    assert!(rt;
+        next.get(&1)
+            .map(|(_, value)| *value)
+            .eq(['a', 'b', 'd', 'f'])
+    );
+    Ok(())
+}
+
+#[test]
+fn from_nodes_numbers_above_all_and_from_zero(rt: HostRuntime) -> Result<(), Fail> {
+    let alloc = rt.alloc();
+    let nodes = two_nodes(alloc, &[(1, 9), (2, 3)], &[(3, 5)])?;
+    let mut map = Map::from_nodes(nodes, 3, 0)?;
+    assert_eq!(rt; map.insert(3, 'b')?, None);
+    assert!(rt; map.raw_get(&3).map(|(_, number, _)| *number).eq([5, 10]));
+    let mut empty = Map::from_nodes(Vec::new(alloc), 3, 0)?;
+    assert_eq!(rt; empty.insert(3, 'b')?, None);
+    assert!(rt; empty.raw_get(&3).map(|(_, number, _)| *number).eq([0]));
+    Ok(())
+}
+
+#[test]
+fn from_nodes_refuses_and_hands_the_nodes_back(rt: HostRuntime) -> Result<(), Fail> {
+    let alloc = rt.alloc();
+    let greatest = refusal_of(alloc, &[(2, 0), (1, 1), (1, 0), (0, 2)], &[(3, u64::MAX)])?;
+    assert_eq!(rt; greatest, Some(Refusal::PairNumber));
+    let large = refusal_of(alloc, &[(2, 0), (1, 1), (1, 0), (0, 2)], &[(3, 4)])?;
+    assert_eq!(rt; large, Some(Refusal::TooLarge));
+    let equal = refusal_of(alloc, &[(1, 0), (1, 1)], &[(1, 1), (2, 2)])?;
+    assert_eq!(rt; equal, Some(Refusal::Overlaps));
+    Ok(())
+}
+
+// Why a node is refused by a multimap of nodes of three, where it is handed back as it was and the
+// multimap stays as it was.
+fn attach_refusal(alloc: Global, places: &[(u64, u64)]) -> Result<Option<Refusal>, Fail> {
+    let mut map = Map::with_maximum_node_size(alloc, 3);
+    map.insert(5, 'a')?;
+    map.insert(6, 'b')?;
+    match map.attach_multi_node(node_of(alloc, places)?) {
+        Ok(()) => Ok(None),
+        Err(Refused { value, cause }) => {
+            let stays = map
+                .iter()
+                .map(|(key, value)| (*key, *value))
+                .eq([(5, 'a'), (6, 'b')]);
+            let back = are_places(value.as_slice(), places);
+            map.insert(6, 'c')?;
+            let numbers = map.raw_get(&6).map(|(_, number, _)| *number).eq([1, 2]);
+            Ok((stays && back && numbers).then_some(cause))
+        }
+    }
+}
+
+#[test]
+fn attaching_tells_the_first_reason(rt: HostRuntime) -> Result<(), Fail> {
+    let large = attach_refusal(rt.alloc(), &[(9, 3), (8, 4), (7, 5), (8, 4)])?;
+    assert_eq!(rt; large, Some(Refusal::TooLarge));
+    let greatest = attach_refusal(rt.alloc(), &[(9, 3), (8, u64::MAX)])?;
+    assert_eq!(rt; greatest, Some(Refusal::PairNumber));
+    let unsorted = attach_refusal(rt.alloc(), &[(9, 3), (8, 4)])?;
+    assert_eq!(rt; unsorted, Some(Refusal::Unsorted));
+    Ok(())
+}
