@@ -8,7 +8,7 @@ use Rattle.std.proofs.Math.Seq.{get_or-append_seam, set-append_seam}
 use Rattle.indexset_core.specs.Nodes.{joined, node_at}
 use Rattle.indexset_core.specs.Order.{IsAscending}
 use Rattle.indexset_core.proofs.CallerLemmas.{joined-append}
-use Rattle.indexset_log.specs.Joining.{are_small, join_place, join_after, with_joined, without_item}
+use Rattle.indexset_log.specs.Joining.{are_small, join_place, join_after, with_joined, item_removed}
 use Rattle.indexset_log.specs.Replay.{step_plain}
 use Rattle.indexset_log.specs.Table.{joining_event}
 use Rattle.indexset_log.proofs.Ups.{Each, each-append, each-left, each-right, Up, up-left, up-right, ascends, Ruled}
@@ -86,7 +86,7 @@ module _ {T : Type 0} where
   -- the nodes where one of two or more items is gone and two are joined
   pub record JoinedAfter (size : ℕ) (ns : List (List T)) (k i j : ℕ) : Type 0 where
     pub more : length (node_at ns k) ≡ 1 → ⊥
-    pub without : without_item ns k i ≡ set ns k (remove (node_at ns k) i)
+    pub without : item_removed ns k i ≡ set ns k (remove (node_at ns k) i)
     pub pair : JoinedPair (size / 2) (set ns k (remove (node_at ns k) i)) k j
 
   pub after_from : (size : ℕ) (ns : List (List T)) (k i j : ℕ) → join_after size ns k i ≡ Some j → JoinedAfter size ns k i j

@@ -19,7 +19,7 @@ use Rattle.indexset_log.specs.declared.change.ChangeEventUnassigned.{ChangeEvent
 use Rattle.indexset_log.specs.Tree.{IsTree}
 use Rattle.indexset_log.specs.Edits.{with_taken}
 use Rattle.indexset_log.specs.Located.{IsFoundIn}
-use Rattle.indexset_log.specs.Joining.{join_after, with_joined, without_item}
+use Rattle.indexset_log.specs.Joining.{join_after, with_joined, item_removed}
 use Rattle.indexset_log.specs.Nodes.{is_filled, last_of}
 use Rattle.indexset_log.specs.Replay.{replay, replay_plain, step_plain, numbered_from, assigned}
 use Rattle.indexset_log.specs.Table.{count_with, joining_event, target, taking_count, taking_event, taking_events, removal_events}
@@ -37,7 +37,7 @@ at_place P f (y ∷ ys) (suc k) x e = at_place (λ q j. P (y ∷ q) (suc j)) (λ
 -- one event, and a second where nodes are joined
 pub taking_length : {T : Type 0} (size : ℕ) (ns : List (List T)) (k i : ℕ) (x : T) → length (taking_events size ns k i x) ≡ taking_count size ns k i
 taking_length size ns k i x =
-    elim (join_after size ns k i) as (λ j. length (taking_event (node_at ns k) i x ∷ option_map_or (λ p. joining_event (without_item ns k i) x p ∷ []) j []) ≡ count_with j) [
+    elim (join_after size ns k i) as (λ j. length (taking_event (node_at ns k) i x ∷ option_map_or (λ p. joining_event (item_removed ns k i) x p ∷ []) j []) ≡ count_with j) [
       | None ↦ refl
       | Some j ↦ refl
     ]
@@ -137,10 +137,10 @@ module _ {T : Type 0} {cmp : T → T → Ordering} {size : ℕ} {ns : List (List
 
     -- the events lead to the nodes after, which are lawful, by where two of them are joined
     pub record Out (join : Option ℕ) : Type 0 where
-      pub replayed : replay_plain cmp ns (taking_event (node_at ns k) i x ∷ option_map_or (λ j. joining_event (without_item ns k i) x j ∷ []) join []) ≡ Some (option_map_or (with_joined (without_item ns k i)) join (without_item ns k i))
-      pub ruled : Ruled cmp (option_map_or (with_joined (without_item ns k i)) join (without_item ns k i))
-      pub small : Each (λ n. length n ≤ size) (option_map_or (with_joined (without_item ns k i)) join (without_item ns k i))
-      pub same : joined (option_map_or (with_joined (without_item ns k i)) join (without_item ns k i)) ≡ joined (without_item ns k i)
+      pub replayed : replay_plain cmp ns (taking_event (node_at ns k) i x ∷ option_map_or (λ j. joining_event (item_removed ns k i) x j ∷ []) join []) ≡ Some (option_map_or (with_joined (item_removed ns k i)) join (item_removed ns k i))
+      pub ruled : Ruled cmp (option_map_or (with_joined (item_removed ns k i)) join (item_removed ns k i))
+      pub small : Each (λ n. length n ≤ size) (option_map_or (with_joined (item_removed ns k i)) join (item_removed ns k i))
+      pub same : joined (option_map_or (with_joined (item_removed ns k i)) join (item_removed ns k i)) ≡ joined (item_removed ns k i)
 
     pub out : Out (join_after size ns k i)
     out =
@@ -149,27 +149,27 @@ module _ {T : Type 0} {cmp : T → T → Ordering} {size : ℕ} {ns : List (List
           | None ↦ λ e. record { replayed = rw d.stepped refl; ruled = d.ruled; small = d.small; same = refl }
           | Some j ↦ λ e.
               let after = after_from size ns k i j e in
-              let pair : JoinedPair (size / 2) (without_item ns k i) k j = subst (λ q. JoinedPair (size / 2) q k j) (sym after.without) after.pair in
-              let one = joins cmp o size x (without_item ns k i) j pair.next_in (omega (arith, pair.few)) d.ruled d.small in
+              let pair : JoinedPair (size / 2) (item_removed ns k i) k j = subst (λ q. JoinedPair (size / 2) q k j) (sym after.without) after.pair in
+              let one = joins cmp o size x (item_removed ns k i) j pair.next_in (omega (arith, pair.few)) d.ruled d.small in
               record { replayed = rw d.stepped (rw one.stepped refl); ruled = one.ruled; small = one.small; same = one.same }
         ] refl
 
-    tree_left : (after : List (List T)) → Ruled cmp after → Each (λ n. length n ≤ size) after → joined after ≡ joined (without_item ns k i) → {most len : ℕ} → IsTree cmp most ns size len → IsTree cmp most after size (len - 1)
+    tree_left : (after : List (List T)) → Ruled cmp after → Each (λ n. length n ≤ size) after → joined after ≡ joined (item_removed ns k i) → {most len : ℕ} → IsTree cmp most ns size len → IsTree cmp most after size (len - 1)
     tree_left after ruled small same t =
         let d = did in
         let before = ap (λ q. length q) d.was ∙ length-append d.front (x ∷ d.back) in
         let left = ap (λ q. length q) (same ∙ d.left) ∙ length-append d.front d.back in
         record { lawful = lawful_from cmp size after ruled small; two = t.two; within = t.within; counted = omega (arith, t.counted, before, left) }
 
-    pub lone_tree : {most len : ℕ} → IsTree cmp most ns size len → IsTree cmp most (without_item ns k i) size (len - 1)
-    lone_tree t = let d = did in tree_left (without_item ns k i) d.ruled d.small refl t
+    pub lone_tree : {most len : ℕ} → IsTree cmp most ns size len → IsTree cmp most (item_removed ns k i) size (len - 1)
+    lone_tree t = let d = did in tree_left (item_removed ns k i) d.ruled d.small refl t
 
     pub taken_tree : {most len : ℕ} → IsTree cmp most ns size len → IsTree cmp most (with_taken size ns k i) size (len - 1)
     taken_tree t = let r = out in tree_left (with_taken size ns k i) r.ruled r.small r.same t
 
     -- the nodes where two are joined
-    pub join_tree : {most len j : ℕ} → join_after size ns k i ≡ Some j → IsTree cmp most ns size len → IsTree cmp most (with_joined (without_item ns k i) j) size (len - 1)
-    join_tree {most = most} {len = len} e t = subst (λ q. IsTree cmp most (option_map_or (with_joined (without_item ns k i)) q (without_item ns k i)) size (len - 1)) e (taken_tree t)
+    pub join_tree : {most len j : ℕ} → join_after size ns k i ≡ Some j → IsTree cmp most ns size len → IsTree cmp most (with_joined (item_removed ns k i) j) size (len - 1)
+    join_tree {most = most} {len = len} e t = subst (λ q. IsTree cmp most (option_map_or (with_joined (item_removed ns k i)) q (item_removed ns k i)) size (len - 1)) e (taken_tree t)
 
     pub join_up : {j : ℕ} → JoinedAfter size ns k i j → IsAscending cmp (node_at (set ns k (remove (node_at ns k) i)) j ++ node_at (set ns k (remove (node_at ns k) i)) (j + 1))
     join_up {j = j} joins =
@@ -251,7 +251,7 @@ module _ {T : Type 0} (s size : ℕ) (ns : List (List T)) (k i : ℕ) (x : T) {e
   pub one_added : join_after size ns k i ≡ None → items ≡ assigned s e ∷ [] → items ≡ numbered_from s (taking_events size ns k i x)
   one_added none made = made ∙ rw (first, none) refl
 
-  pub both_added : {j : ℕ} {f : ChangeEventUnassigned T} → join_after size ns k i ≡ Some j → f ≡ joining_event (without_item ns k i) x j → items ≡ assigned s e ∷ assigned (s + 1) f ∷ [] → items ≡ numbered_from s (taking_events size ns k i x)
+  pub both_added : {j : ℕ} {f : ChangeEventUnassigned T} → join_after size ns k i ≡ Some j → f ≡ joining_event (item_removed ns k i) x j → items ≡ assigned s e ∷ assigned (s + 1) f ∷ [] → items ≡ numbered_from s (taking_events size ns k i x)
   both_added some second made = made ∙ rw (first, some, second) refl
 
 -- the last of the items but one

@@ -5,7 +5,7 @@ use Rattle.std.specs.List.{splice}
 use Rattle.std.specs.Option.{option_map_or}
 use Rattle.indexset_core.specs.Nodes.{joined, node_at}
 use Rattle.indexset_core.specs.Order.{put, has_equal}
-use Rattle.indexset_log.specs.Joining.{with_joined, without_item, join_after}
+use Rattle.indexset_log.specs.Joining.{with_joined, item_removed, join_after}
 use Rattle.indexset_log.specs.Nodes.{is_filled}
 use Rattle.indexset_log.specs.Table.{target}
 
@@ -18,7 +18,7 @@ module _ {T : Type 0} where
 
   -- the nodes after the item at place i of the node at place k is removed and small neighbours are joined
   abbrev pub with_taken : ℕ → List (List T) → ℕ → ℕ → List (List T)
-  with_taken size ns k i = option_map_or (with_joined (without_item ns k i)) (join_after size ns k i) (without_item ns k i)
+  with_taken size ns k i = option_map_or (with_joined (item_removed ns k i)) (join_after size ns k i) (item_removed ns k i)
 
   -- the nodes with v put into its target
   abbrev pub put_into_target : (T → T → Ordering) → List (List T) → T → List (List T)

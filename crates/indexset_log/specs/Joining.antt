@@ -17,12 +17,12 @@ module _ {T : Type 0} where
   with_joined ns j = splice ns j (j + 2) ((node_at ns j ++ node_at ns (j + 1)) ∷ [])
 
   -- the nodes without the item at place i of the node at place k: an emptied node goes too
-  abbrev pub without_item : List (List T) → ℕ → ℕ → List (List T)
-  without_item ns k i = if length (node_at ns k) == 1 then remove ns k else set ns k (remove (node_at ns k) i)
+  abbrev pub item_removed : List (List T) → ℕ → ℕ → List (List T)
+  item_removed ns k i = if length (node_at ns k) == 1 then remove ns k else set ns k (remove (node_at ns k) i)
 
   -- the first of the two nodes that are joined once that item is gone: an emptied node has none
   abbrev pub join_after : ℕ → List (List T) → ℕ → ℕ → Option ℕ
-  join_after size ns k i = if length (node_at ns k) == 1 then None else join_place (size / 2) (without_item ns k i) k
+  join_after size ns k i = if length (node_at ns k) == 1 then None else join_place (size / 2) (item_removed ns k i) k
 
   -- any two neighbours hold more than h items together
   abbrev pub IsSpaced : ℕ → List (List T) → Type 0

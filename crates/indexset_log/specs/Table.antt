@@ -7,7 +7,7 @@ use Rattle.indexset_core.specs.Order.{rank, has_equal}
 use Rattle.indexset_log.specs.declared.change.ChangeEventUnassigned.{ChangeEventUnassigned}
 use Rattle.indexset_log.specs.declared.change.ChangeEventUnassigned.TheVariants.{InsertAt, RemoveAt, CreateNode, RemoveNode, SplitNode, MergeNodes}
 use Rattle.indexset_core.specs.Nodes.{joined, node_at, node_for}
-use Rattle.indexset_log.specs.Joining.{without_item, join_after}
+use Rattle.indexset_log.specs.Joining.{item_removed, join_after}
 use Rattle.indexset_log.specs.Nodes.{is_filled, last_of}
 
 -- the place of the first node whose last item is not below v, else of the last node
@@ -65,7 +65,7 @@ joining_event ns d j = MergeNodes (last_of (node_at ns j) d) (last_of (node_at n
 
 -- the item x at place i of the node at place k is removed, and small neighbours are joined
 abbrev pub taking_events : {T : Type 0} → ℕ → List (List T) → ℕ → ℕ → T → List (ChangeEventUnassigned T)
-taking_events size ns k i x = taking_event (node_at ns k) i x ∷ option_map_or (λ j. joining_event (without_item ns k i) x j ∷ []) (join_after size ns k i) []
+taking_events size ns k i x = taking_event (node_at ns k) i x ∷ option_map_or (λ j. joining_event (item_removed ns k i) x j ∷ []) (join_after size ns k i) []
 
 -- how many events that gives, by where nodes are joined
 abbrev pub count_with : Option ℕ → ℕ

@@ -8,8 +8,10 @@ ghost use Rattle.indexset_core.specs.Nodes.{joined, node_lengths, node_for};
 use indexset_core::node::NodeLike;
 use indexset_core::probe::Probe;
 
-/// The first node whose last item is not answered Less, else the last node.
-pub(crate) fn node_by<T: Ord + Drop, Node: NodeLike<T>, P: Probe<T>>(
+/// Returns the place of the first node whose last item is not answered Less, else of the last node, by
+/// one binary search over the nodes' last items. The nodes are at least one and not empty, and the probe
+/// must find their items in order.
+pub fn node_by<T: Ord + Drop, Node: NodeLike<T>, P: Probe<T>>(
     nodes: &[Node],
     probe: &mut P,
 ) -> usize

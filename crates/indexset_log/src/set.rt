@@ -158,7 +158,7 @@ impl<T: Ord + Clone + Drop, Node: NodeLike<T>> BTreeSet<T, Node> {
     }
 
     // Where the equal item is: its node, and the offset in it.
-    fn find(&self, value: &T) -> Option<(usize, usize)>
+    fn place_of(&self, value: &T) -> Option<(usize, usize)>
         ensures { MatchOption result (equal_element T.cmp (joined self.now.nodes) value.now ≡ None) (λ p. IsFoundIn T.cmp self.now.nodes value.now p.0 p.1) }
     {
         // The nodes are lawful, so a search by an item may go by them.
@@ -170,7 +170,7 @@ impl<T: Ord + Clone + Drop, Node: NodeLike<T>> BTreeSet<T, Node> {
     pub fn contains(&self, value: &T) -> bool
         ensures { result ≡ has_equal T.cmp (joined self.now.nodes) value.now }
     {
-        self.find(value).is_some()
+        self.place_of(value).is_some()
     }
 
     /// The equal item.

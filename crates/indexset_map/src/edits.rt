@@ -21,7 +21,7 @@ impl<K: Ord + Drop, V: Drop> BTreeMap<K, V> {
         ensures given_back { IfErr result (λ e. (e.value ≡ (key, value)) × (e.cause ≡ Refusal.Memory)) }
         ensures unchanged { OnErr result (self.new ≡ self.old) }
     {
-        match self.find(&key) {
+        match self.locate(&key) {
             Ok(i) => Ok(Some(mem::replace(self.value_at_mut(i), value))),
             Err(_) => {
                 self.put(key, value)?;
@@ -37,7 +37,7 @@ impl<K: Ord + Drop, V: Drop> BTreeMap<K, V> {
         ensures gone { has_key K.cmp self.new.pairs key.now ≡ false }
         ensures no_value { value_of K.cmp self.new.pairs key.now ≡ None }
     {
-        match self.find(key) {
+        match self.locate(key) {
             Ok(i) => Some(self.pop_index(i)),
             Err(_) => None,
         }

@@ -50,7 +50,7 @@ impl<K: Ord, V> BTreeMap<K, V> {
     pub(super) fn start_position(&self, start: Bound<&K>) -> usize
         ensures { result ≡ count_by (λ p. is_before K.cmp (bound_map (λ k. k.now) start.entry) p.key) self.now.pairs }
     {
-        // The pairs ascend, as in `find`.
+        // The pairs ascend, as in `locate`.
         let _len = self.set.len();
         self.set.count_before(start.map(ByKey::new))
     }
@@ -59,7 +59,7 @@ impl<K: Ord, V> BTreeMap<K, V> {
     pub(super) fn end_position(&self, end: Bound<&K>) -> usize
         ensures { result ≡ count_by (λ p. is_up_to_end K.cmp (bound_map (λ k. k.now) end.entry) p.key) self.now.pairs }
     {
-        // The pairs ascend, as in `find`.
+        // The pairs ascend, as in `locate`.
         let _len = self.set.len();
         self.set.count_up_to(end.map(ByKey::new))
     }

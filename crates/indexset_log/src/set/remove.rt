@@ -3,7 +3,7 @@ ghost use Rattle.std.specs.Prelude.{◌≡◌, ℕ, ◌+◌, ◌/◌, ◌<◌, �
 ghost use Rattle.indexset_core.specs.Nodes.{joined, node_at};
 ghost use Rattle.indexset_core.specs.Order.{equal_element, has_equal, without};
 ghost use Rattle.indexset_log.specs.Edits.{with_taken};
-ghost use Rattle.indexset_log.specs.Joining.{are_small, IsSpaced, join_after, with_joined, without_item};
+ghost use Rattle.indexset_log.specs.Joining.{are_small, IsSpaced, join_after, with_joined, item_removed};
 ghost use Rattle.indexset_log.specs.Nodes.{last_of};
 ghost use Rattle.indexset_log.specs.Replay.{replay, numbered_from, IsNumberedFrom};
 ghost use Rattle.indexset_log.specs.Table.{count_with, joining_event, taking_count, taking_event, taking_events, removal_events};
@@ -37,7 +37,7 @@ impl<T: Ord + Clone + Drop, Node: NodeLike<T>> BTreeSet<T, Node> {
         ensures no_event { removal_events T.cmp self.old.size self.old.nodes value.now ≡ [] → IsOk result }
         ensures unchanged { OnErr result (self.new ≡ self.old) }
     {
-        match self.find(value) {
+        match self.place_of(value) {
             Some((node, offset)) => {
                 let (item, events) = self.remove_at_cdc(node, offset)?;
                 Ok((Some(item), events))
@@ -99,7 +99,7 @@ impl<T: Ord + Clone + Drop, Node: NodeLike<T>> BTreeSet<T, Node> {
     {
         // The counter fits a u64, so a call without events lacks no number.
         let _next = self.next;
-        match self.find(value) {
+        match self.place_of(value) {
             Some((node, offset)) => Ok(Some(self.remove_at(node, offset)?)),
             None => Ok(None),
         }
@@ -243,7 +243,7 @@ impl<T: Ord + Clone + Drop, Node: NodeLike<T>> BTreeSet<T, Node> {
         requires node { node < length self.now.nodes }
         requires offset { offset < length (node_at self.now.nodes node) }
         requires join { join_after self.now.size self.now.nodes node offset ≡ Some left }
-        ensures event { IfOk result (λ event. (d : T) → event ≡ joining_event (without_item self.now.nodes node offset) d left) }
+        ensures event { IfOk result (λ event. (d : T) → event ≡ joining_event (item_removed self.now.nodes node offset) d left) }
         ensures refusal { IfErr result (λ e. e ≡ Refusal.Memory) }
     {
         // A usize counts the nodes.
@@ -260,7 +260,7 @@ impl<T: Ord + Clone + Drop, Node: NodeLike<T>> BTreeSet<T, Node> {
         requires node { node < length self.now.nodes }
         requires offset { offset < length (node_at self.now.nodes node) }
         requires two { 2 ≤ length (node_at self.now.nodes node) }
-        ensures { (d : T) → last_of (node_at (without_item self.now.nodes node offset) place) d ≡ result.now }
+        ensures { (d : T) → last_of (node_at (item_removed self.now.nodes node offset) place) d ≡ result.now }
     {
         let items = self.nodes[place].iter().as_slice();
         if place == node {
@@ -299,7 +299,7 @@ impl<T: Ord + Clone + Drop, Node: NodeLike<T>> BTreeSet<T, Node> {
         requires join { join_after self.old.size self.old.nodes node offset ≡ Some left }
         requires numbers { self.old.next + 2 ≤ u64.MAX }
         ensures item { IfOk result (λ item. slice_get (node_at self.old.nodes node) offset ≡ Some item) }
-        ensures nodes { OnOk result (self.new.nodes ≡ with_joined (without_item self.old.nodes node offset) left) }
+        ensures nodes { OnOk result (self.new.nodes ≡ with_joined (item_removed self.old.nodes node offset) left) }
         ensures size { self.new.size ≡ self.old.size }
         ensures next { OnOk result (self.new.next ≡ self.old.next + 2) }
         ensures refusal { IfErr result (λ e. e ≡ Refusal.Memory) }
@@ -318,7 +318,7 @@ impl<T: Ord + Clone + Drop, Node: NodeLike<T>> BTreeSet<T, Node> {
         requires offset { offset < length (node_at self.old.nodes node) }
         requires number { self.old.next < u64.MAX }
         ensures item { slice_get (node_at self.old.nodes node) offset ≡ Some result }
-        ensures nodes { self.new.nodes ≡ without_item self.old.nodes node offset }
+        ensures nodes { self.new.nodes ≡ item_removed self.old.nodes node offset }
         ensures size { self.new.size ≡ self.old.size }
         ensures next { self.new.next ≡ self.old.next + 1 }
     {

@@ -46,7 +46,7 @@ pub returns-clause-missing : goal.returns-clause-missing
 returns-clause-missing g c = sym (ap (λ (b : Bool). if b then None else Some c.args.key) (key_absent g.K.Ord.cmp _ _ (c.in-Err.ensures {u = tt}).absent))
 
 pub returns-in-Ok-clause-removal : goal.returns-in-Ok-clause-removal
-returns-in-Ok-clause-removal g c = without_found g.K.Ord.cmp c.args.self.now c.args.key c.in-Ok.index (c.in-Ok.ensures {u = tt}).found g.met.K.Ord.total c.find.ensures.ascending
+returns-in-Ok-clause-removal g c = without_found g.K.Ord.cmp c.args.self.now c.args.key c.in-Ok.index (c.in-Ok.ensures {u = tt}).found g.met.K.Ord.total c.locate.ensures.ascending
 
 pub returns-clause-removal : goal.returns-clause-removal
 returns-clause-removal g c = sym (without_absent g.K.Ord.cmp c.args.self.now c.args.key (key_absent g.K.Ord.cmp _ _ (c.in-Err.ensures {u = tt}).absent))

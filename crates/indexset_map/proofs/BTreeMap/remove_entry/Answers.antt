@@ -11,7 +11,7 @@ returns-in-Ok-clause-value g c =
 
 pub returns-in-Ok-clause-rest : goal.returns-in-Ok-clause-rest
 returns-in-Ok-clause-rest g c =
-    c.pop_index.ensures.rest ∙ without_found g.K.Ord.cmp c.args.self.now c.args.key.now c.in-Ok.i (c.in-Ok.ensures {u = tt}).found g.met.K.Ord.total c.find.ensures.ascending
+    c.pop_index.ensures.rest ∙ without_found g.K.Ord.cmp c.args.self.now c.args.key.now c.in-Ok.i (c.in-Ok.ensures {u = tt}).found g.met.K.Ord.total c.locate.ensures.ascending
 
 pub returns-in-Err-clause-value : goal.returns-in-Err-clause-value
 returns-in-Err-clause-value g c = sym (ap (option_map entry_of) (key_no_pair g.K.Ord.cmp _ _ (c.in-Err.ensures {u = tt}).absent))
@@ -21,7 +21,7 @@ returns-in-Err-clause-rest g c = sym (without_absent g.K.Ord.cmp c.args.self.now
 
 pub returns-in-Ok-clause-gone : goal.returns-in-Ok-clause-gone
 returns-in-Ok-clause-gone g c =
-    let rest = c.pop_index.ensures.rest ∙ without_found g.K.Ord.cmp c.args.self.now c.args.key.now c.in-Ok.i (c.in-Ok.ensures {u = tt}).found g.met.K.Ord.total c.find.ensures.ascending in
+    let rest = c.pop_index.ensures.rest ∙ without_found g.K.Ord.cmp c.args.self.now c.args.key.now c.in-Ok.i (c.in-Ok.ensures {u = tt}).found g.met.K.Ord.total c.locate.ensures.ascending in
     ap (λ m. has_key g.K.Ord.cmp m.pairs c.args.key.now) rest ∙ key_gone g.K.Ord.cmp c.args.self.now.pairs c.args.key.now
 
 pub returns-in-Err-clause-gone : goal.returns-in-Err-clause-gone
@@ -29,7 +29,7 @@ returns-in-Err-clause-gone g c = key_absent g.K.Ord.cmp _ _ (c.in-Err.ensures {u
 
 pub returns-in-Ok-clause-no_value : goal.returns-in-Ok-clause-no_value
 returns-in-Ok-clause-no_value g c =
-    let rest = c.pop_index.ensures.rest ∙ without_found g.K.Ord.cmp c.args.self.now c.args.key.now c.in-Ok.i (c.in-Ok.ensures {u = tt}).found g.met.K.Ord.total c.find.ensures.ascending in
+    let rest = c.pop_index.ensures.rest ∙ without_found g.K.Ord.cmp c.args.self.now c.args.key.now c.in-Ok.i (c.in-Ok.ensures {u = tt}).found g.met.K.Ord.total c.locate.ensures.ascending in
     ap (λ m. value_of g.K.Ord.cmp m.pairs c.args.key.now) rest ∙ no_value g.K.Ord.cmp _ c.args.key.now (key_gone g.K.Ord.cmp c.args.self.now.pairs c.args.key.now)
 
 pub returns-in-Err-clause-no_value : goal.returns-in-Err-clause-no_value

@@ -5,7 +5,7 @@ use Rattle.indexset_spine.specs.Cut.{items}
 use Rattle.indexset_core.specs.Pairs.{key_rank}
 use Rattle.indexset_core.proofs.CallerLemmas.{parted_by_key}
 use Rattle.indexset_set.proofs.CallerLemmas.{in_order}
-use Rattle.indexset_map.proofs.BTreeMap.find.Goals as goal
+use Rattle.indexset_map.proofs.BTreeMap.locate.Goals as goal
 
 pub locate_by-requires : goal.locate_by-requires
 locate_by-requires g c =
