@@ -1,7 +1,7 @@
 //! The examples of the README.
 
 use indexset::base::refusal::Refusal;
-use indexset::cdc::change::ChangeEvent;
+use indexset::cdc::change::{ChangeEvent, Id};
 use indexset::concurrent::set;
 use indexset::{BTreeMap, BTreeSet};
 use std::alloc::Global;
@@ -82,30 +82,18 @@ fn a_tree_tells_what_it_did(rt: HostRuntime) -> Result<(), Fail> {
         2,
     );
     let (old, made) = tree.put_cdc(5).map_err(|refused| refused.cause)?;
-    assert_eq!(rt; old, None);
-    assert_eq!(rt; made.len(), 1);
-    if let Some(
-        ChangeEvent::CreateNode {
-            event_id,
-            max_value,
-        },
-    ) = made.first()
-    {
-        assert_eq!(rt; event_id.inner(), 0);
-        assert_eq!(rt; *max_value, 5);
-    }
+    let create = ChangeEvent::CreateNode {
+        event_id: Id::from(0),
+        max_value: 5,
+    };
+    assert!(rt; old.is_none() && made.as_slice() == [create].as_slice());
     let (_, put) = tree.put_cdc(7).map_err(|refused| refused.cause)?;
-    if let Some(
-        ChangeEvent::InsertAt {
-            event_id,
-            max_value,
-            value,
-            index,
-        },
-    ) = put.first()
-    {
-        assert_eq!(rt; event_id.inner(), 1);
-        assert_eq!(rt; (*max_value, *value, *index), (5, 7, 1));
-    }
+    let insert = ChangeEvent::InsertAt {
+        event_id: Id::from(1),
+        max_value: 5,
+        value: 7,
+        index: 1,
+    };
+    assert!(rt; put.as_slice() == [insert].as_slice());
     Ok(())
 }

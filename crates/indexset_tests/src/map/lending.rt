@@ -1,9 +1,11 @@
 //! Walks that lend values to write, and the pairs that are kept.
-use super::{put, tens};
+ghost use Rattle.std.specs.Prelude.{◌≤◌};
+
+use super::{put, shows, tens};
 use indexset_core::refusal::Refusal;
 use indexset_map::BTreeMap;
 use std::alloc::Global;
-use std::ops::Bound;
+use std::ops::{Bound, Range};
 use std::test::Fail;
 
 // The keys from 1 up to the last at 0, put in from the least up, two to a node.
@@ -15,37 +17,57 @@ fn zeros(alloc: Global, last: u64) -> Result<BTreeMap<u64, u64>, Refusal> {
     Ok(map)
 }
 
-// The pairs that a walk over positions lends from the front, asked so often.
-fn lent(
-    map: &mut BTreeMap<u64, u64>,
-    range: (Bound<usize>, Bound<usize>),
-    turns: usize,
-    alloc: Global,
-) -> Result<Vec<(u64, u64)>, Fail> {
-    let mut pairs = Vec::new(alloc);
-    let mut walk = map.range_mut_idx(range);
-    for _ in 0..turns {
-        if let Some((key, value)) = walk.next() {
-            pairs.push((*key, *value))?;
-        }
+// The keys from 0 up to, but not with, the end, each with itself, put in from the greatest down.
+fn selves(alloc: Global, size: usize, end: u64) -> Result<BTreeMap<u64, u64>, Refusal>
+    requires { 2 ≤ size }
+{
+    let mut map = BTreeMap::with_maximum_node_size(alloc, size)?;
+    for key in (0..end).rev() {
+        put(&mut map, key, key)?;
     }
-    Ok(pairs)
+    Ok(map)
 }
 
-// The pairs that a walk over all lends from the back, asked so often.
-fn lent_back(
+// Whether a pair that a walk lends is this key with itself.
+fn is_self(pair: Option<(&u64, &mut u64)>, key: u64) -> bool {
+    pair.is_some_and(|pair| *pair.0 == key && *pair.1 == key)
+}
+
+// Whether a walk over positions lends these keys from the front, each with itself, and then none.
+fn lends(
     map: &mut BTreeMap<u64, u64>,
-    turns: usize,
-    alloc: Global,
-) -> Result<Vec<(u64, u64)>, Fail> {
-    let mut pairs = Vec::new(alloc);
-    let mut walk = map.iter_mut();
-    for _ in 0..turns {
-        if let Some((key, value)) = walk.next_back() {
-            pairs.push((*key, *value))?;
+    range: (Bound<usize>, Bound<usize>),
+    keys: Range<u64>,
+) -> bool {
+    let mut walk = map.range_mut_idx(range);
+    for key in keys {
+        if !is_self(walk.next(), key) {
+            return false;
         }
     }
-    Ok(pairs)
+    walk.next().is_none()
+}
+
+// Whether a walk over all lends the keys up to the end from the front, each with itself, and then none.
+fn lends_all(map: &mut BTreeMap<u64, u64>, end: u64) -> bool {
+    let mut walk = map.iter_mut();
+    for key in 0..end {
+        if !is_self(walk.next(), key) {
+            return false;
+        }
+    }
+    walk.next().is_none()
+}
+
+// The same from the back.
+fn lends_all_back(map: &mut BTreeMap<u64, u64>, end: u64) -> bool {
+    let mut walk = map.iter_mut();
+    for key in (0..end).rev() {
+        if !is_self(walk.next_back(), key) {
+            return false;
+        }
+    }
+    walk.next_back().is_none()
 }
 
 #[test]
@@ -108,14 +130,8 @@ fn each_place_once_from_both_ends(rt: HostRuntime) -> Result<(), Fail> {
 
 #[test]
 fn many_nodes_both_ways(rt: HostRuntime) -> Result<(), Fail> {
-    let mut map = tens(rt.alloc(), 1024, 10240)?;
-    let all = (Bound::Unbounded, Bound::Unbounded);
-    let forwards = lent(&mut map, all, 10241, rt.alloc())?;
-    let expected = (0..10240u64).map(|key| (key, key.wrapping_mul(10)));
-    assert!(rt; forwards.iter().copied().eq(expected));
-    let backwards = lent_back(&mut map, 10241, rt.alloc())?;
-    let expected = (0..10240u64).rev().map(|key| (key, key.wrapping_mul(10)));
-    assert!(rt; backwards.iter().copied().eq(expected));
+    let mut map = selves(rt.alloc(), 1024, 10240)?;
+    assert!(rt; lends_all(&mut map, 10240) && lends_all_back(&mut map, 10240));
     Ok(())
 }
 
@@ -136,38 +152,37 @@ fn balances_over_a_range_of_names(rt: HostRuntime) -> Result<(), Fail> {
 
 #[test]
 fn positions_to_write(rt: HostRuntime) -> Result<(), Fail> {
-    let mut map = tens(rt.alloc(), 2, 10)?;
     let ranges = [
         (Bound::Unbounded, Bound::Unbounded, 0, 10),
-        (Bound::Included(0), Bound::Unbounded, 0, 10),
-        (Bound::Included(0), Bound::Excluded(10), 0, 10),
         (Bound::Included(1), Bound::Excluded(2), 1, 2),
-        (Bound::Included(3), Bound::Unbounded, 3, 10),
-        (Bound::Unbounded, Bound::Excluded(4), 0, 4),
+        (Bound::Included(3), Bound::Excluded(10), 3, 10),
+        (Bound::Included(0), Bound::Excluded(4), 0, 4),
         (Bound::Included(5), Bound::Included(6), 5, 7),
-        (Bound::Unbounded, Bound::Included(7), 0, 8),
+        (Bound::Included(0), Bound::Included(7), 0, 8),
         (Bound::Included(7), Bound::Included(3), 0, 0),
         (Bound::Excluded(usize::MAX), Bound::Unbounded, 0, 0),
     ];
+    let mut small = selves(rt.alloc(), 2, 10)?;
+    let mut large = selves(rt.alloc(), 1024, 10)?;
     for (start, end, first, past) in ranges {
-        let pairs = lent(&mut map, (start, end), 11, rt.alloc())?;
-        let expected = (first..past).map(|key: u64| (key, key.wrapping_mul(10)));
-        assert!(rt; pairs.iter().copied().eq(expected));
+        let both = lends(&mut small, (start, end), first..past)
+            && lends(&mut large, (start, end), first..past);
+        assert!(rt; both);
     }
     Ok(())
 }
 
 #[test]
 fn even_keys_are_kept(rt: HostRuntime) -> Result<(), Fail> {
-    let mut map = tens(rt.alloc(), 2, 8)?;
-    map.retain(|key: &u64, _value: &mut u64| -> bool { *key % 2 == 0 });
-    assert!(rt; map.keys().copied().eq([0, 2, 4, 6]));
-    assert!(rt; map.values().copied().eq([0, 20, 40, 60]));
-    map.retain(|key: &u64, value: &mut u64| -> bool {
-        *value = *key;
-        *key < 3
-    });
-    assert!(rt; map.keys().copied().eq([0, 2]));
-    assert!(rt; map.values().copied().eq([0, 2]));
+    for size in [2, 1024] {
+        let mut map = tens(rt.alloc(), size, 8)?;
+        map.retain(|key: &u64, _value: &mut u64| -> bool { *key % 2 == 0 });
+        assert!(rt; shows(map.iter(), &[(0, 0), (2, 20), (4, 40), (6, 60)]));
+        map.retain(|key: &u64, value: &mut u64| -> bool {
+            *value = *key;
+            *key < 3
+        });
+        assert!(rt; shows(map.iter(), &[(0, 0), (2, 2)]));
+    }
     Ok(())
 }

@@ -29,6 +29,7 @@ fn keys_and_values(rt: HostRuntime) -> Result<(), Fail> {
         let found = positions.next().and_then(|i| map.get_index(i));
         assert_eq!(rt; found, Some((key, value)));
     }
+    assert_eq!(rt; positions.next(), None);
     Ok(())
 }
 

@@ -27,6 +27,7 @@ fn many_nodes_both_ways(rt: HostRuntime) -> Result<(), Fail> {
     for key in &set {
         assert_eq!(rt; Some(*key), keys.next());
     }
+    assert_eq!(rt; keys.next(), None);
     let mut backwards = set.clone()?.into_iter();
     for key in (0..10240).rev() {
         assert_eq!(rt; backwards.next_back(), Some(key));
