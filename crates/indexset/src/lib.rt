@@ -29,7 +29,7 @@ pub mod cdc {
 
 /// A copy kept elsewhere that follows a tree by its events. (In the Rust crate a helper of the tests.)
 pub mod replica {
-    pub use indexset_replica::{Replica, laws, lookup};
+    pub use indexset_replica::{Replica, iter, laws, lookup};
 }
 
 pub use indexset_map::{

@@ -1,5 +1,5 @@
 -- Where a value stands in the nodes of a replica.
-use Rattle.std.proofs.Common.{◌≡◌, ℕ, zero, suc, ◌+◌, ◌-◌, ◌<◌, ◌≤◌, ◌==◌, Bool, true, false, not, ◌||◌, List, [], ◌∷◌, ◌++◌, length, map, get_or, slice_get, take, drop, insert, Result, Ok, Err, IfOk, IfErr, is_ok, Option, Some, None, Ordering, All, inl, inr, refl, ap, sym, ◌∙◌, subst, arith, append_assoc, length-append}
+use Rattle.std.proofs.Common.{◌≡◌, ℕ, zero, suc, ◌+◌, ◌-◌, ◌<◌, ◌≤◌, ◌==◌, Bool, true, false, not, List, [], ◌∷◌, ◌++◌, length, map, get_or, slice_get, take, drop, insert, Option, Some, None, Ordering, All, inl, inr, refl, ap, sym, ◌∙◌, subst, arith, append_assoc, length-append}
 use Rattle.std.specs.Borrow.{Bor}
 use Rattle.std.specs.Cmp.{IsTotalOrder}
 use Rattle.std.specs.List.{find, position_or_len, splice, take-map}
@@ -12,11 +12,10 @@ use Rattle.std.proofs.lemmas.List.{append-nil, get_or_past, take-append-drop, ge
 use Rattle.std.proofs.lemmas.Option.{slice_get-map, slice_get_within}
 use Rattle.std.proofs.lemmas.List.Folds.{find-append}
 use Rattle.std.proofs.lemmas.List.Sums.{fails_before_first, position_or_len_is}
-use Rattle.std.proofs.Math.Bool.{or-false}
 use Rattle.std.proofs.Math.Seq.{drop-append_seam, get_or-append_seam, get_or-append_right}
 use Rattle.indexset_core.specs.Nodes.{joined, node_at, node_lengths}
-use Rattle.indexset_core.specs.Order.{IsFoundAt, IsGapFor, equal_element, has_equal}
-use Rattle.indexset_core.proofs.CallerLemmas.{found_has_equal, gap_has_equal, joined-append, joined-splice, joined_around, less_from, slice_get-right}
+use Rattle.indexset_core.specs.Order.{equal_element}
+use Rattle.indexset_core.proofs.CallerLemmas.{joined-append, joined-splice, joined_around, less_from, slice_get-right}
 use Rattle.indexset_log.specs.Nodes.{is_filled, last_of, is_ascending}
 use Rattle.indexset_log.specs.Replay.{has_name, node_named, reaches}
 use Rattle.indexset_log.proofs.CallerLemmas.{Ruled, Each, Up, at_place, each-append, each-left, each-map, each-right, each_all, each_last, greater, last_some, node_is, length_filled, not_reaching, over_rest, place_none, position_at, reached, reaching, true_up, unnamed, up-between, up-left, up-right, up_put, up_true, upto_last, nodes_each}
@@ -224,40 +223,6 @@ module _ {T : Type 0} (cmp : T → T → Ordering) (o : IsTotalOrder cmp) (v : T
     unnamed_past past = named_not (map f items) rule (λ inside. absurd (omega (arith, inside, is, length-map items f)))
 
   -- ---- the item equal to a value
-
-  pub told_equal : (l : List T) (r : Result ℕ ℕ) → IfOk r (IsFoundAt cmp l v) → IfErr r (IsGapFor cmp l v) → is_ok r ≡ has_equal cmp l v
-  told_equal l (Ok i) found gap = sym (found_has_equal cmp l v i found)
-  told_equal l (Err i) found gap = sym (gap_has_equal cmp l v i gap)
-
-  none_low : (l : List T) → Each (λ x. cmp x v ≡ Less) l → has_equal cmp l v ≡ false
-  none_low [] low = refl
-  none_low (x ∷ l) low = rw low.0 (none_low l low.1)
-
-  none_high : (l : List T) → Each (λ x. cmp v x ≡ Less) l → has_equal cmp l v ≡ false
-  none_high [] high = refl
-  none_high (x ∷ l) high = rw (greater cmp o x v high.0) (none_high l high.1)
-
-  has_equal-append : (l r : List T) → has_equal cmp (l ++ r) v ≡ (has_equal cmp l v || has_equal cmp r v)
-  has_equal-append [] r = refl
-  has_equal-append (x ∷ l) r =
-      elim (is_eq (cmp x v)) as (λ b. (b || has_equal cmp (l ++ r) v) ≡ ((b || has_equal cmp l v) || has_equal cmp r v)) [ true ↦ refl | false ↦ has_equal-append l r ]
-
-  equal_in_node : (b a : List (List T)) → Each (λ x. cmp x v ≡ Less) (joined b) → Reached a → has_equal cmp (joined (b ++ a)) v ≡ has_equal cmp (node_at (b ++ a) (length b)) v
-  equal_in_node b [] low on = rw (append-nil b, none_low (joined b) low, get_or_past b (length b) [] (omega arith)) refl
-  equal_in_node b (n ∷ a) low on = rw (get_or-append_seam, joined-append b (n ∷ a), has_equal-append (joined b) (n ++ joined a), none_low (joined b) low, has_equal-append n (joined a), none_high (joined a) on.2) (or-false (has_equal cmp n v))
-
-  -- the same, as the code holds the nodes
-  module _ {N : Type 0} (f : N → List T) (items : List N) (rule : Ruled cmp (map f items)) (k : ℕ) (is : k ≡ position_or_len (reaches cmp v) (map f items)) where
-    equal_here : has_equal cmp (joined (map f items)) v ≡ has_equal cmp (node_at (map f items) k) v
-    equal_here = rw is (parted (λ q j. has_equal cmp (joined q) v ≡ has_equal cmp (node_at q j) v) equal_in_node (map f items) rule)
-
-    pub equal_when : (n : N) → k < length items → n ≡ get_or items k n → has_equal cmp (joined (map f items)) v ≡ has_equal cmp (f n) v
-    equal_when n lt read = equal_here ∙ ap (λ q. has_equal cmp q v) (sym (node_is f items (map f items) k n refl lt read))
-
-    pub equal_past : length items ≤ k → has_equal cmp (joined (map f items)) v ≡ false
-    equal_past past = equal_here ∙ rw (get_or_past (map f items) k [] (omega (arith, past, length-map items f))) refl
-
-  -- ---- that item itself
 
   unequal_low : (l : List T) → Each (λ x. cmp x v ≡ Less) l → equal_element cmp l v ≡ None
   unequal_low [] low = refl

@@ -1,9 +1,11 @@
 //! The items of a replica in order, and how many there are.
-ghost use Rattle.std.specs.Prelude.{◌≡◌, length, List, min, IfSome};
+ghost use Rattle.std.specs.Prelude.{◌≡◌, ◌≤◌, length, List, min, IfSome};
+ghost use Rattle.std.specs.List.{between};
 ghost use Rattle.std.specs.Iterator.{UpTo, at_most};
 ghost use Rattle.std.specs.Iterator.SizeHint.{IsWithinCount};
 ghost use Rattle.std.specs.Map.Iter.{TakesFirst, TakesLast, ShowsInOrder, ShowsInReverse, deref};
 ghost use Rattle.indexset_core.specs.Nodes.{joined, vec_items};
+ghost use Rattle.indexset_log.specs.Places.{IsPlace, items_before};
 
 use super::Replica;
 use std::iter::FusedIterator;
@@ -26,6 +28,38 @@ impl<'a, T> Model for Iter<'a, T> {
     ghost Value = { List T };
 
     ghost view = { λ a. a.front.now ++ (joined (vec_items a.middle.now) ++ a.back.now) };
+}
+
+impl<'a, T> Iter<'a, T> {
+    // The items from one place, a node and an offset, to before another.
+    pub(super) fn between(nodes: &'a [Vec<T>], from: (usize, usize), to: (usize, usize)) -> Self
+        requires from { IsPlace (vec_items nodes.now) from }
+        requires to { IsPlace (vec_items nodes.now) to }
+        requires order { items_before (vec_items nodes.now) from ≤ items_before (vec_items nodes.now) to }
+        ensures { result ≡ between (items_before (vec_items nodes.now) from) (items_before (vec_items nodes.now) to) (joined (vec_items nodes.now)) }
+    {
+        if nodes.is_empty() || from.0 > to.0 {
+            return Iter {
+                front: &[],
+                middle: &[],
+                back: &[],
+            };
+        }
+        let first = nodes[from.0].as_slice();
+        if from.0 == to.0 {
+            return Iter {
+                front: &first[from.1..to.1],
+                middle: &[],
+                back: &[],
+            };
+        }
+        let last = nodes[to.0].as_slice();
+        Iter {
+            front: &first[from.1..],
+            middle: &nodes[from.0 + 1..to.0],
+            back: &last[..to.1],
+        }
+    }
 }
 
 impl<'a, T> Iterator for Iter<'a, T> {

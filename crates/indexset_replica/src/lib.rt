@@ -5,10 +5,10 @@
 //! of them at once. `apply` makes the change of one event. It takes the next event alone, and fails with
 //! a `Refusal` that says why where an event is not the next or does not fit the nodes. Once the events of
 //! the tree's calls are applied, the nodes are those of the tree, boundaries included; `nodes`,
-//! `contains`, `next` and the calls of [`lookup`] and [`iter`] read them. `follow` is for events that are
-//! delivered with losses, repeats and in any order. [`laws`] states what the definitions mean, whatever
-//! the code: memory aside, an event is refused exactly where it is no step from the nodes. What each kind
-//! of event changes is in `edits`, and the searches among the nodes are in `places`.
+//! `contains`, `next`, `range` and the calls of [`lookup`] and [`iter`] read them. `follow` is for events
+//! that are delivered with losses, repeats and in any order. [`laws`] states what the definitions mean,
+//! whatever the code: memory aside, an event is refused exactly where it is no step from the nodes. What
+//! each kind of event changes is in `edits`, and the searches among the nodes are in `places`.
 #![tactic(auto)]
 
 ghost use Rattle.std.specs.Prelude.{◌≡◌, ◌+◌, [], length, None, Some, OnOk, IfErr, OnErr, unwrap_or};
@@ -25,9 +25,9 @@ pub mod iter;
 pub mod laws;
 pub mod lookup;
 mod places;
+mod range;
 
 use indexset_core::refusal::{Refusal, Refused};
-use indexset_core::search;
 use indexset_log::change::ChangeEvent;
 use std::alloc::Global;
 use std::marker::Model;
@@ -84,8 +84,7 @@ impl<T: Ord + Clone + Drop> Replica<T> {
     pub fn contains(&self, value: &T) -> bool
         ensures { result ≡ has_equal T.cmp (joined self.now.nodes) value.now }
     {
-        let place = places::first_reaching(self.nodes.as_slice(), value);
-        place < self.nodes.len() && search::find(self.nodes[place].as_slice(), value).is_ok()
+        self.get(value).is_some()
     }
 
     /// Inserts a whole node in its place among the others, and uses up no event number. It compares the
