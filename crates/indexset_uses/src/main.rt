@@ -4,12 +4,15 @@
 
 mod change_log;
 mod counting;
+mod follower;
+mod journal;
 mod leaderboard;
 mod listing;
 mod order_book;
 mod prices;
 
 use anyhow::Result;
+use indexset::replica::Replica;
 use indexset::{BTreeMap, BTreeSet};
 
 fn main(rt: HostRuntime) -> Result<()> {
@@ -17,7 +20,8 @@ fn main(rt: HostRuntime) -> Result<()> {
     show_order_book(&rt)?;
     show_counts(&rt)?;
     show_prices(&rt)?;
-    show_changes(&rt)
+    show_changes(&rt)?;
+    show_takeover(&rt)
 }
 
 fn show_leaderboard(rt: &HostRuntime) -> Result<()> {
@@ -87,5 +91,29 @@ fn show_changes(rt: &HostRuntime) -> Result<()> {
     println!(rt; "take 10: {} events", events.len())?;
     let mut quotes = change_log::Quotes::with_maximum_node_size(rt.alloc(), 2);
     println!(rt; "quote of 3: {:?}", change_log::quote(&mut quotes, 3, 80)?)?;
+    Ok(())
+}
+
+fn show_takeover(rt: &HostRuntime) -> Result<()> {
+    let mut tree = change_log::Numbers::with_maximum_node_size(rt.alloc(), 4);
+    let mut events = Vec::new(rt.alloc());
+    journal::insert(&mut tree, &mut events, 3)?;
+    journal::insert(&mut tree, &mut events, 1)?;
+    journal::insert(&mut tree, &mut events, 2)?;
+    if events.len() >= 3 {
+        let order = [1, 0, 0, 2, 1];
+        let late = follower::resume(Vec::new(rt.alloc()), 0, events.as_slice(), &order)?;
+        println!(rt; "after 1, 0, 0, 2, 1 a copy awaits {}", late.next())?;
+    }
+    let mut copy = Replica::new(rt.alloc(), 0);
+    for event in events.as_slice() {
+        println!(rt; "event {event}")?;
+        copy.apply(event)?;
+    }
+    let mut next = follower::promote(copy, 4)?;
+    for event in change_log::put(&mut next, 4)?.as_slice() {
+        println!(rt; "event {event}")?;
+    }
+    println!(rt; "in all: {}", next.len())?;
     Ok(())
 }

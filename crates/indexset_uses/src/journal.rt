@@ -1,0 +1,39 @@
+//! A journal: the events of all calls on a set since it was empty, kept in one list.
+ghost use Rattle.std.specs.Prelude.{◌≡◌, [], length, Some, IfErr, OnErr, OnOk};
+ghost use Rattle.std.specs.Ordering.{nat_cmp};
+ghost use Rattle.indexset.specs.Words.{IsNumberedFrom, joined, put, replay, without};
+
+use crate::change_log::Numbers;
+use indexset::base::refusal::{Refusal, Refused};
+use indexset::cdc::change::ChangeEvent;
+use indexset::cdc::laws;
+
+/// Inserts a number, and appends the events of the call. Whatever it returns, the events of the journal,
+/// replayed from nothing, lead to the nodes of the set.
+pub fn insert(
+    tree: &mut Numbers,
+    journal: &mut Vec<ChangeEvent<u64>>,
+    value: u64,
+) -> Result<(), Refused<u64>>
+    requires replay { replay nat_cmp [] journal.old.items ≡ Some tree.old.nodes }
+    requires numbered { IsNumberedFrom 0 journal.old.items }
+    requires next { tree.old.next ≡ length journal.old.items }
+    ensures replay { replay nat_cmp [] journal.new.items ≡ Some tree.new.nodes }
+    ensures numbered { IsNumberedFrom 0 journal.new.items }
+    ensures next { tree.new.next ≡ length journal.new.items }
+    ensures contents { OnOk result (joined tree.new.nodes ≡ put nat_cmp (joined tree.old.nodes) value) }
+    ensures given_back { IfErr result (λ refused. refused.value ≡ value) }
+    ensures same { OnErr result (tree.new ≡ tree.old) }
+{
+    // A call tells at most three events: with room for three before it, none is lost.
+    if journal.reserve(3).is_err() {
+        let cause = Refusal::Memory;
+        return Err(Refused { value, cause });
+    }
+    let (_, mut events) = tree.put_cdc(value)?;
+    laws::replay_in_parts::<u64>();
+    laws::numbered_by_place::<u64>();
+    laws::numbered_in_parts::<u64>();
+    let _appended = journal.append(&mut events);
+    Ok(())
+}
