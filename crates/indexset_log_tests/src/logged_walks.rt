@@ -14,6 +14,8 @@ use std::ops::Bound::{Excluded, Included, Unbounded};
 use std::process::Abort;
 use std::test::Fail;
 
+type Set = BTreeSet<u64, Vec<u64>>;
+
 // The keys from one up to, but not with, the end, put in ascending.
 fn ascending<Node: NodeLike<u64>>(
     alloc: Global,
@@ -34,19 +36,6 @@ fn ascending<Node: NodeLike<u64>>(
 fn meet_in_the_middle<Node: NodeLike<u64>>(rt: &impl Abort, alloc: Global) -> Result<(), Fail>
     requires { 3 ≤ Node.most }
 {
-    let one: BTreeSet<u64, Node> = ascending(alloc, 3, 1, 2)?;
-    let mut walk = one.iter();
-    assert_eq!(rt; walk.next().copied(), Some(1));
-    assert_eq!(rt; walk.next_back().copied(), None);
-    let three: BTreeSet<u64, Node> = ascending(alloc, 3, 1, 4)?;
-    let mut walk = Iter::new(&three);
-    assert_eq!(rt; walk.len(), 3);
-    assert_eq!(rt; walk.next().copied(), Some(1));
-    assert_eq!(rt; walk.next_back().copied(), Some(3));
-    assert_eq!(rt; walk.size_hint(), (1, Some(1)));
-    assert_eq!(rt; walk.next().copied(), Some(2));
-    assert_eq!(rt; walk.next().copied(), None);
-    assert_eq!(rt; walk.next_back().copied(), None);
     let twenty: BTreeSet<u64, Node> = ascending(alloc, 3, 1, 21)?;
     let mut walk = (&twenty).into_iter();
     for key in 1..11 {
@@ -54,6 +43,32 @@ fn meet_in_the_middle<Node: NodeLike<u64>>(rt: &impl Abort, alloc: Global) -> Re
         assert_eq!(rt; walk.next_back().copied(), Some(21 - key));
     }
     assert_eq!(rt; walk.next().copied(), None);
+    Ok(())
+}
+
+#[test]
+fn one_and_three_from_both_ends(rt: HostRuntime) -> Result<(), Fail> {
+    let one: Set = ascending(rt.alloc(), 1024, 1, 2)?;
+    let mut walk = one.iter();
+    let ends = (walk.next().copied(), walk.next_back().copied());
+    assert!(rt; ends == (Some(1), None));
+    let three: Set = ascending(rt.alloc(), 1024, 1, 4)?;
+    let mut walk = Iter::new(&three);
+    let rows = [
+        (true, Some(1)),
+        (false, Some(3)),
+        (true, Some(2)),
+        (true, None),
+        (false, None),
+    ];
+    for (from_front, key) in rows {
+        let item = if from_front {
+            walk.next()
+        } else {
+            walk.next_back()
+        };
+        assert!(rt; item.copied() == key);
+    }
     Ok(())
 }
 
@@ -86,13 +101,6 @@ fn ranges_of_keys<Node: NodeLike<u64>>(rt: &impl Abort, alloc: Global) -> Result
         }
     }
     assert!(rt; set.range((Excluded(&17), Unbounded)).copied().eq([18, 19]));
-    let ten: BTreeSet<u64, Node> = ascending(alloc, 10, 0, 10)?;
-    assert_eq!(rt; ten.range((Included(&5), Excluded(&1034))).len(), 5);
-    let many: BTreeSet<u64, Node> = ascending(alloc, 10, 0, 1034)?;
-    assert_eq!(rt; many.range((Included(&0), Excluded(&1024))).len(), 1024);
-    let none: BTreeSet<u64, Node> = ascending(alloc, 10, 0, 0)?;
-    assert!(rt; none.range((Included(&0), Excluded(&1024))).next().is_none());
-    assert!(rt; none.iter().next().is_none());
     Ok(())
 }
 
@@ -100,6 +108,20 @@ fn ranges_of_keys<Node: NodeLike<u64>>(rt: &impl Abort, alloc: Global) -> Result
 fn ranges_from_both_ends(rt: HostRuntime) -> Result<(), Fail> {
     ranges_of_keys::<Vec<u64>>(&rt, rt.alloc())?;
     ranges_of_keys::<ArrayNode<u64, 10>>(&rt, rt.alloc())
+}
+
+#[test]
+fn items_in_a_range_counted(rt: HostRuntime) -> Result<(), Fail> {
+    let ten: Set = ascending(rt.alloc(), 1024, 0, 10)?;
+    let end = ten.range((Included(&5), Included(&1034)));
+    assert!(rt; end.size_hint() == (5, Some(5)) && end.count() == 5);
+    let many: Set = ascending(rt.alloc(), 1024, 0, 1034)?;
+    let start = many.range((Included(&0), Excluded(&1024)));
+    assert!(rt; start.count() == 1024 && many.node_count() == 2);
+    let none: Set = ascending(rt.alloc(), 1024, 0, 0)?;
+    let any = none.range((Included(&0), Excluded(&1024))).next().is_some();
+    assert!(rt; !any && none.iter().next().is_none());
+    Ok(())
 }
 
 // The place before the first key that is not below this one.

@@ -1,5 +1,6 @@
 //! Worked examples of whole nodes that are given to a multimap.
 
+use crate::told::are_nodes;
 use indexset_core::multipair::MultiPair;
 use indexset_core::refusal::{Refusal, Refused};
 use indexset_multi::multimap::BTreeMultiMap;
@@ -114,7 +115,7 @@ fn from_nodes_refuses_and_hands_the_nodes_back(rt: HostRuntime) -> Result<(), Fa
 }
 
 // Why a node is refused by a multimap of nodes of three, where it is handed back as it was and the
-// multimap stays as it was.
+// multimap, its event number and the number of its next pair stay as they were.
 fn attach_refusal(alloc: Global, places: &[(u64, u64)]) -> Result<Option<Refusal>, Fail> {
     let mut map = Map::with_maximum_node_size(alloc, 3);
     map.insert(5, 'a')?;
@@ -122,25 +123,34 @@ fn attach_refusal(alloc: Global, places: &[(u64, u64)]) -> Result<Option<Refusal
     match map.attach_multi_node(node_of(alloc, places)?) {
         Ok(()) => Ok(None),
         Err(Refused { value, cause }) => {
-            let stays = map
-                .iter()
-                .map(|(key, value)| (*key, *value))
-                .eq([(5, 'a'), (6, 'b')]);
             let back = are_places(value.as_slice(), places);
+            let stays = are_nodes(map.iter_nodes(), &[&[(5, 0, 'a'), (6, 1, 'b')]]);
+            let events_stay = map.events_issued() == 2;
             map.insert(6, 'c')?;
             let numbers = map.raw_get(&6).map(|(_, number, _)| *number).eq([1, 2]);
-            Ok((stays && back && numbers).then_some(cause))
+            Ok((back && stays && events_stay && numbers).then_some(cause))
         }
     }
 }
 
 #[test]
 fn attaching_tells_the_first_reason(rt: HostRuntime) -> Result<(), Fail> {
-    let large = attach_refusal(rt.alloc(), &[(9, 3), (8, 4), (7, 5), (8, 4)])?;
-    assert_eq!(rt; large, Some(Refusal::TooLarge));
-    let greatest = attach_refusal(rt.alloc(), &[(9, 3), (8, u64::MAX)])?;
-    assert_eq!(rt; greatest, Some(Refusal::PairNumber));
-    let unsorted = attach_refusal(rt.alloc(), &[(9, 3), (8, 4)])?;
-    assert_eq!(rt; unsorted, Some(Refusal::Unsorted));
+    let rows: [(&[(u64, u64)], Option<Refusal>); 9] = [
+        (&[(9, 3), (8, u64::MAX)], Some(Refusal::PairNumber)),
+        (
+            &[(7, u64::MAX), (7, 3), (8, 4), (9, 5)],
+            Some(Refusal::PairNumber),
+        ),
+        (&[], Some(Refusal::Empty)),
+        (&[(9, 3), (8, 4), (7, 5), (8, 4)], Some(Refusal::TooLarge)),
+        (&[(5, 0), (7, 3), (8, 4), (9, 5)], Some(Refusal::TooLarge)),
+        (&[(9, 3), (8, 4)], Some(Refusal::Unsorted)),
+        (&[(6, 1), (6, 0)], Some(Refusal::Unsorted)),
+        (&[(5, 1), (7, 3)], Some(Refusal::Overlaps)),
+        (&[(7, 3), (8, 4), (9, 5)], None),
+    ];
+    for (places, refusal) in rows {
+        assert!(rt; attach_refusal(rt.alloc(), places)? == refusal);
+    }
     Ok(())
 }

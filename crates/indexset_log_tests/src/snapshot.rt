@@ -2,6 +2,7 @@
 ghost use Rattle.std.specs.Prelude.{◌<◌, length};
 ghost use Rattle.std.specs.List.{All};
 
+use crate::from_nodes::nodes_of;
 use crate::told::{Told, are_copies, are_events, are_nodes, event};
 use indexset_core::refusal::{Refusal, Refused};
 use indexset_log::change::ChangeEvent;
@@ -41,15 +42,6 @@ fn copied(alloc: Global, set: &Set) -> Result<Vec<Vec<u64>>, AllocError> {
     let mut nodes = Vec::new(alloc);
     for node in set.iter_nodes() {
         nodes.push(node.clone()?)?;
-    }
-    Ok(nodes)
-}
-
-/// Nodes of these values.
-fn nodes_of(alloc: Global, values: &[&[u64]]) -> Result<Vec<Vec<u64>>, AllocError> {
-    let mut nodes = Vec::new(alloc);
-    for node in values {
-        nodes.push(node.to_vec(alloc)?)?;
     }
     Ok(nodes)
 }
