@@ -30,7 +30,7 @@ pub fn events(alloc: Global) -> Result<Vec<ChangeEvent<Tagged>>, AllocError> {
 }
 
 /// Whether an event is refused for this reason, and leaves the nodes and the next number, which are these.
-fn refuses<T: Made + Ord + Clone + Drop>(
+pub fn refuses<T: Made + Ord + Clone + Drop>(
     replica: &mut Replica<T>,
     told: Told<T::Plain>,
     refusal: Refusal,
