@@ -2,6 +2,7 @@
 ghost use Rattle.std.specs.Prelude.{◌≤◌};
 ghost use Rattle.indexset_log.specs.Places.{IsPlace};
 
+use crate::told::are_nodes;
 use indexset_core::array_node::ArrayNode;
 use indexset_core::node::NodeLike;
 use indexset_core::probe::ByItem;
@@ -39,10 +40,10 @@ fn meet_in_the_middle<Node: NodeLike<u64>>(rt: &impl Abort, alloc: Global) -> Re
     let twenty: BTreeSet<u64, Node> = ascending(alloc, 3, 1, 21)?;
     let mut walk = (&twenty).into_iter();
     for key in 1..11 {
-        assert_eq!(rt; walk.next().copied(), Some(key));
-        assert_eq!(rt; walk.next_back().copied(), Some(21 - key));
+        let ends = (walk.next().copied(), walk.next_back().copied());
+        assert!(rt; ends == (Some(key), Some(21 - key)));
     }
-    assert_eq!(rt; walk.next().copied(), None);
+    assert!(rt; walk.next().is_none());
     Ok(())
 }
 
@@ -91,16 +92,16 @@ fn ranges_of_keys<Node: NodeLike<u64>>(rt: &impl Abort, alloc: Global) -> Result
     requires { 10 ≤ Node.most }
 {
     let set: BTreeSet<u64, Node> = ascending(alloc, 10, 0, 20)?;
-    let middle = (Included(&8), Excluded(&12));
-    assert!(rt; set.range(middle).copied().eq([8, 9, 10, 11]));
+    let middle = set.range((Included(&8), Excluded(&12)));
+    let forwards = middle.copied().eq([8, 9, 10, 11]);
     let backwards = Range::new(&set, (Included(&10), Excluded(&13))).rev();
-    assert!(rt; backwards.copied().eq([12, 11, 10]));
+    let end = set.range((Excluded(&17), Unbounded));
+    assert!(rt; forwards && backwards.copied().eq([12, 11, 10]) && end.copied().eq([18, 19]));
     for first in 0..20 {
         for last in first..20 {
             assert!(rt; holds_all_between(&set, first, last), "{first} to {last}");
         }
     }
-    assert!(rt; set.range((Excluded(&17), Unbounded)).copied().eq([18, 19]));
     Ok(())
 }
 
@@ -137,37 +138,28 @@ fn nodes_of_four<Node: NodeLike<u64>>(rt: &impl Abort, alloc: Global) -> Result<
     requires { 4 ≤ Node.most }
 {
     let set: BTreeSet<u64, Node> = ascending(alloc, 4, 0, 10)?;
-    assert_eq!(rt; set.events_issued(), 13);
+    let four: [&[u64]; 4] = [&[0, 1], &[2, 3], &[4, 5], &[6, 7, 8, 9]];
+    let cut = are_nodes(set.iter_nodes(), &four) && set.events_issued() == 13;
     let mut nodes = set.iter_nodes();
-    assert_eq!(rt; nodes.len(), 4);
-    assert!(rt;
-        nodes
-            .next()
-            .is_some_and(|node| node.iter().copied().eq([0, 1]))
-    );
-    assert!(rt;
-        nodes
-            .next()
-            .is_some_and(|node| node.iter().copied().eq([2, 3]))
-    );
-    assert!(rt;
-        nodes
-            .next_back()
-            .is_some_and(|node| node.iter().copied().eq([6, 7, 8, 9]))
-    );
-    assert!(rt;
-        nodes
-            .next()
-            .is_some_and(|node| node.iter().copied().eq([4, 5]))
-    );
-    assert!(rt; nodes.next().is_none());
-    assert!(rt; set.capacity() >= 10);
+    let rows: [(bool, &[u64]); 4] = [
+        (true, &[0, 1]),
+        (true, &[2, 3]),
+        (false, &[6, 7, 8, 9]),
+        (true, &[4, 5]),
+    ];
+    for (from_front, items) in rows {
+        let node = if from_front {
+            nodes.next()
+        } else {
+            nodes.next_back()
+        };
+        assert!(rt; node.is_some_and(|node| node.iter().as_slice() == items));
+    }
     let below = set.range_between((0, 0), place_of(&set, &7));
-    assert!(rt; below.copied().eq(0..7));
+    assert!(rt; cut && nodes.next().is_none() && set.capacity() >= 10 && below.copied().eq(0..7));
     let none: BTreeSet<u64, Node> = ascending(alloc, 4, 0, 0)?;
-    assert!(rt; none.iter_nodes().next().is_none());
-    assert_eq!(rt; none.capacity(), 0);
-    assert_eq!(rt; none.range_between((0, 0), place_of(&none, &7)).len(), 0);
+    let absent = none.iter_nodes().next().is_none() && none.capacity() == 0;
+    assert!(rt; absent && none.range_between((0, 0), place_of(&none, &7)).len() == 0);
     Ok(())
 }
 
