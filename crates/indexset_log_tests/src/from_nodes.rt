@@ -17,11 +17,16 @@ pub fn nodes_of(alloc: Global, values: &[&[u64]]) -> Result<Vec<Vec<u64>>, Alloc
     Ok(nodes)
 }
 
-// Why nodes are refused as those of a tree of nodes of four, where they are handed back as they were.
+// Why nodes are refused as those of a tree of nodes of four, if they are; they are handed back as they were.
 fn refusal_of(alloc: Global, values: &[&[u64]]) -> Result<Option<Refusal>, Fail> {
     match Set::from_nodes(nodes_of(alloc, values)?, 4, 0) {
         Ok(_) => Ok(None),
-        Err(Refused { value, cause }) => Ok(are_copies(value.as_slice(), values).then_some(cause)),
+        Err(Refused { value, cause }) => {
+            if !are_copies(value.as_slice(), values) {
+                return Err(Fail::new("the nodes come back changed"));
+            }
+            Ok(Some(cause))
+        }
     }
 }
 

@@ -129,7 +129,10 @@ fn attach_refusal(alloc: Global, places: &[(u64, u64)]) -> Result<Option<Refusal
             let events_stay = map.events_issued() == 2;
             map.insert(6, 'c')?;
             let numbers = map.raw_get(&6).map(|(_, number, _)| *number).eq([1, 2]);
-            Ok((back && stays && events_stay && numbers).then_some(cause))
+            if !(back && stays && events_stay && numbers) {
+                return Err(Fail::new("the node or the multimap has changed"));
+            }
+            Ok(Some(cause))
         }
     }
 }

@@ -83,11 +83,16 @@ fn a_snapshot_catches_up(rt: HostRuntime) -> Result<(), Fail> {
     Ok(())
 }
 
-/// Why a replica is refused these nodes, where they are handed back as they were.
+/// Why a replica is refused these nodes, if they are; they are handed back as they were.
 fn refusal_of(alloc: Global, values: &[&[u64]]) -> Result<Option<Refusal>, Fail> {
     match Replica::from_nodes(nodes_of(alloc, values)?, 0) {
         Ok(_) => Ok(None),
-        Err(Refused { value, cause }) => Ok(are_copies(value.as_slice(), values).then_some(cause)),
+        Err(Refused { value, cause }) => {
+            if !are_copies(value.as_slice(), values) {
+                return Err(Fail::new("the nodes come back changed"));
+            }
+            Ok(Some(cause))
+        }
     }
 }
 
