@@ -1,6 +1,6 @@
 //! Worked examples of trees that are made of the nodes of others.
 
-use crate::logged::rows_of;
+use crate::told::{Told, are_copies, are_events, are_nodes};
 use indexset_core::refusal::{Refusal, Refused};
 use indexset_log::set::BTreeSet;
 use std::alloc::{AllocError, Global};
@@ -8,52 +8,54 @@ use std::test::Fail;
 
 type Set = BTreeSet<u64, Vec<u64>>;
 
-fn two_nodes(
-    alloc: Global,
-    first: Vec<u64>,
-    second: Vec<u64>,
-) -> Result<Vec<Vec<u64>>, AllocError> {
-    let mut nodes = Vec::with_capacity(alloc, 2)?;
-    nodes.push_reserved(first);
-    nodes.push_reserved(second);
+/// Nodes of these values.
+pub fn nodes_of(alloc: Global, values: &[&[u64]]) -> Result<Vec<Vec<u64>>, AllocError> {
+    let mut nodes = Vec::new(alloc);
+    for node in values {
+        nodes.push(node.to_vec(alloc)?)?;
+    }
     Ok(nodes)
 }
 
-// Why nodes are refused, and how many are handed back.
-fn refusal_of(nodes: Vec<Vec<u64>>) -> Option<(Refusal, usize)> {
-    match Set::from_nodes(nodes, 4, 0) {
-        Ok(_) => None,
-        Err(Refused { value, cause }) => Some((cause, value.len())),
+// Why nodes are refused as those of a tree of nodes of four, if they are; they are handed back as they were.
+fn refusal_of(alloc: Global, values: &[&[u64]]) -> Result<Option<Refusal>, Fail> {
+    match Set::from_nodes(nodes_of(alloc, values)?, 4, 0) {
+        Ok(_) => Ok(None),
+        Err(Refused { value, cause }) => {
+            if !are_copies(value.as_slice(), values) {
+                return Err(Fail::new("the nodes come back changed"));
+            }
+            Ok(Some(cause))
+        }
     }
 }
 
 #[test]
 fn from_nodes_goes_on_with_the_next_number(rt: HostRuntime) -> Result<(), Fail> {
-    let alloc = rt.alloc();
-    let nodes = two_nodes(alloc, vec![in alloc; 0, 1]?, vec![in alloc; 2, 3]?)?;
+    let nodes = nodes_of(rt.alloc(), &[&[0, 1], &[2, 3]])?;
     let mut tree = Set::from_nodes(nodes, 4, 7)?;
-    assert_eq!(rt; tree.len(), 4);
+    let held = tree.len() == 4;
     let (old, events) = tree.put_cdc(4)?;
-    assert_eq!(rt; old, None);
-    let rows = rows_of(alloc, events.as_slice())?;
-    assert_eq!(rt; rows.as_slice(), [(7, "insert", 3, 4, 2)].as_slice());
-    assert_eq!(rt; tree.node_count(), 2);
-    assert_eq!(rt; tree.events_issued(), 8);
+    let put = old.is_none() && are_events(events.as_slice(), &[Told::Insert(7, 3, 4, 2)]);
+    let stand = are_nodes(tree.iter_nodes(), &[&[0, 1], &[2, 3, 4]]);
+    assert!(rt; held && put && stand && tree.events_issued() == 8);
     Ok(())
 }
 
 #[test]
 fn from_nodes_refuses_what_is_no_list_of_nodes(rt: HostRuntime) -> Result<(), Fail> {
-    let alloc = rt.alloc();
-    let empty = two_nodes(alloc, vec![in alloc; 0, 1]?, Vec::new(alloc))?;
-    assert_eq!(rt; refusal_of(empty), Some((Refusal::Empty, 2)));
-    let large = two_nodes(alloc, vec![in alloc; 0, 1, 2, 3, 4]?, vec![in alloc; 5u64]?)?;
-    assert_eq!(rt; refusal_of(large), Some((Refusal::TooLarge, 2)));
-    let unsorted = two_nodes(alloc, vec![in alloc; 0, 1]?, vec![in alloc; 3, 2]?)?;
-    assert_eq!(rt; refusal_of(unsorted), Some((Refusal::Unsorted, 2)));
-    let equal = two_nodes(alloc, vec![in alloc; 0, 1]?, vec![in alloc; 1, 2]?)?;
-    assert_eq!(rt; refusal_of(equal), Some((Refusal::Overlaps, 2)));
-    let backwards = two_nodes(alloc, vec![in alloc; 2, 3]?, vec![in alloc; 0, 1]?)?;
-    assert_eq!(rt; refusal_of(backwards), Some((Refusal::Overlaps, 2)));
+    let rows: [(&[&[u64]], Option<Refusal>); 8] = [
+        (&[], None),
+        (&[&[0, 1, 2, 3], &[4]], None),
+        (&[&[0, 1], &[]], Some(Refusal::Empty)),
+        (&[&[0, 1, 2, 3, 4], &[5]], Some(Refusal::TooLarge)),
+        (&[&[4, 3, 2, 1, 0], &[]], Some(Refusal::TooLarge)),
+        (&[&[0, 1], &[3, 2]], Some(Refusal::Unsorted)),
+        (&[&[0, 1], &[1, 2]], Some(Refusal::Overlaps)),
+        (&[&[2, 3], &[0, 1]], Some(Refusal::Overlaps)),
+    ];
+    for (nodes, refusal) in rows {
+        assert!(rt; refusal_of(rt.alloc(), nodes)? == refusal);
+    }
     Ok(())
 }

@@ -57,14 +57,13 @@ fn with_the_next<Node: NodeLike<u64>>(rt: &impl Abort, alloc: Global) -> Result<
     requires { 4 ≤ Node.most }
 {
     let mut tree: BTreeSet<u64, Node> = ascending(alloc, 4, 10)?;
-    assert!(rt; removes(&mut tree, 3, &[Told::Remove(13, 3, 3, 1)])?);
-    assert!(rt;
-        removes(
-            &mut tree,
-            1,
-            &[Told::Remove(14, 1, 1, 1), Told::Merge(15, 0, 2)]
-        )?
-    );
+    let rows: [(u64, &[Told<u64>]); 2] = [
+        (3, &[Told::Remove(13, 3, 3, 1)]),
+        (1, &[Told::Remove(14, 1, 1, 1), Told::Merge(15, 0, 2)]),
+    ];
+    for (key, told) in rows {
+        assert!(rt; removes(&mut tree, key, told)?, "of {key}");
+    }
     assert!(rt; are_nodes(tree.iter_nodes(), &[&[0, 2], &[4, 5], &[6, 7, 8, 9]]));
     Ok(())
 }
@@ -79,21 +78,18 @@ fn with_the_one_before<Node: NodeLike<u64>>(rt: &impl Abort, alloc: Global) -> R
     requires { 4 ≤ Node.most }
 {
     let mut tree: BTreeSet<u64, Node> = ascending(alloc, 4, 10)?;
-    assert_eq!(rt; (tree.node_count(), tree.len()), (4, 10));
-    assert!(rt; has_few_nodes(&tree));
-    assert!(rt; removes(&mut tree, 5, &[Told::Remove(13, 5, 5, 1)])?);
-    assert!(rt; removes(&mut tree, 9, &[Told::Remove(14, 9, 9, 3)])?);
-    assert!(rt; removes(&mut tree, 8, &[Told::Remove(15, 8, 8, 2)])?);
-    assert!(rt;
-        removes(
-            &mut tree,
-            7,
-            &[Told::Remove(16, 7, 7, 1), Told::Merge(17, 4, 6)]
-        )?
-    );
-    assert!(rt; are_nodes(tree.iter_nodes(), &[&[0, 1], &[2, 3], &[4, 6]]));
-    assert_eq!(rt; (tree.node_count(), tree.len()), (3, 6));
-    assert!(rt; has_few_nodes(&tree));
+    assert!(rt; tree.node_count() == 4 && tree.len() == 10 && has_few_nodes(&tree));
+    let rows: [(u64, &[Told<u64>]); 4] = [
+        (5, &[Told::Remove(13, 5, 5, 1)]),
+        (9, &[Told::Remove(14, 9, 9, 3)]),
+        (8, &[Told::Remove(15, 8, 8, 2)]),
+        (7, &[Told::Remove(16, 7, 7, 1), Told::Merge(17, 4, 6)]),
+    ];
+    for (key, told) in rows {
+        assert!(rt; removes(&mut tree, key, told)?, "of {key}");
+    }
+    let joined = are_nodes(tree.iter_nodes(), &[&[0, 1], &[2, 3], &[4, 6]]);
+    assert!(rt; joined && tree.len() == 6 && has_few_nodes(&tree));
     Ok(())
 }
 
@@ -134,14 +130,12 @@ fn at_the_last_number<Node: NodeLike<u64>>(rt: &impl Abort, alloc: Global) -> Re
     let mut tree: BTreeSet<u64, Node> = BTreeSet::starting_at(alloc, 4, 18446744073709551614);
     tree.attach_node(node_of(alloc, &[0, 1])?)?;
     tree.attach_node(node_of(alloc, &[2])?)?;
-    assert!(rt;
-        tree.remove_cdc(&1)
-            .is_err_and(|refusal| refusal == Refusal::Numbers)
-    );
-    assert!(rt; are_nodes(tree.iter_nodes(), &[&[0, 1], &[2]]));
-    assert_eq!(rt; tree.events_issued(), 18446744073709551614);
-    assert!(rt; removes(&mut tree, 2, &[Told::Leave(18446744073709551614, 2)])?);
-    assert!(rt; are_nodes(tree.iter_nodes(), &[&[0, 1]]));
+    let removed = tree.remove_cdc(&1);
+    let refused = removed.is_err_and(|refusal| refusal == Refusal::Numbers);
+    let stays = are_nodes(tree.iter_nodes(), &[&[0, 1], &[2]]);
+    assert!(rt; refused && stays && tree.events_issued() == 18446744073709551614);
+    let gone = removes(&mut tree, 2, &[Told::Leave(18446744073709551614, 2)])?;
+    assert!(rt; gone && are_nodes(tree.iter_nodes(), &[&[0, 1]]));
     Ok(())
 }
 
@@ -199,53 +193,54 @@ fn a_thousand_numbers_in_few_nodes(rt: HostRuntime) -> Result<(), Fail> {
     put_and_removed::<ArrayNode<u64, 4>>(&rt, rt.alloc())
 }
 
-macro_rules! joined_pairs {
-    ($rt:expr, $node:ty) => {
-        let mut map: BTreeMap<u64, char, $node> = BTreeMap::with_maximum_node_size($rt.alloc(), 4);
-        for (key, value) in [(0, 'a'), (1, 'b'), (2, 'c'), (3, 'd'), (4, 'e'), (3, 'f')] {
-            map.insert(key, value)?;
-        }
-        assert_eq!($rt; map.remove(&4)?, Some((4, 'e')));
-        assert_eq!($rt; map.remove(&3)?, Some((3, 'f')));
-        let (out, events) = map.remove_cdc(&1)?;
-        assert_eq!($rt; out, Some((1, 'b')));
-        assert!($rt; are_events(events.as_slice(), &[
-            Told::Remove(10, (1, 'b'), (1, 'b'), 1),
-            Told::Merge(11, (0, 'a'), (2, 'c')),
-        ]));
-        assert!($rt; are_nodes(map.iter_nodes(), &[&[(0, 'a'), (2, 'c')]]));
-    };
+fn joins_pairs<Node: NodeLike<Pair<u64, char>>>(alloc: Global) -> Result<bool, Fail>
+    requires { 4 ≤ Node.most }
+{
+    let mut map: BTreeMap<u64, char, Node> = BTreeMap::with_maximum_node_size(alloc, 4);
+    for (key, value) in [(0, 'a'), (1, 'b'), (2, 'c'), (3, 'd'), (4, 'e'), (3, 'f')] {
+        map.insert(key, value)?;
+    }
+    let last = map.remove(&4)?;
+    let third = map.remove(&3)?;
+    let (out, events) = map.remove_cdc(&1)?;
+    let told = [
+        Told::Remove(10, (1, 'b'), (1, 'b'), 1),
+        Told::Merge(11, (0, 'a'), (2, 'c')),
+    ];
+    let gone = last == Some((4, 'e')) && third == Some((3, 'f')) && out == Some((1, 'b'));
+    let joined = are_nodes(map.iter_nodes(), &[&[(0, 'a'), (2, 'c')]]);
+    Ok(gone && are_events(events.as_slice(), &told) && joined)
 }
 
 #[test]
 fn remove_cdc_of_a_map_joins(rt: HostRuntime) -> Result<(), Fail> {
-    joined_pairs!(rt, Vec<Pair<u64, char>>);
-    joined_pairs!(rt, ArrayNode<Pair<u64, char>, 4>);
+    assert!(rt; joins_pairs::<Vec<Pair<u64, char>>>(rt.alloc())?);
+    assert!(rt; joins_pairs::<ArrayNode<Pair<u64, char>, 4>>(rt.alloc())?);
     Ok(())
 }
 
-macro_rules! joined_values {
-    ($rt:expr, $node:ty) => {
-        let mut map: BTreeMultiMap<u64, char, $node> =
-            BTreeMultiMap::with_maximum_node_size($rt.alloc(), 4);
-        for value in ['a', 'b', 'c', 'd', 'e'] {
-            map.insert(1, value)?;
-        }
-        assert_eq!($rt; map.remove(&1, &'e')?, Some((1, 'e')));
-        assert_eq!($rt; map.remove(&1, &'d')?, Some((1, 'd')));
-        let (out, events) = map.remove_some_cdc(&1)?;
-        assert_eq!($rt; out, Some((1, 'a')));
-        assert!($rt; are_events(events.as_slice(), &[
-            Told::Remove(8, (1, 1, 'b'), (1, 0, 'a'), 0),
-            Told::Merge(9, (1, 1, 'b'), (1, 2, 'c')),
-        ]));
-        assert!($rt; are_nodes(map.iter_nodes(), &[&[(1, 1, 'b'), (1, 2, 'c')]]));
-    };
+fn joins_values<Node: NodeLike<MultiPair<u64, char>>>(alloc: Global) -> Result<bool, Fail>
+    requires { 4 ≤ Node.most }
+{
+    let mut map: BTreeMultiMap<u64, char, Node> = BTreeMultiMap::with_maximum_node_size(alloc, 4);
+    for value in ['a', 'b', 'c', 'd', 'e'] {
+        map.insert(1, value)?;
+    }
+    let last = map.remove(&1, &'e')?;
+    let fourth = map.remove(&1, &'d')?;
+    let (out, events) = map.remove_some_cdc(&1)?;
+    let told = [
+        Told::Remove(8, (1, 1, 'b'), (1, 0, 'a'), 0),
+        Told::Merge(9, (1, 1, 'b'), (1, 2, 'c')),
+    ];
+    let gone = last == Some((1, 'e')) && fourth == Some((1, 'd')) && out == Some((1, 'a'));
+    let joined = are_nodes(map.iter_nodes(), &[&[(1, 1, 'b'), (1, 2, 'c')]]);
+    Ok(gone && are_events(events.as_slice(), &told) && joined)
 }
 
 #[test]
 fn remove_some_cdc_of_a_multimap_joins(rt: HostRuntime) -> Result<(), Fail> {
-    joined_values!(rt, Vec<MultiPair<u64, char>>);
-    joined_values!(rt, ArrayNode<MultiPair<u64, char>, 4>);
+    assert!(rt; joins_values::<Vec<MultiPair<u64, char>>>(rt.alloc())?);
+    assert!(rt; joins_values::<ArrayNode<MultiPair<u64, char>, 4>>(rt.alloc())?);
     Ok(())
 }

@@ -34,6 +34,8 @@ mod replica;
 #[cfg(test)]
 mod scarce;
 #[cfg(test)]
+mod snapshot;
+#[cfg(test)]
 mod terminal;
 #[cfg(test)]
 mod told;

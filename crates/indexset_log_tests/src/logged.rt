@@ -2,11 +2,12 @@
 ghost use Rattle.std.specs.Prelude.{◌≤◌, ◌<◌, length, IfOk};
 ghost use Rattle.indexset_core.specs.Nodes.{node_at};
 
+use crate::told::{Told, are_events, are_items, are_nodes, shown};
 use indexset_core::array_node::ArrayNode;
 use indexset_core::node::NodeLike;
 use indexset_core::probe::ByItem;
-use indexset_core::refusal::{Refusal, Refused};
-use indexset_log::change::{ChangeEvent, ChangeEventUnassigned, Id};
+use indexset_core::refusal::Refusal;
+use indexset_log::change::{ChangeEventUnassigned, Id};
 use indexset_log::set::BTreeSet;
 use indexset_tests::nodes::node_of;
 use indexset_tests::tagged::Tagged;
@@ -18,49 +19,6 @@ use std::test::Fail;
 mod removed;
 
 type Set = BTreeSet<u64, Vec<u64>>;
-
-/// An event in a row: number, name, the node's last item, value and index, 0 where it has none.
-fn row_of(event: &ChangeEvent<u64>) -> (u64, &'static str, u64, u64, usize) {
-    let id = event.id().inner();
-    match event {
-        ChangeEvent::InsertAt {
-            max_value,
-            value,
-            index,
-            ..
-        } => (id, "insert", *max_value, *value, *index),
-        ChangeEvent::RemoveAt {
-            max_value,
-            value,
-            index,
-            ..
-        } => (id, "remove", *max_value, *value, *index),
-        ChangeEvent::CreateNode { max_value, .. } => (id, "create", *max_value, 0, 0),
-        ChangeEvent::RemoveNode { max_value, .. } => (id, "drop", *max_value, 0, 0),
-        ChangeEvent::SplitNode {
-            max_value,
-            split_index,
-            ..
-        } => (id, "split", *max_value, 0, *split_index),
-        ChangeEvent::MergeNodes {
-            max_value,
-            next_max_value,
-            ..
-        } => (id, "merge", *max_value, *next_max_value, 0),
-    }
-}
-
-/// The rows of events, in order.
-pub fn rows_of(
-    alloc: Global,
-    events: &[ChangeEvent<u64>],
-) -> Result<Vec<(u64, &'static str, u64, u64, usize)>, Fail> {
-    let mut rows = Vec::new(alloc);
-    for event in events {
-        rows.push(row_of(event))?;
-    }
-    Ok(rows)
-}
 
 /// A tree of these values, put in one after another.
 fn tree_of<Node: NodeLike<u64>>(
@@ -93,27 +51,21 @@ fn place_of<Node: NodeLike<u64>>(
     tree.locate_by(&mut ByItem::new(&value))
 }
 
-/// Where each of these values stands.
-fn places_of<Node: NodeLike<u64>>(
-    alloc: Global,
-    tree: &BTreeSet<u64, Node>,
-    values: &[u64],
-) -> Result<Vec<Result<(usize, usize), (usize, usize)>>, Fail> {
-    let mut places = Vec::new(alloc);
-    for value in values {
-        places.push(place_of(tree, *value))?;
-    }
-    Ok(places)
-}
-
-/// Why a node is refused, and how long what is handed back is.
+/// Why a node of these values is refused, where it is handed back as it was.
 fn refusal_of<Node: NodeLike<u64>>(
     tree: &mut BTreeSet<u64, Node>,
-    node: Node,
-) -> Option<(Refusal, usize)> {
-    match tree.attach_node(node) {
-        Ok(()) => None,
-        Err(refused) => Some((refused.cause, refused.value.len())),
+    alloc: Global,
+    values: &[u64],
+) -> Result<Option<Refusal>, Refusal> {
+    if values.len() > Node::limit() {
+        return Ok(None);
+    }
+    match tree.attach_node(node_of(alloc, values)?) {
+        Ok(()) => Ok(None),
+        Err(refused) => {
+            let back = refused.value.iter().as_slice() == values;
+            Ok(back.then_some(refused.cause))
+        }
     }
 }
 
@@ -124,36 +76,15 @@ fn an_event_names_the_item_replaced(rt: HostRuntime) -> Result<(), Fail> {
     tree.put_cdc(of(1, 'a'))?;
     tree.put_cdc(of(2, 'a'))?;
     let (old, events) = tree.put_cdc(of(2, 'b'))?;
-    assert_eq!(rt; old.map(|item| item.tag), Some('a'));
-    assert_eq!(rt; events.len(), 2);
-    assert!(rt;
-        matches!(
-            &events[0],
-            ChangeEvent::RemoveAt {
-                max_value: Tagged { key: 2, tag: 'a' },
-                value: Tagged { key: 2, tag: 'a' },
-                index: 1,
-                ..
-            }
-        )
-    );
-    assert!(rt;
-        matches!(
-            &events[1],
-            ChangeEvent::InsertAt {
-                max_value: Tagged { key: 1, tag: 'a' },
-                value: Tagged { key: 2, tag: 'b' },
-                index: 1,
-                ..
-            }
-        )
-    );
-    assert_eq!(rt; events[0].id().inner(), 2);
-    assert_eq!(rt; events[1].id().inner(), 3);
-    assert!(rt; !tree.insert(of(1, 'c'))?);
-    assert_eq!(rt; tree.get(&of(1, 'x')).map(|item| item.tag), Some('a'));
-    assert_eq!(rt; tree.get(&of(2, 'x')).map(|item| item.tag), Some('b'));
-    assert_eq!(rt; tree.node_count(), 1);
+    let told = [
+        Told::Remove(2, (2, 'a'), (2, 'a'), 1),
+        Told::Insert(3, (1, 'a'), (2, 'b'), 1),
+    ];
+    let replaced = old.is_some_and(|item| item.tag == 'a') && are_events(events.as_slice(), &told);
+    let inserted = tree.insert(of(1, 'c'))?;
+    let stays = are_nodes(tree.iter_nodes(), &[&[(1, 'a'), (2, 'b')]]);
+    let held = tree.get(&of(2, 'x')).is_some_and(|item| item.tag == 'b');
+    assert!(rt; replaced && !inserted && stays && held && tree.events_issued() == 4);
     Ok(())
 }
 
@@ -161,30 +92,11 @@ fn an_event_names_the_item_replaced(rt: HostRuntime) -> Result<(), Fail> {
 fn ten_items_in_nodes_of_four(rt: HostRuntime) -> Result<(), Fail> {
     let values = [0, 1, 2, 3, 4, 5, 6, 7, 8, 9];
     let mut tree: Set = tree_of(rt.alloc(), 4, &values)?;
-    assert_eq!(rt; tree.node_count(), 4);
-    assert_eq!(rt; tree.events_issued(), 13);
-    let places = places_of(rt.alloc(), &tree, &[1, 2, 5, 6, 9])?;
-    assert_eq!(rt;
-        places.as_slice(),
-        [Ok((0, 1)), Ok((1, 0)), Ok((2, 1)), Ok((3, 0)), Ok((3, 3))].as_slice()
-    );
+    let four: [&[u64]; 4] = [&[0, 1], &[2, 3], &[4, 5], &[6, 7, 8, 9]];
+    let made = are_nodes(tree.iter_nodes(), &four) && tree.events_issued() == 13;
     tree.remove_range((Bound::Included(&3), Bound::Included(&6)));
-    assert_eq!(rt; tree.node_count(), 3);
-    assert_eq!(rt; tree.len(), 6);
-    let places = places_of(rt.alloc(), &tree, &[0, 1, 2, 7, 8, 9])?;
-    assert_eq!(rt;
-        places.as_slice(),
-        [
-            Ok((0, 0)),
-            Ok((0, 1)),
-            Ok((1, 0)),
-            Ok((2, 0)),
-            Ok((2, 1)),
-            Ok((2, 2))
-        ]
-        .as_slice()
-    );
-    assert_eq!(rt; tree.events_issued(), 13);
+    let left = are_nodes(tree.iter_nodes(), &[&[0, 1], &[2], &[7, 8, 9]]);
+    assert!(rt; made && left && tree.len() == 6 && tree.events_issued() == 13);
     Ok(())
 }
 
@@ -193,12 +105,8 @@ fn a_range_to_the_end_taken_out(rt: HostRuntime) -> Result<(), Fail> {
     let values = [0, 1, 2, 3, 4, 5, 6, 7, 8, 9];
     let mut tree: Set = tree_of(rt.alloc(), 4, &values)?;
     tree.remove_range((Bound::Included(&6), Bound::Unbounded));
-    assert_eq!(rt; tree.node_count(), 3);
-    let places = places_of(rt.alloc(), &tree, &[0, 3, 5, 6])?;
-    assert_eq!(rt;
-        places.as_slice(),
-        [Ok((0, 0)), Ok((1, 1)), Ok((2, 1)), Err((2, 2))].as_slice()
-    );
+    let left = are_nodes(tree.iter_nodes(), &[&[0, 1], &[2, 3], &[4, 5]]);
+    assert!(rt; left && tree.len() == 6 && tree.events_issued() == 13);
     Ok(())
 }
 
@@ -206,27 +114,20 @@ fn a_range_to_the_end_taken_out(rt: HostRuntime) -> Result<(), Fail> {
 fn at_the_last_number<Node: NodeLike<u64>>(rt: &impl Abort, alloc: Global) -> Result<(), Fail>
     requires { 4 ≤ Node.most }
 {
-    let mut tree: BTreeSet<u64, Node> = BTreeSet::starting_at(alloc, 4, u64::MAX - 1);
+    let mut tree: BTreeSet<u64, Node> = BTreeSet::starting_at(alloc, 4, 18446744073709551614);
     let (old, events) = tree.put_cdc(1)?;
-    assert_eq!(rt; old, None);
-    let rows = rows_of(alloc, events.as_slice())?;
-    assert_eq!(rt;
-        rows.as_slice(),
-        [(18446744073709551614, "create", 1, 0, 0)].as_slice()
-    );
-    match tree.put_cdc(2) {
-        Ok(_) => assert!(rt; false),
-        Err(Refused { value, cause }) => {
-            assert_eq!(rt; value, 2);
-            assert_eq!(rt; cause, Refusal::Numbers);
-        }
-    }
-    assert_eq!(rt; tree.len(), 1);
+    let told = [Told::Create(18446744073709551614, 1)];
+    let made = old.is_none() && are_events(events.as_slice(), &told);
+    let put = tree.put_cdc(2);
+    let refused = put.is_err_and(|it| it.value == 2 && it.cause == Refusal::Numbers);
+    let stays = are_nodes(tree.iter_nodes(), &[&[1]]);
+    assert!(rt; made && refused && stays && tree.events_issued() == 18446744073709551615);
     let (item, events) = tree.remove_cdc(&9)?;
-    assert!(rt; item.is_none() && events.is_empty());
-    assert!(rt; !tree.insert(1)?);
-    assert!(rt; tree.put_cdc_checked(1)?.is_none());
-    assert_eq!(rt; tree.remove(&1), Err(Refusal::Numbers));
+    let inserted = tree.insert(1)?;
+    let checked = tree.put_cdc_checked(1)?;
+    let removed = tree.remove(&1);
+    let none = item.is_none() && events.is_empty() && !inserted && checked.is_none();
+    assert!(rt; none && removed == Err(Refusal::Numbers));
     Ok(())
 }
 
@@ -241,26 +142,21 @@ fn attached_between<Node: NodeLike<u64>>(rt: &impl Abort, alloc: Global) -> Resu
     requires { 8 ≤ Node.most }
 {
     let mut tree: BTreeSet<u64, Node> = BTreeSet::with_maximum_node_size(alloc, 4);
-    assert_eq!(rt; refusal_of(&mut tree, node_of(alloc, &[5, 6])?), None);
-    assert_eq!(rt; refusal_of(&mut tree, node_of(alloc, &[9])?), None);
-    let none = node_of(alloc, &[])?;
-    let five = node_of(alloc, &[1, 2, 3, 4, 5])?;
-    let equal = node_of(alloc, &[6, 7])?;
-    let across = node_of(alloc, &[4, 10])?;
-    let between = node_of(alloc, &[7, 8])?;
-    assert_eq!(rt; refusal_of(&mut tree, none), Some((Refusal::Empty, 0)));
-    assert_eq!(rt; refusal_of(&mut tree, five), Some((Refusal::TooLarge, 5)));
-    assert_eq!(rt; refusal_of(&mut tree, equal), Some((Refusal::Overlaps, 2)));
-    assert_eq!(rt; refusal_of(&mut tree, across), Some((Refusal::Overlaps, 2)));
-    assert_eq!(rt; refusal_of(&mut tree, between), None);
-    assert_eq!(rt; tree.node_count(), 3);
-    assert_eq!(rt; tree.len(), 5);
-    assert_eq!(rt; tree.events_issued(), 0);
-    let places = places_of(alloc, &tree, &[5, 6, 7, 8, 9])?;
-    assert_eq!(rt;
-        places.as_slice(),
-        [Ok((0, 0)), Ok((0, 1)), Ok((1, 0)), Ok((1, 1)), Ok((2, 0))].as_slice()
-    );
+    tree.attach_node(node_of(alloc, &[5, 6])?)?;
+    tree.attach_node(node_of(alloc, &[9])?)?;
+    let rows: [(&[u64], Refusal); 4] = [
+        (&[], Refusal::Empty),
+        (&[1, 2, 3, 4, 5], Refusal::TooLarge),
+        (&[6, 7], Refusal::Overlaps),
+        (&[4, 10], Refusal::Overlaps),
+    ];
+    for (values, refusal) in rows {
+        let cause = refusal_of(&mut tree, alloc, values)?;
+        assert!(rt; cause == Some(refusal) && are_nodes(tree.iter_nodes(), &[&[5, 6], &[9]]));
+    }
+    tree.attach_node(node_of(alloc, &[7, 8])?)?;
+    let between = are_nodes(tree.iter_nodes(), &[&[5, 6], &[7, 8], &[9]]);
+    assert!(rt; between && tree.len() == 5 && tree.events_issued() == 0);
     Ok(())
 }
 
@@ -273,21 +169,22 @@ fn nodes_attached(rt: HostRuntime) -> Result<(), Fail> {
 #[test]
 fn a_node_of_equal_items_is_refused(rt: HostRuntime) -> Result<(), Fail> {
     let mut tree: Set = BTreeSet::with_maximum_node_size(rt.alloc(), 4);
-    let twice = vec![in rt.alloc(); 7, 7]?;
-    assert_eq!(rt; refusal_of(&mut tree, twice), Some((Refusal::Unsorted, 2)));
-    assert!(rt; tree.is_empty());
+    tree.attach_node(vec![in rt.alloc(); 5, 6]?)?;
+    tree.attach_node(vec![in rt.alloc(); 9]?)?;
+    let attached = tree.attach_node(vec![in rt.alloc(); 7, 7]?);
+    let refused = attached.is_err_and(|it| are_items(it.value.as_slice(), &[7, 7])
+        && it.cause == Refusal::Unsorted);
+    let stays = are_nodes(tree.iter_nodes(), &[&[5, 6], &[9]]);
+    assert!(rt; refused && stays && tree.len() == 3 && tree.events_issued() == 0);
     Ok(())
 }
 
 #[test]
 fn an_empty_tree_has_no_node(rt: HostRuntime) -> Result<(), Fail> {
     let tree: Set = BTreeSet::new(rt.alloc());
-    assert_eq!(rt; tree.node_count(), 0);
-    assert_eq!(rt; tree.len(), 0);
-    assert!(rt; tree.is_empty());
-    assert_eq!(rt; tree.maximum_node_size(), 1024);
-    assert_eq!(rt; tree.get(&1), None);
-    assert_eq!(rt; place_of(&tree, 1), Err((0, 0)));
+    let none = tree.node_count() == 0 && tree.len() == 0 && tree.is_empty();
+    let absent = tree.get(&1).is_none() && place_of(&tree, 1) == Err((0, 0));
+    assert!(rt; none && absent && tree.maximum_node_size() == 1024);
     Ok(())
 }
 
@@ -298,15 +195,12 @@ fn one_item_by_turns<Node: NodeLike<u64>>(rt: &impl Abort, alloc: Global) -> Res
     let mut tree: BTreeSet<u64, Node> = BTreeSet::with_maximum_node_size(alloc, 4);
     let (_, made) = tree.put_cdc(7)?;
     let (item, gone) = tree.remove_cdc(&7)?;
-    assert_eq!(rt; item, Some(7));
-    assert_eq!(rt; tree.node_count(), 0);
+    let emptied = item == Some(7) && tree.node_count() == 0;
     let (_, again) = tree.put_cdc(8)?;
-    let made = rows_of(alloc, made.as_slice())?;
-    let gone = rows_of(alloc, gone.as_slice())?;
-    let again = rows_of(alloc, again.as_slice())?;
-    assert_eq!(rt; made.as_slice(), [(0, "create", 7, 0, 0)].as_slice());
-    assert_eq!(rt; gone.as_slice(), [(1, "drop", 7, 0, 0)].as_slice());
-    assert_eq!(rt; again.as_slice(), [(2, "create", 8, 0, 0)].as_slice());
+    let made = are_events(made.as_slice(), &[Told::Create(0, 7)]);
+    let gone = are_events(gone.as_slice(), &[Told::Leave(1, 7)]);
+    let again = are_events(again.as_slice(), &[Told::Create(2, 8)]);
+    assert!(rt; emptied && made && gone && again);
     Ok(())
 }
 
@@ -318,66 +212,51 @@ fn a_node_of_one_comes_and_goes(rt: HostRuntime) -> Result<(), Fail> {
 
 #[test]
 fn a_put_over_the_only_item_of_a_half(rt: HostRuntime) -> Result<(), Fail> {
-    let mut tree: Set = tree_of(rt.alloc(), 2, &[5, 6])?;
-    let (old, events) = tree.put_cdc(5)?;
-    assert_eq!(rt; old, Some(5));
-    let rows = rows_of(rt.alloc(), events.as_slice())?;
-    assert_eq!(rt;
-        rows.as_slice(),
-        [
-            (2, "split", 6, 0, 1),
-            (3, "drop", 5, 0, 0),
-            (4, "create", 5, 0, 0)
-        ]
-        .as_slice()
-    );
-    assert_eq!(rt; tree.node_count(), 2);
+    let of = |key, tag| Tagged { key, tag };
+    let mut tree: BTreeSet<Tagged, Vec<Tagged>> = BTreeSet::with_maximum_node_size(rt.alloc(), 2);
+    tree.put_cdc(of(5, 'a'))?;
+    tree.put_cdc(of(6, 'a'))?;
+    let (old, events) = tree.put_cdc(of(6, 'b'))?;
+    let told = [
+        Told::Split(2, (6, 'a'), 1),
+        Told::Leave(3, (6, 'a')),
+        Told::Create(4, (6, 'b')),
+    ];
+    let replaced = old.is_some_and(|item| item.tag == 'a') && are_events(events.as_slice(), &told);
+    assert!(rt; replaced && are_nodes(tree.iter_nodes(), &[&[(5, 'a')], &[(6, 'b')]]));
     Ok(())
 }
 
 #[test]
 fn a_removal_by_place(rt: HostRuntime) -> Result<(), Fail> {
     let mut tree: Set = tree_of(rt.alloc(), 4, &[1, 2, 3])?;
-    assert_eq!(rt; tree.put(3)?, Some(3));
-    assert_eq!(rt; tree.events_issued(), 5);
-    if let Ok((node, offset)) = place_of(&tree, 2) {
-        let (item, events) = tree.remove_at_cdc(node, offset)?;
-        assert_eq!(rt; item, 2);
-        let rows = rows_of(rt.alloc(), events.as_slice())?;
-        assert_eq!(rt; rows.as_slice(), [(5, "remove", 3, 2, 1)].as_slice());
-    }
-    if let Ok((node, offset)) = place_of(&tree, 1) {
-        assert_eq!(rt; tree.remove_at(node, offset)?, 1);
-    }
-    assert_eq!(rt; tree.events_issued(), 7);
-    assert_eq!(rt; tree.len(), 1);
-    assert!(rt; tree.contains(&3) && !tree.contains(&2));
+    let old = tree.put(3)?;
+    let put = old == Some(3) && tree.events_issued() == 5;
+    let (node, offset) = place_of(&tree, 2)?;
+    let (item, events) = tree.remove_at_cdc(node, offset)?;
+    let told = are_events(events.as_slice(), &[Told::Remove(5, 3, 2, 1)]);
+    let (node, offset) = place_of(&tree, 1)?;
+    let first = tree.remove_at(node, offset)?;
+    let left = are_nodes(tree.iter_nodes(), &[&[3]]) && tree.events_issued() == 7;
+    assert!(rt; put && item == 2 && told && first == 1 && left);
     Ok(())
 }
 
 #[test]
 fn numbers_one_after_another(rt: HostRuntime) {
-    assert!(rt; Id::from(5).is_next_for(Id::from(4)));
-    assert!(rt; !Id::from(0).is_next_for(Id::from(18446744073709551615)));
-    assert_eq!(rt; u64::from(Id::from(7)), 7);
-    assert_eq!(rt; Id::default().inner(), 0);
+    let next = Id::from(5).is_next_for(Id::from(4));
+    let none = Id::from(0).is_next_for(Id::from(18446744073709551615));
+    let plain = u64::from(Id::from(7)) == 7 && Id::default().inner() == 0;
     let change = ChangeEventUnassigned::CreateNode { max_value: 3 };
-    assert_eq!(rt;
-        row_of(&change.assign_id(Id::from(9))),
-        (9, "create", 3, 0, 0)
-    );
+    let told = shown(&change.assign_id(Id::from(9))) == Told::Create(9, 3);
+    assert!(rt; next && !none && plain && told);
 }
 
 #[test]
 fn a_tree_of_values(rt: HostRuntime) -> Result<(), Fail> {
     let tree: Set = BTreeSet::from(rt.alloc(), vec![in rt.alloc(); 3, 1, 3, 2]?)?;
-    assert_eq!(rt; tree.len(), 3);
-    assert_eq!(rt; tree.events_issued(), 3);
-    let places = places_of(rt.alloc(), &tree, &[1, 2, 3])?;
-    assert_eq!(rt;
-        places.as_slice(),
-        [Ok((0, 0)), Ok((0, 1)), Ok((0, 2))].as_slice()
-    );
-    assert!(rt; BTreeSet::<u64, Vec<u64>>::default(rt.alloc()).is_empty());
+    let ascends = are_nodes(tree.iter_nodes(), &[&[1, 2, 3]]);
+    let none = BTreeSet::<u64, Vec<u64>>::default(rt.alloc()).is_empty();
+    assert!(rt; ascends && none && tree.len() == 3 && tree.events_issued() == 3);
     Ok(())
 }

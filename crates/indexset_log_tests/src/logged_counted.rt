@@ -56,16 +56,24 @@ fn few_comparisons_in_a_logged_set(rt: HostRuntime) -> Result<(), Fail> {
             asked: &asked,
         };
         asked.set(0);
-        assert!(rt; set.get(&sought).is_some_and(|found| found.key == key));
-        assert!(rt; asked.replace(0) <= 17, "get of {key}");
-        assert!(rt; set.contains(&sought));
-        assert!(rt; asked.replace(0) <= 17, "contains of {key}");
-        assert_eq!(rt; set.range((Included(&sought), Excluded(&next))).len(), 1);
-        assert!(rt; asked.replace(0) <= 34, "range from {key}");
-        assert!(rt; set.remove(&sought)?.is_some());
-        assert!(rt; asked.replace(0) <= 17, "remove of {key}");
-        assert!(rt; set.insert(sought)?);
-        assert!(rt; asked.get() <= 17, "insert of {key}");
+        let found = set.get(&sought).is_some_and(|found| found.key == key);
+        let get = asked.replace(0);
+        let held = set.contains(&sought);
+        let contains = asked.replace(0);
+        let count = set.range((Included(&sought), Excluded(&next))).len();
+        let range = asked.replace(0);
+        let removed = set.remove(&sought)?;
+        let remove = asked.replace(0);
+        let inserted = set.insert(sought)?;
+        assert!(rt;
+            found && held && count == 1 && removed.is_some() && inserted,
+            "of {key}"
+        );
+        let few = get <= 17 && contains <= 17 && range <= 34 && remove <= 17;
+        assert!(rt;
+            few && asked.get() <= 17,
+            "of {key}: {get} {contains} {range} {remove}"
+        );
     }
     Ok(())
 }
@@ -82,16 +90,24 @@ fn few_comparisons_in_a_logged_map(rt: HostRuntime) -> Result<(), Fail> {
             asked: &asked,
         };
         asked.set(0);
-        assert!(rt; map.get(&sought).is_some_and(|pair| pair.value == key));
-        assert!(rt; asked.replace(0) <= 17, "get of {key}");
-        assert!(rt; map.contains_key(&sought));
-        assert!(rt; asked.replace(0) <= 17, "contains_key of {key}");
-        assert_eq!(rt; map.range((Included(&sought), Excluded(&next))).len(), 1);
-        assert!(rt; asked.replace(0) <= 34, "range from {key}");
-        assert!(rt; map.remove(&sought)?.is_some());
-        assert!(rt; asked.replace(0) <= 17, "remove of {key}");
-        assert!(rt; map.insert(sought, key)?.is_none());
-        assert!(rt; asked.get() <= 17, "insert of {key}");
+        let found = map.get(&sought).is_some_and(|pair| pair.value == key);
+        let get = asked.replace(0);
+        let held = map.contains_key(&sought);
+        let contains = asked.replace(0);
+        let count = map.range((Included(&sought), Excluded(&next))).len();
+        let range = asked.replace(0);
+        let removed = map.remove(&sought)?;
+        let remove = asked.replace(0);
+        let old = map.insert(sought, key)?;
+        assert!(rt;
+            found && held && count == 1 && removed.is_some() && old.is_none(),
+            "of {key}"
+        );
+        let few = get <= 17 && contains <= 17 && range <= 34 && remove <= 17;
+        assert!(rt;
+            few && asked.get() <= 17,
+            "of {key}: {get} {contains} {range} {remove}"
+        );
     }
     Ok(())
 }
@@ -108,18 +124,21 @@ fn few_comparisons_in_a_multimap(rt: HostRuntime) -> Result<(), Fail> {
             asked: &asked,
         };
         asked.set(0);
-        assert_eq!(rt; map.get(&sought).len(), 1);
-        assert!(rt; asked.replace(0) <= 34, "get of {key}");
-        assert!(rt; map.contains_key(&sought));
-        assert!(rt; asked.replace(0) <= 17, "contains_key of {key}");
-        assert_eq!(rt; map.range((Included(&sought), Excluded(&next))).len(), 1);
-        assert!(rt; asked.replace(0) <= 34, "range from {key}");
-        assert!(rt; map.remove_some(&sought)?.is_some());
-        assert!(rt; asked.replace(0) <= 17, "remove_some of {key}");
-        assert!(rt; map.remove(&sought, &key)?.is_none());
-        assert!(rt; asked.replace(0) <= 51, "remove of {key}");
-        assert!(rt; map.insert(sought, key)?.is_none());
-        assert!(rt; asked.get() <= 51, "insert of {key}");
+        let values = map.get(&sought).len();
+        let get = asked.replace(0);
+        let held = map.contains_key(&sought);
+        let contains = asked.replace(0);
+        let count = map.range((Included(&sought), Excluded(&next))).len();
+        let range = asked.replace(0);
+        let some = map.remove_some(&sought)?;
+        let remove_some = asked.replace(0);
+        let removed = map.remove(&sought, &key)?;
+        let remove = asked.replace(0);
+        let old = map.insert(sought, key)?;
+        let gone = some.is_some() && removed.is_none() && old.is_none();
+        assert!(rt; values == 1 && held && count == 1 && gone, "of {key}");
+        let few = get <= 34 && contains <= 17 && range <= 34 && remove_some <= 17 && remove <= 51;
+        assert!(rt; few && asked.get() <= 51, "of {key}");
     }
     Ok(())
 }

@@ -1,6 +1,7 @@
 //! Worked examples of lists of commands to the logged trees, and of a replica that follows.
 ghost use Rattle.std.specs.Prelude.{◌≤◌};
 
+use crate::told::{Told, are_copies, are_events, are_nodes};
 use indexset_bench::logged::map::{LoggedMapCommand, LoggedMapReply};
 use indexset_bench::logged::multimap::{LoggedMultiCommand, LoggedMultiReply};
 use indexset_bench::logged::set::{LoggedSetCommand, LoggedSetReply};
@@ -20,9 +21,9 @@ use std::test::Fail;
 
 type Set = BTreeSet<u64, Vec<u64>>;
 
-type Map = BTreeMap<u64, u64, Vec<Pair<u64, u64>>>;
+type Map = BTreeMap<u64, char, Vec<Pair<u64, char>>>;
 
-type MultiMap = BTreeMultiMap<u64, u64, Vec<MultiPair<u64, u64>>>;
+type MultiMap = BTreeMultiMap<u64, char, Vec<MultiPair<u64, char>>>;
 
 // Each command to a set, and a replica that follows.
 fn each_command_to_a_set<Node: NodeLike<u64>>(rt: &impl Abort, alloc: Global) -> Result<(), Fail>
@@ -50,21 +51,14 @@ fn each_command_to_a_set<Node: NodeLike<u64>>(rt: &impl Abort, alloc: Global) ->
         LoggedSetReply::Old(None),
         LoggedSetReply::Added(true),
     ]?;
-    assert_eq!(rt; run.refused, None);
-    assert_eq!(rt; run.replies, expected);
-    assert_eq!(rt; run.events.len(), 8);
-    assert_eq!(rt; set.events_issued(), 8);
+    let answered = run.refused.is_none() && run.replies == expected;
     let mut replica = Replica::new(alloc, 0);
     for event in run.events.iter() {
-        assert_eq!(rt; replica.apply(event), Ok(()));
+        replica.apply(event)?;
     }
-    assert_eq!(rt; replica.next(), 8);
-    let nodes = replica.nodes();
-    assert_eq!(rt; nodes.len(), 2);
-    assert_eq!(rt; nodes[0].as_slice(), [1].as_slice());
-    assert_eq!(rt; nodes[1].as_slice(), [3, 4].as_slice());
-    assert_eq!(rt; set.node_count(), 2);
-    assert_eq!(rt; set.len(), 3);
+    let copied = are_copies(replica.nodes(), &[&[1], &[3, 4]]) && replica.next() == 8;
+    let left = are_nodes(set.iter_nodes(), &[&[1], &[3, 4]]) && set.events_issued() == 8;
+    assert!(rt; answered && copied && left);
     Ok(())
 }
 
@@ -78,32 +72,39 @@ fn each_command_once_and_a_replica_follows(rt: HostRuntime) -> Result<(), Fail> 
 fn each_command_to_a_map_once(rt: HostRuntime) -> Result<(), Fail> {
     let mut map: Map = BTreeMap::with_maximum_node_size(rt.alloc(), 4);
     let commands = vec![in rt.alloc();
-        LoggedMapCommand::Insert(0u64, 10u64),
-        LoggedMapCommand::Insert(1, 11),
-        LoggedMapCommand::CheckedInsert(2, 12),
-        LoggedMapCommand::Insert(3, 13),
-        LoggedMapCommand::CheckedInsert(1, 99),
-        LoggedMapCommand::Insert(1, 99),
+        LoggedMapCommand::Insert(0u64, 'a'),
+        LoggedMapCommand::Insert(1, 'b'),
+        LoggedMapCommand::CheckedInsert(2, 'c'),
+        LoggedMapCommand::Insert(3, 'd'),
+        LoggedMapCommand::CheckedInsert(1, 'x'),
+        LoggedMapCommand::Insert(1, 'x'),
         LoggedMapCommand::Remove(0),
         LoggedMapCommand::Remove(0),
     ]?;
     let run = run_logged(rt.alloc(), &mut map, commands);
-    let expected = vec![in rt.alloc();
+    let replies = [
         LoggedMapReply::OldValue(None),
         LoggedMapReply::OldValue(None),
         LoggedMapReply::Added(true),
         LoggedMapReply::OldValue(None),
         LoggedMapReply::Added(false),
-        LoggedMapReply::OldValue(Some(11)),
-        LoggedMapReply::Out(Some((0, 10))),
+        LoggedMapReply::OldValue(Some('b')),
+        LoggedMapReply::Out(Some((0, 'a'))),
         LoggedMapReply::Out(None),
-    ]?;
-    assert_eq!(rt; run.refused, None);
-    assert_eq!(rt; run.replies, expected);
-    assert_eq!(rt; run.events.len(), 8);
-    assert_eq!(rt; map.events_issued(), 8);
-    assert_eq!(rt; map.node_count(), 2);
-    assert_eq!(rt; map.len(), 3);
+    ];
+    let told = [
+        Told::Create(0, (0, 'a')),
+        Told::Insert(1, (0, 'a'), (1, 'b'), 1),
+        Told::Insert(2, (1, 'b'), (2, 'c'), 2),
+        Told::Insert(3, (2, 'c'), (3, 'd'), 3),
+        Told::Split(4, (3, 'd'), 2),
+        Told::Remove(5, (1, 'b'), (1, 'b'), 1),
+        Told::Insert(6, (0, 'a'), (1, 'x'), 1),
+        Told::Remove(7, (1, 'x'), (0, 'a'), 0),
+    ];
+    let answered = run.refused.is_none() && run.replies.as_slice() == replies.as_slice();
+    assert!(rt; answered && are_events(run.events.as_slice(), &told));
+    assert!(rt; are_nodes(map.iter_nodes(), &[&[(1, 'x')], &[(2, 'c'), (3, 'd')]]));
     Ok(())
 }
 
@@ -111,35 +112,40 @@ fn each_command_to_a_map_once(rt: HostRuntime) -> Result<(), Fail> {
 fn each_command_to_a_multimap_once(rt: HostRuntime) -> Result<(), Fail> {
     let mut map: MultiMap = BTreeMultiMap::with_maximum_node_size(rt.alloc(), 3);
     let commands = vec![in rt.alloc();
-        LoggedMultiCommand::Insert(1u64, 10u64),
-        LoggedMultiCommand::Insert(1, 11),
-        LoggedMultiCommand::Insert(1, 10),
-        LoggedMultiCommand::Remove(1, 11),
-        LoggedMultiCommand::Remove(1, 11),
+        LoggedMultiCommand::Insert(1u64, 'a'),
+        LoggedMultiCommand::Insert(1, 'b'),
+        LoggedMultiCommand::Insert(1, 'a'),
+        LoggedMultiCommand::Remove(1, 'b'),
+        LoggedMultiCommand::Remove(1, 'b'),
         LoggedMultiCommand::RemoveSome(1),
         LoggedMultiCommand::RemoveSome(1),
     ]?;
     let run = run_logged(rt.alloc(), &mut map, commands);
-    let expected = vec![in rt.alloc();
+    let replies = [
         LoggedMultiReply::OldValue(None),
         LoggedMultiReply::OldValue(None),
-        LoggedMultiReply::OldValue(Some(10)),
-        LoggedMultiReply::Out(Some((1, 11))),
+        LoggedMultiReply::OldValue(Some('a')),
+        LoggedMultiReply::Out(Some((1, 'b'))),
         LoggedMultiReply::Out(None),
-        LoggedMultiReply::Out(Some((1, 10))),
+        LoggedMultiReply::Out(Some((1, 'a'))),
         LoggedMultiReply::Out(None),
-    ]?;
-    assert_eq!(rt; run.refused, None);
-    assert_eq!(rt; run.replies, expected);
-    assert_eq!(rt; run.events.len(), 6);
-    assert_eq!(rt; map.events_issued(), 6);
-    assert_eq!(rt; map.len(), 0);
+    ];
+    let told = [
+        Told::Create(0, (1, 0, 'a')),
+        Told::Insert(1, (1, 0, 'a'), (1, 1, 'b'), 1),
+        Told::Remove(2, (1, 1, 'b'), (1, 0, 'a'), 0),
+        Told::Insert(3, (1, 1, 'b'), (1, 0, 'a'), 0),
+        Told::Remove(4, (1, 1, 'b'), (1, 1, 'b'), 1),
+        Told::Leave(5, (1, 0, 'a')),
+    ];
+    let answered = run.refused.is_none() && run.replies.as_slice() == replies.as_slice();
+    assert!(rt; answered && are_events(run.events.as_slice(), &told) && map.len() == 0);
     Ok(())
 }
 
 #[test]
 fn a_run_ends_where_numbers_are_wanting(rt: HostRuntime) -> Result<(), Fail> {
-    let mut set: Set = BTreeSet::starting_at(rt.alloc(), 4, u64::MAX - 1);
+    let mut set: Set = BTreeSet::starting_at(rt.alloc(), 4, 18446744073709551614);
     let commands = vec![in rt.alloc();
         LoggedSetCommand::Put(1u64),
         LoggedSetCommand::Remove(9),
@@ -147,11 +153,12 @@ fn a_run_ends_where_numbers_are_wanting(rt: HostRuntime) -> Result<(), Fail> {
         LoggedSetCommand::Remove(9),
     ]?;
     let run = run_logged(rt.alloc(), &mut set, commands);
-    assert_eq!(rt; run.refused, Some(Refusal::Numbers));
-    assert_eq!(rt; run.replies.len(), 2);
-    assert_eq!(rt; run.events.len(), 1);
-    assert_eq!(rt; set.len(), 1);
-    assert_eq!(rt; set.events_issued(), u64::MAX);
+    let replies = [LoggedSetReply::Old(None), LoggedSetReply::Old(None)];
+    let told = [Told::Create(18446744073709551614, 1)];
+    let ends = run.refused == Some(Refusal::Numbers)
+        && run.replies.as_slice() == replies.as_slice();
+    let stays = are_nodes(set.iter_nodes(), &[&[1]]) && set.events_issued() == 18446744073709551615;
+    assert!(rt; ends && are_events(run.events.as_slice(), &told) && stays);
     Ok(())
 }
 

@@ -2,6 +2,7 @@
 ghost use Rattle.std.specs.Prelude.{◌≤◌};
 ghost use Rattle.indexset_log.specs.Places.{IsPlace};
 
+use crate::told::are_nodes;
 use indexset_core::array_node::ArrayNode;
 use indexset_core::node::NodeLike;
 use indexset_core::probe::ByItem;
@@ -13,6 +14,8 @@ use std::alloc::Global;
 use std::ops::Bound::{Excluded, Included, Unbounded};
 use std::process::Abort;
 use std::test::Fail;
+
+type Set = BTreeSet<u64, Vec<u64>>;
 
 // The keys from one up to, but not with, the end, put in ascending.
 fn ascending<Node: NodeLike<u64>>(
@@ -34,26 +37,39 @@ fn ascending<Node: NodeLike<u64>>(
 fn meet_in_the_middle<Node: NodeLike<u64>>(rt: &impl Abort, alloc: Global) -> Result<(), Fail>
     requires { 3 ≤ Node.most }
 {
-    let one: BTreeSet<u64, Node> = ascending(alloc, 3, 1, 2)?;
-    let mut walk = one.iter();
-    assert_eq!(rt; walk.next().copied(), Some(1));
-    assert_eq!(rt; walk.next_back().copied(), None);
-    let three: BTreeSet<u64, Node> = ascending(alloc, 3, 1, 4)?;
-    let mut walk = Iter::new(&three);
-    assert_eq!(rt; walk.len(), 3);
-    assert_eq!(rt; walk.next().copied(), Some(1));
-    assert_eq!(rt; walk.next_back().copied(), Some(3));
-    assert_eq!(rt; walk.size_hint(), (1, Some(1)));
-    assert_eq!(rt; walk.next().copied(), Some(2));
-    assert_eq!(rt; walk.next().copied(), None);
-    assert_eq!(rt; walk.next_back().copied(), None);
     let twenty: BTreeSet<u64, Node> = ascending(alloc, 3, 1, 21)?;
     let mut walk = (&twenty).into_iter();
     for key in 1..11 {
-        assert_eq!(rt; walk.next().copied(), Some(key));
-        assert_eq!(rt; walk.next_back().copied(), Some(21 - key));
+        let ends = (walk.next().copied(), walk.next_back().copied());
+        assert!(rt; ends == (Some(key), Some(21 - key)));
     }
-    assert_eq!(rt; walk.next().copied(), None);
+    assert!(rt; walk.next().is_none());
+    Ok(())
+}
+
+#[test]
+fn one_and_three_from_both_ends(rt: HostRuntime) -> Result<(), Fail> {
+    let one: Set = ascending(rt.alloc(), 1024, 1, 2)?;
+    let mut walk = one.iter();
+    let ends = (walk.next().copied(), walk.next_back().copied());
+    assert!(rt; ends == (Some(1), None));
+    let three: Set = ascending(rt.alloc(), 1024, 1, 4)?;
+    let mut walk = Iter::new(&three);
+    let rows = [
+        (true, Some(1)),
+        (false, Some(3)),
+        (true, Some(2)),
+        (true, None),
+        (false, None),
+    ];
+    for (from_front, key) in rows {
+        let item = if from_front {
+            walk.next()
+        } else {
+            walk.next_back()
+        };
+        assert!(rt; item.copied() == key);
+    }
     Ok(())
 }
 
@@ -76,23 +92,16 @@ fn ranges_of_keys<Node: NodeLike<u64>>(rt: &impl Abort, alloc: Global) -> Result
     requires { 10 ≤ Node.most }
 {
     let set: BTreeSet<u64, Node> = ascending(alloc, 10, 0, 20)?;
-    let middle = (Included(&8), Excluded(&12));
-    assert!(rt; set.range(middle).copied().eq([8, 9, 10, 11]));
+    let middle = set.range((Included(&8), Excluded(&12)));
+    let forwards = middle.copied().eq([8, 9, 10, 11]);
     let backwards = Range::new(&set, (Included(&10), Excluded(&13))).rev();
-    assert!(rt; backwards.copied().eq([12, 11, 10]));
+    let end = set.range((Excluded(&17), Unbounded));
+    assert!(rt; forwards && backwards.copied().eq([12, 11, 10]) && end.copied().eq([18, 19]));
     for first in 0..20 {
         for last in first..20 {
             assert!(rt; holds_all_between(&set, first, last), "{first} to {last}");
         }
     }
-    assert!(rt; set.range((Excluded(&17), Unbounded)).copied().eq([18, 19]));
-    let ten: BTreeSet<u64, Node> = ascending(alloc, 10, 0, 10)?;
-    assert_eq!(rt; ten.range((Included(&5), Excluded(&1034))).len(), 5);
-    let many: BTreeSet<u64, Node> = ascending(alloc, 10, 0, 1034)?;
-    assert_eq!(rt; many.range((Included(&0), Excluded(&1024))).len(), 1024);
-    let none: BTreeSet<u64, Node> = ascending(alloc, 10, 0, 0)?;
-    assert!(rt; none.range((Included(&0), Excluded(&1024))).next().is_none());
-    assert!(rt; none.iter().next().is_none());
     Ok(())
 }
 
@@ -100,6 +109,20 @@ fn ranges_of_keys<Node: NodeLike<u64>>(rt: &impl Abort, alloc: Global) -> Result
 fn ranges_from_both_ends(rt: HostRuntime) -> Result<(), Fail> {
     ranges_of_keys::<Vec<u64>>(&rt, rt.alloc())?;
     ranges_of_keys::<ArrayNode<u64, 10>>(&rt, rt.alloc())
+}
+
+#[test]
+fn items_in_a_range_counted(rt: HostRuntime) -> Result<(), Fail> {
+    let ten: Set = ascending(rt.alloc(), 1024, 0, 10)?;
+    let end = ten.range((Included(&5), Included(&1034)));
+    assert!(rt; end.size_hint() == (5, Some(5)) && end.count() == 5);
+    let many: Set = ascending(rt.alloc(), 1024, 0, 1034)?;
+    let start = many.range((Included(&0), Excluded(&1024)));
+    assert!(rt; start.count() == 1024 && many.node_count() == 2);
+    let none: Set = ascending(rt.alloc(), 1024, 0, 0)?;
+    let any = none.range((Included(&0), Excluded(&1024))).next().is_some();
+    assert!(rt; !any && none.iter().next().is_none());
+    Ok(())
 }
 
 // The place before the first key that is not below this one.
@@ -115,37 +138,28 @@ fn nodes_of_four<Node: NodeLike<u64>>(rt: &impl Abort, alloc: Global) -> Result<
     requires { 4 ≤ Node.most }
 {
     let set: BTreeSet<u64, Node> = ascending(alloc, 4, 0, 10)?;
-    assert_eq!(rt; set.events_issued(), 13);
+    let four: [&[u64]; 4] = [&[0, 1], &[2, 3], &[4, 5], &[6, 7, 8, 9]];
+    let cut = are_nodes(set.iter_nodes(), &four) && set.events_issued() == 13;
     let mut nodes = set.iter_nodes();
-    assert_eq!(rt; nodes.len(), 4);
-    assert!(rt;
-        nodes
-            .next()
-            .is_some_and(|node| node.iter().copied().eq([0, 1]))
-    );
-    assert!(rt;
-        nodes
-            .next()
-            .is_some_and(|node| node.iter().copied().eq([2, 3]))
-    );
-    assert!(rt;
-        nodes
-            .next_back()
-            .is_some_and(|node| node.iter().copied().eq([6, 7, 8, 9]))
-    );
-    assert!(rt;
-        nodes
-            .next()
-            .is_some_and(|node| node.iter().copied().eq([4, 5]))
-    );
-    assert!(rt; nodes.next().is_none());
-    assert!(rt; set.capacity() >= 10);
+    let rows: [(bool, &[u64]); 4] = [
+        (true, &[0, 1]),
+        (true, &[2, 3]),
+        (false, &[6, 7, 8, 9]),
+        (true, &[4, 5]),
+    ];
+    for (from_front, items) in rows {
+        let node = if from_front {
+            nodes.next()
+        } else {
+            nodes.next_back()
+        };
+        assert!(rt; node.is_some_and(|node| node.iter().as_slice() == items));
+    }
     let below = set.range_between((0, 0), place_of(&set, &7));
-    assert!(rt; below.copied().eq(0..7));
+    assert!(rt; cut && nodes.next().is_none() && set.capacity() >= 10 && below.copied().eq(0..7));
     let none: BTreeSet<u64, Node> = ascending(alloc, 4, 0, 0)?;
-    assert!(rt; none.iter_nodes().next().is_none());
-    assert_eq!(rt; none.capacity(), 0);
-    assert_eq!(rt; none.range_between((0, 0), place_of(&none, &7)).len(), 0);
+    let absent = none.iter_nodes().next().is_none() && none.capacity() == 0;
+    assert!(rt; absent && none.range_between((0, 0), place_of(&none, &7)).len() == 0);
     Ok(())
 }
 

@@ -1,203 +1,176 @@
 //! Worked examples of a replica: events that arrive, and events that are refused.
+ghost use Rattle.std.specs.Prelude.{◌≡◌};
 
+use crate::told::{Made, Told, are_copies, event};
 use indexset_core::refusal::Refusal;
-use indexset_log::change::{ChangeEvent, Id};
-use indexset_replica::{Replica, laws};
+use indexset_log::change::ChangeEvent;
+use indexset_replica::Replica;
 use indexset_tests::tagged::Tagged;
 use std::alloc::{AllocError, Global};
 use std::test::Fail;
 
-fn item(key: u64, tag: char) -> Tagged {
-    Tagged { key, tag }
-}
+/// The events of four first puts into a node of four, and of a put over the second item.
+const FIVE_PUTS: [Told<(u64, char)>; 7] = [
+    Told::Create(0, (0, 'a')),
+    Told::Insert(1, (0, 'a'), (1, 'b'), 1),
+    Told::Insert(2, (1, 'b'), (2, 'c'), 2),
+    Told::Insert(3, (2, 'c'), (3, 'd'), 3),
+    Told::Split(4, (3, 'd'), 2),
+    Told::Remove(5, (1, 'b'), (1, 'b'), 1),
+    Told::Insert(6, (0, 'a'), (1, 'x'), 1),
+];
 
-fn create(id: u64, max_value: Tagged) -> ChangeEvent<Tagged> {
-    ChangeEvent::CreateNode {
-        event_id: Id::from(id),
-        max_value,
-    }
-}
-
-fn insert(id: u64, max_value: Tagged, value: Tagged, index: usize) -> ChangeEvent<Tagged> {
-    ChangeEvent::InsertAt {
-        event_id: Id::from(id),
-        max_value,
-        value,
-        index,
-    }
-}
-
-fn remove(id: u64, max_value: Tagged, value: Tagged, index: usize) -> ChangeEvent<Tagged> {
-    ChangeEvent::RemoveAt {
-        event_id: Id::from(id),
-        max_value,
-        value,
-        index,
-    }
-}
-
-fn split(id: u64, max_value: Tagged, split_index: usize) -> ChangeEvent<Tagged> {
-    ChangeEvent::SplitNode {
-        event_id: Id::from(id),
-        max_value,
-        split_index,
-    }
-}
-
-// Whether a node is of these keys and tags.
-pub fn is_node(node: &Vec<Tagged>, items: &[(u64, char)]) -> bool {
-    let mut pairs = node.iter().zip(items);
-    node.len() == items.len()
-        && pairs.all(|(item, (key, tag))| item.key == *key && item.tag == *tag)
-}
-
-// The events of four first puts into a node of four, and of a put over the second item.
+/// The events of these five puts.
 pub fn events(alloc: Global) -> Result<Vec<ChangeEvent<Tagged>>, AllocError> {
     let mut events = Vec::with_capacity(alloc, 7)?;
-    events.push_reserved(create(0, item(0, 'a')));
-    events.push_reserved(insert(1, item(0, 'a'), item(1, 'b'), 1));
-    events.push_reserved(insert(2, item(1, 'b'), item(2, 'c'), 2));
-    events.push_reserved(insert(3, item(2, 'c'), item(3, 'd'), 3));
-    events.push_reserved(split(4, item(3, 'd'), 2));
-    events.push_reserved(remove(5, item(1, 'b'), item(1, 'b'), 1));
-    events.push_reserved(insert(6, item(0, 'a'), item(1, 'x'), 1));
+    for told in &FIVE_PUTS {
+        events.push(event(*told))?;
+    }
     Ok(events)
+}
+
+/// Whether an event is refused for this reason, and leaves the nodes and the next number, which are these.
+pub fn refuses<T: Made + Ord + Clone + Drop>(
+    replica: &mut Replica<T>,
+    told: Told<T::Plain>,
+    refusal: Refusal,
+    nodes: &[&[T::Plain]],
+    next: u64,
+) -> bool
+    requires { (x y : T) → T.is_clone x y → y ≡ x }
+{
+    let applied = replica.apply(&event(told));
+    applied == Err(refusal) && are_copies(replica.nodes(), nodes) && replica.next() == next
 }
 
 #[test]
 fn a_split_and_a_replacement_arrive(rt: HostRuntime) -> Result<(), Fail> {
-    let mut replica = Replica::new(rt.alloc(), 0);
-    let events = events(rt.alloc())?;
-    for event in events.iter() {
-        assert_eq!(rt; replica.apply(event), Ok(()));
+    let mut replica: Replica<Tagged> = Replica::new(rt.alloc(), 0);
+    for told in &FIVE_PUTS {
+        replica.apply(&event(*told))?;
     }
-    let nodes = replica.nodes();
-    assert_eq!(rt; nodes.len(), 2);
-    assert!(rt; is_node(&nodes[0], &[(0, 'a'), (1, 'x')]));
-    assert!(rt; is_node(&nodes[1], &[(2, 'c'), (3, 'd')]));
-    assert_eq!(rt; replica.next(), 7);
-    let again = insert(6, item(0, 'a'), item(1, 'x'), 1);
-    assert_eq!(rt; replica.apply(&again), Err(Refusal::Gap));
+    let nodes: [&[(u64, char)]; 2] = [&[(0, 'a'), (1, 'x')], &[(2, 'c'), (3, 'd')]];
+    let arrived = are_copies(replica.nodes(), &nodes) && replica.next() == 7;
+    let again = refuses(&mut replica, FIVE_PUTS[6], Refusal::Gap, &nodes, 7);
+    assert!(rt; arrived && again);
     Ok(())
 }
 
 #[test]
 fn events_that_do_not_fit(rt: HostRuntime) -> Result<(), Fail> {
-    let mut replica = Replica::new(rt.alloc(), 0);
-    let events = events(rt.alloc())?;
-    assert_eq!(rt; events.len(), 7);
-    for event in events[..5].iter() {
-        assert_eq!(rt; replica.apply(event), Ok(()));
+    let mut replica: Replica<Tagged> = Replica::new(rt.alloc(), 0);
+    for told in &FIVE_PUTS[..5] {
+        replica.apply(&event(*told))?;
     }
-    let late = insert(6, item(0, 'a'), item(1, 'x'), 1);
-    assert_eq!(rt; replica.apply(&late), Err(Refusal::Gap));
-    let other = remove(5, item(1, 'b'), item(0, 'a'), 1);
-    assert_eq!(rt; replica.apply(&other), Err(Refusal::ValueDiffers));
-    let outside = remove(5, item(1, 'b'), item(0, 'a'), 2);
-    assert_eq!(rt; replica.apply(&outside), Err(Refusal::IndexOutside));
-    let none = split(5, item(1, 'b'), 0);
-    assert_eq!(rt; replica.apply(&none), Err(Refusal::BadSplit));
-    let all = split(5, item(1, 'b'), 2);
-    assert_eq!(rt; replica.apply(&all), Err(Refusal::BadSplit));
-    let past = insert(5, item(1, 'b'), item(1, 'z'), 3);
-    assert_eq!(rt; replica.apply(&past), Err(Refusal::IndexOutside));
-    let there = create(5, item(2, 'z'));
-    assert_eq!(rt; replica.apply(&there), Err(Refusal::OutOfOrder));
-    assert_eq!(rt; replica.next(), 5);
-    for event in events[5..].iter() {
-        assert_eq!(rt; replica.apply(event), Ok(()));
+    let rows = [
+        (Told::Insert(6, (0, 'a'), (1, 'x'), 1), Refusal::Gap),
+        (
+            Told::Remove(5, (1, 'b'), (0, 'a'), 1),
+            Refusal::ValueDiffers,
+        ),
+        (
+            Told::Remove(5, (1, 'b'), (0, 'a'), 2),
+            Refusal::IndexOutside,
+        ),
+        (Told::Split(5, (1, 'b'), 0), Refusal::BadSplit),
+        (Told::Split(5, (1, 'b'), 2), Refusal::BadSplit),
+        (
+            Told::Insert(5, (1, 'b'), (1, 'z'), 3),
+            Refusal::IndexOutside,
+        ),
+        (Told::Create(5, (2, 'z')), Refusal::OutOfOrder),
+    ];
+    let nodes: [&[(u64, char)]; 2] = [&[(0, 'a'), (1, 'b')], &[(2, 'c'), (3, 'd')]];
+    for (told, refusal) in rows {
+        assert!(rt;
+            refuses(&mut replica, told, refusal, &nodes, 5),
+            "{refusal}"
+        );
     }
-    assert_eq!(rt; replica.next(), 7);
+    for told in &FIVE_PUTS[5..] {
+        replica.apply(&event(*told))?;
+    }
+    let nodes: [&[(u64, char)]; 2] = [&[(0, 'a'), (1, 'x')], &[(2, 'c'), (3, 'd')]];
+    assert!(rt; are_copies(replica.nodes(), &nodes) && replica.next() == 7);
     Ok(())
 }
 
 #[test]
 fn a_refused_event_leaves_nodes_and_number(rt: HostRuntime) -> Result<(), Fail> {
-    let mut replica = Replica::new(rt.alloc(), 7);
-    assert!(rt; replica.attach(vec![in rt.alloc(); 0u64, 1]?).is_ok());
-    let gap = ChangeEvent::RemoveAt {
-        event_id: Id::from(8),
-        max_value: 1,
-        value: 1,
-        index: 1,
-    };
-    assert_eq!(rt; replica.apply(&gap), Err(Refusal::Gap));
-    let unnamed = ChangeEvent::RemoveAt {
-        event_id: Id::from(7),
-        max_value: 5,
-        value: 5,
-        index: 0,
-    };
-    assert_eq!(rt; replica.apply(&unnamed), Err(Refusal::NoSuchNode));
-    let above = ChangeEvent::InsertAt {
-        event_id: Id::from(7),
-        max_value: 1,
-        value: 9,
-        index: 0,
-    };
-    assert_eq!(rt; replica.apply(&above), Err(Refusal::OutOfOrder));
-    let nodes = replica.nodes();
-    assert_eq!(rt; nodes.len(), 1);
-    assert_eq!(rt; nodes[0].as_slice(), [0, 1].as_slice());
-    assert_eq!(rt; replica.next(), 7);
+    let mut replica: Replica<u64> = Replica::new(rt.alloc(), 7);
+    replica.attach(vec![in rt.alloc(); 0, 1]?)?;
+    let rows = [
+        (Told::Remove(8, 1, 1, 1), Refusal::Gap),
+        (Told::Remove(7, 5, 5, 0), Refusal::NoSuchNode),
+        (Told::Insert(7, 1, 9, 0), Refusal::OutOfOrder),
+    ];
+    for (told, refusal) in rows {
+        assert!(rt;
+            refuses(&mut replica, told, refusal, &[&[0, 1]], 7),
+            "{refusal}"
+        );
+    }
     Ok(())
 }
 
 #[test]
 fn an_only_item_leaves_with_its_node(rt: HostRuntime) -> Result<(), Fail> {
-    let mut replica = Replica::new(rt.alloc(), 0);
-    assert!(rt; replica.attach(vec![in rt.alloc(); 7u64]?).is_ok());
-    let taken = ChangeEvent::RemoveAt {
-        event_id: Id::from(0),
-        max_value: 7,
-        value: 7,
-        index: 0,
-    };
-    assert_eq!(rt; replica.apply(&taken), Err(Refusal::WouldBeEmpty));
-    assert!(rt; replica.contains(&7) && !replica.contains(&6));
-    let gone = ChangeEvent::RemoveNode {
-        event_id: Id::from(0),
-        max_value: 7,
-    };
-    assert_eq!(rt; replica.apply(&gone), Ok(()));
-    assert!(rt; replica.nodes().is_empty() && !replica.contains(&7));
+    let mut replica: Replica<u64> = Replica::new(rt.alloc(), 0);
+    replica.attach(vec![in rt.alloc(); 7]?)?;
+    let taken = Told::Remove(0, 7, 7, 0);
+    let refused = refuses(&mut replica, taken, Refusal::WouldBeEmpty, &[&[7]], 0);
+    let held = replica.contains(&7) && !replica.contains(&6);
+    replica.apply(&event(Told::Leave(0, 7)))?;
+    let gone = replica.nodes().is_empty() && !replica.contains(&7) && replica.next() == 1;
+    assert!(rt; refused && held && gone);
     Ok(())
 }
 
 #[test]
 fn the_greatest_number_is_refused(rt: HostRuntime) {
-    let mut replica = Replica::new(rt.alloc(), u64::MAX);
-    let last = create(u64::MAX, item(0, 'a'));
-    assert_eq!(rt; replica.apply(&last), Err(Refusal::Numbers));
-    let first = create(0, item(0, 'a'));
-    assert_eq!(rt; replica.apply(&first), Err(Refusal::Gap));
-    assert!(rt; replica.nodes().is_empty());
+    let mut replica: Replica<u64> = Replica::new(rt.alloc(), 18446744073709551615);
+    let rows = [(18446744073709551615, Refusal::Numbers), (0, Refusal::Gap)];
+    for (number, refusal) in rows {
+        let told = Told::Create(number, 0);
+        assert!(rt;
+            refuses(&mut replica, told, refusal, &[], 18446744073709551615),
+            "{refusal}"
+        );
+    }
+}
+
+// Why a node of these values is refused, where it is handed back as it was.
+fn attach_refusal(
+    replica: &mut Replica<u64>,
+    alloc: Global,
+    values: &[u64],
+) -> Result<Option<Refusal>, AllocError> {
+    match replica.attach(values.to_vec(alloc)?) {
+        Ok(()) => Ok(None),
+        Err(refused) => {
+            let back = refused.value.as_slice() == values;
+            Ok(back.then_some(refused.cause))
+        }
+    }
 }
 
 #[test]
 fn a_node_goes_between_its_neighbours(rt: HostRuntime) -> Result<(), Fail> {
-    let mut replica = Replica::new(rt.alloc(), 0);
-    assert!(rt; replica.attach(vec![in rt.alloc(); 9u64]?).is_ok());
-    assert!(rt; replica.attach(vec![in rt.alloc(); 5, 6]?).is_ok());
-    let refusal = |refused: Result<(), indexset_core::refusal::Refused<Vec<u64>>>| match refused {
-        Ok(()) => None,
-        Err(refused) => Some(refused.cause),
-    };
-    assert_eq!(rt;
-        refusal(replica.attach(Vec::new(rt.alloc()))),
-        Some(Refusal::Empty)
-    );
-    let twice = vec![in rt.alloc(); 7, 7]?;
-    assert_eq!(rt; refusal(replica.attach(twice)), Some(Refusal::Unsorted));
-    let shared = vec![in rt.alloc(); 6, 7]?;
-    assert_eq!(rt; refusal(replica.attach(shared)), Some(Refusal::Overlaps));
-    let across = vec![in rt.alloc(); 4, 10]?;
-    assert_eq!(rt; refusal(replica.attach(across)), Some(Refusal::Overlaps));
-    assert!(rt; replica.attach(vec![in rt.alloc(); 7, 8]?).is_ok());
-    let nodes = replica.nodes();
-    assert_eq!(rt; nodes.len(), 3);
-    assert_eq!(rt; nodes[1].as_slice(), [7, 8].as_slice());
-    assert_eq!(rt; replica.next(), 0);
-    laws::refused_unless_a_step::<u64>();
+    let mut replica: Replica<u64> = Replica::new(rt.alloc(), 0);
+    replica.attach(vec![in rt.alloc(); 9]?)?;
+    replica.attach(vec![in rt.alloc(); 5, 6]?)?;
+    let rows: [(&[u64], Refusal); 4] = [
+        (&[], Refusal::Empty),
+        (&[7, 7], Refusal::Unsorted),
+        (&[6, 7], Refusal::Overlaps),
+        (&[4, 10], Refusal::Overlaps),
+    ];
+    for (values, refusal) in rows {
+        let cause = attach_refusal(&mut replica, rt.alloc(), values)?;
+        assert!(rt; cause == Some(refusal) && are_copies(replica.nodes(), &[&[5, 6], &[9]]));
+    }
+    replica.attach(vec![in rt.alloc(); 7, 8]?)?;
+    let between = are_copies(replica.nodes(), &[&[5, 6], &[7, 8], &[9]]);
+    assert!(rt; between && replica.next() == 0);
     Ok(())
 }

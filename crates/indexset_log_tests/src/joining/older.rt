@@ -1,6 +1,7 @@
 //! Copies that follow events from before small neighbours were joined, and then later ones.
 ghost use Rattle.std.specs.Prelude.{◌≡◌};
 
+use crate::replica::refuses;
 use crate::told::{Made, Told, are_copies, event};
 use indexset_core::pair::Pair;
 use indexset_core::refusal::Refusal;
@@ -41,15 +42,16 @@ const TEN_PUT: [Told<u64>; 13] = [
 fn apply_goes_on_from_older_events(rt: HostRuntime) -> Result<(), Fail> {
     let mut replica: Replica<u64> = Replica::new(rt.alloc(), 0);
     apply(&mut replica, &TEN_PUT)?;
-    assert!(rt; are_copies(replica.nodes(), &[&[0, 1], &[2, 3], &[4, 5], &[6, 7, 8, 9]]));
+    let four: [&[u64]; 4] = [&[0, 1], &[2, 3], &[4, 5], &[6, 7, 8, 9]];
+    let put = are_copies(replica.nodes(), &four) && replica.next() == 13;
     let newer = [
         Told::Remove(13, 3, 3, 1),
         Told::Remove(14, 1, 1, 1),
         Told::Merge(15, 0, 2),
     ];
     apply(&mut replica, &newer)?;
-    assert!(rt; are_copies(replica.nodes(), &[&[0, 2], &[4, 5], &[6, 7, 8, 9]]));
-    assert_eq!(rt; replica.next(), 16);
+    let joined = are_copies(replica.nodes(), &[&[0, 2], &[4, 5], &[6, 7, 8, 9]]);
+    assert!(rt; put && joined && replica.next() == 16);
     Ok(())
 }
 
@@ -57,13 +59,11 @@ fn apply_goes_on_from_older_events(rt: HostRuntime) -> Result<(), Fail> {
 fn apply_of_older_events_to_numbers(rt: HostRuntime) -> Result<(), Fail> {
     let mut replica: Replica<u64> = Replica::new(rt.alloc(), 18446744073709551614);
     apply(&mut replica, &[Told::Create(18446744073709551614, 1)])?;
-    assert!(rt; are_copies(replica.nodes(), &[&[1]]));
+    let last = are_copies(replica.nodes(), &[&[1]]) && replica.next() == 18446744073709551615;
     let mut replica: Replica<u64> = Replica::new(rt.alloc(), 0);
-    apply(
-        &mut replica,
-        &[Told::Create(0, 7), Told::Leave(1, 7), Told::Create(2, 8)],
-    )?;
-    assert!(rt; are_copies(replica.nodes(), &[&[8]]));
+    let by_turns = [Told::Create(0, 7), Told::Leave(1, 7), Told::Create(2, 8)];
+    apply(&mut replica, &by_turns)?;
+    assert!(rt; last && are_copies(replica.nodes(), &[&[8]]));
     Ok(())
 }
 
@@ -80,12 +80,8 @@ fn apply_of_older_events_to_pairs(rt: HostRuntime) -> Result<(), Fail> {
         Told::Insert(6, (0, 'a'), (1, 'x'), 1),
     ];
     apply(&mut replica, &of_four)?;
-    assert!(rt;
-        are_copies(
-            replica.nodes(),
-            &[&[(0, 'a'), (1, 'x')], &[(2, 'c'), (3, 'd')]]
-        )
-    );
+    let nodes: [&[(u64, char)]; 2] = [&[(0, 'a'), (1, 'x')], &[(2, 'c'), (3, 'd')]];
+    let replaced = are_copies(replica.nodes(), &nodes);
     let mut replica: Replica<Pair<u64, char>> = Replica::new(rt.alloc(), 0);
     let of_two = [
         Told::Create(0, (5, 'a')),
@@ -95,7 +91,7 @@ fn apply_of_older_events_to_pairs(rt: HostRuntime) -> Result<(), Fail> {
         Told::Create(4, (5, 'x')),
     ];
     apply(&mut replica, &of_two)?;
-    assert!(rt; are_copies(replica.nodes(), &[&[(5, 'x')], &[(6, 'b')]]));
+    assert!(rt; replaced && are_copies(replica.nodes(), &[&[(5, 'x')], &[(6, 'b')]]));
     Ok(())
 }
 
@@ -105,17 +101,18 @@ fn apply_joins_neighbours_alone(rt: HostRuntime) -> Result<(), Fail> {
     for node in [[0, 1].as_slice(), &[2], &[5]] {
         replica.attach(node.to_vec(rt.alloc())?)?;
     }
-    let refused = [
+    let rows = [
         (Told::Merge(3, 1, 4), Refusal::NoSuchNode),
         (Told::Merge(3, 1, 5), Refusal::NotNeighbours),
         (Told::Merge(3, 2, 1), Refusal::NotNeighbours),
     ];
-    for (told, refusal) in refused {
-        assert_eq!(rt; replica.apply(&event(told)), Err(refusal));
-        assert!(rt; are_copies(replica.nodes(), &[&[0, 1], &[2], &[5]]));
-        assert_eq!(rt; replica.next(), 3);
+    for (told, refusal) in rows {
+        assert!(rt;
+            refuses(&mut replica, told, refusal, &[&[0, 1], &[2], &[5]], 3),
+            "{refusal}"
+        );
     }
-    assert_eq!(rt; replica.apply(&event(Told::Merge(3, 1, 2))), Ok(()));
-    assert!(rt; are_copies(replica.nodes(), &[&[0, 1, 2], &[5]]));
+    replica.apply(&event(Told::Merge(3, 1, 2)))?;
+    assert!(rt; are_copies(replica.nodes(), &[&[0, 1, 2], &[5]]) && replica.next() == 4);
     Ok(())
 }
