@@ -53,6 +53,10 @@ fn numbers_run_out<Node: NodeLike<Letters>>(rt: &impl Abort, alloc: Global) -> R
     let left = are_nodes(map.iter_nodes(), &[&[(0, 'a'), (1, 'b'), (2, 'c')]]);
     let none_left = map.events_issued() == 18446744073709551615;
     assert!(rt; put && removed == Err(Refusal::Numbers) && left && none_left);
+    let held = map.get(&1).is_some_and(|pair| pair.value == 'b');
+    let found = map.contains_key(&2) && !map.contains_key(&3);
+    let walked = map.iter().map(|(key, _)| *key).eq([0, 1, 2]);
+    assert!(rt; map.len() == 3 && held && found && walked);
     Ok(())
 }
 
