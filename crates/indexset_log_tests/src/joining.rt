@@ -193,54 +193,54 @@ fn a_thousand_numbers_in_few_nodes(rt: HostRuntime) -> Result<(), Fail> {
     put_and_removed::<ArrayNode<u64, 4>>(&rt, rt.alloc())
 }
 
-fn joins_pairs<Node: NodeLike<Pair<u64, char>>>(alloc: Global) -> Result<bool, Fail>
-    requires { 4 ≤ Node.most }
-{
-    let mut map: BTreeMap<u64, char, Node> = BTreeMap::with_maximum_node_size(alloc, 4);
-    for (key, value) in [(0, 'a'), (1, 'b'), (2, 'c'), (3, 'd'), (4, 'e'), (3, 'f')] {
-        map.insert(key, value)?;
-    }
-    let last = map.remove(&4)?;
-    let third = map.remove(&3)?;
-    let (out, events) = map.remove_cdc(&1)?;
-    let told = [
-        Told::Remove(10, (1, 'b'), (1, 'b'), 1),
-        Told::Merge(11, (0, 'a'), (2, 'c')),
-    ];
-    let gone = last == Some((4, 'e')) && third == Some((3, 'f')) && out == Some((1, 'b'));
-    let joined = are_nodes(map.iter_nodes(), &[&[(0, 'a'), (2, 'c')]]);
-    Ok(gone && are_events(events.as_slice(), &told) && joined)
+macro_rules! joins_pairs {
+    ($rt:expr, $node:ty) => {
+        let mut map: BTreeMap<u64, char, $node> = BTreeMap::with_maximum_node_size($rt.alloc(), 4);
+        for (key, value) in [(0, 'a'), (1, 'b'), (2, 'c'), (3, 'd'), (4, 'e'), (3, 'f')] {
+            map.insert(key, value)?;
+        }
+        let last = map.remove(&4)?;
+        let third = map.remove(&3)?;
+        let (out, events) = map.remove_cdc(&1)?;
+        let told = [
+            Told::Remove(10, (1, 'b'), (1, 'b'), 1),
+            Told::Merge(11, (0, 'a'), (2, 'c')),
+        ];
+        let gone = last == Some((4, 'e')) && third == Some((3, 'f')) && out == Some((1, 'b'));
+        let joined = are_nodes(map.iter_nodes(), &[&[(0, 'a'), (2, 'c')]]);
+        assert!($rt; gone && are_events(events.as_slice(), &told) && joined);
+    };
 }
 
 #[test]
 fn remove_cdc_of_a_map_joins(rt: HostRuntime) -> Result<(), Fail> {
-    assert!(rt; joins_pairs::<Vec<Pair<u64, char>>>(rt.alloc())?);
-    assert!(rt; joins_pairs::<ArrayNode<Pair<u64, char>, 4>>(rt.alloc())?);
+    joins_pairs!(rt, Vec<Pair<u64, char>>);
+    joins_pairs!(rt, ArrayNode<Pair<u64, char>, 4>);
     Ok(())
 }
 
-fn joins_values<Node: NodeLike<MultiPair<u64, char>>>(alloc: Global) -> Result<bool, Fail>
-    requires { 4 ≤ Node.most }
-{
-    let mut map: BTreeMultiMap<u64, char, Node> = BTreeMultiMap::with_maximum_node_size(alloc, 4);
-    for value in ['a', 'b', 'c', 'd', 'e'] {
-        map.insert(1, value)?;
-    }
-    let last = map.remove(&1, &'e')?;
-    let fourth = map.remove(&1, &'d')?;
-    let (out, events) = map.remove_some_cdc(&1)?;
-    let told = [
-        Told::Remove(8, (1, 1, 'b'), (1, 0, 'a'), 0),
-        Told::Merge(9, (1, 1, 'b'), (1, 2, 'c')),
-    ];
-    let gone = last == Some((1, 'e')) && fourth == Some((1, 'd')) && out == Some((1, 'a'));
-    let joined = are_nodes(map.iter_nodes(), &[&[(1, 1, 'b'), (1, 2, 'c')]]);
-    Ok(gone && are_events(events.as_slice(), &told) && joined)
+macro_rules! joins_values {
+    ($rt:expr, $node:ty) => {
+        let mut map: BTreeMultiMap<u64, char, $node> = BTreeMultiMap::with_maximum_node_size($rt.alloc(), 4);
+        for value in ['a', 'b', 'c', 'd', 'e'] {
+            map.insert(1, value)?;
+        }
+        let last = map.remove(&1, &'e')?;
+        let fourth = map.remove(&1, &'d')?;
+        let (out, events) = map.remove_some_cdc(&1)?;
+        let told = [
+            Told::Remove(8, (1, 1, 'b'), (1, 0, 'a'), 0),
+            Told::Merge(9, (1, 1, 'b'), (1, 2, 'c')),
+        ];
+        let gone = last == Some((1, 'e')) && fourth == Some((1, 'd')) && out == Some((1, 'a'));
+        let joined = are_nodes(map.iter_nodes(), &[&[(1, 1, 'b'), (1, 2, 'c')]]);
+        assert!($rt; gone && are_events(events.as_slice(), &told) && joined);
+    };
 }
 
 #[test]
 fn remove_some_cdc_of_a_multimap_joins(rt: HostRuntime) -> Result<(), Fail> {
-    assert!(rt; joins_values::<Vec<MultiPair<u64, char>>>(rt.alloc())?);
-    assert!(rt; joins_values::<ArrayNode<MultiPair<u64, char>, 4>>(rt.alloc())?);
+    joins_values!(rt, Vec<MultiPair<u64, char>>);
+    joins_values!(rt, ArrayNode<MultiPair<u64, char>, 4>);
     Ok(())
 }

@@ -1,9 +1,7 @@
 //! Worked examples of the logged map, over either node type.
-ghost use Rattle.std.specs.Prelude.{◌≤◌};
 
 use crate::told::{Told, Typed, are_events, are_nodes, shown};
 use indexset_core::array_node::ArrayNode;
-use indexset_core::node::NodeLike;
 use indexset_core::pair::Pair;
 use indexset_core::refusal::Refused;
 use indexset_log::change::ChangeEvent;
@@ -18,73 +16,95 @@ type Letters = Pair<u64, char>;
 type Map = BTreeMap<u64, char, Vec<Letters>>;
 
 // Whether a full node splits before a put over an item of the half in front.
-fn splits_and_replaces<Node: NodeLike<Letters>>(alloc: Global) -> Result<bool, Fail>
-    requires { 4 ≤ Node.most }
-{
-    let mut map: BTreeMap<u64, char, Node> = BTreeMap::with_maximum_node_size(alloc, 4);
-    for (key, value) in [(0, 'a'), (1, 'b'), (2, 'c'), (3, 'd')] {
-        map.insert(key, value)?;
-    }
-    let (old, events) = map.insert_cdc(1, 'x')?;
-    let told = [
-        Told::Split(4, (3, 'd'), 2),
-        Told::Remove(5, (1, 'b'), (1, 'b'), 1),
-        Told::Insert(6, (0, 'a'), (1, 'x'), 1),
-    ];
-    let nodes: [&[(u64, char)]; 2] = [&[(0, 'a'), (1, 'x')], &[(2, 'c'), (3, 'd')]];
-    let replaced = old == Some('b') && are_events(events.as_slice(), &told);
-    Ok(replaced && are_nodes(map.iter_nodes(), &nodes))
+macro_rules! splits_and_replaces {
+    ($rt:expr, $node:ty) => {
+        let mut map: BTreeMap<u64, char, $node> = BTreeMap::with_maximum_node_size($rt.alloc(), 4);
+        for (key, value) in [(0, 'a'), (1, 'b'), (2, 'c'), (3, 'd')] {
+            map.insert(key, value)?;
+        }
+        let (old, events) = map.insert_cdc(1, 'x')?;
+        let told = [
+            Told::Split(4, (3, 'd'), 2),
+            Told::Remove(5, (1, 'b'), (1, 'b'), 1),
+            Told::Insert(6, (0, 'a'), (1, 'x'), 1),
+        ];
+        let nodes: [&[(u64, char)]; 2] = [&[(0, 'a'), (1, 'x')], &[(2, 'c'), (3, 'd')]];
+        let replaced = old == Some('b') && are_events(events.as_slice(), &told);
+        assert!($rt; replaced && are_nodes(map.iter_nodes(), &nodes));
+    };
 }
 
 #[test]
 fn a_full_node_splits_before_a_replacement(rt: HostRuntime) -> Result<(), Fail> {
-    assert!(rt; splits_and_replaces::<Vec<Letters>>(rt.alloc())?);
-    assert!(rt; splits_and_replaces::<ArrayNode<Letters, 4>>(rt.alloc())?);
-    assert!(rt; splits_and_replaces::<ArrayNode<Letters, 8>>(rt.alloc())?);
+    splits_and_replaces!(rt, Vec<Letters>);
+    Ok(())
+}
+
+#[test]
+fn a_full_node_splits_where_nodes_hold_four(rt: HostRuntime) -> Result<(), Fail> {
+    splits_and_replaces!(rt, ArrayNode<Letters, 4>);
+    Ok(())
+}
+
+#[test]
+fn a_full_node_splits_where_nodes_hold_eight(rt: HostRuntime) -> Result<(), Fail> {
+    splits_and_replaces!(rt, ArrayNode<Letters, 8>);
     Ok(())
 }
 
 // Whether a put over the only item of a half makes its node anew.
-fn splits_to_one<Node: NodeLike<Letters>>(alloc: Global) -> Result<bool, Fail>
-    requires { 2 ≤ Node.most }
-{
-    let mut map: BTreeMap<u64, char, Node> = BTreeMap::with_maximum_node_size(alloc, 2);
-    map.insert(5, 'a')?;
-    map.insert(6, 'b')?;
-    let (old, events) = map.insert_cdc(5, 'x')?;
-    let told = [
-        Told::Split(2, (6, 'b'), 1),
-        Told::Leave(3, (5, 'a')),
-        Told::Create(4, (5, 'x')),
-    ];
-    let replaced = old == Some('a') && are_events(events.as_slice(), &told);
-    Ok(replaced && are_nodes(map.iter_nodes(), &[&[(5, 'x')], &[(6, 'b')]]))
+macro_rules! splits_to_one {
+    ($rt:expr, $node:ty) => {
+        let mut map: BTreeMap<u64, char, $node> = BTreeMap::with_maximum_node_size($rt.alloc(), 2);
+        map.insert(5, 'a')?;
+        map.insert(6, 'b')?;
+        let (old, events) = map.insert_cdc(5, 'x')?;
+        let told = [
+            Told::Split(2, (6, 'b'), 1),
+            Told::Leave(3, (5, 'a')),
+            Told::Create(4, (5, 'x')),
+        ];
+        let replaced = old == Some('a') && are_events(events.as_slice(), &told);
+        assert!($rt; replaced && are_nodes(map.iter_nodes(), &[&[(5, 'x')], &[(6, 'b')]]));
+    };
 }
 
 #[test]
 fn a_half_of_one_is_made_anew(rt: HostRuntime) -> Result<(), Fail> {
-    assert!(rt; splits_to_one::<Vec<Letters>>(rt.alloc())?);
-    assert!(rt; splits_to_one::<ArrayNode<Letters, 2>>(rt.alloc())?);
+    splits_to_one!(rt, Vec<Letters>);
+    Ok(())
+}
+
+#[test]
+fn a_half_of_one_is_made_anew_where_nodes_hold_two(rt: HostRuntime) -> Result<(), Fail> {
+    splits_to_one!(rt, ArrayNode<Letters, 2>);
     Ok(())
 }
 
 // Whether a checked insert of a key that is there leaves a full node.
-fn leaves_a_full_node<Node: NodeLike<Letters>>(alloc: Global) -> Result<bool, Fail>
-    requires { 2 ≤ Node.most }
-{
-    let mut map: BTreeMap<u64, char, Node> = BTreeMap::with_maximum_node_size(alloc, 2);
-    let one = map.checked_insert(1, 'a')?;
-    let two = map.checked_insert(2, 'b')?;
-    let again = map.checked_insert(1, 'x')?;
-    let told = map.checked_insert_cdc(1, 'x')?;
-    let left = are_nodes(map.iter_nodes(), &[&[(1, 'a'), (2, 'b')]]) && map.events_issued() == 2;
-    Ok(one.is_some() && two.is_some() && again.is_none() && told.is_none() && left)
+macro_rules! leaves_a_full_node {
+    ($rt:expr, $node:ty) => {
+        let mut map: BTreeMap<u64, char, $node> = BTreeMap::with_maximum_node_size($rt.alloc(), 2);
+        let one = map.checked_insert(1, 'a')?;
+        let two = map.checked_insert(2, 'b')?;
+        let again = map.checked_insert(1, 'x')?;
+        let told = map.checked_insert_cdc(1, 'x')?;
+        let left = are_nodes(map.iter_nodes(), &[&[(1, 'a'), (2, 'b')]]) && map.events_issued() == 2;
+        assert!($rt; one.is_some() && two.is_some() && again.is_none() && told.is_none() && left);
+    };
 }
 
 #[test]
 fn a_checked_insert_leaves_what_is_there(rt: HostRuntime) -> Result<(), Fail> {
-    assert!(rt; leaves_a_full_node::<Vec<Letters>>(rt.alloc())?);
-    assert!(rt; leaves_a_full_node::<ArrayNode<Letters, 4>>(rt.alloc())?);
+    leaves_a_full_node!(rt, Vec<Letters>);
+    Ok(())
+}
+
+#[test]
+fn a_checked_insert_leaves_what_is_there_where_nodes_hold_four(
+    rt: HostRuntime,
+) -> Result<(), Fail> {
+    leaves_a_full_node!(rt, ArrayNode<Letters, 4>);
     Ok(())
 }
 

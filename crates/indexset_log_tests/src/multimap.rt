@@ -1,5 +1,4 @@
 //! Worked examples of the multimap, over either node type.
-ghost use Rattle.std.specs.Prelude.{◌≤◌};
 
 use crate::told::{Told, are_events, are_items, are_nodes};
 use indexset_core::array_node::ArrayNode;
@@ -20,90 +19,96 @@ type Map = BTreeMultiMap<u64, char, Vec<Letters>>;
 type Words = BTreeMultiMap<String, u64, Vec<MultiPair<String, u64>>>;
 
 // Seven pairs in nodes of three.
-fn seven_pairs<Node: NodeLike<Letters>>(
-    alloc: Global,
-) -> Result<BTreeMultiMap<u64, char, Node>, Refused<(u64, char)>>
-    requires { 3 ≤ Node.most }
-{
-    let mut map = BTreeMultiMap::with_maximum_node_size(alloc, 3);
-    for (key, value) in [
-        (1, 'a'),
-        (1, 'b'),
-        (2, 'c'),
-        (2, 'd'),
-        (3, 'e'),
-        (4, 'f'),
-        (4, 'g'),
-    ] {
-        map.insert(key, value)?;
-    }
-    Ok(map)
+macro_rules! seven_pairs {
+    ($rt:expr, $node:ty) => {{
+        let mut map: BTreeMultiMap<u64, char, $node> =
+            BTreeMultiMap::with_maximum_node_size($rt.alloc(), 3);
+        for (key, value) in [(1, 'a'), (1, 'b'), (2, 'c'), (2, 'd'), (3, 'e'), (4, 'f'), (4, 'g')] {
+            map.insert(key, value)?;
+        }
+        map
+    }};
 }
 
 // Whether ranges of them have the pairs between their bounds.
-fn are_ranges_of_seven<Node: NodeLike<Letters>>(alloc: Global) -> Result<bool, Fail>
-    requires { 3 ≤ Node.most }
-{
-    let map: BTreeMultiMap<u64, char, Node> = seven_pairs(alloc)?;
-    let middle = map.range((Included(&2), Excluded(&3)));
-    let two = middle
-        .map(|(key, value)| (*key, *value))
-        .eq([(2, 'c'), (2, 'd')]);
-    let none = map.range((Included(&5), Unbounded)).next().is_none();
-    let most = map.range((Included(&1), Excluded(&4))).rev();
-    let back = most.map(|(_, value)| *value).eq(['e', 'd', 'c', 'b', 'a']);
-    Ok(two && none && back && map.get(&1).map(|(_, value)| *value).eq(['a', 'b']))
+macro_rules! are_ranges_of_seven {
+    ($rt:expr, $node:ty) => {
+        let map = seven_pairs!($rt, $node);
+        let middle = map.range((Included(&2), Excluded(&3)));
+        let two = middle
+            .map(|(key, value)| (*key, *value))
+            .eq([(2, 'c'), (2, 'd')]);
+        let none = map.range((Included(&5), Unbounded)).next().is_none();
+        let most = map.range((Included(&1), Excluded(&4))).rev();
+        let back = most.map(|(_, value)| *value).eq(['e', 'd', 'c', 'b', 'a']);
+        assert!($rt; two && none && back && map.get(&1).map(|(_, value)| *value).eq(['a', 'b']));
+    };
 }
 
 #[test]
 fn ranges_of_pairs(rt: HostRuntime) -> Result<(), Fail> {
-    assert!(rt; are_ranges_of_seven::<Vec<Letters>>(rt.alloc())?);
-    assert!(rt; are_ranges_of_seven::<ArrayNode<Letters, 3>>(rt.alloc())?);
+    are_ranges_of_seven!(rt, Vec<Letters>);
+    Ok(())
+}
+
+#[test]
+fn ranges_of_pairs_where_nodes_hold_three(rt: HostRuntime) -> Result<(), Fail> {
+    are_ranges_of_seven!(rt, ArrayNode<Letters, 3>);
     Ok(())
 }
 
 // Whether one of them put in again stays in its place, and the first pair of a key is removed.
-fn are_changes_of_seven<Node: NodeLike<Letters>>(alloc: Global) -> Result<bool, Fail>
-    requires { 3 ≤ Node.most }
-{
-    let mut map: BTreeMultiMap<u64, char, Node> = seven_pairs(alloc)?;
-    let old = map.insert(1, 'a')?;
-    let put = old == Some('a') && map.len() == 7;
-    let out = map.remove_some(&4)?;
-    let values = map.iter().map(|(_, value)| *value);
-    Ok(put && out == Some((4, 'f')) && values.eq(['a', 'b', 'c', 'd', 'e', 'g']))
+macro_rules! are_changes_of_seven {
+    ($rt:expr, $node:ty) => {
+        let mut map = seven_pairs!($rt, $node);
+        let old = map.insert(1, 'a')?;
+        let put = old == Some('a') && map.len() == 7;
+        let out = map.remove_some(&4)?;
+        let values = map.iter().map(|(_, value)| *value);
+        assert!($rt; put && out == Some((4, 'f')) && values.eq(['a', 'b', 'c', 'd', 'e', 'g']));
+    };
 }
 
 #[test]
 fn pairs_of_a_key_stand_in_order(rt: HostRuntime) -> Result<(), Fail> {
-    assert!(rt; are_changes_of_seven::<Vec<Letters>>(rt.alloc())?);
-    assert!(rt; are_changes_of_seven::<ArrayNode<Letters, 3>>(rt.alloc())?);
+    are_changes_of_seven!(rt, Vec<Letters>);
+    Ok(())
+}
+
+#[test]
+fn pairs_of_a_key_stand_in_order_where_nodes_hold_three(rt: HostRuntime) -> Result<(), Fail> {
+    are_changes_of_seven!(rt, ArrayNode<Letters, 3>);
     Ok(())
 }
 
 // Whether a replacement and a removal report their events.
-fn replaces_and_removes<Node: NodeLike<Letters>>(alloc: Global) -> Result<bool, Fail>
-    requires { 3 ≤ Node.most }
-{
-    let mut map: BTreeMultiMap<u64, char, Node> = BTreeMultiMap::with_maximum_node_size(alloc, 3);
-    map.insert_cdc(1, 'a')?;
-    map.insert_cdc(1, 'b')?;
-    let (old, events) = map.insert_cdc(1, 'a')?;
-    let told = [
-        Told::Remove(2, (1, 1, 'b'), (1, 0, 'a'), 0),
-        Told::Insert(3, (1, 1, 'b'), (1, 0, 'a'), 0),
-    ];
-    let replaced = old == Some('a') && are_events(events.as_slice(), &told);
-    let (out, events) = map.remove_cdc(&1, &'b')?;
-    let told = [Told::Remove(4, (1, 1, 'b'), (1, 1, 'b'), 1)];
-    let removed = out == Some((1, 'b')) && are_events(events.as_slice(), &told);
-    Ok(replaced && removed && are_nodes(map.iter_nodes(), &[&[(1, 0, 'a')]]))
+macro_rules! replaces_and_removes {
+    ($rt:expr, $node:ty) => {
+        let mut map: BTreeMultiMap<u64, char, $node> = BTreeMultiMap::with_maximum_node_size($rt.alloc(), 3);
+        map.insert_cdc(1, 'a')?;
+        map.insert_cdc(1, 'b')?;
+        let (old, events) = map.insert_cdc(1, 'a')?;
+        let told = [
+            Told::Remove(2, (1, 1, 'b'), (1, 0, 'a'), 0),
+            Told::Insert(3, (1, 1, 'b'), (1, 0, 'a'), 0),
+        ];
+        let replaced = old == Some('a') && are_events(events.as_slice(), &told);
+        let (out, events) = map.remove_cdc(&1, &'b')?;
+        let told = [Told::Remove(4, (1, 1, 'b'), (1, 1, 'b'), 1)];
+        let removed = out == Some((1, 'b')) && are_events(events.as_slice(), &told);
+        assert!($rt; replaced && removed && are_nodes(map.iter_nodes(), &[&[(1, 0, 'a')]]));
+    };
 }
 
 #[test]
 fn an_equal_value_is_replaced_in_its_place(rt: HostRuntime) -> Result<(), Fail> {
-    assert!(rt; replaces_and_removes::<Vec<Letters>>(rt.alloc())?);
-    assert!(rt; replaces_and_removes::<ArrayNode<Letters, 3>>(rt.alloc())?);
+    replaces_and_removes!(rt, Vec<Letters>);
+    Ok(())
+}
+
+#[test]
+fn an_equal_value_is_replaced_where_nodes_hold_three(rt: HostRuntime) -> Result<(), Fail> {
+    replaces_and_removes!(rt, ArrayNode<Letters, 3>);
     Ok(())
 }
 
