@@ -10,8 +10,11 @@ mod leaderboard;
 mod listing;
 mod order_book;
 mod prices;
+mod stock;
 
 use anyhow::Result;
+use bytes::ByteStr;
+use indexset::base::pair::Pair;
 use indexset::replica::Replica;
 use indexset::{BTreeMap, BTreeSet};
 
@@ -21,7 +24,8 @@ fn main(rt: HostRuntime) -> Result<()> {
     show_counts(&rt)?;
     show_prices(&rt)?;
     show_changes(&rt)?;
-    show_takeover(&rt)
+    show_takeover(&rt)?;
+    show_stock(&rt)
 }
 
 fn show_leaderboard(rt: &HostRuntime) -> Result<()> {
@@ -115,5 +119,19 @@ fn show_takeover(rt: &HostRuntime) -> Result<()> {
         println!(rt; "event {event}")?;
     }
     println!(rt; "in all: {}", next.len())?;
+    Ok(())
+}
+
+fn show_stock(rt: &HostRuntime) -> Result<()> {
+    let mut stock = stock::Stock::with_maximum_node_size(rt.alloc(), 4);
+    let mut copy = Replica::new(rt.alloc(), 0);
+    for (name, count) in [("pears", 3), ("apples", 5), ("plums", 7), ("apples", 6)] {
+        let name = ByteStr::copy_from_str(rt.alloc(), name)?;
+        stock::set_count(&mut stock, &mut copy, name, count)?;
+    }
+    stock::forget(&mut stock, &mut copy, &ByteStr::from_static("plums"))?;
+    for Pair { key, value } in copy.iter() {
+        println!(rt; "{key}: {value}")?;
+    }
     Ok(())
 }

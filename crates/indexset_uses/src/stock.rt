@@ -1,0 +1,54 @@
+//! A stock of named things, and a copy of it kept elsewhere: a logged map whose keys are texts.
+ghost use Rattle.std.specs.Prelude.{◌≡◌, Some, OnOk};
+ghost use Rattle.std.specs.Ordering.{nat_cmp};
+ghost use Rattle.std.specs.Cmp.Lexicographic.{slice_cmp};
+ghost use Rattle.indexset.specs.Words.{by_key, joined, replay, value_of};
+
+use bytes::ByteStr;
+use indexset::base::pair::Pair;
+use indexset::base::refusal::Refusal;
+use indexset::cdc::change::ChangeEvent;
+use indexset::concurrent::map::BTreeMap;
+use indexset::replica::Replica;
+
+/// How many there are of each name.
+pub type Count = Pair<ByteStr, u64>;
+
+/// A stock by name. A clone of a `ByteStr` is the same text and copies no byte, so that the map, its
+/// events and its copies share their texts.
+pub type Stock = BTreeMap<ByteStr, u64, Vec<Count>>;
+
+/// Sets how many there are of a name, in a stock and in a copy with the same nodes: both then have the
+/// same nodes again, and the copy holds the number.
+pub fn set_count(
+    stock: &mut Stock,
+    copy: &mut Replica<Count>,
+    name: ByteStr,
+    count: u64,
+) -> Result<(), Refusal>
+    requires { copy.old.nodes ≡ stock.old.nodes }
+    ensures same { OnOk result (copy.new.nodes ≡ stock.new.nodes) }
+    ensures held { OnOk result (value_of (slice_cmp nat_cmp) (joined copy.new.nodes) name ≡ Some count) }
+{
+    let (_, events) = stock.insert_cdc(name, count)?;
+    apply_all(copy, events.as_slice())
+}
+
+/// Removes a name from a stock and from a copy with the same nodes: both then have the same nodes again.
+pub fn forget(stock: &mut Stock, copy: &mut Replica<Count>, name: &ByteStr) -> Result<(), Refusal>
+    requires { copy.old.nodes ≡ stock.old.nodes }
+    ensures { OnOk result (copy.new.nodes ≡ stock.new.nodes) }
+{
+    let (_, events) = stock.remove_cdc(name)?;
+    apply_all(copy, events.as_slice())
+}
+
+// Applies events one after the other.
+fn apply_all(copy: &mut Replica<Count>, events: &[ChangeEvent<Count>]) -> Result<(), Refusal>
+    ensures { OnOk result (replay (by_key (slice_cmp nat_cmp)) copy.old.nodes events.now ≡ Some copy.new.nodes) }
+{
+    for event in events {
+        copy.apply(event)?;
+    }
+    Ok(())
+}
