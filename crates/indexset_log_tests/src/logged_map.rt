@@ -214,21 +214,22 @@ fn is_copy(map: &Map, replica: &Replica<Letters>) -> bool {
 fn a_copy_follows_past_a_split(rt: HostRuntime) -> Result<(), Fail> {
     let mut map: Map = BTreeMap::new(rt.alloc());
     let mut replica = Replica::new(rt.alloc(), 0);
-    let mut numbers = 0..1225;
+    let mut number = 0u64;
     let mut split = None;
     for key in 0..1224 {
         let (_, events) = map.insert_cdc(key, 'a')?;
         for event in events.iter() {
-            assert!(rt; numbers.next() == Some(event.id().inner()));
+            assert!(rt; event.id().inner() == number);
+            number = number.saturating_add(1);
             if let Told::Split(_, (last, _), index) = shown(event) {
                 assert!(rt; split.is_none());
                 split = Some((last, index));
             }
             replica.apply(event)?;
         }
-        assert!(rt; is_copy(&map, &replica), "after {key}");
+        assert!(rt; is_copy(&map, &replica));
     }
-    assert!(rt; split == Some((1023, 512)) && numbers.is_empty());
+    assert!(rt; split == Some((1023, 512)) && number == 1225);
     assert!(rt; map.events_issued() == 1225 && replica.next() == 1225);
     Ok(())
 }
