@@ -55,15 +55,13 @@ fn shows<V: Copy + PartialEq>(walk: IterMap<'_, u64, V>, pairs: &[(u64, V)]) -> 
 #[test]
 fn empty_maps(rt: HostRuntime) -> Result<(), Fail> {
     let mut map = BTreeMap::<u64, u64>::new(rt.alloc())?;
-    assert!(rt; map.is_empty());
-    assert_eq!(rt; map.node_count(), 1);
-    assert_eq!(rt; map.maximum_node_size(), DEFAULT_INNER_SIZE);
-    assert!(rt; map.first_key_value().is_none());
-    assert!(rt; map.last_key_value().is_none());
-    assert!(rt; map.get_index(0).is_none());
-    assert!(rt; map.pop_first().is_none());
-    assert!(rt; map.pop_last().is_none());
-    assert!(rt; map == BTreeMap::default(rt.alloc())?);
+    let sizes = map.node_count() == 1 && map.maximum_node_size() == DEFAULT_INNER_SIZE;
+    let ends = map.first_key_value().is_none() && map.last_key_value().is_none();
+    let none = map.is_empty() && map.get_index(0).is_none();
+    let first = map.pop_first();
+    let last = map.pop_last();
+    let same = map == BTreeMap::default(rt.alloc())?;
+    assert!(rt; sizes && ends && none && first.is_none() && last.is_none() && same);
     Ok(())
 }
 
@@ -73,36 +71,44 @@ fn two_pairs_to_a_node(rt: HostRuntime) -> Result<(), Fail> {
     for key in 1..5u64 {
         put(&mut map, key, 0u64)?;
     }
-    assert_eq!(rt; map.maximum_node_size(), 2);
-    assert_eq!(rt; map.node_count(), 3);
     let copy = map.clone()?;
-    assert_eq!(rt; copy.node_count(), 3);
-    assert!(rt; copy == map);
+    let cut = map.maximum_node_size() == 2 && map.node_count() == 3;
+    let same = copy.node_count() == 3 && copy == map;
     map.clear();
-    assert_eq!(rt; map.node_count(), 1);
-    assert_eq!(rt; map.maximum_node_size(), 2);
-    assert!(rt; map.is_empty());
-    assert_eq!(rt; put(&mut map, 9, 1)?, None);
-    assert_eq!(rt; map.len(), 1);
+    let clear = map.is_empty() && map.node_count() == 1 && map.maximum_node_size() == 2;
+    let old = put(&mut map, 9, 1)?;
+    assert!(rt; cut && same && clear && old.is_none() && map.len() == 1);
     Ok(())
+}
+
+// Whether a removal gives the key's value, and the next one none.
+fn gives_value(map: &mut BTreeMap<u64, u64>, key: u64, value: u64) -> bool {
+    let out = map.remove(&key);
+    out == Some(value) && map.remove(&key).is_none()
+}
+
+// The same of the key with its value.
+fn gives_entry(map: &mut BTreeMap<u64, u64>, key: u64, value: u64) -> bool {
+    let out = map.remove_entry(&key);
+    out == Some((key, value)) && map.remove_entry(&key).is_none()
 }
 
 #[test]
 fn put_and_taken_out(rt: HostRuntime) -> Result<(), Fail> {
     for size in [2, 1024] {
         let mut map = tens(rt.alloc(), size, 7)?;
-        assert_eq!(rt; put(&mut map, 3, 33)?, Some(30));
-        assert_eq!(rt; put(&mut map, 8, 80)?, None);
-        assert_eq!(rt; map.len(), 8);
-        assert_eq!(rt; map.remove(&3), Some(33));
-        assert_eq!(rt; map.remove(&3), None);
-        assert_eq!(rt; map.remove_entry(&4), Some((4, 40)));
-        assert_eq!(rt; map.remove_entry(&4), None);
-        assert_eq!(rt; map.pop_first(), Some((0, 0)));
-        assert_eq!(rt; map.pop_last(), Some((8, 80)));
-        assert_eq!(rt; map.len(), 4);
-        assert_eq!(rt; map.pop_index(1), (2, 20));
-        assert!(rt; map.keys().copied().eq([1, 5, 6]));
+        let old = put(&mut map, 3, 33)?;
+        let none = put(&mut map, 8, 80)?;
+        let eight = old == Some(30) && none.is_none() && map.len() == 8;
+        let value_out = gives_value(&mut map, 3, 33);
+        let entry_out = gives_entry(&mut map, 4, 40);
+        let first = map.pop_first();
+        let last = map.pop_last();
+        assert!(rt; map.len() == 4);
+        let second = map.pop_index(1);
+        let popped = first == Some((0, 0)) && last == Some((8, 80)) && second == (2, 20);
+        let left = map.keys().copied().eq([1, 5, 6]);
+        assert!(rt; eight && value_out && entry_out && popped && left);
     }
     Ok(())
 }
@@ -110,10 +116,8 @@ fn put_and_taken_out(rt: HostRuntime) -> Result<(), Fail> {
 #[test]
 fn of_equal_keys_the_last_value(rt: HostRuntime) -> Result<(), Fail> {
     let map = BTreeMap::from_iter(rt.alloc(), [(2u64, 'a'), (1, 'b'), (2, 'c')])?;
-    assert_eq!(rt; map.len(), 2);
-    assert!(rt; map.contains_key(&1));
-    assert_eq!(rt; map[&1], 'b');
-    assert!(rt; map.contains_key(&2));
-    assert_eq!(rt; map[&2], 'c');
+    let held = map.contains_key(&1) && map.contains_key(&2);
+    assert!(rt; held && map.len() == 2);
+    assert!(rt; map[&1] == 'b' && map[&2] == 'c');
     Ok(())
 }

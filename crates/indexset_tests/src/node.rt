@@ -12,17 +12,14 @@ use std::test::Fail;
 #[test]
 fn an_insert_finds_its_place(rt: HostRuntime) -> Result<(), Fail> {
     let node: Vec<u64> = node_of(rt.alloc(), &[1, 9, 2, 7, 6, 3, 5, 4, 10, 8])?;
-    assert_eq!(rt; node.as_slice(), [1, 2, 3, 4, 5, 6, 7, 8, 9, 10].as_slice());
-    assert_eq!(rt; NodeLike::max(&node), Some(&10));
-    assert_eq!(rt; NodeLike::min(&node), Some(&1));
-    assert_eq!(rt; NodeLike::len(&node), 10);
-    assert!(rt; NodeLike::capacity(&node) >= 10);
-    assert_eq!(rt; NodeLike::get_ith(&node, 3), Some(&4));
-    assert_eq!(rt; NodeLike::get_ith(&node, 10), None);
-    assert_eq!(rt; NodeLike::iter(&node).next_back(), Some(&10));
-    assert!(rt; NodeLike::need_to_split(&node, 10, &0));
-    assert!(rt; !NodeLike::need_to_split(&node, 11, &0));
-    assert_eq!(rt; <Vec<u64> as NodeLike<u64>>::limit(), usize::MAX);
+    let all = node.as_slice() == [1, 2, 3, 4, 5, 6, 7, 8, 9, 10].as_slice();
+    let ends = NodeLike::max(&node) == Some(&10) && NodeLike::min(&node) == Some(&1);
+    let room = NodeLike::len(&node) == 10 && NodeLike::capacity(&node) >= 10;
+    let read = NodeLike::get_ith(&node, 3) == Some(&4) && NodeLike::get_ith(&node, 10).is_none();
+    let last = NodeLike::iter(&node).next_back() == Some(&10);
+    let full = NodeLike::need_to_split(&node, 10, &0) && !NodeLike::need_to_split(&node, 11, &0);
+    let limit = <Vec<u64> as NodeLike<u64>>::limit() == usize::MAX;
+    assert!(rt; all && ends && room && read && last && full && limit);
     Ok(())
 }
 
@@ -32,45 +29,30 @@ fn a_node_is_cut_at_half_its_length(rt: HostRuntime) -> Result<(), Fail> {
     for value in 0..1024 {
         node.push(value)?;
     }
-    assert_eq!(rt; node.len(), 1024);
+    assert!(rt; node.len() == 1024);
     let rest = NodeLike::halve(&mut node)?;
-    assert!(rt; node.iter().copied().eq(0..512));
-    assert!(rt; rest.iter().copied().eq(512..1024));
-    assert!(rt; node.capacity() > 512 && rest.capacity() > 512);
+    let halves = node.iter().copied().eq(0..512) && rest.iter().copied().eq(512..1024);
+    assert!(rt; halves && node.capacity() > 512 && rest.capacity() > 512);
     Ok(())
 }
 
 #[test]
 fn the_rank_of_a_bound(rt: HostRuntime) -> Result<(), Fail> {
     let node: Vec<u64> = node_of(rt.alloc(), &[1, 3, 5, 7, 9])?;
-    let table: [(u64, [Option<usize>; 4]); 5] = [
+    let table = [
         (1, [None, Some(0), Some(3), Some(4)]),
         (5, [Some(1), Some(2), Some(1), Some(2)]),
         (9, [Some(3), Some(4), None, Some(0)]),
         (0, [None, None, Some(4), Some(4)]),
         (10, [Some(4), Some(4), None, None]),
     ];
-    for (value, [included, excluded, included_back, excluded_back]) in table {
-        assert_eq!(rt;
-            node.rank(Bound::Included(&value), true),
-            included,
-            "from the start, {value} included"
-        );
-        assert_eq!(rt;
-            node.rank(Bound::Excluded(&value), true),
-            excluded,
-            "from the start, {value} excluded"
-        );
-        assert_eq!(rt;
-            node.rank(Bound::Included(&value), false),
-            included_back,
-            "from the end, {value} included"
-        );
-        assert_eq!(rt;
-            node.rank(Bound::Excluded(&value), false),
-            excluded_back,
-            "from the end, {value} excluded"
-        );
+    for (value, ranks) in table {
+        let included = node.rank(Bound::Included(&value), true);
+        let excluded = node.rank(Bound::Excluded(&value), true);
+        let included_back = node.rank(Bound::Included(&value), false);
+        let excluded_back = node.rank(Bound::Excluded(&value), false);
+        let found = [included, excluded, included_back, excluded_back];
+        assert!(rt; found == ranks, "of {value}: {found:?}");
     }
     Ok(())
 }
@@ -78,29 +60,26 @@ fn the_rank_of_a_bound(rt: HostRuntime) -> Result<(), Fail> {
 #[test]
 fn an_unbounded_rank_and_an_empty_node(rt: HostRuntime) -> Result<(), Fail> {
     let node: Vec<u64> = node_of(rt.alloc(), &[1, 3, 5, 7, 9])?;
-    assert_eq!(rt; node.rank(Bound::Unbounded, true), None);
-    assert_eq!(rt; node.rank(Bound::Unbounded, false), None);
     let none: Vec<u64> = node_of(rt.alloc(), &[])?;
     for from_start in [true, false] {
-        assert_eq!(rt; none.rank(Bound::Included(&1), from_start), None);
-        assert_eq!(rt; none.rank(Bound::Excluded(&1), from_start), None);
-        assert_eq!(rt; none.rank(Bound::Unbounded, from_start), None);
+        let unbounded = node.rank(Bound::Unbounded, from_start).is_none();
+        let bounded = none.rank(Bound::Included(&1), from_start).is_none()
+            && none.rank(Bound::Excluded(&1), from_start).is_none();
+        assert!(rt; unbounded && bounded && none.rank(Bound::Unbounded, from_start).is_none());
     }
-    assert_eq!(rt; NodeLike::min(&none), None);
-    assert_eq!(rt; NodeLike::max(&none), None);
+    assert!(rt; NodeLike::min(&none).is_none() && NodeLike::max(&none).is_none());
     Ok(())
 }
 
 #[test]
 fn looks_up_and_deletes(rt: HostRuntime) -> Result<(), Fail> {
     let mut node: Vec<u64> = node_of(rt.alloc(), &[2, 4, 6])?;
-    assert!(rt; NodeLike::contains(&node, &4));
-    assert!(rt; !NodeLike::contains(&node, &5));
-    assert_eq!(rt; node.try_select(&6), Some(2));
-    assert_eq!(rt; node.try_select(&1), None);
-    assert_eq!(rt; node.delete(&4), Some((4, 1)));
-    assert_eq!(rt; node.delete(&4), None);
-    assert_eq!(rt; node.as_slice(), [2, 6].as_slice());
+    let held = NodeLike::contains(&node, &4) && !NodeLike::contains(&node, &5);
+    let placed = node.try_select(&6) == Some(2) && node.try_select(&1).is_none();
+    let out = node.delete(&4);
+    let again = node.delete(&4);
+    let left = again.is_none() && node.as_slice() == [2, 6].as_slice();
+    assert!(rt; held && placed && out == Some((4, 1)) && left);
     Ok(())
 }
 
@@ -108,10 +87,10 @@ fn looks_up_and_deletes(rt: HostRuntime) -> Result<(), Fail> {
 fn counts_its_questions(rt: HostRuntime) -> Result<(), Fail> {
     let node: Vec<u64> = node_of(rt.alloc(), &[2, 4, 6, 8, 10, 12, 14])?;
     let mut probe = Counting::new(ByItem::new(&8));
-    assert_eq!(rt; NodeLike::first_not_less(&node, &mut probe), 3);
-    assert!(rt; probe.asked() <= 3);
-    assert_eq!(rt; NodeLike::first_greater(&node, &mut probe), 4);
-    assert!(rt; probe.asked() <= 6);
+    let not_less = NodeLike::first_not_less(&node, &mut probe);
+    let asked = probe.asked();
+    let greater = NodeLike::first_greater(&node, &mut probe);
+    assert!(rt; not_less == 3 && asked <= 3 && greater == 4 && probe.asked() <= 6);
     Ok(())
 }
 
@@ -120,11 +99,11 @@ fn edits_at_a_place(rt: HostRuntime) -> Result<(), Fail> {
     let mut node: Vec<u64> = NodeLike::with_capacity(rt.alloc(), 2)?;
     node.reserve_one()?;
     node.insert_at(0, 7);
-    assert_eq!(rt; NodeLike::replace(&mut node, 0, 8), Some(7));
-    assert_eq!(rt; NodeLike::replace(&mut node, 1, 9), None);
-    assert_eq!(rt; node.as_slice(), [8].as_slice());
-    assert_eq!(rt; node.remove_at(0), 8);
-    assert_eq!(rt; node.len(), 0);
+    let old = NodeLike::replace(&mut node, 0, 8);
+    let none = NodeLike::replace(&mut node, 1, 9);
+    let replaced = old == Some(7) && none.is_none() && node.as_slice() == [8].as_slice();
+    let out = node.remove_at(0);
+    assert!(rt; replaced && out == 8 && node.len() == 0);
     Ok(())
 }
 
@@ -132,15 +111,14 @@ fn edits_at_a_place(rt: HostRuntime) -> Result<(), Fail> {
 fn equal_items_may_differ(rt: HostRuntime) -> Result<(), Fail> {
     let mut node: Vec<Tagged> = NodeLike::with_capacity(rt.alloc(), 2)?;
     let first = NodeLike::insert(&mut node, Tagged { key: 1, tag: 'a' });
-    assert!(rt; first.is_ok_and(|answer| answer == (true, 0)));
     let second = NodeLike::insert(&mut node, Tagged { key: 1, tag: 'b' });
-    assert!(rt; second.is_ok_and(|answer| answer == (false, 0)));
-    assert_eq!(rt; NodeLike::get_ith(&node, 0).map(|item| item.tag), Some('a'));
+    let added = first.is_ok_and(|answer| answer == (true, 0));
+    let added_again = second.is_ok_and(|answer| answer == (false, 0));
+    let kept = NodeLike::get_ith(&node, 0).is_some_and(|item| item.tag == 'a');
     let other = Tagged { key: 1, tag: 'c' };
-    assert!(rt; NodeLike::contains(&node, &other));
-    assert!(rt;
-        node.delete(&other)
-            .is_some_and(|(item, place)| item.tag == 'a' && place == 0)
-    );
+    let held = NodeLike::contains(&node, &other);
+    let out = node.delete(&other);
+    let gone = out.is_some_and(|(item, place)| item.tag == 'a' && place == 0);
+    assert!(rt; added && added_again && kept && held && gone);
     Ok(())
 }

@@ -27,18 +27,18 @@ fn refusals_have_their_numbers(rt: HostRuntime) {
         (Refusal::NotNeighbours, 18),
     ];
     for (refusal, number) in numbered {
-        assert_eq!(rt; refusal.number(), number, "{refusal:?}");
+        assert!(rt; refusal.number() == number, "{refusal:?}");
     }
 }
 
 #[test]
 fn a_probe_is_counted(rt: HostRuntime) {
     let mut probe = Counting::new(ByItem::new(&4));
-    assert_eq!(rt; probe.asked(), 0);
-    assert_eq!(rt; probe.place(&3), Ordering::Less);
-    assert_eq!(rt; probe.place(&4), Ordering::Equal);
-    assert_eq!(rt; probe.place(&5), Ordering::Greater);
-    assert_eq!(rt; probe.asked(), 3);
+    let none = probe.asked() == 0;
+    let less = probe.place(&3) == Ordering::Less;
+    let equal = probe.place(&4) == Ordering::Equal;
+    let greater = probe.place(&5) == Ordering::Greater;
+    assert!(rt; none && less && equal && greater && probe.asked() == 3);
     let mut steps = Steps::new();
     steps.tick();
     laws::digits_count_binary_digits();
@@ -46,20 +46,13 @@ fn a_probe_is_counted(rt: HostRuntime) {
 
 #[test]
 fn searches_a_slice(rt: HostRuntime) -> Result<(), Fail> {
-    assert_eq!(rt; search::first_not_less(&[], &mut ByItem::new(&4)), 0);
-    assert_eq!(rt; search::first_greater(&[4], &mut ByItem::new(&4)), 1);
-    assert_eq!(rt; search::first_not_less(&[4], &mut ByItem::new(&5)), 1);
-    assert_eq!(rt;
-        search::first_not_less_near(&[4, 6], &mut ByItem::new(&6)),
-        (1, true)
-    );
-    assert_eq!(rt;
-        search::first_not_less_near(&[4, 6], &mut ByItem::new(&5)),
-        (1, false)
-    );
-    assert_eq!(rt;
-        search::first_not_less_near(&[4, 6], &mut ByItem::new(&7)),
-        (2, false)
-    );
+    let none = search::first_not_less(&[], &mut ByItem::new(&4)) == 0;
+    let greater = search::first_greater(&[4], &mut ByItem::new(&4)) == 1;
+    let above = search::first_not_less(&[4], &mut ByItem::new(&5)) == 1;
+    assert!(rt; none && greater && above);
+    for (item, place, found) in [(6, 1, true), (5, 1, false), (7, 2, false)] {
+        let near = search::first_not_less_near(&[4, 6], &mut ByItem::new(&item));
+        assert!(rt; near == (place, found), "of {item}");
+    }
     Ok(())
 }

@@ -20,16 +20,14 @@ fn cause_of(value: Result<(), Refused<u64>>) -> Result<(), Refusal> {
 #[test]
 fn shown_by_their_cause(rt: HostRuntime) -> Result<(), Fail> {
     let gap = told(rt.alloc(), Refusal::Gap)?;
-    assert_eq!(rt; gap.as_str(), "the event's number is not the next (Gap)");
     let refused = Refused {
         value: 7u64,
         cause: Refusal::Memory,
     };
     let text = told(rt.alloc(), refused)?;
-    assert_eq!(rt;
-        text.as_str(),
-        "memory was refused (Refused { cause: Memory, .. })"
-    );
+    let gap_shown = gap.as_str() == "the event's number is not the next (Gap)";
+    let shown = text.as_str() == "memory was refused (Refused { cause: Memory, .. })";
+    assert!(rt; gap_shown && shown);
     Ok(())
 }
 
@@ -37,5 +35,5 @@ fn shown_by_their_cause(rt: HostRuntime) -> Result<(), Fail> {
 fn passed_on_by_their_cause(rt: HostRuntime) {
     let cause = Refusal::Numbers;
     let refused = Err(Refused { value: 7, cause });
-    assert_eq!(rt; cause_of(refused), Err(Refusal::Numbers));
+    assert!(rt; cause_of(refused) == Err(Refusal::Numbers));
 }

@@ -4,58 +4,44 @@ use indexset_bench::map_run::{MapCommand, MapReply, run_map};
 use indexset_map::BTreeMap;
 use std::test::Fail;
 
+/// Each command and its reply.
+const ROWS: [(MapCommand<u64, char>, MapReply<u64, char>); 21] = [
+    (MapCommand::Insert(20, 'a'), MapReply::Value(None)),
+    (MapCommand::Insert(30, 'b'), MapReply::Value(None)),
+    (MapCommand::Insert(10, 'c'), MapReply::Value(None)),
+    (MapCommand::Insert(20, 'd'), MapReply::Value(Some('a'))),
+    (MapCommand::Insert(40, 'e'), MapReply::Value(None)),
+    (MapCommand::Get(20), MapReply::Value(Some('d'))),
+    (MapCommand::Get(21), MapReply::Value(None)),
+    (MapCommand::Remove(30), MapReply::Value(Some('b'))),
+    (MapCommand::Remove(30), MapReply::Value(None)),
+    (MapCommand::GetIndex(1), MapReply::Entry(Some((20, 'd')))),
+    (MapCommand::GetIndex(3), MapReply::Entry(None)),
+    (
+        MapCommand::RemoveEntry(20),
+        MapReply::Entry(Some((20, 'd'))),
+    ),
+    (MapCommand::ContainsKey(20), MapReply::Flag(false)),
+    (MapCommand::Rank(40), MapReply::Count(1)),
+    (MapCommand::Len, MapReply::Count(2)),
+    (MapCommand::PopFirst, MapReply::Entry(Some((10, 'c')))),
+    (MapCommand::PopLast, MapReply::Entry(Some((40, 'e')))),
+    (MapCommand::PopLast, MapReply::Entry(None)),
+    (MapCommand::Insert(50, 'f'), MapReply::Value(None)),
+    (MapCommand::Clear, MapReply::Done),
+    (MapCommand::Len, MapReply::Count(0)),
+];
+
 #[test]
 fn each_command_once(rt: HostRuntime) -> Result<(), Fail> {
     let mut map = BTreeMap::with_maximum_node_size(rt.alloc(), 2)?;
-    let commands = vec![in rt.alloc();
-        MapCommand::Insert(20u64, 'a'),
-        MapCommand::Insert(30, 'b'),
-        MapCommand::Insert(10, 'c'),
-        MapCommand::Insert(20, 'd'),
-        MapCommand::Insert(40, 'e'),
-        MapCommand::Get(20),
-        MapCommand::Get(21),
-        MapCommand::Remove(30),
-        MapCommand::Remove(30),
-        MapCommand::GetIndex(1),
-        MapCommand::GetIndex(3),
-        MapCommand::RemoveEntry(20),
-        MapCommand::ContainsKey(20),
-        MapCommand::Rank(40),
-        MapCommand::Len,
-        MapCommand::PopFirst,
-        MapCommand::PopLast,
-        MapCommand::PopLast,
-        MapCommand::Insert(50, 'f'),
-        MapCommand::Clear,
-        MapCommand::Len,
-    ]?;
+    let mut commands = Vec::new(rt.alloc());
+    let mut expected = Vec::new(rt.alloc());
+    for (command, reply) in ROWS {
+        commands.push(command)?;
+        expected.push(reply)?;
+    }
     let run = run_map(rt.alloc(), &mut map, commands);
-    let expected = vec![in rt.alloc();
-        MapReply::Value(None),
-        MapReply::Value(None),
-        MapReply::Value(None),
-        MapReply::Value(Some('a')),
-        MapReply::Value(None),
-        MapReply::Value(Some('d')),
-        MapReply::Value(None),
-        MapReply::Value(Some('b')),
-        MapReply::Value(None),
-        MapReply::Entry(Some((20, 'd'))),
-        MapReply::Entry(None),
-        MapReply::Entry(Some((20, 'd'))),
-        MapReply::Flag(false),
-        MapReply::Count(1),
-        MapReply::Count(2),
-        MapReply::Entry(Some((10, 'c'))),
-        MapReply::Entry(Some((40, 'e'))),
-        MapReply::Entry(None),
-        MapReply::Value(None),
-        MapReply::Done,
-        MapReply::Count(0),
-    ]?;
-    assert_eq!(rt; run.refused, None);
-    assert_eq!(rt; run.replies, expected);
-    assert_eq!(rt; map.is_empty(), true);
+    assert!(rt; run.refused.is_none() && run.replies == expected && map.is_empty());
     Ok(())
 }

@@ -4,60 +4,43 @@ use indexset_bench::set_run::{SetCommand, SetReply, run_set};
 use indexset_set::BTreeSet;
 use std::test::Fail;
 
+/// Each command and its reply.
+const ROWS: [(SetCommand<u64>, SetReply<u64>); 21] = [
+    (SetCommand::Insert(20), SetReply::Flag(true)),
+    (SetCommand::Insert(30), SetReply::Flag(true)),
+    (SetCommand::Insert(10), SetReply::Flag(true)),
+    (SetCommand::Insert(40), SetReply::Flag(true)),
+    (SetCommand::Insert(30), SetReply::Flag(false)),
+    (SetCommand::Remove(20), SetReply::Flag(true)),
+    (SetCommand::Contains(20), SetReply::Flag(false)),
+    (SetCommand::Replace(50), SetReply::Item(None)),
+    (SetCommand::Replace(30), SetReply::Item(Some(30))),
+    (SetCommand::Take(30), SetReply::Item(Some(30))),
+    (SetCommand::Get(40), SetReply::Item(Some(40))),
+    (SetCommand::LowerBound(11), SetReply::Item(Some(40))),
+    (SetCommand::GetIndex(2), SetReply::Item(Some(50))),
+    (SetCommand::GetIndex(3), SetReply::Item(None)),
+    (SetCommand::First, SetReply::Item(Some(10))),
+    (SetCommand::Last, SetReply::Item(Some(50))),
+    (SetCommand::Rank(41), SetReply::Count(2)),
+    (SetCommand::Len, SetReply::Count(3)),
+    (SetCommand::PopFirst, SetReply::Item(Some(10))),
+    (SetCommand::PopLast, SetReply::Item(Some(50))),
+    (SetCommand::Get(50), SetReply::Item(None)),
+];
+
 #[test]
 fn each_command_once(rt: HostRuntime) -> Result<(), Fail> {
     let mut set = BTreeSet::with_maximum_node_size(rt.alloc(), 2)?;
-    let commands = vec![in rt.alloc();
-        SetCommand::Insert(20u64),
-        SetCommand::Insert(30),
-        SetCommand::Insert(10),
-        SetCommand::Insert(40),
-        SetCommand::Insert(30),
-        SetCommand::Remove(20),
-        SetCommand::Contains(20),
-        SetCommand::Replace(50),
-        SetCommand::Replace(30),
-        SetCommand::Take(30),
-        SetCommand::Get(40),
-        SetCommand::LowerBound(11),
-        SetCommand::GetIndex(2),
-        SetCommand::GetIndex(3),
-        SetCommand::First,
-        SetCommand::Last,
-        SetCommand::Rank(41),
-        SetCommand::Len,
-        SetCommand::PopFirst,
-        SetCommand::PopLast,
-        SetCommand::Get(50),
-    ]?;
+    let mut commands = Vec::new(rt.alloc());
+    let mut expected = Vec::new(rt.alloc());
+    for (command, reply) in ROWS {
+        commands.push(command)?;
+        expected.push(reply)?;
+    }
     let run = run_set(rt.alloc(), &mut set, commands);
-    let expected = vec![in rt.alloc();
-        SetReply::Flag(true),
-        SetReply::Flag(true),
-        SetReply::Flag(true),
-        SetReply::Flag(true),
-        SetReply::Flag(false),
-        SetReply::Flag(true),
-        SetReply::Flag(false),
-        SetReply::Item(None),
-        SetReply::Item(Some(30)),
-        SetReply::Item(Some(30)),
-        SetReply::Item(Some(40)),
-        SetReply::Item(Some(40)),
-        SetReply::Item(Some(50)),
-        SetReply::Item(None),
-        SetReply::Item(Some(10)),
-        SetReply::Item(Some(50)),
-        SetReply::Count(2),
-        SetReply::Count(3),
-        SetReply::Item(Some(10)),
-        SetReply::Item(Some(50)),
-        SetReply::Item(None),
-    ]?;
-    assert_eq!(rt; run.refused, None);
-    assert_eq!(rt; run.replies, expected);
-    assert_eq!(rt; set.len(), 1);
-    assert_eq!(rt; set.get_index(0).copied(), Some(40));
+    let left = set.len() == 1 && set.get_index(0) == Some(&40);
+    assert!(rt; run.refused.is_none() && run.replies == expected && left);
     Ok(())
 }
 
@@ -66,12 +49,8 @@ fn clear_leaves_nothing(rt: HostRuntime) -> Result<(), Fail> {
     let mut set = BTreeSet::from(rt.alloc(), vec![in rt.alloc(); 2u64, 1]?)?;
     let commands = vec![in rt.alloc(); SetCommand::Clear, SetCommand::Len]?;
     let run = run_set(rt.alloc(), &mut set, commands);
-    assert_eq!(rt; run.refused, None);
-    assert_eq!(rt;
-        run.replies,
-        vec![in rt.alloc(); SetReply::Done, SetReply::Count(0)]?
-    );
-    assert_eq!(rt; set.is_empty(), true);
+    let expected = vec![in rt.alloc(); SetReply::Done, SetReply::Count(0)]?;
+    assert!(rt; run.refused.is_none() && run.replies == expected && set.is_empty());
     Ok(())
 }
 
@@ -79,8 +58,6 @@ fn clear_leaves_nothing(rt: HostRuntime) -> Result<(), Fail> {
 fn no_commands(rt: HostRuntime) -> Result<(), Fail> {
     let mut set = BTreeSet::from(rt.alloc(), vec![in rt.alloc(); 2u64, 1]?)?;
     let run = run_set(rt.alloc(), &mut set, Vec::new(rt.alloc()));
-    assert_eq!(rt; run.refused, None);
-    assert_eq!(rt; run.replies.is_empty(), true);
-    assert_eq!(rt; set.len(), 2);
+    assert!(rt; run.refused.is_none() && run.replies.is_empty() && set.len() == 2);
     Ok(())
 }

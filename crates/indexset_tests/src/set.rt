@@ -55,31 +55,37 @@ fn questions(set: &BTreeSet<u64>, key: u64) -> (Result<usize, usize>, u64) {
     (place, probe.asked())
 }
 
+// Whether a search finds each key below the end at itself, and the end absent, by at most so many
+// questions.
+fn finds_by_few(set: &BTreeSet<u64>, end: u64, most: u64) -> bool {
+    for key in 0..=end {
+        let (place, asked) = questions(set, key);
+        let told = match place {
+            Ok(i) => key < end && i as u64 == key,
+            Err(gap) => key == end && gap as u64 == key,
+        };
+        if !told || most < asked {
+            return false;
+        }
+    }
+    true
+}
+
 #[test]
 fn positions_and_ranks_of_three(rt: HostRuntime) -> Result<(), Fail> {
     let set = BTreeSet::from(rt.alloc(), vec![in rt.alloc(); 3u64, 1, 2]?)?;
-    assert_eq!(rt; set.get_index(0).copied(), Some(1));
-    assert_eq!(rt; set.get_index(2).copied(), Some(3));
-    assert_eq!(rt; set.get_index(4).copied(), None);
-    for (key, rank) in [(1, 0), (3, 2), (4, 3), (100, 3)] {
-        assert_eq!(rt; set.rank(&key), rank, "of {key}");
-    }
+    let ends = set.get_index(0) == Some(&1) && set.get_index(2) == Some(&3);
+    let none = set.get_index(4).is_none();
+    let within = set.rank(&1) == 0 && set.rank(&3) == 2;
+    assert!(rt; ends && none && within && set.rank(&4) == 3 && set.rank(&100) == 3);
     Ok(())
 }
 
 #[test]
 fn few_questions_in_many_nodes(rt: HostRuntime) -> Result<(), Fail> {
     let set = descending(rt.alloc(), 1024, 10240)?;
-    assert_eq!(rt; set.node_count(), 19);
-    assert_eq!(rt; set.len(), 10240);
-    for key in 0..10240u64 {
-        let (place, asked) = questions(&set, key);
-        assert!(rt; place.is_ok_and(|i| i as u64 == key), "at {key}");
-        assert!(rt; asked <= 17, "at {key}");
-    }
-    let (place, asked) = questions(&set, 10240);
-    assert!(rt; place.is_err_and(|gap| gap == 10240));
-    assert!(rt; asked <= 17);
+    let cut = set.node_count() == 19 && set.len() == 10240;
+    assert!(rt; cut && finds_by_few(&set, 10240, 17));
     Ok(())
 }
 
@@ -91,10 +97,8 @@ fn two_to_a_node(rt: HostRuntime) -> Result<(), Fail> {
         add(&mut up, key)?;
         add(&mut down, 8 - key)?;
     }
-    assert_eq!(rt; up.node_count(), 6);
-    assert_eq!(rt; down.node_count(), 6);
-    assert_eq!(rt; up.maximum_node_size(), 2);
-    assert!(rt; up == down);
+    let cut = up.node_count() == 6 && down.node_count() == 6;
+    assert!(rt; cut && up.maximum_node_size() == 2 && up == down);
     Ok(())
 }
 
@@ -104,8 +108,7 @@ fn an_element_goes_left_of_a_halved_node(rt: HostRuntime) -> Result<(), Fail> {
     for key in [1, 3, 4, 2u64] {
         add(&mut set, key)?;
     }
-    assert_eq!(rt; set.node_count(), 3);
-    assert!(rt; set.iter().eq(&[1, 2, 3, 4]));
+    assert!(rt; set.node_count() == 3 && set.iter().eq(&[1, 2, 3, 4]));
     Ok(())
 }
 
@@ -113,13 +116,7 @@ fn an_element_goes_left_of_a_halved_node(rt: HostRuntime) -> Result<(), Fail> {
 fn few_questions_in_few_nodes(rt: HostRuntime) -> Result<(), Fail> {
     // Six nodes of at most two elements: 3 + 2 + 1 questions at most.
     let set = ascending(rt.alloc(), 2, 7)?;
-    assert_eq!(rt; set.node_count(), 6);
-    for key in 0..7u64 {
-        let (place, asked) = questions(&set, key);
-        assert!(rt; place.is_ok_and(|i| i as u64 == key), "at {key}");
-        assert!(rt; asked <= 6, "at {key}");
-    }
-    assert_eq!(rt; questions(&set, 7).0, Err(7));
+    assert!(rt; set.node_count() == 6 && finds_by_few(&set, 7, 6));
     Ok(())
 }
 
@@ -130,31 +127,25 @@ fn equal_whatever_the_nodes(rt: HostRuntime) -> Result<(), Fail> {
         add(&mut small, key)?;
     }
     let large = BTreeSet::from(rt.alloc(), vec![in rt.alloc(); 1u64, 2, 3, 4, 5]?)?;
-    assert!(rt; small.node_count() > large.node_count());
-    assert_eq!(rt; large.maximum_node_size(), 1024);
-    assert!(rt; small == large);
-    assert!(rt; small <= large && small >= large);
+    let sizes = small.node_count() > large.node_count() && large.maximum_node_size() == 1024;
+    let same = small == large && small <= large && small >= large;
     let hashes = BuildHasherDefault::<FoldHasher>::new();
-    assert_eq!(rt; hashes.hash_one(&small), hashes.hash_one(&large));
+    let hashed = hashes.hash_one(&small) == hashes.hash_one(&large);
     let mut longer = small.clone()?;
     add(&mut longer, 6)?;
-    assert!(rt; small != longer);
-    assert!(rt; small < longer);
+    assert!(rt; sizes && same && hashed && small != longer && small < longer);
     Ok(())
 }
 
 #[test]
 fn nothing_in_the_empty_set(rt: HostRuntime) -> Result<(), Fail> {
     let mut set: BTreeSet<u64> = BTreeSet::new(rt.alloc())?;
-    assert!(rt; set.is_empty());
-    assert_eq!(rt; set.first().copied(), None);
-    assert_eq!(rt; set.last().copied(), None);
-    assert_eq!(rt; set.get_index(0).copied(), None);
-    assert_eq!(rt; set.lower_bound(&0).copied(), None);
-    assert_eq!(rt; set.pop_first(), None);
-    assert_eq!(rt; set.pop_last(), None);
-    assert_eq!(rt; set.node_count(), 1);
-    assert_eq!(rt; set.maximum_node_size(), DEFAULT_INNER_SIZE);
+    let ends = set.is_empty() && set.first().is_none() && set.last().is_none();
+    let none = set.get_index(0).is_none() && set.lower_bound(&0).is_none();
+    let first = set.pop_first();
+    let last = set.pop_last();
+    let sizes = set.node_count() == 1 && set.maximum_node_size() == DEFAULT_INNER_SIZE;
+    assert!(rt; ends && none && first.is_none() && last.is_none() && sizes);
     Ok(())
 }
 
@@ -163,28 +154,25 @@ fn once_again_changes_nothing(rt: HostRuntime) -> Result<(), Fail> {
     let mut set = BTreeSet::new(rt.alloc())?;
     for i in 0..3072u64 {
         let is_new = add(&mut set, 1024 - i % 1025)?;
-        assert_eq!(rt; is_new, i < 1025, "at {i}");
+        assert!(rt; is_new == (i < 1025), "at {i}");
     }
-    assert!(rt; set.node_count() > 1);
-    assert_eq!(rt; set.len(), 1025);
-    for i in 0..1025usize {
-        assert_eq!(rt; set.get_index(i).copied(), Some(i as u64));
-    }
+    let many = set.node_count() > 1 && set.len() == 1025;
+    assert!(rt; many && set.iter().copied().eq(0..1025));
     Ok(())
 }
 
 #[test]
 fn each_key_stands_at_itself(rt: HostRuntime) -> Result<(), Fail> {
     let set = descending(rt.alloc(), 1024, 1025)?;
-    assert!(rt; set.node_count() > 1);
     for i in 0..1025usize {
         let key = i as u64;
-        assert_eq!(rt; set.get_index(i).copied(), Some(key));
-        assert_eq!(rt; set.lower_bound(&key).copied(), Some(key));
-        assert_eq!(rt; set.get(&key).copied(), Some(key));
-        assert!(rt; set.contains(&key));
+        let placed = set.get_index(i) == Some(&key) && set.lower_bound(&key) == Some(&key);
+        assert!(rt;
+            placed && set.get(&key) == Some(&key) && set.contains(&key),
+            "at {i}"
+        );
     }
-    assert_eq!(rt; set.lower_bound(&1025).copied(), None);
+    assert!(rt; set.node_count() > 1 && set.lower_bound(&1025).is_none());
     Ok(())
 }
 
@@ -193,13 +181,14 @@ fn removed_and_taken_to_the_last(rt: HostRuntime) -> Result<(), Fail> {
     let mut removed = ascending(rt.alloc(), 1024, 1025)?;
     let mut taken = removed.clone()?;
     for key in 0..1025u64 {
-        assert!(rt; removed.remove(&key));
-        assert!(rt; !removed.remove(&key));
-        assert_eq!(rt; taken.take(&key), Some(key));
-        assert_eq!(rt; taken.take(&key), None);
+        let gone = removed.remove(&key);
+        let gone_again = removed.remove(&key);
+        let out = taken.take(&key);
+        let out_again = taken.take(&key);
+        let once = !gone_again && out_again.is_none();
+        assert!(rt; gone && out == Some(key) && once, "at {key}");
     }
-    assert!(rt; removed.is_empty());
-    assert!(rt; taken.is_empty());
+    assert!(rt; removed.is_empty() && taken.is_empty());
     Ok(())
 }
 
@@ -208,28 +197,27 @@ fn popped_at_either_end(rt: HostRuntime) -> Result<(), Fail> {
     let mut up = ascending(rt.alloc(), 1024, 1025)?;
     let mut down = up.clone()?;
     for key in 0..1025u64 {
-        assert_eq!(rt; up.pop_first(), Some(key));
-        assert_eq!(rt; down.pop_last(), Some(1024 - key));
+        let first = up.pop_first();
+        let last = down.pop_last();
+        assert!(rt; first == Some(key) && last == Some(1024 - key), "at {key}");
     }
-    for set in [&up, &down] {
-        assert_eq!(rt; set.first().copied(), None);
-        assert_eq!(rt; set.last().copied(), None);
-    }
+    let no_first = up.first().is_none() && down.first().is_none();
+    assert!(rt; no_first && up.last().is_none() && down.last().is_none());
     Ok(())
 }
 
 #[test]
 fn each_call_once(rt: HostRuntime) -> Result<(), Fail> {
     let mut set = BTreeSet::from_iter(rt.alloc(), 0..10u64)?;
-    assert_eq!(rt; set.len(), 10);
-    assert!(rt; set == BTreeSet::from_iter(rt.alloc(), (0..10u64).rev())?);
-    assert_eq!(rt; set.first().copied(), Some(0));
-    assert_eq!(rt; set.last().copied(), Some(9));
-    assert_eq!(rt; set[3], 3);
-    assert_eq!(rt; set.pop_index(3), 3);
-    assert_eq!(rt; set.rank(&9), 8);
+    let same = set == BTreeSet::from_iter(rt.alloc(), (0..10u64).rev())?;
+    let ends = set.first() == Some(&0) && set.last() == Some(&9);
+    assert!(rt; set.len() == 10);
+    let third = set[3] == 3;
+    let out = set.pop_index(3);
+    let below = set.rank(&9);
     set.clear();
-    assert!(rt; set == BTreeSet::default(rt.alloc())?);
-    assert_eq!(rt; set.node_count(), 1);
+    let clear = set == BTreeSet::default(rt.alloc())?;
+    let popped = out == 3 && below == 8;
+    assert!(rt; same && ends && third && popped && clear && set.node_count() == 1);
     Ok(())
 }

@@ -74,8 +74,8 @@ fn ascending(alloc: Global) -> Result<Spine<u64>, Refusal> {
 #[test]
 fn ascending_items_fill_the_last_node(rt: HostRuntime) -> Result<(), Fail> {
     let spine = ascending(rt.alloc())?;
-    assert!(rt; shows(&spine, &[&[1], &[2], &[3], &[4], &[5], &[6, 7]]));
-    assert_eq!(rt; spine.maximum_node_size(), 2);
+    let cut = shows(&spine, &[&[1], &[2], &[3], &[4], &[5], &[6, 7]]);
+    assert!(rt; cut && spine.maximum_node_size() == 2);
     Ok(())
 }
 
@@ -95,10 +95,11 @@ fn descending_items_fill_the_first_node(rt: HostRuntime) -> Result<(), Fail> {
 fn an_emptied_node_goes(rt: HostRuntime) -> Result<(), Fail> {
     let mut spine = ascending(rt.alloc())?;
     let six = spine.spot(5).ok_or("an item")?;
-    assert_eq!(rt; spine.remove(six), 6);
+    let sixth = spine.remove(six);
     let two = spine.spot(1).ok_or("an item")?;
-    assert_eq!(rt; spine.remove(two), 2);
-    assert!(rt; shows(&spine, &[&[1], &[3], &[4], &[5], &[7]]));
+    let second = spine.remove(two);
+    let left = shows(&spine, &[&[1], &[3], &[4], &[5], &[7]]);
+    assert!(rt; sixth == 6 && second == 2 && left);
     Ok(())
 }
 
@@ -107,10 +108,10 @@ fn the_only_node_stays(rt: HostRuntime) -> Result<(), Fail> {
     let mut spine = Spine::new(rt.alloc(), 2)?;
     spine.insert(end_spot(&spine), 9)?;
     let only = spine.spot(0).ok_or("an item")?;
-    assert_eq!(rt; spine.replace(only, 8), 9);
+    let old = spine.replace(only, 8);
     let only = spine.spot(0).ok_or("an item")?;
-    assert_eq!(rt; spine.remove(only), 8);
-    assert!(rt; shows(&spine, &[&[]]));
+    let out = spine.remove(only);
+    assert!(rt; old == 9 && out == 8 && shows(&spine, &[&[]]));
     Ok(())
 }
 
@@ -122,15 +123,16 @@ fn splits_at_every_position(rt: HostRuntime) -> Result<(), Fail> {
             Some(spot) => spine.split_off(spot)?,
             None => spine.split_off(end_spot(&spine))?,
         };
-        assert_eq!(rt; spine.len(), position);
-        assert_eq!(rt; rest.len().checked_add(position), Some(7));
-        assert_eq!(rt; rest.maximum_node_size(), 2);
-        for i in 0..7usize {
-            let item = spine.get(i).or(rest.get(i.saturating_sub(position)));
-            assert_eq!(rt; item, Some(&(i as u64 + 1)), "{i} of {position}");
-        }
-        assert!(rt; spine.len() == 0 || spine.node_count() <= spine.len());
-        assert!(rt; rest.len() == 0 || rest.node_count() <= rest.len());
+        let first = spine.iter().copied().eq(1..=position as u64);
+        let others = rest.iter().copied().eq(position as u64 + 1..8);
+        let parted = spine.len() == position && rest.len().checked_add(position) == Some(7);
+        let none_empty = position == 0 || spine.node_count() <= spine.len();
+        let none_empty_behind = position == 7 || rest.node_count() <= rest.len();
+        let sized = rest.maximum_node_size() == 2;
+        assert!(rt;
+            first && others && parted && none_empty && none_empty_behind && sized,
+            "at {position}"
+        );
     }
     Ok(())
 }
@@ -140,8 +142,8 @@ fn splits_within_a_node(rt: HostRuntime) -> Result<(), Fail> {
     let mut spine = ascending(rt.alloc())?;
     let seven = spine.spot(6).ok_or("an item")?;
     let rest = spine.split_off(seven)?;
-    assert!(rt; shows(&rest, &[&[7]]));
-    assert!(rt; shows(&spine, &[&[1], &[2], &[3], &[4], &[5], &[6]]));
+    let kept = shows(&spine, &[&[1], &[2], &[3], &[4], &[5], &[6]]);
+    assert!(rt; kept && shows(&rest, &[&[7]]));
     Ok(())
 }
 
@@ -154,9 +156,9 @@ fn retains_every_other_item(rt: HostRuntime) -> Result<(), Fail> {
         *x = x.wrapping_add(10);
         keeps
     });
-    assert!(rt; shows(&spine, &[&[11], &[13], &[15], &[17]]));
+    let kept = shows(&spine, &[&[11], &[13], &[15], &[17]]);
     spine.retain_mut(|_| false);
-    assert!(rt; shows(&spine, &[&[]]));
+    assert!(rt; kept && shows(&spine, &[&[]]));
     Ok(())
 }
 
@@ -169,8 +171,8 @@ fn moves_the_first_items_of_another(rt: HostRuntime) -> Result<(), Fail> {
             spine.insert_from(end_spot(&spine), &mut other)?;
         }
     }
-    assert!(rt; shows(&spine, &[&[1], &[2], &[3], &[4], &[5, 6, 7]]));
-    assert!(rt; shows(&other, &[&[]]));
+    let moved = shows(&spine, &[&[1], &[2], &[3], &[4], &[5, 6, 7]]);
+    assert!(rt; moved && shows(&other, &[&[]]));
     Ok(())
 }
 
@@ -179,8 +181,8 @@ fn clones_and_clears(rt: HostRuntime) -> Result<(), Fail> {
     let mut spine = ascending(rt.alloc())?;
     let same = spine.clone()?;
     spine.clear();
-    assert!(rt; shows(&spine, &[&[]]));
-    assert!(rt; shows(&same, &[&[1], &[2], &[3], &[4], &[5], &[6, 7]]));
+    let copied = shows(&same, &[&[1], &[2], &[3], &[4], &[5], &[6, 7]]);
+    assert!(rt; copied && shows(&spine, &[&[]]));
     Ok(())
 }
 
@@ -192,26 +194,21 @@ fn one_spine_behind_another(rt: HostRuntime) -> Result<(), Fail> {
         other.insert(end_spot(&other), x)?;
     }
     spine.append(&mut other)?;
-    assert!(rt;
-        shows(
-            &spine,
-            &[&[1], &[2], &[3], &[4], &[5], &[6], &[7], &[8], &[9, 10]]
-        )
-    );
-    assert!(rt; shows(&other, &[&[]]));
+    let nodes: [&[u64]; 9] = [&[1], &[2], &[3], &[4], &[5], &[6], &[7], &[8], &[9, 10]];
+    let moved = shows(&spine, &nodes) && shows(&other, &[&[]]);
     let first = Spot {
         node: 0,
         offset: 0,
         found: true,
     };
-    assert_eq!(rt; spine.first_spot(), Some(first));
     let last = Spot {
         node: 8,
         offset: 1,
         found: true,
     };
-    assert_eq!(rt; spine.last_spot(), Some(last));
-    assert!(rt; other.first_spot().is_none() && other.last_spot().is_none());
+    let ends = spine.first_spot() == Some(first) && spine.last_spot() == Some(last);
+    let none = other.first_spot().is_none() && other.last_spot().is_none();
+    assert!(rt; moved && ends && none);
     Ok(())
 }
 
@@ -220,7 +217,7 @@ fn a_list_behind_a_spine(rt: HostRuntime) -> Result<(), Fail> {
     let mut spine = Spine::new(rt.alloc(), 4)?;
     let mut list = vec![in rt.alloc(); 1u64, 2, 3, 4, 5, 6, 7, 8, 9, 10]?;
     spine.append_items(&mut list)?;
-    assert!(rt; shows(&spine, &[&[1, 2], &[3, 4], &[5, 6], &[7, 8, 9, 10]]));
-    assert!(rt; list.is_empty());
+    let cut = shows(&spine, &[&[1, 2], &[3, 4], &[5, 6], &[7, 8, 9, 10]]);
+    assert!(rt; cut && list.is_empty());
     Ok(())
 }

@@ -10,11 +10,10 @@ use std::test::Fail;
 fn equal_whatever_the_nodes(rt: HostRuntime) -> Result<(), Fail> {
     let small = tens(rt.alloc(), 2, 6)?;
     let large = tens(rt.alloc(), 1024, 6)?;
-    assert!(rt; small.node_count() > large.node_count());
-    assert!(rt; small == large);
-    assert_eq!(rt; small.cmp(&large), Ordering::Equal);
+    let more = small.node_count() > large.node_count();
+    let same = small == large && small.cmp(&large) == Ordering::Equal;
     let hashes = BuildHasherDefault::<FoldHasher>::new();
-    assert_eq!(rt; hashes.hash_one(&small), hashes.hash_one(&large));
+    assert!(rt; more && same && hashes.hash_one(&small) == hashes.hash_one(&large));
     Ok(())
 }
 
@@ -24,10 +23,10 @@ fn compared_by_keys_and_values(rt: HostRuntime) -> Result<(), Fail> {
     let other = BTreeMap::from(rt.alloc(), vec![in rt.alloc(); (1u64, "b")]?)?;
     let more = BTreeMap::from(rt.alloc(), vec![in rt.alloc(); (1u64, "a"), (2, "a")]?)?;
     let above = BTreeMap::from(rt.alloc(), vec![in rt.alloc(); (2u64, "a")]?)?;
-    assert!(rt; one != other);
-    assert!(rt; one < other && one < more && more < other && other < above);
-    assert_eq!(rt; above.cmp(&one), Ordering::Greater);
-    assert_eq!(rt; one.partial_cmp(&more), Some(Ordering::Less));
+    let ascend = one < other && one < more && more < other && other < above;
+    let greater = above.cmp(&one) == Ordering::Greater;
+    let less = one.partial_cmp(&more) == Some(Ordering::Less);
+    assert!(rt; ascend && greater && less && one != other);
     Ok(())
 }
 
@@ -35,8 +34,7 @@ fn compared_by_keys_and_values(rt: HostRuntime) -> Result<(), Fail> {
 fn values_without_an_order(rt: HostRuntime) -> Result<(), Fail> {
     let one = BTreeMap::from(rt.alloc(), vec![in rt.alloc(); (1u64, f64::NAN)]?)?;
     let other = BTreeMap::from(rt.alloc(), vec![in rt.alloc(); (1u64, 1.0f64)]?)?;
-    assert_eq!(rt; one.partial_cmp(&other), None);
-    assert!(rt; one != other);
+    assert!(rt; one.partial_cmp(&other).is_none() && one != other);
     Ok(())
 }
 
@@ -48,10 +46,10 @@ fn pairs_by_key_alone(rt: HostRuntime) -> Result<(), Fail> {
     };
     let same = Pair { key: 1, value: 'b' };
     let above = Pair { key: 2, value: 'a' };
-    assert!(rt; pair == same && pair < above);
-    assert_eq!(rt; pair.cmp(&same), Ordering::Equal);
-    assert_eq!(rt; pair.clone()?.value, 'a');
+    let by_key = pair == same && pair < above && pair.cmp(&same) == Ordering::Equal;
+    let copy = pair.clone()?;
     let hashes = BuildHasherDefault::<FoldHasher>::new();
-    assert_eq!(rt; hashes.hash_one(&pair), hashes.hash_one(&same));
+    let hashed = hashes.hash_one(&pair) == hashes.hash_one(&same);
+    assert!(rt; by_key && copy.value == 'a' && hashed);
     Ok(())
 }

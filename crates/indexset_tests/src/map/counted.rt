@@ -1,5 +1,5 @@
 //! How often a call compares, told by keys that count, and how often `retain` asks.
-use super::put;
+use super::{put, shows};
 use crate::counted::Counted;
 use indexset_core::refusal::Refusal;
 use indexset_map::{BTreeMap, Entry};
@@ -21,18 +21,22 @@ fn many(alloc: Global, asked: &Cell<u64>) -> Result<BTreeMap<Counted<'_>, u64>, 
 fn few_comparisons_in_many_nodes(rt: HostRuntime) -> Result<(), Fail> {
     let asked = Cell::new(0);
     let mut map = many(rt.alloc(), &asked)?;
-    assert_eq!(rt; map.node_count(), 19);
+    assert!(rt; map.node_count() == 19);
     for key in [0, 5119, 10239] {
         let sought = Counted { key, asked: &asked };
         asked.set(0);
-        assert_eq!(rt; map.get(&sought).copied(), Some(key));
-        assert!(rt; asked.replace(0) <= 17, "get of {key}");
-        assert_eq!(rt; map.get_mut(&sought).map(|value| *value), Some(key));
-        assert!(rt; asked.replace(0) <= 17, "get_mut of {key}");
-        assert!(rt; map.contains_key(&sought));
-        assert!(rt; asked.replace(0) <= 17, "contains_key of {key}");
-        assert!(rt; matches!(map.entry(sought), Entry::Occupied(_)));
-        assert!(rt; asked.get() <= 17, "entry of {key}");
+        let read = map.get(&sought).copied() == Some(key);
+        let get = asked.replace(0);
+        let lent = map.get_mut(&sought).is_some_and(|value| *value == key);
+        let get_mut = asked.replace(0);
+        let held = map.contains_key(&sought);
+        let contains = asked.replace(0);
+        let occupied = matches!(map.entry(sought), Entry::Occupied(_));
+        let few = get <= 17 && get_mut <= 17 && contains <= 17 && asked.get() <= 17;
+        assert!(rt;
+            read && lent && held && occupied && few,
+            "of {key}: {get} {get_mut} {contains}"
+        );
     }
     Ok(())
 }
@@ -44,16 +48,16 @@ fn few_comparisons_of_rank(rt: HostRuntime) -> Result<(), Fail> {
     for key in [0, 5119, 10239] {
         let sought = Counted { key, asked: &asked };
         asked.set(0);
-        assert_eq!(rt; map.rank(&sought) as u64, key);
-        assert!(rt; asked.replace(0) <= 17, "rank of {key}");
-        assert!(rt;
-            map.get_key_value(&sought)
-                .is_some_and(|pair| *pair.1 == key)
-        );
-        assert!(rt; asked.replace(0) <= 17, "get_key_value of {key}");
+        let ranked = map.rank(&sought) as u64 == key;
+        let rank = asked.replace(0);
+        let held = map
+            .get_key_value(&sought)
+            .is_some_and(|pair| *pair.1 == key);
+        let get = asked.replace(0);
         let cursor = map.lower_bound(Included(&sought));
-        assert_eq!(rt; cursor.value().copied(), Some(key));
-        assert!(rt; asked.get() <= 17, "lower_bound of {key}");
+        let found = cursor.value().copied() == Some(key);
+        let few = rank <= 17 && get <= 17 && asked.get() <= 17;
+        assert!(rt; ranked && held && found && few, "of {key}: {rank} {get}");
     }
     Ok(())
 }
@@ -69,13 +73,11 @@ fn few_comparisons_of_ranges(rt: HostRuntime) -> Result<(), Fail> {
             asked: &asked,
         };
         asked.set(0);
-        assert_eq!(rt; map.range((Included(&sought), Excluded(&next))).len(), 1);
-        assert!(rt; asked.replace(0) <= 34, "range from {key}");
-        assert_eq!(rt;
-            map.range_mut((Included(&sought), Excluded(&next))).len(),
-            1
-        );
-        assert!(rt; asked.get() <= 34, "range_mut from {key}");
+        let one = map.range((Included(&sought), Excluded(&next))).len() == 1;
+        let range = asked.replace(0);
+        let one_lent = map.range_mut((Included(&sought), Excluded(&next))).len() == 1;
+        let few = range <= 34 && asked.get() <= 34;
+        assert!(rt; one && one_lent && few, "of {key}: {range}");
     }
     Ok(())
 }
@@ -87,28 +89,25 @@ fn few_comparisons_of_calls_that_change(rt: HostRuntime) -> Result<(), Fail> {
     for key in [0, 5119, 10239] {
         let sought = Counted { key, asked: &asked };
         asked.set(0);
-        assert_eq!(rt;
-            put(&mut map, Counted { key, asked: &asked }, key)?,
-            Some(key)
-        );
-        assert!(rt; asked.replace(0) <= 17, "insert of {key}");
-        assert_eq!(rt; map.remove(&sought), Some(key));
-        assert!(rt; asked.replace(0) <= 17, "remove of {key}");
-        assert!(rt; map.remove_entry(&sought).is_none());
-        assert!(rt; asked.replace(0) <= 17, "remove_entry of {key}");
-        assert!(rt; put(&mut map, sought, key)?.is_none());
-        assert!(rt;
-            asked.get() <= 35,
-            "insert of {key}, which looks before it goes in"
-        );
+        let old = put(&mut map, Counted { key, asked: &asked }, key)?;
+        let insert = asked.replace(0);
+        let value = map.remove(&sought);
+        let remove = asked.replace(0);
+        let none = map.remove_entry(&sought).is_none();
+        let remove_entry = asked.replace(0);
+        let new = put(&mut map, sought, key)?.is_none();
+        assert!(rt; old == Some(key) && value == Some(key) && none && new);
+        // A new key is looked for before it goes in.
+        let few = insert <= 17 && remove <= 17 && remove_entry <= 17 && asked.get() <= 35;
+        assert!(rt; few, "of {key}: {insert} {remove} {remove_entry}");
     }
     let sought = Counted {
         key: 5120,
         asked: &asked,
     };
     asked.set(0);
-    assert_eq!(rt; map.split_off(&sought)?.len(), 5120);
-    assert!(rt; asked.get() <= 17, "split_off at 5120");
+    let rest = map.split_off(&sought)?;
+    assert!(rt; rest.len() == 5120 && asked.get() <= 17);
     Ok(())
 }
 
@@ -124,8 +123,6 @@ fn retain_asks_once_a_pair(rt: HostRuntime) -> Result<(), Fail> {
         *value = asked;
         key % 2 == 1
     });
-    assert_eq!(rt; asked, 7);
-    assert!(rt; map.keys().copied().eq([1, 3, 5, 7]));
-    assert!(rt; map.values().copied().eq([1, 3, 5, 7]));
+    assert!(rt; asked == 7 && shows(map.iter(), &[(1, 1), (3, 3), (5, 5), (7, 7)]));
     Ok(())
 }

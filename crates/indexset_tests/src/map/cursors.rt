@@ -13,34 +13,32 @@ fn two(alloc: Global) -> Result<BTreeMap<u64, &'static str>, Fail> {
 fn round_two_keys(rt: HostRuntime) -> Result<(), Fail> {
     let map = two(rt.alloc())?;
     let mut cursor = map.lower_bound(Bound::Unbounded);
-    assert_eq!(rt; cursor.key(), Some(&1));
-    assert_eq!(rt; cursor.value(), Some(&"a"));
-    assert_eq!(rt; cursor.peek_prev(), None);
+    let at_first = cursor.key() == Some(&1) && cursor.value() == Some(&"a");
+    let none_before = cursor.peek_prev().is_none();
     cursor.move_prev();
-    assert_eq!(rt; cursor.key(), None);
-    assert_eq!(rt; cursor.peek_prev(), Some((&3, &"c")));
+    let at_end = cursor.key().is_none() && cursor.peek_prev() == Some((&3, &"c"));
     cursor.move_next();
-    assert_eq!(rt; cursor.key_value(), Some((&1, &"a")));
+    let at_first_again = cursor.key_value() == Some((&1, &"a"));
+    assert!(rt; at_first && none_before && at_end && at_first_again);
     cursor.move_index(7);
-    assert_eq!(rt; cursor.key(), None);
-    assert_eq!(rt; cursor.value(), None);
-    assert_eq!(rt; cursor.key_value(), None);
-    assert_eq!(rt; cursor.peek_index(1), Some((&3, &"c")));
-    assert_eq!(rt; cursor.peek_index(2), None);
+    let past = cursor.key().is_none() && cursor.value().is_none() && cursor.key_value().is_none();
+    let at_one = cursor.peek_index(1) == Some((&3, &"c"));
+    assert!(rt; past && at_one && cursor.peek_index(2).is_none());
     Ok(())
 }
 
 #[test]
 fn lower_bounds(rt: HostRuntime) -> Result<(), Fail> {
     let map = two(rt.alloc())?;
-    assert_eq!(rt; map.lower_bound(Bound::Excluded(&2)).key(), Some(&3));
-    let end = map.lower_bound(Bound::Excluded(&3));
-    assert_eq!(rt; end.key(), None);
-    assert_eq!(rt; end.peek_next(), Some((&1, &"a")));
-    assert_eq!(rt; map.lower_bound(Bound::Included(&3)).key(), Some(&3));
-    assert_eq!(rt;
-        map.lower_bound(Bound::Included(&0)).peek_next(),
-        Some((&3, &"c"))
-    );
+    let rows = [
+        (Bound::Excluded(&2), Some(&3), None),
+        (Bound::Excluded(&3), None, Some((&1, &"a"))),
+        (Bound::Included(&3), Some(&3), None),
+        (Bound::Included(&0), Some(&1), Some((&3, &"c"))),
+    ];
+    for (bound, key, next) in rows {
+        let cursor = map.lower_bound(bound);
+        assert!(rt; cursor.key() == key && cursor.peek_next() == next);
+    }
     Ok(())
 }

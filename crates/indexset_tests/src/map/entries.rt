@@ -1,5 +1,5 @@
 //! Entries: words counted, and each call of an entry.
-use super::{five, tens};
+use super::{five, shows, tens};
 use indexset_core::refusal::Refusal;
 use indexset_map::{BTreeMap, Entry, OccupiedEntry, VacantEntry};
 use std::test::Fail;
@@ -37,8 +37,8 @@ fn words_are_counted(rt: HostRuntime) -> Result<(), Fail> {
     for word in ["a", "b", "a", "c", "a", "b"] {
         count(&mut counts, word)?;
     }
-    assert!(rt; counts.keys().copied().eq(["a", "b", "c"]));
-    assert!(rt; counts.values().copied().eq([3, 2, 1]));
+    let words = counts.keys().copied().eq(["a", "b", "c"]);
+    assert!(rt; words && counts.values().copied().eq([3, 2, 1]));
     Ok(())
 }
 
@@ -46,19 +46,18 @@ fn words_are_counted(rt: HostRuntime) -> Result<(), Fail> {
 fn each_call_of_an_occupied_entry(rt: HostRuntime) -> Result<(), Fail> {
     let mut map = tens(rt.alloc(), 2, 4)?;
     let mut entry = occupied(&mut map, 1).ok_or("the key is there")?;
-    assert_eq!(rt; *entry.key(), 1);
-    assert_eq!(rt; *entry.get(), 10);
+    let read = *entry.key() == 1 && *entry.get() == 10;
     *entry.get_mut() = 11;
-    assert_eq!(rt; entry.insert(12), 11);
+    let written = entry.insert(12) == 11;
     let value = entry.into_mut();
-    assert_eq!(rt; *value, 12);
+    let lent = *value == 12;
     *value = 13;
     let entry = occupied(&mut map, 1).ok_or("the key is there")?;
-    assert_eq!(rt; entry.remove(), 13);
+    let value_out = entry.remove() == 13;
     let entry = occupied(&mut map, 2).ok_or("the key is there")?;
-    assert_eq!(rt; entry.remove_entry(), (2, 20));
-    assert!(rt; map.keys().copied().eq([0, 3]));
-    assert!(rt; map.values().copied().eq([0, 30]));
+    let pair_out = entry.remove_entry() == (2, 20);
+    assert!(rt; read && written && lent && value_out && pair_out);
+    assert!(rt; shows(map.iter(), &[(0, 0), (3, 30)]));
     Ok(())
 }
 
@@ -66,16 +65,15 @@ fn each_call_of_an_occupied_entry(rt: HostRuntime) -> Result<(), Fail> {
 fn each_call_of_a_vacant_entry(rt: HostRuntime) -> Result<(), Fail> {
     let mut map = tens(rt.alloc(), 2, 2)?;
     let entry = vacant(&mut map, 7).ok_or("the key is not there")?;
-    assert_eq!(rt; *entry.key(), 7);
-    assert_eq!(rt; entry.into_key(), 7);
-    assert_eq!(rt; map.len(), 2);
+    let key = *entry.key() == 7;
+    let key_back = entry.into_key() == 7;
+    let two = map.len() == 2;
     let entry = vacant(&mut map, 7).ok_or("the key is not there")?;
     match entry.insert(70) {
         Ok(value) => *value = 71,
         Err(refused) => return Err(refused.cause.into()),
     }
-    assert!(rt; map.keys().copied().eq([0, 1, 7]));
-    assert!(rt; map.values().copied().eq([0, 10, 71]));
+    assert!(rt; key && key_back && two && shows(map.iter(), &[(0, 0), (1, 10), (7, 71)]));
     Ok(())
 }
 
@@ -97,10 +95,9 @@ fn defaults_of_entries(rt: HostRuntime) -> Result<(), Fail> {
             return Err(refused.cause.into());
         }
     }
-    assert!(rt; map.keys().copied().eq([0, 1, 4, 6, 8]));
-    assert!(rt; map.values().copied().eq([0, 10, 5, 6, 0]));
+    let all = shows(map.iter(), &[(0, 0), (1, 10), (4, 5), (6, 6), (8, 0)]);
     let entry = map.entry(6);
-    assert_eq!(rt; *entry.key(), 6);
+    assert!(rt; all && *entry.key() == 6);
     Ok(())
 }
 
@@ -108,13 +105,13 @@ fn defaults_of_entries(rt: HostRuntime) -> Result<(), Fail> {
 fn the_entries_at_both_ends(rt: HostRuntime) -> Result<(), Fail> {
     let mut map = five(rt.alloc())?;
     let first = map.first_entry().ok_or("there are five")?;
-    assert_eq!(rt; first.remove_entry(), (1, "a"));
+    let first_out = first.remove_entry() == (1, "a");
     let mut last = map.last_entry().ok_or("there are four")?;
-    assert_eq!(rt; last.insert("z"), "e");
-    assert_eq!(rt; map.last_key_value(), Some((&41, &"z")));
-    assert_eq!(rt; map.len(), 4);
+    let replaced = last.insert("z") == "e";
+    let written = map.last_key_value() == Some((&41, &"z")) && map.len() == 4;
     map.clear();
-    assert!(rt; map.first_entry().is_none());
-    assert!(rt; map.last_entry().is_none());
+    let no_first = map.first_entry().is_none();
+    let no_last = map.last_entry().is_none();
+    assert!(rt; first_out && replaced && written && no_first && no_last);
     Ok(())
 }

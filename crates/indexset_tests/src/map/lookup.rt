@@ -9,31 +9,37 @@ fn every_key_of_many(rt: HostRuntime) -> Result<(), Fail> {
     for i in 0..10240u64 {
         put(&mut map, i, i)?;
     }
-    for i in 0..10240u64 {
-        assert_eq!(rt; map.get(&i).copied(), Some(i));
+    for i in 0..10241u64 {
+        assert!(rt; map.get(&i).copied() == (i < 10240).then_some(i));
     }
-    assert_eq!(rt; map.get(&10240), None);
     Ok(())
 }
 
 #[test]
 fn by_key_and_by_position(rt: HostRuntime) -> Result<(), Fail> {
     let map = five(rt.alloc())?;
-    assert_eq!(rt; map.get(&17).copied(), Some("d"));
-    assert_eq!(rt; map.get(&16), None);
-    assert_eq!(rt; map.get_key_value(&3), Some((&3, &"c")));
-    assert_eq!(rt; map.get_key_value(&4), None);
-    assert!(rt; map.contains_key(&41) && !map.contains_key(&40));
-    assert_eq!(rt; map.get_index(3), Some((&17, &"d")));
-    assert_eq!(rt; map.get_index(5), None);
-    assert_eq!(rt; map.get_index(usize::MAX), None);
-    assert_eq!(rt; map.first_key_value(), Some((&1, &"a")));
-    assert_eq!(rt; map.last_key_value(), Some((&41, &"e")));
-    for (key, rank) in [(0, 0), (1, 0), (3, 2), (4, 3), (41, 4), (100, 5)] {
-        assert_eq!(rt; map.rank(&key), rank, "of {key}");
+    for (key, value, rank) in [
+        (0, None, 0),
+        (1, Some("a"), 0),
+        (3, Some("c"), 2),
+        (4, None, 3),
+        (16, None, 3),
+        (17, Some("d"), 3),
+        (40, None, 4),
+        (41, Some("e"), 4),
+        (100, None, 5),
+    ] {
+        let pair = map.get_key_value(&key).map(|pair| (*pair.0, *pair.1));
+        let read = map.get(&key).copied() == value && pair == value.map(|value| (key, value));
+        let held = map.contains_key(&key) == value.is_some();
+        assert!(rt; read && held && map.rank(&key) == rank, "of {key}");
     }
-    assert!(rt; map.contains_key(&2));
-    assert_eq!(rt; map[&2], "b");
+    let fourth = map.get_index(3) == Some((&17, &"d"));
+    let none = map.get_index(5).is_none() && map.get_index(usize::MAX).is_none();
+    let first = map.first_key_value() == Some((&1, &"a"));
+    let last = map.last_key_value() == Some((&41, &"e"));
+    assert!(rt; fourth && none && first && last && map.contains_key(&2));
+    assert!(rt; map[&2] == "b");
     Ok(())
 }
 
@@ -41,15 +47,12 @@ fn by_key_and_by_position(rt: HostRuntime) -> Result<(), Fail> {
 fn written_by_key_and_by_position(rt: HostRuntime) -> Result<(), Fail> {
     for size in [2, 1024] {
         let mut map = tens(rt.alloc(), size, 5)?;
-        assert!(rt; map.get_mut(&9).is_none());
-        if let Some(value) = map.get_mut(&3) {
-            *value = 7;
-        }
-        assert!(rt; map.get_mut_index(5).is_none());
-        if let Some(value) = map.get_mut_index(1) {
-            *value = 8;
-        }
-        assert!(rt; map.values().copied().eq([0, 8, 20, 7, 40]));
+        let no_key = map.get_mut(&9).is_none();
+        *map.get_mut(&3).ok_or("a value")? = 7;
+        let no_position = map.get_mut_index(5).is_none();
+        *map.get_mut_index(1).ok_or("a value")? = 8;
+        let written = map.values().copied().eq([0, 8, 20, 7, 40]);
+        assert!(rt; no_key && no_position && written);
     }
     Ok(())
 }

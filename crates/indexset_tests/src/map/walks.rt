@@ -6,30 +6,39 @@ use std::test::Fail;
 fn from_both_ends_to_the_middle(rt: HostRuntime) -> Result<(), Fail> {
     let map = tens(rt.alloc(), 2, 3)?;
     let mut walk = map.iter();
-    assert_eq!(rt; walk.len(), 3);
-    assert_eq!(rt; walk.next(), Some((&0, &0)));
-    assert_eq!(rt; walk.next_back(), Some((&2, &20)));
-    assert_eq!(rt; walk.size_hint(), (1, Some(1)));
-    assert_eq!(rt; walk.next(), Some((&1, &10)));
-    assert_eq!(rt; walk.next(), None);
-    assert_eq!(rt; walk.next_back(), None);
+    assert!(rt; walk.len() == 3);
+    let rows = [
+        (true, Some((&0, &0)), 2),
+        (false, Some((&2, &20)), 1),
+        (true, Some((&1, &10)), 0),
+        (true, None, 0),
+        (false, None, 0),
+    ];
+    for (from_front, expected, left) in rows {
+        let pair = if from_front {
+            walk.next()
+        } else {
+            walk.next_back()
+        };
+        assert!(rt; pair == expected && walk.size_hint() == (left, Some(left)));
+    }
     Ok(())
 }
 
 #[test]
 fn keys_and_values(rt: HostRuntime) -> Result<(), Fail> {
     let map = five(rt.alloc())?;
-    assert!(rt; map.keys().copied().eq([1, 2, 3, 17, 41]));
-    assert!(rt; map.values().copied().eq(["a", "b", "c", "d", "e"]));
-    assert_eq!(rt; map.keys().next_back(), Some(&41));
-    assert_eq!(rt; map.values().next_back(), Some(&"e"));
-    assert_eq!(rt; map.keys().len() + map.values().len(), 10);
+    let keys = map.keys().copied().eq([1, 2, 3, 17, 41]);
+    let values = map.values().copied().eq(["a", "b", "c", "d", "e"]);
+    let last = map.keys().next_back() == Some(&41) && map.values().next_back() == Some(&"e");
+    let counted = map.keys().len() == 5 && map.values().len() == 5;
+    assert!(rt; keys && values && last && counted);
     let mut positions = 0..5;
     for (key, value) in &map {
         let found = positions.next().and_then(|i| map.get_index(i));
-        assert_eq!(rt; found, Some((key, value)));
+        assert!(rt; found == Some((key, value)));
     }
-    assert_eq!(rt; positions.next(), None);
+    assert!(rt; positions.next().is_none());
     Ok(())
 }
 
@@ -37,17 +46,15 @@ fn keys_and_values(rt: HostRuntime) -> Result<(), Fail> {
 fn owned_keys_and_values(rt: HostRuntime) -> Result<(), Fail> {
     let map = five(rt.alloc())?;
     let mut keys = map.clone()?.into_keys();
-    assert_eq!(rt; keys.len(), 5);
-    assert_eq!(rt; keys.next(), Some(1));
-    assert_eq!(rt; keys.next_back(), Some(41));
+    let five_keys = keys.len() == 5;
+    let key_ends = (keys.next(), keys.next_back()) == (Some(1), Some(41));
     let mut values = map.clone()?.into_values();
-    assert_eq!(rt; values.next(), Some("a"));
-    assert_eq!(rt; values.next_back(), Some("e"));
-    assert_eq!(rt; values.size_hint(), (3, Some(3)));
+    let value_ends = (values.next(), values.next_back()) == (Some("a"), Some("e"));
+    let three_values = values.size_hint() == (3, Some(3));
     let mut entries = map.into_iter();
-    assert_eq!(rt; entries.next_back(), Some((41, "e")));
-    assert_eq!(rt; entries.next(), Some((1, "a")));
-    assert_eq!(rt; entries.len(), 3);
+    let ends = (entries.next_back(), entries.next()) == (Some((41, "e")), Some((1, "a")));
+    let three = entries.len() == 3;
+    assert!(rt; five_keys && key_ends && value_ends && three_values && ends && three);
     assert!(rt; entries.eq([(2, "b"), (3, "c"), (17, "d")]));
     Ok(())
 }

@@ -8,11 +8,13 @@ use std::test::Fail;
 fn two_of_two(rt: HostRuntime) -> Result<(), Fail> {
     let left = BTreeSet::from(rt.alloc(), vec![in rt.alloc(); 1u64, 2]?)?;
     let right = BTreeSet::from(rt.alloc(), vec![in rt.alloc(); 2u64, 3]?)?;
-    assert!(rt; left.union(&right).copied().eq([1, 2, 3]));
-    assert!(rt; left.difference(&right).copied().eq([1]));
-    assert!(rt; left.symmetric_difference(&right).copied().eq([1, 3]));
-    assert!(rt; left.intersection(&right).copied().eq([2]));
-    assert!(rt; !left.is_subset(&right) && !left.is_superset(&right) && !left.is_disjoint(&right));
+    let union = left.union(&right).copied().eq([1, 2, 3]);
+    let difference = left.difference(&right).copied().eq([1]);
+    let either = left.symmetric_difference(&right).copied().eq([1, 3]);
+    let both = left.intersection(&right).copied().eq([2]);
+    let apart = left.is_disjoint(&right);
+    let within = left.is_subset(&right) || left.is_superset(&right);
+    assert!(rt; union && difference && either && both && !apart && !within);
     Ok(())
 }
 
@@ -21,13 +23,13 @@ fn one_within_another(rt: HostRuntime) -> Result<(), Fail> {
     let all = ascending(rt.alloc(), 2, 100)?;
     let first = ascending(rt.alloc(), 3, 40)?;
     let none = ascending(rt.alloc(), 2, 0)?;
-    assert!(rt; first.is_subset(&all) && all.is_superset(&first) && !all.is_subset(&first));
-    assert!(rt; none.is_subset(&first) && none.is_disjoint(&all) && all.is_superset(&none));
-    assert!(rt; all.union(&first).copied().eq(0..100));
-    assert!(rt; all.intersection(&first).copied().eq(0..40));
-    assert!(rt; all.difference(&first).copied().eq(40..100));
-    assert!(rt; first.symmetric_difference(&all).copied().eq(40..100));
-    assert!(rt; none.union(&first).copied().eq(0..40));
+    let within = first.is_subset(&all) && all.is_superset(&first) && !all.is_subset(&first);
+    let empty = none.is_subset(&first) && none.is_disjoint(&all) && all.is_superset(&none);
+    let unions = all.union(&first).copied().eq(0..100) && none.union(&first).copied().eq(0..40);
+    let both = all.intersection(&first).copied().eq(0..40);
+    let difference = all.difference(&first).copied().eq(40..100);
+    let either = first.symmetric_difference(&all).copied().eq(40..100);
+    assert!(rt; within && empty && unions && both && difference && either);
     Ok(())
 }
 
@@ -37,12 +39,12 @@ fn equal_ones_of_the_first(rt: HostRuntime) -> Result<(), Fail> {
     let mut right = BTreeSet::new(rt.alloc())?;
     add(&mut left, Tagged { key: 1, tag: 'p' })?;
     add(&mut right, Tagged { key: 1, tag: 'q' })?;
-    assert!(rt; left.union(&right).map(|x| x.tag).eq(['p']));
-    assert!(rt; left.intersection(&right).map(|x| x.tag).eq(['p']));
-    assert!(rt; left.difference(&right).next().is_none());
-    assert!(rt; left.symmetric_difference(&right).next().is_none());
+    let union = left.union(&right).map(|x| x.tag).eq(['p']);
+    let both = left.intersection(&right).map(|x| x.tag).eq(['p']);
+    let difference = left.difference(&right).next().is_none();
+    let either = left.symmetric_difference(&right).next().is_none();
     left.append(&mut right)?;
-    assert!(rt; left.iter().map(|x| x.tag).eq(['q']));
-    assert!(rt; right.is_empty());
+    let moved = left.iter().map(|x| x.tag).eq(['q']) && right.is_empty();
+    assert!(rt; union && both && difference && either && moved);
     Ok(())
 }

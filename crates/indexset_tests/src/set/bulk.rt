@@ -17,9 +17,8 @@ fn one_to_seven(alloc: Global) -> Result<BTreeSet<u64>, Fail> {
 fn split_at_four(rt: HostRuntime) -> Result<(), Fail> {
     let mut set = one_to_seven(rt.alloc())?;
     let rest = set.split_off(&4)?;
-    assert!(rt; set.iter().copied().eq(1..4));
-    assert!(rt; rest.iter().copied().eq(4..8));
-    assert_eq!(rt; rest.maximum_node_size(), 2);
+    let parted = set.iter().copied().eq(1..4) && rest.iter().copied().eq(4..8);
+    assert!(rt; parted && rest.maximum_node_size() == 2);
     Ok(())
 }
 
@@ -31,9 +30,8 @@ fn every_second_kept(rt: HostRuntime) -> Result<(), Fail> {
         asked = asked.wrapping_add(1);
         asked % 2 == 1
     });
-    assert_eq!(rt; asked, 7);
-    assert!(rt; set.iter().copied().eq([1, 3, 5, 7]));
-    assert_eq!(rt; set.node_count(), 4);
+    let kept = set.iter().copied().eq([1, 3, 5, 7]);
+    assert!(rt; asked == 7 && kept && set.node_count() == 4);
     Ok(())
 }
 
@@ -42,10 +40,8 @@ fn two_sets_in_one(rt: HostRuntime) -> Result<(), Fail> {
     let mut set = one_to_seven(rt.alloc())?;
     let mut other = ascending(rt.alloc(), 3, 12)?;
     set.append(&mut other)?;
-    assert!(rt; set.iter().copied().eq(0..12));
-    assert!(rt; other.is_empty());
-    assert_eq!(rt; set.maximum_node_size(), 2);
-    assert_eq!(rt; other.maximum_node_size(), 3);
+    let moved = set.iter().copied().eq(0..12) && other.is_empty();
+    assert!(rt; moved && set.maximum_node_size() == 2 && other.maximum_node_size() == 3);
     Ok(())
 }
 
@@ -79,12 +75,11 @@ fn those_above_go_behind(rt: HostRuntime) -> Result<(), Fail> {
         add(&mut other, key)?;
     }
     set.append(&mut other)?;
-    assert!(rt; set.iter().copied().eq(1..11));
-    assert_eq!(rt; set.get_index(7).copied(), Some(8));
-    assert_eq!(rt; set.rank(&10), 9);
-    assert!(rt; nodes_held(set, &[1, 1, 1, 1, 1, 1, 1, 1, 2]));
-    assert!(rt; add(&mut other, 5)?);
-    assert!(rt; other.iter().copied().eq([5]));
+    let all = set.iter().copied().eq(1..11);
+    let placed = set.get_index(7) == Some(&8) && set.rank(&10) == 9;
+    let cut = nodes_held(set, &[1, 1, 1, 1, 1, 1, 1, 1, 2]);
+    let is_new = add(&mut other, 5)?;
+    assert!(rt; all && placed && cut && is_new && other.iter().copied().eq([5]));
     Ok(())
 }
 
@@ -94,8 +89,11 @@ fn nodes_of_any_size_give_the_same(rt: HostRuntime) -> Result<(), Fail> {
         let mut set = BTreeSet::with_maximum_node_size(rt.alloc(), 4)?;
         let mut other = ascending(rt.alloc(), size, 10)?;
         set.append(&mut other)?;
-        assert!(rt; set.iter().copied().eq(0..10));
-        assert!(rt; nodes_held(set, &[2, 2, 2, 4]), "from nodes of {size}");
+        let all = set.iter().copied().eq(0..10);
+        assert!(rt;
+            all && nodes_held(set, &[2, 2, 2, 4]),
+            "from nodes of {size}"
+        );
     }
     Ok(())
 }
@@ -108,8 +106,7 @@ fn forty_of_one_make_one_node(rt: HostRuntime) -> Result<(), Fail> {
         add(&mut one, key)?;
         set.append(&mut one)?;
     }
-    assert!(rt; set.iter().copied().eq(0..40));
-    assert_eq!(rt; set.node_count(), 1);
+    assert!(rt; set.iter().copied().eq(0..40) && set.node_count() == 1);
     Ok(())
 }
 
@@ -120,8 +117,8 @@ fn some_between_and_some_behind(rt: HostRuntime) -> Result<(), Fail> {
     add(&mut set, 5)?;
     let mut other = BTreeSet::from(rt.alloc(), vec![in rt.alloc(); 3u64, 6, 7, 8, 9]?)?;
     set.append(&mut other)?;
-    assert!(rt; set.iter().copied().eq([0, 3, 5, 6, 7, 8, 9]));
-    assert!(rt; nodes_held(set, &[2, 1, 1, 1, 2]));
+    let all = set.iter().copied().eq([0, 3, 5, 6, 7, 8, 9]);
+    assert!(rt; all && nodes_held(set, &[2, 1, 1, 1, 2]));
     Ok(())
 }
 
@@ -132,8 +129,8 @@ fn made_of_many_in_order(rt: HostRuntime) -> Result<(), Fail> {
         keys.push(key).map_err(|_| "memory")?;
     }
     let set = BTreeSet::from(rt.alloc(), keys)?;
-    assert!(rt; set.iter().copied().eq(0..3000));
-    assert!(rt; nodes_held(set, &[512, 512, 512, 512, 952]));
+    let all = set.iter().copied().eq(0..3000);
+    assert!(rt; all && nodes_held(set, &[512, 512, 512, 512, 952]));
     Ok(())
 }
 
@@ -147,8 +144,8 @@ fn a_refused_append_moves_a_beginning(rt: HostRuntime) -> Result<(), Fail> {
     }
     let appended = set.append(&mut other);
     let moved = set.len() as u64;
-    assert_eq!(rt; appended.is_ok(), moved == 100);
-    assert!(rt; set.iter().copied().eq(0..moved));
-    assert!(rt; other.iter().copied().eq(moved..100));
+    let first = set.iter().copied().eq(0..moved);
+    let others = other.iter().copied().eq(moved..100);
+    assert!(rt; first && others && appended.is_ok() == (moved == 100));
     Ok(())
 }

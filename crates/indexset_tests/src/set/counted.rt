@@ -22,21 +22,24 @@ fn many(alloc: Global, asked: &Cell<u64>) -> Result<BTreeSet<Counted<'_>>, Refus
 fn few_comparisons_in_many_nodes(rt: HostRuntime) -> Result<(), Fail> {
     let asked = Cell::new(0);
     let set = many(rt.alloc(), &asked)?;
-    assert_eq!(rt; set.node_count(), 19);
+    assert!(rt; set.node_count() == 19);
     for key in [0, 5119, 10239] {
         let sought = Counted { key, asked: &asked };
         asked.set(0);
-        assert!(rt; set.get(&sought).is_some_and(|found| found.key == key));
-        assert!(rt; asked.replace(0) <= 17, "get of {key}");
-        assert!(rt; set.contains(&sought));
-        assert!(rt; asked.replace(0) <= 17, "contains of {key}");
+        let read = set.get(&sought).is_some_and(|found| found.key == key);
+        let get = asked.replace(0);
+        let held = set.contains(&sought);
+        let contains = asked.replace(0);
+        let first = set
+            .lower_bound(&sought)
+            .is_some_and(|found| found.key == key);
+        let bound = asked.replace(0);
+        let ranked = set.rank(&sought) as u64 == key;
+        let few = get <= 17 && contains <= 17 && bound <= 17 && asked.get() <= 17;
         assert!(rt;
-            set.lower_bound(&sought)
-                .is_some_and(|found| found.key == key)
+            read && held && first && ranked && few,
+            "of {key}: {get} {contains} {bound}"
         );
-        assert!(rt; asked.replace(0) <= 17, "lower_bound of {key}");
-        assert!(rt; set.rank(&sought) as u64 == key);
-        assert!(rt; asked.get() <= 17, "rank of {key}");
     }
     Ok(())
 }
@@ -47,31 +50,35 @@ fn few_comparisons_of_calls_that_change(rt: HostRuntime) -> Result<(), Fail> {
     let mut set = many(rt.alloc(), &asked)?;
     for key in [0, 5119, 10239] {
         let sought = Counted { key, asked: &asked };
-        asked.set(0);
-        assert!(rt; !add(&mut set, Counted { key, asked: &asked })?);
-        assert!(rt;
-            asked.replace(0) <= 18,
-            "insert of {key}, which asks for the last one first"
-        );
-        assert!(rt; set.replace(Counted { key, asked: &asked })?.is_some());
-        assert!(rt; asked.replace(0) <= 17, "replace of {key}");
         let next = Counted {
             key: key + 1,
             asked: &asked,
         };
-        assert_eq!(rt; set.range((Included(&sought), Excluded(&next))).len(), 1);
-        assert!(rt; asked.replace(0) <= 34, "range from {key}");
-        assert!(rt; set.take(&sought).is_some());
-        assert!(rt; asked.replace(0) <= 17, "take of {key}");
-        assert!(rt; !set.remove(&sought));
-        assert!(rt; asked.replace(0) <= 17, "remove of {key}");
+        asked.set(0);
+        let is_new = add(&mut set, Counted { key, asked: &asked })?;
+        let insert = asked.replace(0);
+        let old = set.replace(Counted { key, asked: &asked })?;
+        let replace = asked.replace(0);
+        let count = set.range((Included(&sought), Excluded(&next))).len();
+        let range = asked.replace(0);
+        let out = set.take(&sought);
+        let take = asked.replace(0);
+        let again = set.remove(&sought);
+        assert!(rt; !is_new && old.is_some() && count == 1 && out.is_some() && !again);
+        // An insert asks for the last element first.
+        let few = insert <= 18 && replace <= 17 && range <= 34 && take <= 17;
+        assert!(rt;
+            few && asked.get() <= 17,
+            "of {key}: {insert} {replace} {range} {take}"
+        );
     }
     let sought = Counted {
         key: 5120,
         asked: &asked,
     };
-    assert_eq!(rt; set.split_off(&sought)?.len(), 5119);
-    assert!(rt; asked.get() <= 17, "split_off at 5120");
+    asked.set(0);
+    let rest = set.split_off(&sought)?;
+    assert!(rt; rest.len() == 5119 && asked.get() <= 17);
     Ok(())
 }
 
@@ -87,8 +94,7 @@ fn retain_pairs_asks_once_a_pair(rt: HostRuntime) -> Result<(), Fail> {
         *value = asked;
         key % 2 == 1
     });
-    assert_eq!(rt; asked, 7);
-    assert!(rt; set.iter().map(|pair| pair.key).eq([1, 3, 5, 7]));
-    assert!(rt; set.iter().map(|pair| pair.value).eq([1, 3, 5, 7]));
+    let kept = set.iter().map(|pair| (pair.key, pair.value));
+    assert!(rt; asked == 7 && kept.eq([(1, 1), (3, 3), (5, 5), (7, 7)]));
     Ok(())
 }

@@ -27,27 +27,58 @@ fn holds(set: &BTreeSet<u64>, start: Bound<&u64>, end: Bound<&u64>, expected: &[
 #[test]
 fn an_absent_element_is_not_there(rt: HostRuntime) -> Result<(), Fail> {
     let set = set_of(rt.alloc(), 3, &[0, 3, 14])?;
-    assert_eq!(rt; set.get(&1), None);
     let odd = set_of(rt.alloc(), 1024, &[1, 3, 5])?;
-    assert_eq!(rt; odd.get(&2), None);
+    assert!(rt; set.get(&1).is_none() && odd.get(&2).is_none());
     Ok(())
 }
 
+/// Node sizes and elements of sets, and what a range of each holds.
+const RANGES: [(usize, &[u64], Bound<&u64>, Bound<&u64>, &[u64]); 7] = [
+    (3, &[0, 3, 14, 19], Excluded(&18), Included(&20), &[19]),
+    (
+        3,
+        &[3, 9, 12, 13, 14, 16, 19, 20],
+        Excluded(&6),
+        Excluded(&10),
+        &[9],
+    ),
+    (
+        3,
+        &[0, 3, 9, 14, 16, 19],
+        Excluded(&7),
+        Unbounded,
+        &[9, 14, 16, 19],
+    ),
+    (
+        3,
+        &[0, 3, 9, 14, 16, 19],
+        Unbounded,
+        Included(&17),
+        &[0, 3, 9, 14, 16],
+    ),
+    (3, &[0, 3, 14], Included(&2), Included(&2), &[]),
+    (
+        4,
+        &[8, 9, 10, 16, 18, 19, 22, 26],
+        Unbounded,
+        Excluded(&7),
+        &[],
+    ),
+    (
+        4,
+        &[9, 10, 12, 13, 16, 18, 19, 22],
+        Included(&7),
+        Excluded(&7),
+        &[],
+    ),
+];
+
 #[test]
 fn ranges_beside_their_bounds(rt: HostRuntime) -> Result<(), Fail> {
-    let four = set_of(rt.alloc(), 3, &[0, 3, 14, 19])?;
-    assert!(rt; holds(&four, Excluded(&18), Included(&20), &[19]));
-    let eight = set_of(rt.alloc(), 3, &[3, 9, 12, 13, 14, 16, 19, 20])?;
-    assert!(rt; holds(&eight, Excluded(&6), Excluded(&10), &[9]));
-    let six = set_of(rt.alloc(), 3, &[0, 3, 9, 14, 16, 19])?;
-    assert!(rt; holds(&six, Excluded(&7), Unbounded, &[9, 14, 16, 19]));
-    assert!(rt; holds(&six, Unbounded, Included(&17), &[0, 3, 9, 14, 16]));
-    let three = set_of(rt.alloc(), 3, &[0, 3, 14])?;
-    assert!(rt; holds(&three, Included(&2), Included(&2), &[]));
-    let high = set_of(rt.alloc(), 4, &[8, 9, 10, 16, 18, 19, 22, 26])?;
-    assert!(rt; holds(&high, Unbounded, Excluded(&7), &[]));
-    let nine = set_of(rt.alloc(), 4, &[9, 10, 12, 13, 16, 18, 19, 22])?;
-    assert!(rt; holds(&nine, Included(&7), Excluded(&7), &[]));
+    for (size, elements, start, end, expected) in &RANGES {
+        let set = set_of(rt.alloc(), *size, elements)?;
+        assert!(rt; holds(&set, *start, *end, expected));
+    }
     Ok(())
 }
 
@@ -55,8 +86,7 @@ fn ranges_beside_their_bounds(rt: HostRuntime) -> Result<(), Fail> {
 fn compared_element_by_element(rt: HostRuntime) -> Result<(), Fail> {
     let up = set_of(rt.alloc(), 3, &[0, 3, 14, 19])?;
     let down = set_of(rt.alloc(), 3, &[19, 14, 3, 0])?;
-    assert!(rt; up == down);
     let longer = set_of(rt.alloc(), 3, &[0, 2, 3, 4, 8])?;
-    assert!(rt; up > longer);
+    assert!(rt; up == down && up > longer);
     Ok(())
 }

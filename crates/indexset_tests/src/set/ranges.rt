@@ -1,23 +1,31 @@
 //! Ranges by bounds and by positions.
 use super::{add, ascending};
+use indexset_core::bounds::bounds_are_ordered;
 use indexset_core::pair::Pair;
 use indexset_set::BTreeSet;
 use std::ops::Bound::{self, Excluded, Included, Unbounded};
 use std::test::Fail;
 
+// Whether the range has these elements, from either end.
+fn has(set: &BTreeSet<u64>, start: Bound<&u64>, end: Bound<&u64>, elements: &[u64]) -> bool {
+    bounds_are_ordered(start, end)
+        && set.range((start, end)).eq(elements)
+        && set.range((start, end)).rev().eq(elements.iter().rev())
+}
+
 #[test]
 fn bounds_between_elements(rt: HostRuntime) -> Result<(), Fail> {
     let set = BTreeSet::from(rt.alloc(), vec![in rt.alloc(); 1u64, 3, 5]?)?;
-    assert!(rt; set.range((Included(&1), Included(&2))).copied().eq([1]));
-    assert!(rt; set.range((Excluded(&2), Unbounded)).copied().eq([3, 5]));
-    assert!(rt; set.range((Unbounded, Excluded(&1))).next().is_none());
-    assert!(rt; set.range((Excluded(&1), Excluded(&5))).copied().eq([3]));
-    assert!(rt;
-        set.range((Included(&3), Included(&5)))
-            .rev()
-            .copied()
-            .eq([5, 3])
-    );
+    let rows: [(Bound<&u64>, Bound<&u64>, &[u64]); 5] = [
+        (Included(&1), Included(&2), &[1]),
+        (Excluded(&2), Unbounded, &[3, 5]),
+        (Unbounded, Excluded(&1), &[]),
+        (Excluded(&1), Excluded(&5), &[3]),
+        (Included(&3), Included(&5), &[3, 5]),
+    ];
+    for (start, end, elements) in rows {
+        assert!(rt; has(&set, start, end, elements));
+    }
     Ok(())
 }
 
@@ -28,20 +36,24 @@ fn shows(set: &BTreeSet<u64>, start: Bound<usize>, end: Bound<usize>, from: u64,
 
 #[test]
 fn positions_of_ten(rt: HostRuntime) -> Result<(), Fail> {
-    for size in [2, 1024] {
-        let set = ascending(rt.alloc(), size, 10)?;
-        assert!(rt; shows(&set, Included(0), Excluded(0), 0, 0));
-        assert!(rt; shows(&set, Included(5), Included(6), 5, 7));
-        assert!(rt; shows(&set, Included(8), Excluded(100), 8, 10));
-        assert!(rt; shows(&set, Included(7), Included(3), 0, 0));
-        assert!(rt; shows(&set, Excluded(usize::MAX), Unbounded, 0, 0));
-        assert!(rt; shows(&set, Unbounded, Included(usize::MAX), 0, 10));
-        assert!(rt; shows(&set, Unbounded, Unbounded, 0, 10));
-        assert!(rt; shows(&set, Included(1), Excluded(2), 1, 2));
-        assert!(rt; shows(&set, Included(3), Excluded(10), 3, 10));
-        assert!(rt; shows(&set, Included(0), Excluded(4), 0, 4));
-        assert!(rt; shows(&set, Included(0), Included(7), 0, 8));
-        assert!(rt; shows(&set, Excluded(4), Included(6), 5, 7));
+    let rows = [
+        (Included(0), Excluded(0), 0, 0),
+        (Included(5), Included(6), 5, 7),
+        (Included(8), Excluded(100), 8, 10),
+        (Included(7), Included(3), 0, 0),
+        (Excluded(usize::MAX), Unbounded, 0, 0),
+        (Unbounded, Included(usize::MAX), 0, 10),
+        (Unbounded, Unbounded, 0, 10),
+        (Included(1), Excluded(2), 1, 2),
+        (Included(3), Excluded(10), 3, 10),
+        (Included(0), Excluded(4), 0, 4),
+        (Included(0), Included(7), 0, 8),
+        (Excluded(4), Included(6), 5, 7),
+    ];
+    let small = ascending(rt.alloc(), 2, 10)?;
+    let large = ascending(rt.alloc(), 1024, 10)?;
+    for (start, end, from, to) in rows {
+        assert!(rt; shows(&small, start, end, from, to) && shows(&large, start, end, from, to));
     }
     Ok(())
 }
@@ -52,9 +64,9 @@ fn bounds_on_the_keys_of_pairs(rt: HostRuntime) -> Result<(), Fail> {
     for (key, value) in [(1u64, 'a'), (2, 'b'), (3, 'c'), (5, 'd')] {
         add(&mut set, Pair { key, value })?;
     }
-    let range = set.range_by_key((Included(&2), Excluded(&5)));
-    assert!(rt; range.map(|pair| pair.value).eq(['b', 'c']));
-    let range = set.range_by_key((Excluded(&2), Unbounded));
-    assert!(rt; range.rev().map(|pair| pair.value).eq(['d', 'c']));
+    let middle = set.range_by_key((Included(&2), Excluded(&5)));
+    let end = set.range_by_key((Excluded(&2), Unbounded));
+    let values = middle.map(|pair| pair.value).eq(['b', 'c']);
+    assert!(rt; values && end.rev().map(|pair| pair.value).eq(['d', 'c']));
     Ok(())
 }

@@ -10,13 +10,13 @@ fn insert_keeps_and_replace_puts(rt: HostRuntime) -> Result<(), Fail> {
     let old = Tagged { key: 1, tag: 'a' };
     let new = Tagged { key: 1, tag: 'b' };
     let mut set = BTreeSet::new(rt.alloc())?;
-    assert!(rt; add(&mut set, old)?);
-    assert!(rt; !add(&mut set, new)?);
-    assert_eq!(rt; set.get(&new).map(|x| x.tag), Some('a'));
+    let is_new = add(&mut set, old)?;
+    let is_new_again = add(&mut set, new)?;
+    let kept = set.get(&new).map(|x| x.tag) == Some('a');
     let out = set.replace(new).map_err(|refused| refused.cause)?;
-    assert_eq!(rt; out.map(|x| x.tag), Some('a'));
-    assert_eq!(rt; set.get(&old).map(|x| x.tag), Some('b'));
-    assert_eq!(rt; set.len(), 1);
-    assert_eq!(rt; set.take(&old).map(|x| x.tag), Some('b'));
+    let replaced = out.map(|x| x.tag) == Some('a');
+    let held = set.get(&old).map(|x| x.tag) == Some('b') && set.len() == 1;
+    let taken = set.take(&old).map(|x| x.tag) == Some('b');
+    assert!(rt; is_new && !is_new_again && kept && replaced && held && taken);
     Ok(())
 }

@@ -13,10 +13,9 @@ struct Board {
 fn a_struct_with_a_set_derives(rt: HostRuntime) -> Result<(), Fail> {
     let scores = BTreeSet::from(rt.alloc(), vec![in rt.alloc(); 3, 1, 2]?)?;
     let board = Board { scores };
-    let copy = board.clone()?;
-    assert_eq!(rt; copy, board);
+    let same = board.clone()? == board;
     let text = format!(in rt.alloc(); "{board:?}")?;
-    assert_eq!(rt; text.as_str(), "Board { scores: {1, 2, 3} }");
+    assert!(rt; same && text.as_str() == "Board { scores: {1, 2, 3} }");
     Ok(())
 }
 
@@ -25,7 +24,7 @@ fn collects_and_extends(rt: HostRuntime) -> Result<(), Fail> {
     let mut set: BTreeSet<u64> = (3..6u64).collect(rt.alloc())?;
     set.extend(1..4u64)?;
     let text = format!(in rt.alloc(); "{:?}", set.iter())?;
-    assert_eq!(rt; text.as_str(), "[1, 2, 3, 4, 5]");
+    assert!(rt; text.as_str() == "[1, 2, 3, 4, 5]");
     Ok(())
 }
 
@@ -37,10 +36,9 @@ fn walks_have_texts(rt: HostRuntime) -> Result<(), Fail> {
     walk.next();
     let copy = walk.clone()?;
     let rest = format!(in rt.alloc(); "{copy:?}")?;
-    assert_eq!(rt; rest.as_str(), "[1, 2]");
     let both = format!(in rt.alloc(); "{:?}", left.union(&right))?;
-    assert_eq!(rt; both.is_empty(), false);
     let owned = format!(in rt.alloc(); "{:?}", right.into_iter())?;
-    assert_eq!(rt; owned.as_str(), "IntoIter { left: 3, .. }");
+    let texts = rest.as_str() == "[1, 2]" && owned.as_str() == "IntoIter { left: 3, .. }";
+    assert!(rt; texts && !both.is_empty());
     Ok(())
 }

@@ -7,36 +7,42 @@ use std::test::Fail;
 fn from_both_ends_to_the_middle(rt: HostRuntime) -> Result<(), Fail> {
     let set = BTreeSet::from(rt.alloc(), vec![in rt.alloc(); 1u64, 2, 3]?)?;
     let mut walk = Iter::new(&set);
-    assert_eq!(rt; walk.len(), 3);
-    assert_eq!(rt; walk.next().copied(), Some(1));
-    assert_eq!(rt; walk.next_back().copied(), Some(3));
-    assert_eq!(rt; walk.size_hint(), (1, Some(1)));
-    assert_eq!(rt; walk.next().copied(), Some(2));
-    assert_eq!(rt; walk.next().copied(), None);
-    assert_eq!(rt; walk.next_back().copied(), None);
-    assert_eq!(rt; walk.len(), 0);
+    assert!(rt; walk.len() == 3);
+    let rows = [
+        (true, Some(&1), 2),
+        (false, Some(&3), 1),
+        (true, Some(&2), 0),
+        (true, None, 0),
+        (false, None, 0),
+    ];
+    for (from_front, element, left) in rows {
+        let item = if from_front {
+            walk.next()
+        } else {
+            walk.next_back()
+        };
+        assert!(rt; item == element && walk.size_hint() == (left, Some(left)));
+    }
     Ok(())
 }
 
 #[test]
 fn many_nodes_both_ways(rt: HostRuntime) -> Result<(), Fail> {
     let set = descending(rt.alloc(), 1024, 10240)?;
-    assert!(rt; set.iter().copied().eq(0..10240));
-    assert!(rt; set.iter().rev().copied().eq((0..10240).rev()));
+    let both = set.iter().copied().eq(0..10240) && set.iter().rev().copied().eq((0..10240).rev());
     let mut keys = 0..10240;
     for key in &set {
-        assert_eq!(rt; Some(*key), keys.next());
+        assert!(rt; keys.next() == Some(*key));
     }
-    assert_eq!(rt; keys.next(), None);
     let mut backwards = set.clone()?.into_iter();
     for key in (0..10240).rev() {
-        assert_eq!(rt; backwards.next_back(), Some(key));
+        assert!(rt; backwards.next_back() == Some(key));
     }
-    assert_eq!(rt; backwards.next(), None);
     let mut forwards = set.into_iter();
     for key in 0..10240 {
-        assert_eq!(rt; forwards.next(), Some(key));
+        assert!(rt; forwards.next() == Some(key));
     }
-    assert_eq!(rt; forwards.next_back(), None);
+    let ended = keys.next().is_none() && backwards.next().is_none();
+    assert!(rt; both && ended && forwards.next_back().is_none());
     Ok(())
 }

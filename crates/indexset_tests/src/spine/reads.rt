@@ -9,21 +9,15 @@ use std::test::Fail;
 #[test]
 fn reads_by_position(rt: HostRuntime) -> Result<(), Fail> {
     let spine = ascending(rt.alloc())?;
-    assert_eq!(rt; spine.get(1), Some(&2));
-    assert_eq!(rt; spine.get(7), None);
+    let read = spine.get(1) == Some(&2) && spine.get(7).is_none() && spine.spot(7).is_none();
     let last = spine.spot(6).ok_or("an item")?;
-    assert_eq!(rt;
-        last,
-        Spot {
-            node: 5,
-            offset: 1,
-            found: true
-        }
-    );
-    assert_eq!(rt; spine.position(&last), 6);
-    assert_eq!(rt; *spine.item(&last), 7);
-    assert_eq!(rt; spine.item_from(&last), Some(&7));
-    assert_eq!(rt; spine.spot(7), None);
+    let expected = Spot {
+        node: 5,
+        offset: 1,
+        found: true,
+    };
+    let placed = last == expected && spine.position(&last) == 6;
+    assert!(rt; read && placed && *spine.item(&last) == 7 && spine.item_from(&last) == Some(&7));
     Ok(())
 }
 
@@ -31,9 +25,8 @@ fn reads_by_position(rt: HostRuntime) -> Result<(), Fail> {
 fn writes_one_item(rt: HostRuntime) -> Result<(), Fail> {
     let mut spine = ascending(rt.alloc())?;
     *spine.get_mut(2).ok_or("an item")? = 9;
-    assert_eq!(rt; spine.get(2), Some(&9));
-    assert_eq!(rt; spine.get(3), Some(&4));
-    assert!(rt; spine.get_mut(7).is_none());
+    let written = spine.get(2) == Some(&9) && spine.get(3) == Some(&4);
+    assert!(rt; written && spine.get_mut(7).is_none());
     Ok(())
 }
 
@@ -53,12 +46,10 @@ fn walks_from_both_ends(rt: HostRuntime) -> Result<(), Fail> {
 #[test]
 fn walks_a_part(rt: HostRuntime) -> Result<(), Fail> {
     let spine = ascending(rt.alloc())?;
-    assert_eq!(rt; spine.len(), 7);
-    let across: Vec<u64> = spine.iter_between(4, 7).copied().collect(rt.alloc())?;
-    assert_eq!(rt; across.as_slice(), [5, 6, 7].as_slice());
-    let within: Vec<u64> = spine.iter_between(5, 6).copied().collect(rt.alloc())?;
-    assert_eq!(rt; within.as_slice(), [6].as_slice());
-    assert!(rt; spine.iter_between(3, 3).next().is_none());
+    assert!(rt; spine.len() == 7);
+    let across = spine.iter_between(4, 7).copied().eq([5, 6, 7]);
+    let within = spine.iter_between(5, 6).copied().eq([6]);
+    assert!(rt; across && within && spine.iter_between(3, 3).next().is_none());
     Ok(())
 }
 
@@ -66,13 +57,13 @@ fn walks_a_part(rt: HostRuntime) -> Result<(), Fail> {
 fn walks_a_lent_spine(rt: HostRuntime) -> Result<(), Fail> {
     let spine = ascending(rt.alloc())?;
     let mut walk = (&spine).into_iter();
-    assert_eq!(rt; walk.size_hint(), (7, Some(7)));
-    assert_eq!(rt; (walk.next(), walk.next_back()), (Some(&1), Some(&7)));
+    let seven = walk.size_hint() == (7, Some(7));
+    let ends = walk.next() == Some(&1) && walk.next_back() == Some(&7);
     let mut sum = 0u64;
     for item in &spine {
         sum = sum.wrapping_add(*item);
     }
-    assert_eq!(rt; sum, 28);
+    assert!(rt; seven && ends && sum == 28);
     Ok(())
 }
 
@@ -93,9 +84,14 @@ fn walks_and_owns(rt: HostRuntime) -> Result<(), Fail> {
 
 #[test]
 fn bounds_in_order(rt: HostRuntime) {
-    assert!(rt; bounds_are_ordered(Bound::Included(&1), Bound::Included(&1)));
-    assert!(rt; bounds_are_ordered(Bound::Excluded(&1), Bound::Included(&1)));
-    assert!(rt; !bounds_are_ordered(Bound::Excluded(&1), Bound::Excluded(&1)));
-    assert!(rt; !bounds_are_ordered(Bound::Included(&2), Bound::Excluded(&1)));
-    assert!(rt; bounds_are_ordered(Bound::Unbounded, Bound::Excluded(&1)));
+    let rows = [
+        (Bound::Included(&1), Bound::Included(&1), true),
+        (Bound::Excluded(&1), Bound::Included(&1), true),
+        (Bound::Excluded(&1), Bound::Excluded(&1), false),
+        (Bound::Included(&2), Bound::Excluded(&1), false),
+        (Bound::Unbounded, Bound::Excluded(&1), true),
+    ];
+    for (start, end, in_order) in rows {
+        assert!(rt; bounds_are_ordered(start, end) == in_order);
+    }
 }
