@@ -141,22 +141,21 @@ fn nodes_of_four<Node: NodeLike<u64>>(rt: &impl Abort, alloc: Global) -> Result<
     let four: [&[u64]; 4] = [&[0, 1], &[2, 3], &[4, 5], &[6, 7, 8, 9]];
     let cut = are_nodes(set.iter_nodes(), &four) && set.events_issued() == 13;
     let mut nodes = set.iter_nodes();
-    let rows: [(bool, &[u64]); 4] = [
-        (true, &[0, 1]),
-        (true, &[2, 3]),
-        (false, &[6, 7, 8, 9]),
-        (true, &[4, 5]),
-    ];
-    for (from_front, items) in rows {
-        let node = if from_front {
-            nodes.next()
-        } else {
-            nodes.next_back()
-        };
-        assert!(rt; node.is_some_and(|node| node.iter().as_slice() == items));
-    }
+    let first = nodes
+        .next()
+        .is_some_and(|node| node.iter().copied().eq([0, 1]));
+    let second = nodes
+        .next()
+        .is_some_and(|node| node.iter().copied().eq([2, 3]));
+    let last = nodes
+        .next_back()
+        .is_some_and(|node| node.iter().copied().eq([6, 7, 8, 9]));
+    let third = nodes
+        .next()
+        .is_some_and(|node| node.iter().copied().eq([4, 5]));
+    assert!(rt; first && second && last && third && nodes.next().is_none());
     let below = set.range_between((0, 0), place_of(&set, &7));
-    assert!(rt; cut && nodes.next().is_none() && set.capacity() >= 10 && below.copied().eq(0..7));
+    assert!(rt; cut && set.capacity() >= 10 && below.copied().eq(0..7));
     let none: BTreeSet<u64, Node> = ascending(alloc, 4, 0, 0)?;
     let absent = none.iter_nodes().next().is_none() && none.capacity() == 0;
     assert!(rt; absent && none.range_between((0, 0), place_of(&none, &7)).len() == 0);
