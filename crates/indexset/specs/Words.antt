@@ -1,15 +1,55 @@
 -- The words of contracts on sets, maps and logged trees, for callers that list this crate alone.
+--
+-- Terms:
+--
+-- | Term | Meaning |
+-- |---|---|
+-- | item, element, pair | what a node holds: an element of a set, or a key with its value |
+-- | node | an ascending list of items, at most the node size of them. It is a type with the trait `NodeLike`: `Vec<T>`, which allocates, or `ArrayNode<T, N>`, which holds up to N items in place and never allocates |
+-- | node list | the nodes in order; their concatenation is the collection's list. No node is empty, but the only one of an empty plain collection |
+-- | index | of a plain collection, the Fenwick tree of the node lengths, by which positions are found |
+-- | plain family, logged family | set and map with positions; set, map and multimap that report changes as events |
+-- | position, offset, place | an index in the whole list, counted from 0; an index in a node; a node with an offset in it |
+-- | equal, identical | the order returns Equal, as it may for two different items; the same value |
+-- | lawful | of an order: total and agreeing with `==`; of nodes: a node list within the node size |
+-- | split, halve, merge | a collection is split in two; a full node is halved, at half its length; two neighbouring nodes become one |
+-- | tie rule | an item that belongs between the halves of a halved node goes behind the left half in the plain family and before the right one in the logged family: the full node [0,2,4,6] at size 4, with 3 inserted, becomes [0,2,3] [4,6] in the one and [0,2] [3,4,6] in the other |
+-- | small neighbours | two nodes, one directly after the other, of at most half the node size together: a removal in a logged tree merges them |
+-- | event | a numbered change of a node list: an item inserted or removed, a node created, removed, split or merged with the next. It names a node by its last item before the change |
+-- | event table | the definition of each call's events: `put_events`, `checked_put_events`, `removal_events` |
+-- | replay | the steps of events in turn; undefined from the first event that names no node, does not fit, or leaves no node list |
+-- | replica | a copy that holds a node list and the number of the event that it expects |
+-- | clone premise | that a clone is the same value as its source |
+-- | `clones`, `cloned` | clauses: events, or the nodes of a replica, with clones in the place of items; `cloned` of `Logged` says that an item is a clone of another |
+--
+-- Names in the code, by the standard term: `Probe` is a comparator, which compares items with what it seeks, returns Less, Equal or Greater, and counts its comparisons; `Spine` is a node list with its length and index; `Spot` is a position in a node; `Refusal` is an error, and `Refused` an error with the value that the call was given; `digits` is the bit length; `_cdc` marks a call that returns its events (change data capture).
+--
+-- Words that say what a contract is about; `cmp` is the comparison, l a list, v a value, ns nodes:
+--
+-- | Word | Meaning |
+-- |---|---|
+-- | `items s`, `m.pairs`, `joined ns` | the list of a set; of a map; of nodes |
+-- | `put cmp l v`, `keep cmp l v`, `without cmp l v` | l with v, replacing an equal element; l if one is present, else `put`; l without it |
+-- | `cut nodes size` | what contracts see of a set: its nodes and node size; of a map it is `Contents`: pairs, node lengths, node size; of a logged tree `Tree`: nodes, node size, number of the next event; of a multimap `MultiTree`, with the number of the next new pair; of a replica `ReplicaState` |
+-- | `IsNodeList cmp ns`, `IsLawful cmp size ns` | no node is empty and the items of all ascend; besides, each is within the size |
+-- | `step cmp ns e`, `replay cmp ns es` | the nodes after an event; after events in turn |
+-- | `IsFeed`, `IsAt`, `IsDelivered` | events numbered in turn that lead from given nodes; a replica that holds what the first j lead to; one that holds what the longest beginning leads to whose events came in turn |
+
 pub use Rattle.indexset_spine.specs.Cut.{items}
 pub use Rattle.indexset_core.specs.Order.{IsAscending, below, above, rank, has_equal, equal_element, lower_element, put, keep, without}
 pub use Rattle.indexset_core.specs.Bounds.{are_ordered, is_within, in_range, in_positions}
 pub use Rattle.indexset_core.specs.Digits.{digits}
 pub use Rattle.indexset_core.specs.Pairs.{by_key, entry_of, has_key, key_rank, pair, pair_keys, pair_of, pair_values, pairs_within, put_value, set_value, value_of, without_key}
+pub use Rattle.indexset_core.specs.MultiPairs.{by_number}
 pub use Rattle.indexset_set.specs.SetAlgebra.{difference, intersection, symmetric_difference, union, put_all}
 pub use Rattle.indexset_set.specs.SetRanges.{not_below}
 pub use Rattle.indexset_map.specs.Contents.{with_entry, with_pairs, without_at, without_entry}
 pub use Rattle.indexset_map.specs.Walk.{HasWritten, walk_back, walk_front, written}
 pub use Rattle.indexset_core.specs.Nodes.{joined, vec_items, IsNodeList}
+pub use Rattle.indexset_log.specs.Clones.{IsEventClone}
 pub use Rattle.indexset_log.specs.Tree.{Tree}
 pub use Rattle.indexset_log.specs.Table.{put_events, checked_put_events, removal_events}
-pub use Rattle.indexset_log.specs.Replay.{IsNumberedFrom, numbered_from, replay, step}
-pub use Rattle.indexset_replica.specs.Delivery.{IsAt, IsDelivered, IsFeed, IsReached, IsSubsequence, numbers_from}
+pub use Rattle.indexset_log.specs.Replay.{IsNumberedFrom, numbered_from, replay, step, unassigned}
+pub use Rattle.indexset_multi.specs.Keys.{entries, equal_pair, has_pair_of, pairs_of, without_first}
+pub use Rattle.indexset_replica.specs.Delivery.{HasStopped, IsAt, IsDelivered, IsDelivery, IsFeed, IsFollowed, IsReached, IsSubsequence, numbers_from}
+pub use Rattle.indexset_replica.specs.Replica.{AddsClone, IsClonedStep, IsEqualClone}

@@ -3,15 +3,16 @@
 //!
 //! This is the crate that a user lists; it holds paths alone, those of the Rust crate. [`BTreeSet`] and
 //! [`BTreeMap`] with their types stand at the root, the logged set, map and multimap in
-//! [`concurrent`], their events in [`cdc`], what both families stand on in [`base`], and the copy that
-//! follows a tree by its events in [`replica`]. `Rattle.indexset.specs.Words` has the words of its
-//! contracts, and `docs/CALLING.md` is the page for callers.
+//! [`concurrent`], their events in [`cdc`], what both families stand on in [`base`], look-ups by borrowed
+//! text in [`text`], and the copy that follows a tree by its events in [`replica`]; laws of sets are in
+//! [`laws`]. `Rattle.indexset.specs.Words` has the words of its contracts, and `docs/CALLING.md` is the
+//! page for callers.
 #![tactic(auto)]
 
 /// What the collections stand on. The Rust crate calls this module `core`.
 pub mod base {
     pub use indexset_core::{
-        array_node, bounds, constants, multipair, node, pair, probe, refusal, search,
+        array_node, bounds, constants, laws, multipair, node, pair, probe, refusal, search, steps,
     };
 }
 
@@ -27,6 +28,11 @@ pub mod cdc {
     pub use indexset_log::{change, laws};
 }
 
+/// Comparators by which sets and maps look a `&str` up among text keys. (They are not in the Rust crate.)
+pub mod text {
+    pub use indexset_text::{ByStr, OnKey};
+}
+
 /// A copy kept elsewhere that follows a tree by its events. (In the Rust crate a helper of the tests.)
 pub mod replica {
     pub use indexset_replica::{Replica, iter, laws, lookup};
@@ -38,4 +44,5 @@ pub use indexset_map::{
 };
 pub use indexset_set::{
     BTreeSet, Cursor, Difference, Intersection, IntoIter, Iter, Range, SymmetricDifference, Union,
+    laws,
 };

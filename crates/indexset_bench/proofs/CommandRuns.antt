@@ -11,7 +11,7 @@ pub record SoFar {S C R : Type 0} (after : S → C → S) (reply : S → C → R
   pub held : s' ≡ fold after s done
 
 module _ {S C R : Type 0} (after : S → C → S) (reply : S → C → R) where
-  scan-push : (s : S) (cs : List C) (c : C) → scan after reply s (cs ++ c ∷ []) ≡ scan after reply s cs ++ reply (fold after s cs) c ∷ []
+  pub scan-push : (s : S) (cs : List C) (c : C) → scan after reply s (cs ++ c ∷ []) ≡ scan after reply s cs ++ reply (fold after s cs) c ∷ []
   scan-push s [] c = refl
   scan-push s (d ∷ cs) c = ap (λ rs. reply s d ∷ rs) (scan-push (after s d) cs c)
 

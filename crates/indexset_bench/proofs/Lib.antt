@@ -1,3 +1,5 @@
+pub mod CallerLemmas
+pub mod ClonedRuns
 pub mod CommandRuns
 pub mod Digits
 pub mod Lines

@@ -1,42 +1,17 @@
 -- How a run over a list of commands to a logged tree goes on, command by command.
-use Rattle.std.proofs.Common.{◌≡◌, ℕ, ◌+◌, ◌*◌, ◌-◌, ◌≤◌, List, [], ◌∷◌, ◌++◌, length, slice_get, Some, None, Ordering, option_and_then, refl, ap, sym, ◌∙◌, subst, inl, inr, arith, append_assoc, length-append}
-use Rattle.std.proofs.lemmas.Bool.{cases_lt}
-use Rattle.std.proofs.lemmas.List.{append-nil, get_or_append_left}
-use Rattle.std.proofs.Math.Seq.{get_or-append_right}
+use Rattle.std.proofs.Common.{◌≡◌, ℕ, ◌+◌, ◌*◌, ◌-◌, ◌≤◌, List, [], ◌∷◌, ◌++◌, length, slice_get, Some, Ordering, refl, ap, sym, ◌∙◌, arith, append_assoc, length-append}
+use Rattle.std.proofs.lemmas.List.{append-nil}
 use Rattle.std.proofs.lemmas.List.Sums.{fold-append}
-use Rattle.std.specs.List.{fold}
+use Rattle.std.specs.List.{AllZip, AppendsClones, fold}
+use Rattle.std.proofs.lemmas.List.Elements.{length_all_zip}
+use Rattle.indexset_log.specs.Clones.{IsEventClone}
 use Rattle.indexset_log.specs.declared.change.ChangeEvent.{ChangeEvent}
 use Rattle.indexset_log.specs.declared.change.ChangeEventUnassigned.{ChangeEventUnassigned}
-use Rattle.indexset_log.specs.Replay.{replay, step, numbered_from, assigned, IsNumberedFrom}
-use Rattle.indexset_log.proofs.CallerLemmas.{few_nodes, length-numbered, numbered-append, numbered_is, replay-append}
+use Rattle.indexset_log.specs.Replay.{replay, numbered_from, assigned, IsNumberedFrom}
+use Rattle.indexset_log.proofs.CallerLemmas.{clones_numbered, few_nodes, length-numbered, replay-append, zip_on}
 use Rattle.indexset_core.specs.Nodes.{joined}
 use Rattle.indexset_log.specs.Joining.{IsSpaced}
 use Rattle.indexset_bench.specs.Told.{events_in_turn}
-
--- the events so far lead from the nodes before to those now, in order of their numbers
-pub record LogSoFar {T : Type 0} (cmp : T → T → Ordering) (ns now : List (List T)) (from next count : ℕ) (events : List (ChangeEvent T)) : Type 0 where
-  pub replayed : replay cmp ns events ≡ Some now
-  pub numbered : IsNumberedFrom from events
-  pub next_is : next ≡ from + length events
-  pub few : length events ≤ 3 * count
-
-module _ {T : Type 0} (cmp : T → T → Ordering) (ns : List (List T)) (from : ℕ) where
-  pub no_log : LogSoFar cmp ns ns from from 0 []
-  no_log = record { replayed = refl; numbered = λ i lt d. absurd (omega arith); next_is = omega arith; few = omega arith }
-
-  -- one more command
-  pub more_log : (now after : List (List T)) (next next' count : ℕ) (events made : List (ChangeEvent T)) (es : List (ChangeEventUnassigned T))
-      → LogSoFar cmp ns now from next count events → made ≡ events ++ numbered_from next es → replay cmp now (numbered_from next es) ≡ Some after → length made ≤ length events + 3 → next' ≡ next + length es
-      → LogSoFar cmp ns after from next' (count + 1) made
-  more_log now after next next' count events made es far is step few num =
-      let size : length made ≡ length events + length es = ap (λ q. length q) is ∙ (length-append events (numbered_from next es) ∙ omega (arith, length-numbered next es)) in
-      let places : IsNumberedFrom (from + length events) (numbered_from next es) = subst (λ s. IsNumberedFrom s (numbered_from next es)) far.next_is (numbered_is next es) in
-      record {
-        replayed = rw (is, replay-append cmp ns events (numbered_from next es), far.replayed) step;
-        numbered = subst (IsNumberedFrom from) (sym is) (numbered-append from events (numbered_from next es) far.numbered places);
-        next_is = omega (arith, size, num, far.next_is);
-        few = omega (arith, few, far.few);
-      }
 
 -- ---- the events of the table, command by command
 
@@ -51,36 +26,62 @@ module _ {S C E : Type 0} (left : S → C → S) (events : S → C → List E) w
   events_in_turn-push t [] c = append-nil (events t c)
   events_in_turn-push t (d ∷ cs) c = ap (λ l. events t d ++ l) (events_in_turn-push (left t d) cs c) ∙ sym (append_assoc (events t d) (events_in_turn left events (left t d) cs) (events (fold left (left t d) cs) c))
 
--- the events so far are those of the table for the commands so far, and the tree is as these left it
-pub record TableSoFar {S C T : Type 0} (left : S → C → S) (events : S → C → List (ChangeEventUnassigned T)) (t t' : S) (from next : ℕ) (done : List C) (told : List (ChangeEvent T)) : Type 0 where
-  pub told_is : told ≡ numbered_from from (events_in_turn left events t done)
+-- the events so far are those of the table for the commands so far, with clones of its items, these lead from the nodes before to those now, and the tree is as the commands left it
+pub record LogSoFar {S C T : Type 0} (cmp : T → T → Ordering) (left : S → C → S) (events : S → C → List (ChangeEventUnassigned T)) (R : T → T → Type 0) (P : Type 0) (t t' : S) (ns now : List (List T)) (from next count : ℕ) (done : List C) (told : List (ChangeEvent T)) : Type 0 where
+  pub cloned : AllZip (IsEventClone R) (numbered_from from (events_in_turn left events t done)) told
+  pub told_is : P → told ≡ numbered_from from (events_in_turn left events t done)
+  pub replayed : replay cmp ns (numbered_from from (events_in_turn left events t done)) ≡ Some now
   pub next_is : next ≡ from + length (events_in_turn left events t done)
+  pub few : length told ≤ 3 * count
   pub left_is : t' ≡ fold left t done
 
-module _ {S C T : Type 0} (left : S → C → S) (events : S → C → List (ChangeEventUnassigned T)) (t : S) (from : ℕ) where
-  pub no_table : TableSoFar left events t t from from [] []
-  no_table = record { told_is = refl; next_is = omega arith; left_is = refl }
+module _ {S C T : Type 0} (cmp : T → T → Ordering) (left : S → C → S) (events : S → C → List (ChangeEventUnassigned T)) (R : T → T → Type 0) (P : Type 0) (t : S) (ns : List (List T)) (from : ℕ) where
+  pub no_log : LogSoFar cmp left events R P t t ns ns from from 0 [] []
+  no_log = record { cloned = tt; told_is = λ p. refl; replayed = refl; next_is = omega arith; few = omega arith; left_is = refl }
 
   -- one more command
-  pub more_table : (t' t'' : S) (next next' : ℕ) (done : List C) (c : C) (told told' : List (ChangeEvent T))
-      → TableSoFar left events t t' from next done told → told' ≡ told ++ numbered_from next (events t' c) → next' ≡ next + length (events t' c) → t'' ≡ left t' c
-      → TableSoFar left events t t'' from next' (done ++ c ∷ []) told'
-  more_table t' t'' next next' done c told told' far is num made =
-      let more : events_in_turn left events t (done ++ c ∷ []) ≡ events_in_turn left events t done ++ events t' c = events_in_turn-push left events t done c ∙ ap (λ q. events_in_turn left events t done ++ events q c) (sym far.left_is) in
-      let size = length-append (events_in_turn left events t done) (events t' c) in
+  pub more_log : (t' t'' : S) (now after : List (List T)) (next next' count : ℕ) (done : List C) (c : C) (told told' : List (ChangeEvent T))
+      → LogSoFar cmp left events R P t t' ns now from next count done told
+      → AppendsClones (IsEventClone R) told told' (numbered_from next (events t' c)) → (P → told' ≡ told ++ numbered_from next (events t' c)) → replay cmp now (numbered_from next (events t' c)) ≡ Some after
+      → length told' ≤ length told + 3 → next' ≡ next + length (events t' c) → t'' ≡ left t' c
+      → LogSoFar cmp left events R P t t'' ns after from next' (count + 1) (done ++ c ∷ []) told'
+  more_log t' t'' now after next next' count done c told told' far clones is step few num made =
+      let es = events_in_turn left events t done in
+      let es' = events t' c in
+      let more : events_in_turn left events t (done ++ c ∷ []) ≡ es ++ es' = events_in_turn-push left events t done c ∙ ap (λ q. es ++ events q c) (sym far.left_is) in
+      let parts : numbered_from from (events_in_turn left events t (done ++ c ∷ [])) ≡ numbered_from from es ++ numbered_from next es' = ap (numbered_from from) more ∙ numbered_from-append from es es' ∙ ap (λ n. numbered_from from es ++ numbered_from n es') (sym far.next_is) in
       record {
-        told_is = rw more (is ∙ ap (λ l. l ++ numbered_from next (events t' c)) far.told_is ∙ ap (λ n. numbered_from from (events_in_turn left events t done) ++ numbered_from n (events t' c)) far.next_is ∙ sym (numbered_from-append from (events_in_turn left events t done) (events t' c)));
-        next_is = rw more (omega (arith, num, far.next_is, size));
+        cloned = rw (parts, clones.1) (zip_on (IsEventClone R) (numbered_from from es) (numbered_from next es') told clones.0 far.cloned clones.2);
+        told_is = λ p. rw parts (is p ∙ ap (λ l. l ++ numbered_from next es') (far.told_is p));
+        replayed = rw (parts, replay-append cmp ns (numbered_from from es) (numbered_from next es'), far.replayed) step;
+        next_is = rw more (omega (arith, num, far.next_is, length-append es es'));
+        few = omega (arith, few, far.few);
         left_is = made ∙ ap (λ q. left q c) far.left_is ∙ sym (fold-append left t done (c ∷ []));
       }
 
-module _ {S C T : Type 0} {left : S → C → S} {events : S → C → List (ChangeEventUnassigned T)} {t t' : S} {from next : ℕ} {done first : List C} {told : List (ChangeEvent T)} (far : TableSoFar left events t t' from next done told) (same : first ≡ done) where
-  -- by the first commands, as many as were answered
-  pub table_to_first : told ≡ numbered_from from (events_in_turn left events t first)
-  table_to_first = far.told_is ∙ ap (λ cs. numbered_from from (events_in_turn left events t cs)) (sym same)
+module _ {S C T : Type 0} {cmp : T → T → Ordering} {left : S → C → S} {events : S → C → List (ChangeEventUnassigned T)} {R : T → T → Type 0} {P : Type 0} {t t' : S} {ns now : List (List T)} {from next count : ℕ} {done : List C} {told : List (ChangeEvent T)} (far : LogSoFar cmp left events R P t t' ns now from next count done told) where
+  pub told_numbered : IsNumberedFrom from told
+  told_numbered = clones_numbered R from (events_in_turn left events t done) told far.cloned
 
-  pub tree_to_first : t' ≡ fold left t first
-  tree_to_first = far.left_is ∙ ap (fold left t) (sym same)
+  pub told_next : next ≡ from + length told
+  told_next = omega (arith, far.next_is, length_all_zip (IsEventClone R) (numbered_from from (events_in_turn left events t done)) told far.cloned, length-numbered from (events_in_turn left events t done))
+
+  pub told_replayed : P → replay cmp ns told ≡ Some now
+  told_replayed p = rw (far.told_is p) far.replayed
+
+  -- by the first commands, as many as were answered
+  module _ {first : List C} (same : first ≡ done) where
+    pub clones_to_first : AllZip (IsEventClone R) (numbered_from from (events_in_turn left events t first)) told
+    clones_to_first = rw same far.cloned
+
+    pub table_to_first : P → told ≡ numbered_from from (events_in_turn left events t first)
+    table_to_first p = rw same (far.told_is p)
+
+    pub replay_to_first : replay cmp ns (numbered_from from (events_in_turn left events t first)) ≡ Some now
+    replay_to_first = rw same far.replayed
+
+    pub tree_to_first : t' ≡ fold left t first
+    tree_to_first = far.left_is ∙ ap (fold left t) (sym same)
 
 -- few nodes where neighbours stay apart, and so from none
 module _ {T U : Type 0} (h k : ℕ) (ns : List (List T)) (ms : List (List U)) (kept : IsSpaced h ns → IsSpaced k ms) where

@@ -9,6 +9,7 @@ pub mod PairCommand
 pub mod PairText
 pub mod Pairs
 pub mod Reading
+pub mod Replies
 pub mod Reply
 pub mod Run
 pub mod SetRun

@@ -1,5 +1,5 @@
 -- Lists of commands to a map, by its pairs in the order of their keys.
-use Rattle.std.specs.Prelude.{◌-◌, List, [], length, take, drop, slice_get}
+use Rattle.std.specs.Prelude.{◌≡◌, ◌-◌, Option, None, Some, List, [], length, take, drop, slice_get}
 use Rattle.std.specs.List.{fold, scan}
 use Rattle.std.specs.Option.{option_map}
 use Rattle.std.specs.declared.cmp.Ordering.{Ordering}
@@ -9,6 +9,17 @@ use Rattle.indexset_bench.specs.declared.map_run.MapCommand.{MapCommand}
 use Rattle.indexset_bench.specs.declared.map_run.MapCommand.TheVariants.{Insert, Get, Remove, GetIndex, RemoveEntry, PopFirst, PopLast, ContainsKey, Rank, Len, Clear}
 use Rattle.indexset_bench.specs.declared.map_run.MapReply.{MapReply}
 use Rattle.indexset_bench.specs.declared.map_run.MapReply.TheVariants.{Value, Entry, Flag, Count, Done}
+
+module _ {K V : Type 0} where
+  -- a clone of the value, where there is one
+  abbrev pub IsValueClone : (V → V → Type 0) → Option V → MapReply K V → Type 0
+  IsValueClone D None r = r ≡ Value None
+  IsValueClone D (Some w) r = (copy : V) × (r ≡ Value (Some copy)) × D w copy
+
+  -- clones of the key and the value of the pair, where there is one
+  abbrev pub IsEntryClone : (K → K → Type 0) → (V → V → Type 0) → Option (Pair K V) → MapReply K V → Type 0
+  IsEntryClone C D None r = r ≡ Entry None
+  IsEntryClone C D (Some p) r = (k : K) × (w : V) × (r ≡ Entry (Some (k, w))) × C p.key k × D p.value w
 
 module _ {K V : Type 0} (cmp : K → K → Ordering) where
   -- the reply to a command
@@ -24,6 +35,12 @@ module _ {K V : Type 0} (cmp : K → K → Ordering) where
   map_reply l (Rank k) = Count (key_rank cmp l k)
   map_reply l Len = Count (length l)
   map_reply l Clear = Done
+
+  -- the same, with clones of what stays in the map
+  abbrev pub IsMapReply : (K → K → Type 0) → (V → V → Type 0) → List (Pair K V) → MapCommand K V → MapReply K V → Type 0
+  IsMapReply C D l (Get k) r = IsValueClone D (value_of cmp l k) r
+  IsMapReply C D l (GetIndex i) r = IsEntryClone C D (slice_get l i) r
+  IsMapReply C D l command r = r ≡ map_reply l command
 
   -- the pairs of the map after it
   abbrev pub map_after : List (Pair K V) → MapCommand K V → List (Pair K V)

@@ -1,5 +1,5 @@
 -- Lists of commands to a set, by its elements in order.
-use Rattle.std.specs.Prelude.{◌-◌, List, [], length, take, drop, slice_get, not}
+use Rattle.std.specs.Prelude.{◌≡◌, ◌-◌, Option, None, Some, List, [], length, take, drop, slice_get, not}
 use Rattle.std.specs.List.{fold, scan}
 use Rattle.std.specs.declared.cmp.Ordering.{Ordering}
 use Rattle.indexset_core.specs.Order.{rank, has_equal, equal_element, lower_element, put, keep, without}
@@ -7,6 +7,11 @@ use Rattle.indexset_bench.specs.declared.set_run.SetCommand.{SetCommand}
 use Rattle.indexset_bench.specs.declared.set_run.SetCommand.TheVariants.{Insert, Remove, Contains, Replace, Take, Get, LowerBound, GetIndex, First, Last, PopFirst, PopLast, Rank, Len, Clear}
 use Rattle.indexset_bench.specs.declared.set_run.SetReply.{SetReply}
 use Rattle.indexset_bench.specs.declared.set_run.SetReply.TheVariants.{Flag, Item, Count, Done}
+
+-- a clone of the element, where there is one
+abbrev pub IsItemClone : {T : Type 0} → (T → T → Type 0) → Option T → SetReply T → Type 0
+IsItemClone C None r = r ≡ Item None
+IsItemClone {T} C (Some x) r = (y : T) × (r ≡ Item (Some y)) × C x y
 
 module _ {T : Type 0} (cmp : T → T → Ordering) where
   -- the reply to a command
@@ -26,6 +31,15 @@ module _ {T : Type 0} (cmp : T → T → Ordering) where
   set_reply l (Rank v) = Count (rank cmp l v)
   set_reply l Len = Count (length l)
   set_reply l Clear = Done
+
+  -- the same, with a clone of an element that stays in the set
+  abbrev pub IsSetReply : (T → T → Type 0) → List T → SetCommand T → SetReply T → Type 0
+  IsSetReply C l (Get v) r = IsItemClone C (equal_element cmp l v) r
+  IsSetReply C l (LowerBound v) r = IsItemClone C (lower_element cmp l v) r
+  IsSetReply C l (GetIndex i) r = IsItemClone C (slice_get l i) r
+  IsSetReply C l First r = IsItemClone C (slice_get l 0) r
+  IsSetReply C l Last r = IsItemClone C (slice_get l (length l - 1)) r
+  IsSetReply C l command r = r ≡ set_reply l command
 
   -- what the set holds after it
   abbrev pub set_after : List T → SetCommand T → List T

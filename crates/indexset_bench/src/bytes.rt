@@ -3,7 +3,7 @@
 ghost use Rattle.std.specs.Prelude.{◌≡◌, ◌==◌};
 ghost use Rattle.std.specs.List.{position};
 
-/// Where a byte stands first.
+/// Returns where a byte stands first.
 pub fn first_place(bytes: &[u8], sought: u8) -> Option<usize>
     ensures { result ≡ position (λ b. b == sought) bytes.now }
 {

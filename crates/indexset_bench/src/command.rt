@@ -4,24 +4,24 @@ ghost use Rattle.std.specs.Prelude.{◌≡◌, ◌≢◌, ℕ, ◌^◌, ◌<◌,
 ghost use Rattle.std.specs.Fmt.{decimal};
 ghost use Rattle.indexset_bench.specs.Command.{meaning};
 
-/// What a line asks of the set.
+/// A command to the set.
 #[derive(Clone, Copy, Debug, PartialEq, Eq)]
 pub enum Command {
-    /// Puts the number in.
+    /// Inserts the number.
     Add(u64),
     /// Takes the number out.
     Del(u64),
-    /// Asks whether the number is there.
+    /// Returns whether the number is present.
     Has(u64),
-    /// Asks how many numbers are below this one.
+    /// Returns how many numbers are below this one.
     Rank(u64),
-    /// Asks for the number at a position.
+    /// Returns the number at a position.
     At(u64),
-    /// Asks how many numbers there are.
+    /// Returns how many numbers there are.
     Len,
 }
 
-/// The number of which this is the plain decimal text.
+/// Returns the number of which this is the plain decimal text.
 pub fn number(text: &[u8]) -> Option<u64>
     ensures { MatchOption result
         ((n : ℕ) → n < 2 ^ 64 → text.now ≢ decimal n)
@@ -42,7 +42,7 @@ pub fn number(text: &[u8]) -> Option<u64>
     }
 }
 
-/// The command that the line spells, if it spells one.
+/// Returns the command that the line spells, if it spells one.
 pub fn parse(line: &[u8]) -> Option<Command>
     ensures { result ≡ meaning line.now }
 {

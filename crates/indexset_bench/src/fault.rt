@@ -7,7 +7,7 @@ use std::fmt;
 /// What ends a run before its input does.
 #[derive(Clone, Copy, Debug, PartialEq, Eq)]
 pub enum RunFault {
-    /// Memory was refused.
+    /// Memory ran out.
     Memory,
     /// Event numbers ran out.
     Numbers,
@@ -21,7 +21,7 @@ impl RunFault {
     ghost use Rattle.std.specs.Prelude.{◌≡◌};
     ghost use Rattle.indexset_bench.specs.Fault.{status_of, word_of};
 
-    /// The exit status that tells this fault.
+    /// Returns the exit status that tells this fault.
     pub fn status(self) -> u8
         ensures { result ≡ status_of self }
     {
@@ -33,7 +33,7 @@ impl RunFault {
         }
     }
 
-    /// The word that tells this fault.
+    /// Returns the word that tells this fault.
     pub fn word(self) -> &'static str
         ensures { result.now ≡ word_of self }
     {

@@ -1,29 +1,30 @@
 //! Lists of commands to the collections, and a program over lines.
 //!
 //! [`set_run::run_set`], [`map_run::run_map`] and [`logged_run::run_logged`] carry out a list of
-//! commands and answer the replies, the last the events too; [`logged::Logged`] is what a run asks of
-//! a logged tree. [`run`] reads lines of a reader and writes the reply to each: `line` reads, `command`
-//! and `pair_command` say what a line means, `perform` and `pairs` carry it out, `write` writes. The
-//! text that it writes is defined in `specs/Text.antt`, and [`laws`] says what the definitions mean.
+//! commands and return the replies, the last the events too; [`logged::Logged`] is what a run needs
+//! of a logged tree. [`run`] reads lines of a reader and writes the reply to each: `line` reads,
+//! `command` and `pair_command` say what a line means, `perform` and `pairs` carry it out, `write`
+//! writes. The text that it writes is defined in `specs/Text.antt`, and [`laws`] says what the
+//! definitions mean.
 #![tactic(auto)]
 
-mod bytes;
-mod command;
+pub mod bytes;
+pub mod command;
 pub mod command_run;
 mod fault;
 pub mod laws;
-mod line;
+pub mod line;
 pub mod logged;
 pub mod logged_run;
 pub mod map_run;
 mod pair_command;
-mod pair_text;
+pub mod pair_text;
 mod pairs;
 mod perform;
 mod program;
 mod reply;
 pub mod set_run;
-mod write;
+pub mod write;
 
 pub use fault::RunFault;
 pub use indexset_replica::Replica;

@@ -45,7 +45,7 @@ pub fn next_line<R: BufRead, W: Write>(
     Err(RunFault::Read)
 }
 
-/// Moves to the line what the reader shows of it. Answers nothing where more of the line may come.
+/// Moves to the line what the reader shows of it. Returns `None` where more of the line may come.
 fn take_piece<R: BufRead>(reader: &mut R, line: &mut Vec<u8>) -> Result<Option<Part>, RunFault>
     requires { HasNoEnd line.old.items }
     ensures ok { IfOk result (TakesPiece (R.remaining reader.old) (R.remaining reader.new)
@@ -54,7 +54,7 @@ fn take_piece<R: BufRead>(reader: &mut R, line: &mut Vec<u8>) -> Result<Option<P
     ensures unchanged { OnErr result (line.new.items ≡ line.old.items) }
     ensures fault { IfErr result (λ fault. (fault ≡ RunFault.Memory) ⊎ (fault ≡ RunFault.Read)) }
 
-    // Memory is not told where the line had room for all that the reader had left.
+    // The fault is not `Memory` where the line had room for all that remained in the reader.
     ensures no_room { result ≡ Err RunFault.Memory → IfSome (R.remaining reader.old)
         (λ left. vec_capacity line.old < vec_len line.old + length left) }
 {
@@ -90,14 +90,14 @@ fn take_piece<R: BufRead>(reader: &mut R, line: &mut Vec<u8>) -> Result<Option<P
     }
 }
 
-/// How many bytes stand before the first line end.
+/// Returns how many bytes stand before the first line end.
 fn line_len(bytes: &[u8]) -> usize
     ensures { result ≡ position_or_len (λ b. b == 10) bytes.now }
 {
     first_place(bytes, b'\n').unwrap_or(bytes.len())
 }
 
-/// Whether nothing is left to read.
+/// Returns whether nothing remains to read.
 pub fn is_at_end<R: BufRead>(reader: &mut R) -> Result<bool, RunFault>
     ensures unread { Keeps (R.remaining reader.old) (R.remaining reader.new) }
     ensures end { IfOk result (λ end. IsTrue end

@@ -1,5 +1,7 @@
 //! Logged trees, as a list of commands meets them.
 ghost use Rattle.std.specs.Prelude.{◌≡◌, ◌+◌, ◌/◌, ◌≤◌, ℕ, List, Bool, false, Some, IfOk, OnOk, IfErr, OnErr, if◌then◌else◌, length};
+ghost use Rattle.std.specs.List.{AllZip};
+ghost use Rattle.indexset_log.specs.Clones.{IsEventClone};
 ghost use Rattle.indexset_log.specs.Joining.{IsSpaced};
 ghost use Rattle.indexset_log.specs.Replay.{replay, numbered_from};
 ghost use Rattle.indexset_log.specs.declared.change.ChangeEventUnassigned.{ChangeEventUnassigned};
@@ -11,11 +13,11 @@ pub mod set;
 use indexset_core::refusal::Refusal;
 use indexset_log::change::ChangeEvent;
 
-/// A tree whose changes are told as events. (It is not in the Rust crate.)
+/// A tree whose changes come out as events. (Not in the Rust crate.)
 pub trait Logged {
     /// What its nodes hold.
     type Item: Ord + Drop;
-    /// What is asked of it.
+    /// A command to it.
     type Command: Drop;
     /// What it answers.
     type Reply: Drop;
@@ -45,23 +47,27 @@ pub trait Logged {
     /// The tree that a command leaves.
     ghost left: { Self → Self.Command → Self };
 
-    /// Too few numbers are left for a command.
+    /// Too few numbers remain for a command.
     ghost lacks_numbers: { Self → Self.Command → Bool };
 
     /// Clones of what it holds and is given are identical to their sources.
     ghost clones: { Type 0 };
 
-    /// Carries out a command, and answers the reply to it and the events. It is refused where too few
-    /// numbers are left, and for want of memory; a refused command changes nothing.
+    /// The second item is a clone of the first.
+    ghost cloned: { Self.Item → Self.Item → Type 0 };
+
+    /// Carries out a command, and returns the reply to it and the events. Fails with `Numbers`
+    /// where too few numbers remain, and with `Memory`; a failed command changes nothing.
     fn act(
         &mut self,
         command: Self::Command,
     ) -> Result<(Self::Reply, Vec<ChangeEvent<Self::Item>>), Refusal>
-        requires { clones }
         ensures reply { IfOk result (λ r. r.0 ≡ reply (state self.old) command) }
         ensures state { OnOk result (state self.new ≡ after (state self.old) command) }
-        ensures events { IfOk result (λ r. r.1.items ≡ numbered_from (next self.old) (events self.old command)) }
-        ensures replay { IfOk result (λ r. replay Self.Item.Ord.cmp (nodes self.old) r.1.items ≡ Some (nodes self.new)) }
+        ensures clones { IfOk result (λ r. AllZip (IsEventClone cloned) (numbered_from (next self.old) (events self.old command)) r.1.items) }
+        ensures events { clones → IfOk result (λ r. r.1.items ≡ numbered_from (next self.old) (events self.old command)) }
+        ensures replay { clones → IfOk result (λ r. replay Self.Item.Ord.cmp (nodes self.old) r.1.items ≡ Some (nodes self.new)) }
+        ensures table { OnOk result (replay Self.Item.Ord.cmp (nodes self.old) (numbered_from (next self.old) (events self.old command)) ≡ Some (nodes self.new)) }
         ensures few { IfOk result (λ r. length r.1.items ≤ 3) }
         ensures tree { OnOk result (self.new ≡ left self.old command) }
         ensures next { OnOk result (next self.new ≡ next self.old + length (events self.old command)) }

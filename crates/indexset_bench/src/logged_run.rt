@@ -1,8 +1,9 @@
 //! Lists of commands to a logged tree, the reply to each, and the events of all.
 ghost use Rattle.std.specs.Prelude.{◌≡◌, ◌≢◌, ◌+◌, ◌-◌, ◌*◌, ◌/◌, ◌≤◌, ◌<◌, ◌++◌, ◌∷◌, [], true, Some, OnOk, IfErr, OnErr, IfSome, OnSome, IfNone, IsSomeAnd, length, take, slice_get};
-ghost use Rattle.std.specs.List.{fold, scan};
+ghost use Rattle.std.specs.List.{AllZip, AppendsClones, fold, scan};
 ghost use Rattle.indexset_bench.specs.Told.{events_in_turn};
 ghost use Rattle.indexset_core.specs.Nodes.{joined};
+ghost use Rattle.indexset_log.specs.Clones.{IsEventClone};
 ghost use Rattle.indexset_log.specs.Joining.{IsSpaced};
 ghost use Rattle.indexset_log.specs.Replay.{replay, numbered_from, IsNumberedFrom};
 
@@ -11,10 +12,10 @@ use indexset_core::refusal::Refusal;
 use indexset_log::change::ChangeEvent;
 use std::alloc::Global;
 
-/// What a list of commands was answered, and the changes that it made.
+/// The replies to a list of commands, and the events of its changes.
 #[derive(Drop)]
 pub struct LogRun<L: Logged> {
-    /// The replies, in turn, to the commands before the refused one, or to all of them.
+    /// The replies, in turn, to the commands before the failed one, or to all of them.
     pub replies: Vec<L::Reply>,
     /// The events of these commands, in order.
     pub events: Vec<ChangeEvent<L::Item>>,
@@ -22,22 +23,26 @@ pub struct LogRun<L: Logged> {
     pub refused: Option<Refusal>,
 }
 
-/// Carries out the commands in turn, and ends at the first that is refused: then the replies and the
+/// Carries out the commands in turn, and stops at the first that fails: then the replies and the
 /// events are those of the commands before it, and the tree is as they left it.
 ///
-/// Room for a reply and for three events is asked for before a command acts.
+/// Room for a reply and for three events is reserved before a command acts.
 pub fn run_logged<L: Logged>(alloc: Global, tree: &mut L, commands: Vec<L::Command>) -> LogRun<L>
-    requires { L.clones }
+    // The events are those of the table, with clones of its items, and are numbered in turn.
+    ensures clones { AllZip (IsEventClone L.cloned) (numbered_from (L.next tree.old) (events_in_turn L.left L.events tree.old
+        (take (length result.replies.items) commands.items))) result.events.items }
+    ensures table { replay L.Item.Ord.cmp (L.nodes tree.old) (numbered_from (L.next tree.old) (events_in_turn L.left L.events tree.old
+        (take (length result.replies.items) commands.items))) ≡ Some (L.nodes tree.new) }
 
-    // The events lead from the nodes before the run to those after it.
-    ensures replay { replay L.Item.Ord.cmp (L.nodes tree.old) result.events.items ≡ Some (L.nodes tree.new) }
+    // Where clones are identical, they lead from the nodes before the run to those after it.
+    ensures replay { L.clones → replay L.Item.Ord.cmp (L.nodes tree.old) result.events.items ≡ Some (L.nodes tree.new) }
     ensures numbered { IsNumberedFrom (L.next tree.old) result.events.items }
-    ensures events { result.events.items ≡ numbered_from (L.next tree.old) (events_in_turn L.left L.events tree.old
+    ensures events { L.clones → result.events.items ≡ numbered_from (L.next tree.old) (events_in_turn L.left L.events tree.old
         (take (length result.replies.items) commands.items)) }
     ensures next { L.next tree.new ≡ L.next tree.old + length result.events.items }
     ensures few { length result.events.items ≤ 3 * length result.replies.items }
 
-    // The commands that were answered are the first ones, as many as there are replies.
+    // The commands with a reply are the first ones, as many as there are replies.
     ensures replies { result.replies.items ≡ scan L.after L.reply (L.state tree.old)
         (take (length result.replies.items) commands.items) }
     ensures state { L.state tree.new ≡ fold L.after (L.state tree.old)
@@ -52,7 +57,8 @@ pub fn run_logged<L: Logged>(alloc: Global, tree: &mut L, commands: Vec<L::Comma
         × IsSomeAnd (slice_get commands.items (length result.replies.items)) (λ command. L.lacks_numbers tree.new command ≡ true)) }
     ensures size { L.size tree.new ≡ L.size tree.old }
 
-    // Few nodes: neighbours that held more than half the node size together still do, refused or not.
+    // Few nodes: neighbours that held more than half the node size together still do, whether it
+    // failed or not.
     ensures spaced { IsSpaced (L.size tree.old / 2) (L.nodes tree.old)
         → IsSpaced (L.size tree.new / 2) (L.nodes tree.new) }
     ensures few_nodes { IsSpaced (L.size tree.old / 2) (L.nodes tree.old)
@@ -78,7 +84,7 @@ pub fn run_logged<L: Logged>(alloc: Global, tree: &mut L, commands: Vec<L::Comma
     }
 }
 
-/// Carries out a command, and adds the reply and the events to those before them. A refused one
+/// Carries out a command, and adds the reply and the events to those before them. A failed one
 /// changes nothing.
 fn answer<L: Logged>(
     tree: &mut L,
@@ -86,12 +92,12 @@ fn answer<L: Logged>(
     events: &mut Vec<ChangeEvent<L::Item>>,
     command: L::Command,
 ) -> Result<(), Refusal>
-    requires { L.clones }
     ensures told { OnOk result (replies.new.items ≡ replies.old.items ++ L.reply (L.state tree.old) command ∷ []) }
     ensures state { OnOk result (L.state tree.new ≡ L.after (L.state tree.old) command) }
     ensures tree { OnOk result (tree.new ≡ L.left tree.old command) }
-    ensures events { OnOk result (events.new.items ≡ events.old.items ++ numbered_from (L.next tree.old) (L.events tree.old command)) }
-    ensures replay { OnOk result (replay L.Item.Ord.cmp (L.nodes tree.old) (numbered_from (L.next tree.old) (L.events tree.old command)) ≡ Some (L.nodes tree.new)) }
+    ensures clones { OnOk result (AppendsClones (IsEventClone L.cloned) events.old.items events.new.items (numbered_from (L.next tree.old) (L.events tree.old command))) }
+    ensures events { L.clones → OnOk result (events.new.items ≡ events.old.items ++ numbered_from (L.next tree.old) (L.events tree.old command)) }
+    ensures table { OnOk result (replay L.Item.Ord.cmp (L.nodes tree.old) (numbered_from (L.next tree.old) (L.events tree.old command)) ≡ Some (L.nodes tree.new)) }
     ensures few { OnOk result (length events.new.items ≤ length events.old.items + 3) }
     ensures next { OnOk result (L.next tree.new ≡ L.next tree.old + length (L.events tree.old command)) }
     ensures size { L.size tree.new ≡ L.size tree.old }

@@ -1,24 +1,25 @@
 //! Lists of commands to a map, and the reply to each.
 
 ghost use Rattle.std.specs.Prelude.{◌≡◌, ◌<◌, ◌++◌, [], ◌∷◌, IfOk, OnOk, IfErr, OnErr, IfSome, OnSome, IfNone, length, take};
-ghost use Rattle.indexset_bench.specs.MapRun.{map_reply, map_after, map_replies, map_after_all};
+ghost use Rattle.indexset_bench.specs.Replies.{AppendsReply, AreReplies};
+ghost use Rattle.indexset_bench.specs.MapRun.{IsMapReply, map_reply, map_after, map_replies, map_after_all};
 
 use crate::command_run::Run;
 use indexset_core::refusal::Refusal;
 use indexset_map::BTreeMap;
 use std::alloc::Global;
 
-/// What is asked of a map. The reply is a `Value`, an `Entry`, a `Flag`, a `Count` or `Done`, as it is
-/// said here.
+/// A command to a map. The reply is a `Value`, an `Entry`, a `Flag`, a `Count` or `Done`, as said
+/// at each.
 #[derive(Debug, Drop)]
 pub enum MapCommand<K, V> {
     /// Makes the value that of the key: a `Value`, the old one.
     Insert(K, V),
-    /// Asks for the value of the key: a `Value`.
+    /// Returns the value of the key: a `Value`.
     Get(K),
     /// Takes the pair of the key out: a `Value`, that of the pair.
     Remove(K),
-    /// Asks for the pair at the position: an `Entry`.
+    /// Returns the pair at the position: an `Entry`.
     GetIndex(usize),
     /// Takes the pair of the key out: an `Entry`, that pair.
     RemoveEntry(K),
@@ -26,11 +27,11 @@ pub enum MapCommand<K, V> {
     PopFirst,
     /// Takes the pair of the greatest key out: an `Entry`, that pair.
     PopLast,
-    /// Asks whether the key is there: a `Flag`.
+    /// Returns whether the key is present: a `Flag`.
     ContainsKey(K),
-    /// Asks how many keys are below the key: a `Count`.
+    /// Returns how many keys are below the key: a `Count`.
     Rank(K),
-    /// Asks how many pairs there are: a `Count`.
+    /// Returns the number of pairs: a `Count`.
     Len,
     /// Takes all pairs out: `Done`.
     Clear,
@@ -51,21 +52,20 @@ pub enum MapReply<K, V> {
     Done,
 }
 
-/// Carries out the commands in turn, and ends at the first that is refused: then the replies are
-/// those to the commands before it, and the map is as they left it.
+/// Carries out the commands in turn, and stops at the first that fails: then the replies are those
+/// to the commands before it, and the map is as they left it.
 ///
-/// Room for a reply is asked for before its command acts. Keys and values that stay in the map are
-/// cloned into their replies, which is why a clone has to be identical to its source.
+/// Room for a reply is reserved before its command acts. Keys and values that stay in the map are
+/// cloned into their replies.
 pub fn run_map<K: Ord + Clone + Drop, V: Clone + Drop>(
     alloc: Global,
     map: &mut BTreeMap<K, V>,
     commands: Vec<MapCommand<K, V>>,
 ) -> Run<MapReply<K, V>>
-    requires keys { (x y : K) → K.is_clone x y → y ≡ x }
-    requires values { (x y : V) → V.is_clone x y → y ≡ x }
-
-    // The commands that were answered are the first ones, as many as there are replies.
-    ensures replies { result.replies.items ≡ map_replies K.cmp map.old.pairs
+    // The commands with a reply are the first ones, as many as there are replies.
+    ensures cloned { AreReplies (map_after K.cmp) (IsMapReply K.cmp K.is_clone V.is_clone) map.old.pairs
+        (take (length result.replies.items) commands.items) result.replies.items }
+    ensures replies { ((x y : K) → K.is_clone x y → y ≡ x) → ((x y : V) → V.is_clone x y → y ≡ x) → result.replies.items ≡ map_replies K.cmp map.old.pairs
         (take (length result.replies.items) commands.items) }
     ensures contents { map.new.pairs ≡ map_after_all K.cmp map.old.pairs
         (take (length result.replies.items) commands.items) }
@@ -91,15 +91,14 @@ pub fn run_map<K: Ord + Clone + Drop, V: Clone + Drop>(
     }
 }
 
-/// Carries out a command and adds the reply to those before it. A refused one changes nothing.
+/// Carries out a command and adds the reply to those before it. A failed one changes nothing.
 fn answer<K: Ord + Clone + Drop, V: Clone + Drop>(
     map: &mut BTreeMap<K, V>,
     replies: &mut Vec<MapReply<K, V>>,
     command: MapCommand<K, V>,
 ) -> Result<(), Refusal>
-    requires keys { (x y : K) → K.is_clone x y → y ≡ x }
-    requires values { (x y : V) → V.is_clone x y → y ≡ x }
-    ensures told { OnOk result (replies.new.items
+    ensures cloned { OnOk result (AppendsReply (IsMapReply K.cmp K.is_clone V.is_clone map.old.pairs command) replies.old.items replies.new.items) }
+    ensures told { ((x y : K) → K.is_clone x y → y ≡ x) → ((x y : V) → V.is_clone x y → y ≡ x) → OnOk result (replies.new.items
         ≡ replies.old.items ++ map_reply K.cmp map.old.pairs command ∷ []) }
     ensures ok { OnOk result (map.new.pairs ≡ map_after K.cmp map.old.pairs command) }
     ensures size { map.new.size ≡ map.old.size }
@@ -113,14 +112,13 @@ fn answer<K: Ord + Clone + Drop, V: Clone + Drop>(
     Ok(())
 }
 
-/// Carries out a command, and answers the reply to it. A refused one changes nothing.
+/// Carries out a command, and returns the reply to it. A failed one changes nothing.
 fn act<K: Ord + Clone + Drop, V: Clone + Drop>(
     map: &mut BTreeMap<K, V>,
     command: MapCommand<K, V>,
 ) -> Result<MapReply<K, V>, Refusal>
-    requires keys { (x y : K) → K.is_clone x y → y ≡ x }
-    requires values { (x y : V) → V.is_clone x y → y ≡ x }
-    ensures reply { IfOk result (λ reply. reply ≡ map_reply K.cmp map.old.pairs command) }
+    ensures cloned { IfOk result (λ reply. IsMapReply K.cmp K.is_clone V.is_clone map.old.pairs command reply) }
+    ensures reply { ((x y : K) → K.is_clone x y → y ≡ x) → ((x y : V) → V.is_clone x y → y ≡ x) → IfOk result (λ reply. reply ≡ map_reply K.cmp map.old.pairs command) }
     ensures ok { OnOk result (map.new.pairs ≡ map_after K.cmp map.old.pairs command) }
     ensures size { map.new.size ≡ map.old.size }
     ensures refusal { IfErr result (λ e. e ≡ Refusal.Memory) }

@@ -7,18 +7,18 @@ ghost use Rattle.indexset_bench.specs.PairCommand.{pair_meaning};
 use crate::bytes::first_place;
 use crate::command::number;
 
-/// What a line asks of the map.
+/// A command to the map.
 #[derive(Clone, Copy, Debug, PartialEq, Eq)]
 pub enum PairCommand {
-    /// Puts a key and a value in, for any pair of that key.
+    /// Inserts a key and a value, or replaces the pair of that key.
     Put(u64, u64),
     /// Takes the pair of the key out.
     Cut(u64),
-    /// Asks for the nodes.
+    /// Returns the nodes.
     Nodes,
 }
 
-/// The numbers of which this is the text: two, parted by one space.
+/// Returns the numbers of which this is the text: two, parted by one space.
 fn two_numbers(text: &[u8]) -> Option<(u64, u64)>
     ensures { MatchOption result
         ((m n : ℕ) → m < 2 ^ 64 → n < 2 ^ 64 → text.now ≢ decimal m ++ 32 ∷ decimal n)
@@ -30,7 +30,7 @@ fn two_numbers(text: &[u8]) -> Option<(u64, u64)>
     Some((first, second))
 }
 
-/// The command to the map that the line spells, if it spells one.
+/// Returns the command to the map that the line spells, if it spells one.
 pub fn parse_pairs(line: &[u8]) -> Option<PairCommand>
     ensures { result ≡ pair_meaning line.now }
 {

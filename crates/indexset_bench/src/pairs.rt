@@ -14,10 +14,10 @@ use indexset_core::pair::Pair;
 use indexset_log::map::BTreeMap;
 use std::io::Write;
 
-/// A map of numbers, which tells its changes.
+/// A map of numbers, which returns its changes as events.
 pub type Pairs = BTreeMap<u64, u64, Vec<Pair<u64, u64>>>;
 
-/// Does what a line says to the map, and writes the reply to it. A refused call changes nothing, and
+/// Does what a line says to the map, and writes the reply to it. A failed call changes nothing, and
 /// nothing is written.
 pub fn answer_pairs<W: Write>(
     writer: &mut W,
@@ -58,7 +58,7 @@ pub fn answer_pairs<W: Write>(
     }
 }
 
-/// The reply to a put.
+/// Returns the reply to a put.
 fn reply_to_put(old: Option<u64>) -> Reply
     ensures { result ≡ option_map_or Reply.OldValue old Reply.New }
 {
@@ -68,7 +68,7 @@ fn reply_to_put(old: Option<u64>) -> Reply
     }
 }
 
-/// The reply to a cut.
+/// Returns the reply to a cut.
 fn reply_to_cut(out: Option<(u64, u64)>) -> Reply
     ensures { result ≡ option_map_or (λ entry. Reply.GoneValue entry.1) out Reply.Nothing }
 {

@@ -22,11 +22,12 @@ use indexset_set::BTreeSet;
 use std::alloc::Global;
 use std::io::{BufRead, Write};
 
-/// Answers each line of the reader on the writer, over a set and a map that start empty. The writer is flushed
-/// where the reader's buffer is used up, so that each reply is out before more is waited for.
+/// Writes the reply to each line of the reader to the writer, over a set and a map that start
+/// empty. The writer is flushed where the reader's buffer is used up, so that each reply is out
+/// before more is waited for.
 ///
-/// A fault ends the run at once, and the first fault is told. A line past the first 2^64 - 1 is a
-/// fault of the reader. After a failed write nothing is said of what was written.
+/// A fault ends the run at once, and the first fault is returned. A line past the first 2^64 - 1 is
+/// a fault of the reader. After a failed write nothing is said of what was written.
 pub fn run<R: BufRead, W: Write>(
     alloc: Global,
     reader: &mut R,
@@ -43,17 +44,17 @@ pub fn run<R: BufRead, W: Write>(
         (R.remaining reader.old) (R.remaining reader.new)
         (W.contents writer.old) (W.contents writer.new)) }
 
-    // The whole lines that the reader gave before it failed were answered.
+    // The whole lines that the reader gave before it failed have their replies.
     ensures read_failed { result ≡ Err RunFault.Read → AnswersWholeLines HasNoEnd
         (R.remaining reader.old) (R.remaining reader.new)
         (W.contents writer.old) (W.contents writer.new) }
 
-    // The lines before the refused one were answered, of which some or all was read.
+    // The lines before the failed one have their replies; some or all of it was read.
     ensures memory_refused { result ≡ Err RunFault.Memory → AnswersWholeLines IsLinePart
         (R.remaining reader.old) (R.remaining reader.new)
         (W.contents writer.old) (W.contents writer.new) }
 
-    // The same, and the events of the refused line did not fit.
+    // The same, and the events of the failed line did not fit.
     ensures numbers_refused { result ≡ Err RunFault.Numbers → LacksNumbers
         (R.remaining reader.old) (R.remaining reader.new)
         (W.contents writer.old) (W.contents writer.new) }
@@ -63,7 +64,7 @@ pub fn run<R: BufRead, W: Write>(
     answered.and(flushed)
 }
 
-/// Answers each line. The writer is flushed before each look at the reader that may read, and is left
+/// Writes the reply to each line. The writer is flushed before each read that may wait, and is left
 /// to be flushed at the end.
 fn answer_lines<R: BufRead, W: Write>(
     alloc: Global,
@@ -106,7 +107,7 @@ fn answer_lines<R: BufRead, W: Write>(
     }
 }
 
-/// Answers one line. Where it is refused, nothing is written.
+/// Writes the reply to one line. Where it fails, nothing is written.
 fn answer_line<W: Write>(
     writer: &mut W,
     set: &mut BTreeSet<u64>,
@@ -136,7 +137,7 @@ fn answer_line<W: Write>(
     }
 }
 
-/// Answers a command to the set. Where memory is refused, nothing is written.
+/// Writes the reply to a command to the set. Where memory runs out, nothing is written.
 fn answer_numbers<W: Write>(
     writer: &mut W,
     set: &mut BTreeSet<u64>,

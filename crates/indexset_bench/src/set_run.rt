@@ -2,43 +2,44 @@
 
 ghost use Rattle.std.specs.Prelude.{◌≡◌, ◌<◌, ◌++◌, [], ◌∷◌, IfOk, OnOk, IfErr, OnErr, IfSome, OnSome, IfNone, length, take};
 ghost use Rattle.indexset_spine.specs.Cut.{items};
-ghost use Rattle.indexset_bench.specs.SetRun.{set_reply, set_after, set_replies, set_after_all};
+ghost use Rattle.indexset_bench.specs.Replies.{AppendsReply, AreReplies};
+ghost use Rattle.indexset_bench.specs.SetRun.{IsSetReply, set_reply, set_after, set_replies, set_after_all};
 
 use crate::command_run::Run;
 use indexset_core::refusal::Refusal;
 use indexset_set::BTreeSet;
 use std::alloc::Global;
 
-/// What is asked of a set. The reply is a `Flag`, an `Item`, a `Count` or `Done`, as it is said here.
+/// A command to a set. The reply is a `Flag`, an `Item`, a `Count` or `Done`, as said at each.
 #[derive(Debug, Drop)]
 pub enum SetCommand<T> {
-    /// Adds the value, unless an equal element is there: a `Flag`, whether it was added.
+    /// Inserts the value, unless an equal element is present: a `Flag`, whether it was inserted.
     Insert(T),
     /// Takes the element equal to the value out: a `Flag`, whether it was there.
     Remove(T),
-    /// Asks whether an element equal to the value is there: a `Flag`.
+    /// Returns whether an element equal to the value is present: a `Flag`.
     Contains(T),
-    /// Puts the value in place of the element equal to it, or adds it: an `Item`, the old element.
+    /// Replaces the element equal to the value, or inserts it: an `Item`, the old element.
     Replace(T),
     /// Takes the element equal to the value out: an `Item`, that element.
     Take(T),
-    /// Asks for the element equal to the value: an `Item`.
+    /// Returns the element equal to the value: an `Item`.
     Get(T),
-    /// Asks for the first element that is not below the value: an `Item`.
+    /// Returns the first element that is not below the value: an `Item`.
     LowerBound(T),
-    /// Asks for the element at the position: an `Item`.
+    /// Returns the element at the position: an `Item`.
     GetIndex(usize),
-    /// Asks for the least element: an `Item`.
+    /// Returns the least element: an `Item`.
     First,
-    /// Asks for the greatest element: an `Item`.
+    /// Returns the greatest element: an `Item`.
     Last,
     /// Takes the least element out: an `Item`, that element.
     PopFirst,
     /// Takes the greatest element out: an `Item`, that element.
     PopLast,
-    /// Asks how many elements are below the value: a `Count`.
+    /// Returns how many elements are below the value: a `Count`.
     Rank(T),
-    /// Asks how many elements there are: a `Count`.
+    /// Returns the number of elements: a `Count`.
     Len,
     /// Takes all elements out: `Done`.
     Clear,
@@ -57,20 +58,20 @@ pub enum SetReply<T> {
     Done,
 }
 
-/// Carries out the commands in turn, and ends at the first that is refused: then the replies are
-/// those to the commands before it, and the set is as they left it.
+/// Carries out the commands in turn, and stops at the first that fails: then the replies are those
+/// to the commands before it, and the set is as they left it.
 ///
-/// Room for a reply is asked for before its command acts. Elements that stay in the set are cloned
-/// into their replies, which is why a clone has to be identical to its source.
+/// Room for a reply is reserved before its command acts. Elements that stay in the set are cloned
+/// into their replies.
 pub fn run_set<T: Ord + Clone + Drop>(
     alloc: Global,
     set: &mut BTreeSet<T>,
     commands: Vec<SetCommand<T>>,
 ) -> Run<SetReply<T>>
-    requires { (x y : T) → T.is_clone x y → y ≡ x }
-
-    // The commands that were answered are the first ones, as many as there are replies.
-    ensures replies { result.replies.items ≡ set_replies T.cmp (items set.old)
+    // The commands with a reply are the first ones, as many as there are replies.
+    ensures cloned { AreReplies (set_after T.cmp) (IsSetReply T.cmp T.is_clone) (items set.old)
+        (take (length result.replies.items) commands.items) result.replies.items }
+    ensures replies { ((x y : T) → T.is_clone x y → y ≡ x) → result.replies.items ≡ set_replies T.cmp (items set.old)
         (take (length result.replies.items) commands.items) }
     ensures contents { items set.new ≡ set_after_all T.cmp (items set.old)
         (take (length result.replies.items) commands.items) }
@@ -96,14 +97,14 @@ pub fn run_set<T: Ord + Clone + Drop>(
     }
 }
 
-/// Carries out a command and adds the reply to those before it. A refused one changes nothing.
+/// Carries out a command and adds the reply to those before it. A failed one changes nothing.
 fn answer<T: Ord + Clone + Drop>(
     set: &mut BTreeSet<T>,
     replies: &mut Vec<SetReply<T>>,
     command: SetCommand<T>,
 ) -> Result<(), Refusal>
-    requires { (x y : T) → T.is_clone x y → y ≡ x }
-    ensures told { OnOk result (replies.new.items
+    ensures cloned { OnOk result (AppendsReply (IsSetReply T.cmp T.is_clone (items set.old) command) replies.old.items replies.new.items) }
+    ensures told { ((x y : T) → T.is_clone x y → y ≡ x) → OnOk result (replies.new.items
         ≡ replies.old.items ++ set_reply T.cmp (items set.old) command ∷ []) }
     ensures ok { OnOk result (items set.new ≡ set_after T.cmp (items set.old) command) }
     ensures size { set.new.size ≡ set.old.size }
@@ -117,13 +118,13 @@ fn answer<T: Ord + Clone + Drop>(
     Ok(())
 }
 
-/// Carries out a command, and answers the reply to it. A refused one changes nothing.
+/// Carries out a command, and returns the reply to it. A failed one changes nothing.
 fn act<T: Ord + Clone + Drop>(
     set: &mut BTreeSet<T>,
     command: SetCommand<T>,
 ) -> Result<SetReply<T>, Refusal>
-    requires { (x y : T) → T.is_clone x y → y ≡ x }
-    ensures reply { IfOk result (λ reply. reply ≡ set_reply T.cmp (items set.old) command) }
+    ensures cloned { IfOk result (λ reply. IsSetReply T.cmp T.is_clone (items set.old) command reply) }
+    ensures reply { ((x y : T) → T.is_clone x y → y ≡ x) → IfOk result (λ reply. reply ≡ set_reply T.cmp (items set.old) command) }
     ensures ok { OnOk result (items set.new ≡ set_after T.cmp (items set.old) command) }
     ensures size { set.new.size ≡ set.old.size }
     ensures refusal { IfErr result (λ e. e ≡ Refusal.Memory) }

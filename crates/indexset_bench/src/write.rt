@@ -59,7 +59,7 @@ pub fn write_nodes<W: Write>(writer: &mut W, pairs: &Pairs) -> Result<(), RunFau
 }
 
 /// Writes a node as a line: its pairs, parted by one space.
-fn write_node<W: Write>(writer: &mut W, node: &[Pair<u64, u64>]) -> Result<(), RunFault>
+pub fn write_node<W: Write>(writer: &mut W, node: &[Pair<u64, u64>]) -> Result<(), RunFault>
     ensures told { OnOk result (Appends (W.contents writer.old) (W.contents writer.new)
         (ended (node_text node.now))) }
     ensures fault { IfErr result (λ fault. fault ≡ RunFault.Write) }

@@ -7,3 +7,4 @@ pub mod Pairs
 pub mod Parted
 pub mod Refusal
 pub mod Tally
+pub mod Text

@@ -11,8 +11,8 @@ use std::marker::Model;
 use std::ops::Bound;
 use std::{mem, slice};
 
-/// A node of at most `N` items, which lie in the node itself: it takes no memory, and none of its
-/// calls is refused. A node of fewer than two items can't be cut, so a tree wants `N` to be 2 or more.
+/// A node of at most `N` items, which lie in the node itself: it allocates nothing, and none of its
+/// calls fails. A node of fewer than two items can't be cut, so a tree wants `N` to be 2 or more.
 #[derive(Drop)]
 pub struct ArrayNode<T, const N: usize> {
     items: ArrayVec<T, N>,

@@ -5,7 +5,7 @@ ghost use Rattle.indexset_core.specs.Bounds.{are_ordered};
 
 use std::ops::Bound;
 
-/// Whether the start is not above the end, nor equal to it where both are excluded.
+/// Returns whether the start is not above the end, nor equal to it where both are excluded.
 pub fn bounds_are_ordered<T: Ord>(start: Bound<&T>, end: Bound<&T>) -> bool
     ensures { result ≡ are_ordered T.cmp (bound_map (λ x. x.now) start.entry) (bound_map (λ x. x.now) end.entry) }
 {

@@ -3,8 +3,8 @@ ghost use Rattle.std.specs.Prelude.{◌≡◌, ◌/◌, ◌≤◌, length, take,
 
 use crate::refusal::Refusal;
 
-/// Halves a node: it keeps the first half of its length, and the answer is the rest. Each half has room for as many items
-/// as the node held. A refused call leaves the node as it is.
+/// Halves a node: it keeps the first half of its length, and returns the rest. Each half has room
+/// for as many items as the node held. A failed call leaves the node as it is.
 pub fn halve_node<T>(node: &mut Vec<T>) -> Result<Vec<T>, Refusal>
     ensures left { OnOk result (node.new.items ≡ take (length node.old.items / 2) node.old.items) }
     ensures left_room { OnOk result (length node.old.items ≤ vec_capacity node.new) }

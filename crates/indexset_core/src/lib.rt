@@ -1,12 +1,12 @@
-//! What both families of collections stand on: order, searches whose questions are counted, nodes.
+//! What both families of collections stand on: order, searches with counted comparisons, and nodes.
 //!
-//! [`probe::Probe`] tells where an item stands against what is sought, and counts how often it is
-//! asked; [`search::first_not_less`] and [`search::first_greater`] ask it at most as often as the
-//! length of a slice has binary digits. [`node::NodeLike`] is an ascending list of bounded length: a
-//! `Vec`, or an [`array_node::ArrayNode`], which never allocates. [`pair::Pair`] and
-//! [`multipair::MultiPair`] are what maps hold. [`refusal::Refusal`] names every reason why a call
-//! fails, and [`refusal::Refused`] hands back what the call was given. Begin with `node` and `search`;
-//! `moves` and `halve` move items by blocks for all layers above.
+//! [`probe::Probe`] is a comparator with a counter: it compares an item with what is sought, and
+//! counts the comparisons; [`search::first_not_less`] and [`search::first_greater`] make at most as
+//! many as the length of a slice has binary digits. [`node::NodeLike`] is an ascending list of
+//! bounded length: a `Vec`, or an [`array_node::ArrayNode`], which never allocates. [`pair::Pair`]
+//! and [`multipair::MultiPair`] are what maps hold. [`refusal::Refusal`] names every error of a
+//! call, and [`refusal::Refused`] hands back what the call was given. Begin with `node` and
+//! `search`; `moves` and `halve` move items by blocks for all layers above.
 #![tactic(auto)]
 
 pub mod array_node;

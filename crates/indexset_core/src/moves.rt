@@ -1,7 +1,7 @@
-//! Items put into a list or taken out of it, or moved on to another, without memory.
+//! Insertion, removal and block moves of items, in lists that have room for them.
 ghost use Rattle.std.specs.Prelude.{◌≡◌, ◌+◌, ◌-◌, ◌<◌, ◌≤◌, ◌++◌, length, take, drop, insert, remove, slice_index_or, vec_len, vec_capacity};
 
-/// Puts an item at an index of a list that has room.
+/// Inserts an item at an index of a list that has room.
 pub fn insert_item<T>(items: &mut Vec<T>, index: usize, item: T)
     requires within { index ≤ length items.old.items }
     requires room { vec_len items.old < vec_capacity items.old }
@@ -12,7 +12,7 @@ pub fn insert_item<T>(items: &mut Vec<T>, index: usize, item: T)
     items.as_mut_slice()[index..].rotate_right(1);
 }
 
-/// Takes out the item at an index.
+/// Removes the item at an index.
 pub fn remove_item<T>(items: &mut Vec<T>, index: usize) -> T
     requires { index < length items.old.items }
     ensures value { result ≡ slice_index_or items.old.items index result }

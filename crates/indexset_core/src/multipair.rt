@@ -9,6 +9,7 @@ ghost use Rattle.std.proofs.Common.{rules};
 use crate::pair::Pair;
 use crate::refusal::Refused;
 use std::cmp::Ordering;
+use std::fmt;
 use std::hash::{Hash, Hasher};
 
 /// A key with its value and a number that tells apart the pairs of one key. Its order, equality and
@@ -25,7 +26,7 @@ pub struct MultiPair<K, V> {
 }
 
 impl<K, V> MultiPair<K, V> {
-    /// The pair of a key and a value, with its number.
+    /// Returns the pair of a key and a value, with its number.
     pub fn new(key: K, value: V, discriminator: u64) -> Self
         ensures { result ≡ record { key = key; value = value; discriminator = discriminator } }
     {
@@ -38,8 +39,8 @@ impl<K, V> MultiPair<K, V> {
 }
 
 impl<K, V> Pair<K, V> {
-    /// The same key and value with a number. (It stands for the Rust crate's conversion that draws a
-    /// number.)
+    /// Returns the same key and value with a number. (It stands for the Rust crate's conversion
+    /// that draws a number.)
     pub fn numbered(self, discriminator: u64) -> MultiPair<K, V>
         ensures { result ≡ record { key = self.key; value = self.value; discriminator = discriminator } }
     {
@@ -106,6 +107,22 @@ impl<K: Ord, V> Ord for MultiPair<K, V> {
             Ordering::Equal => self.discriminator.cmp(&other.discriminator),
             unequal => unequal,
         }
+    }
+}
+
+/// The key, a colon, the value and the number, as in `3:pears #0`.
+impl<K: fmt::Display, V: fmt::Display> fmt::Display for MultiPair<K, V> {
+    ghost use Rattle.indexset_core.specs.Text.{multi_pair_shown};
+
+    ghost output = { multi_pair_shown K.output V.output };
+
+    fn fmt<W: fmt::Write>(&self, f: &mut fmt::Formatter<W>) -> fmt::Result {
+        let MultiPair {
+            key,
+            value,
+            discriminator,
+        } = self;
+        write!(f, "{key}:{value} #{discriminator}")
     }
 }
 

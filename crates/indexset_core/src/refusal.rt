@@ -1,16 +1,17 @@
-//! What a call answers that cannot do what was asked.
+//! Why a call failed.
 ghost use Rattle.std.specs.Prelude.{◌≡◌};
 
 use std::alloc::AllocError;
 use std::error::Error;
 use std::fmt;
 
-/// Why a call was refused. Where several reasons apply, the one that its call's contract names is given.
+/// The error of a call. Where several reasons apply, the contract of the call says which one is
+/// returned.
 #[derive(Clone, Copy, Debug, PartialEq, Eq)]
 pub enum Refusal {
-    /// A growth or an element's clone was refused, or the length would pass the greatest usize.
+    /// An allocation or an element's clone failed, or the length would pass `usize::MAX`.
     Memory,
-    /// Too few event numbers are left, or no pair number.
+    /// Too few event numbers remain, or no pair number.
     Numbers,
     /// The node that was attached has no item.
     Empty,
@@ -20,7 +21,7 @@ pub enum Refusal {
     Unsorted,
     /// The node that was attached does not lie wholly before, after or between two neighbouring nodes.
     Overlaps,
-    /// The node that was attached holds a pair whose number is the greatest u64.
+    /// The node that was attached holds a pair whose number is `u64::MAX`.
     PairNumber,
     /// The event's number is not the next.
     Gap,
@@ -43,7 +44,7 @@ pub enum Refusal {
 impl Refusal {
     ghost use Rattle.indexset_core.specs.Refusal.{number_of};
 
-    /// The number by which this refusal is known, from 1 to 18; 8 to 10 are not in use.
+    /// Returns the number by which this refusal is known, from 1 to 18; 8 to 10 are not in use.
     pub fn number(self) -> u8
         ensures { result ≡ number_of self }
     {
@@ -96,12 +97,13 @@ impl fmt::Display for Refusal {
 
 impl Error for Refusal {}
 
-/// What a refused call was given, handed back, and why it was refused. It is shown by its cause alone.
+/// The value that a failed call was given, handed back, and the error. Its text is that of the
+/// error alone.
 #[derive(Drop)]
 pub struct Refused<X> {
     /// What was given, as it was.
     pub value: X,
-    /// Why it was refused.
+    /// The error.
     pub cause: Refusal,
 }
 

@@ -26,7 +26,7 @@ use Rattle.indexset_log.specs.Table.{count_with, joining_event, target, taking_c
 use Rattle.indexset_log.proofs.Joins.{JoinedAfter, JoinedPair, after_from, joins, pair_up}
 use Rattle.indexset_log.proofs.Ups.{last_any, last_answer, last-append, Each, each-append, each-left, each-right, each-map, Up, up-right, up-between, Ruled, parts-without, length_filled, ascends, lawful_from, lawful_ruled, lawful_bounded}
 use Rattle.indexset_log.proofs.Steps.{At, at_ruled, ruled_at, remove_step, remove_node_step, remove_at}
-use Rattle.indexset_log.proofs.Theorem.{length-numbered, numbered_replay, up_node}
+use Rattle.indexset_log.proofs.Theorem.{numbered_replay, up_node}
 
 -- a list seen around the item at a place
 pub at_place : {X : Type 0} (P : List X → ℕ → X → Type 0) → ((b : List X) (x : X) (a : List X) → P (b ++ x ∷ a) (length b) x) → (xs : List X) (k : ℕ) (x : X) → slice_get xs k ≡ Some x → P xs k x
@@ -66,9 +66,6 @@ removal_few cmp size ns v =
       | true ↦ omega (arith, taking_length size ns k i (get_or n i v), two_at_most size ns k i)
       | false ↦ omega arith
     ]
-
-pub taking_few : {T : Type 0} (size : ℕ) (ns : List (List T)) (k i : ℕ) (x : T) (s : ℕ) (items : List (ChangeEvent T)) → items ≡ numbered_from s (taking_events size ns k i x) → length items ≤ 3
-taking_few size ns k i x s items told = omega (arith, ap (λ l. length l) told, length-numbered s (taking_events size ns k i x), taking_length size ns k i x, two_at_most size ns k i)
 
 module _ {T : Type 0} (cmp : T → T → Ordering) (o : IsTotalOrder cmp) (size : ℕ) where
   -- the event leads to the nodes without the item, which are lawful, and it alone is gone

@@ -23,7 +23,7 @@ number_off s (RemoveNode m) = refl
 number_off s (SplitNode m k) = refl
 number_off s (MergeNodes m w) = refl
 
-number_on : {T : Type 0} (s : ℕ) (e : ChangeEventUnassigned T) → event_number (assigned s e) ≡ s
+pub number_on : {T : Type 0} (s : ℕ) (e : ChangeEventUnassigned T) → event_number (assigned s e) ≡ s
 number_on s (InsertAt m v i) = refl
 number_on s (RemoveAt m v i) = refl
 number_on s (CreateNode m) = refl
@@ -43,9 +43,6 @@ pub numbered_is : {T : Type 0} (s : ℕ) (es : List (ChangeEventUnassigned T)) �
 numbered_is s [] i lt d = absurd (omega arith)
 numbered_is s (e ∷ es) zero lt d = number_on s e ∙ omega arith
 numbered_is s (e ∷ es) (suc i) lt d = numbered_is (s + 1) es i (omega arith) d ∙ omega arith
-
-pub numbered_on : {T : Type 0} (s : ℕ) (es : List (ChangeEventUnassigned T)) (items : List (ChangeEvent T)) → items ≡ numbered_from s es → IsNumberedFrom s items
-numbered_on s es items e = rw e (numbered_is s es)
 
 pub length-numbered : {T : Type 0} (s : ℕ) (es : List (ChangeEventUnassigned T)) → length (numbered_from s es) ≡ length es
 length-numbered s [] = refl
@@ -72,9 +69,6 @@ module _ {T : Type 0} (cmp : T → T → Ordering) (size : ℕ) (v : T) where
   pub three_checked : (ns : List (List T)) → length (checked_put_events cmp size ns v) ≤ 3
   unfolding checked_put_events
   three_checked ns = grind (arith, three_at_most)
-
-  pub three_told : (ns : List (List T)) (s : ℕ) (items : List (ChangeEvent T)) → items ≡ numbered_from s (put_events cmp size ns v) → length items ≤ 3
-  three_told ns s items told = omega (arith, ap (λ l. length l) told, length-numbered s (put_events cmp size ns v), three_at_most ns)
 
 pub none_lawful : {T : Type 0} (cmp : T → T → Ordering) (size : ℕ) → IsLawful cmp size []
 none_lawful cmp size = lawful_from cmp size [] (record { filled = tt; up = tt }) tt

@@ -1,12 +1,12 @@
 //! Laws over the definitions that the contracts of this crate cite. Each function does nothing; its
 //! contract is the law, for all values, and so holds of the calls that cite the same definitions.
 ghost use Rattle.std.specs.Prelude.{◌≡◌, ℕ, ◌+◌, ◌-◌, ◌*◌, ◌/◌, ◌<◌, ◌≤◌, true, false, List, [], ◌∷◌, ◌++◌, length, map, Some, None};
-ghost use Rattle.std.specs.List.{list_any};
+ghost use Rattle.std.specs.List.{All, list_any};
 ghost use Rattle.std.specs.Option.{option_and_then};
 ghost use Rattle.std.specs.Ordering.{nat_cmp};
-ghost use Rattle.indexset_core.specs.Nodes.{joined, node_at, IsLawful, IsNodeList};
+ghost use Rattle.indexset_core.specs.Nodes.{joined, node_at, node_lengths, IsLawful, IsNodeList};
 ghost use Rattle.indexset_log.specs.Edits.{with_put, with_taken};
-ghost use Rattle.indexset_log.specs.Joining.{IsSpaced};
+ghost use Rattle.indexset_log.specs.Joining.{IsSpaced, join_after};
 ghost use Rattle.indexset_log.specs.Nodes.{are_nodes};
 ghost use Rattle.indexset_log.specs.Replay.{earlier_replay, is_joining, step, step_plain, replay, numbered_from, unassigned, IsNumberedFrom};
 ghost use Rattle.indexset_log.specs.Table.{put_events, removal_events};
@@ -87,4 +87,9 @@ pub fn few_nodes_where_spaced<T>()
 pub fn spaced_kept<T: Ord>()
     ensures put { (size : ℕ) (ns : List (List T)) (v : T) → 2 ≤ size → IsLawful T.cmp size ns → IsSpaced (size / 2) ns → IsSpaced (size / 2) (with_put T.cmp size ns v) }
     ensures removal { (size : ℕ) (ns : List (List T)) (k i : ℕ) → 2 ≤ size → IsLawful T.cmp size ns → k < length ns → i < length (node_at ns k) → IsSpaced (size / 2) ns → IsSpaced (size / 2) (with_taken size ns k i) }
+{}
+
+/// Nodes of at most two or three items are never joined.
+pub fn small_sizes_join_nothing<T>()
+    ensures { (size : ℕ) (ns : List (List T)) (k i : ℕ) → size < 4 → All (λ n. 1 ≤ n) (node_lengths ns) → i < length (node_at ns k) → join_after size ns k i ≡ None }
 {}

@@ -8,9 +8,9 @@ ghost use Rattle.indexset_core.specs.Nodes.{joined, node_lengths, node_for};
 use indexset_core::node::NodeLike;
 use indexset_core::probe::Probe;
 
-/// Returns the place of the first node whose last item is not answered Less, else of the last node, by
-/// one binary search over the nodes' last items. The nodes are at least one and not empty, and the probe
-/// must find their items in order.
+/// Returns the place of the first node whose last item is not found Less, else of the last node, by
+/// one binary search over the nodes' last items. The nodes are at least one and not empty, and the
+/// probe must find their items in order.
 pub fn node_by<T: Ord + Drop, Node: NodeLike<T>, P: Probe<T>>(
     nodes: &[Node],
     probe: &mut P,

@@ -1,9 +1,12 @@
 //! The logged map, a logged set of pairs.
-ghost use Rattle.std.specs.Prelude.{◌≡◌, ◌+◌, ◌<◌, ◌≤◌, [], length, map, None, IfOk, OnOk, IfErr, OnErr, IsOk};
+ghost use Rattle.std.specs.Prelude.{◌≡◌, ◌+◌, ◌<◌, ◌≤◌, [], find, length, map, None, IfOk, OnOk, IfErr, OnErr, IsOk};
 ghost use Rattle.std.specs.Map.Iter.{ShowsInOrder, ShowsInReverse, deref};
 ghost use Rattle.std.specs.Option.{option_copied, unwrap_or};
+ghost use Rattle.std.specs.Ordering.{is_eq};
+ghost use Rattle.indexset_core.specs.Digits.{digits};
 ghost use Rattle.indexset_core.specs.Nodes.{joined, IsLawful};
 ghost use Rattle.indexset_core.specs.Order.{IsAscending};
+ghost use Rattle.indexset_core.specs.Parted.{IsParted};
 ghost use Rattle.indexset_core.specs.Pairs.{by_key, has_key, pair_of};
 ghost use Rattle.indexset_core.specs.declared.refusal.Refusal.TheVariants.{Memory};
 ghost use Rattle.indexset_log.specs.Attach.{attached, attach_refusal, nodes_refusal};
@@ -20,12 +23,12 @@ use crate::set::nodes::Nodes;
 use indexset_core::constants::DEFAULT_INNER_SIZE;
 use indexset_core::node::NodeLike;
 use indexset_core::pair::Pair;
-use indexset_core::probe::ByKey;
+use indexset_core::probe::{ByKey, Probe};
 use indexset_core::refusal::Refused;
 use std::alloc::Global;
 use std::marker::Model;
 
-/// A list of pairs, ascending by key and cut into nodes, which tells its changes.
+/// A list of pairs, ascending by key and cut into nodes, which returns its changes as events.
 #[derive(Drop)]
 pub struct BTreeMap<K: Ord + Clone + Drop, V: Clone + Drop, Node: NodeLike<Pair<K, V>>> {
     set: BTreeSet<Pair<K, V>, Node>,
@@ -42,8 +45,8 @@ impl<K: Ord + Clone + Drop, V: Clone + Drop, Node: NodeLike<Pair<K, V>>> Model
 }
 
 impl<K: Ord + Clone + Drop, V: Clone + Drop, Node: NodeLike<Pair<K, V>>> BTreeMap<K, V, Node> {
-    /// An empty map, whose nodes are to hold at most `size` pairs each, and whose first event has the
-    /// number `next`. (It is not in the Rust crate.)
+    /// Returns an empty map, whose nodes are to hold at most `size` pairs each, and whose first
+    /// event has the number `next`. (Not in the Rust crate.)
     pub fn starting_at(alloc: Global, size: usize, next: u64) -> Self
         requires two { 2 ≤ size }
         requires within { size ≤ Node.most }
@@ -54,10 +57,10 @@ impl<K: Ord + Clone + Drop, V: Clone + Drop, Node: NodeLike<Pair<K, V>>> BTreeMa
         }
     }
 
-    /// The map of these nodes, whose first event has the number `next`, as the set makes it: the nodes
-    /// are taken as they are, nothing is allocated, and no number is used up. A failed call hands the
-    /// nodes back, and no call fails where the nodes are lawful for this size and the number of items is
-    /// a usize. (It is not in the Rust crate.)
+    /// Returns the map of these nodes, whose first event has the number `next`, as the set makes
+    /// it: the nodes are taken as they are, nothing is allocated, and no number is used up. A
+    /// failed call hands the nodes back, and no call fails where the nodes are lawful for this size
+    /// and the number of items is a usize. (Not in the Rust crate.)
     pub fn from_nodes(nodes: Vec<Node>, size: usize, next: u64) -> Result<Self, Refused<Vec<Node>>>
         requires two { 2 ≤ size }
         requires within { size ≤ Node.most }
@@ -74,7 +77,7 @@ impl<K: Ord + Clone + Drop, V: Clone + Drop, Node: NodeLike<Pair<K, V>>> BTreeMa
         }
     }
 
-    /// An empty map, whose first event has the number 0.
+    /// Returns an empty map, whose first event has the number 0.
     pub fn with_maximum_node_size(alloc: Global, size: usize) -> Self
         requires two { 2 ≤ size }
         requires within { size ≤ Node.most }
@@ -83,7 +86,7 @@ impl<K: Ord + Clone + Drop, V: Clone + Drop, Node: NodeLike<Pair<K, V>>> BTreeMa
         BTreeMap::starting_at(alloc, size, 0)
     }
 
-    /// An empty map of the default node size, whose first event has the number 0.
+    /// Returns an empty map of the default node size, whose first event has the number 0.
     pub fn new(alloc: Global) -> Self
         requires { DEFAULT_INNER_SIZE ≤ Node.most }
         ensures { result ≡ record { nodes = []; size = DEFAULT_INNER_SIZE; next = 0 } }
@@ -91,7 +94,7 @@ impl<K: Ord + Clone + Drop, V: Clone + Drop, Node: NodeLike<Pair<K, V>>> BTreeMa
         BTreeMap::with_maximum_node_size(alloc, DEFAULT_INNER_SIZE)
     }
 
-    /// An empty map, as `new` makes it.
+    /// Returns an empty map, as `new` makes it.
     pub fn default(alloc: Global) -> Self
         requires { DEFAULT_INNER_SIZE ≤ Node.most }
         ensures { result ≡ record { nodes = []; size = DEFAULT_INNER_SIZE; next = 0 } }
@@ -99,15 +102,16 @@ impl<K: Ord + Clone + Drop, V: Clone + Drop, Node: NodeLike<Pair<K, V>>> BTreeMa
         BTreeMap::new(alloc)
     }
 
-    /// How many pairs there are.
+    /// Returns the number of pairs.
     pub fn len(&self) -> usize
         ensures { result ≡ length (joined self.now.nodes) }
     {
         self.set.len()
     }
 
-    /// How many nodes there are: no more than pairs. None is empty or holds more than the node size,
-    /// and the pairs of all ascend by key, one node after another, which a caller learns here.
+    /// Returns the number of nodes: no more than pairs. None is empty or holds more than the node
+    /// size, and the pairs of all ascend by key, one node after another, which a caller learns
+    /// here.
     pub fn node_count(&self) -> usize
         ensures value { result ≡ length self.now.nodes }
         ensures few { result ≤ length (joined self.now.nodes) }
@@ -116,27 +120,27 @@ impl<K: Ord + Clone + Drop, V: Clone + Drop, Node: NodeLike<Pair<K, V>>> BTreeMa
         self.set.node_count()
     }
 
-    /// How many pairs there is room for: the sum of the nodes' capacities, which stops at the greatest
-    /// usize.
+    /// Returns how many pairs there is room for: the sum of the nodes' capacities, which stops at
+    /// `usize::MAX`.
     pub fn capacity(&self) -> usize
         ensures { length (joined self.now.nodes) ≤ result }
     {
         self.set.capacity()
     }
 
-    /// The number of the next event. (It is not in the Rust crate.)
+    /// Returns the number of the next event. (Not in the Rust crate.)
     pub fn events_issued(&self) -> u64
         ensures { result ≡ self.now.next }
     {
         self.set.events_issued()
     }
 
-    /// The allocator that it keeps. (The Rust crate's tree keeps none.)
+    /// Returns the allocator that it keeps. (The Rust crate's tree keeps none.)
     pub fn allocator(&self) -> &Global {
         self.set.allocator()
     }
 
-    /// The nodes, in order. (The Rust crate lends them locked.)
+    /// Returns the nodes, in order. (The Rust crate lends them locked.)
     pub fn iter_nodes(&self) -> Nodes<'_, Node>
         ensures rest { map Node.list result ≡ self.now.nodes }
         ensures runs { ShowsInOrder (deref {X = Node}) }
@@ -145,8 +149,8 @@ impl<K: Ord + Clone + Drop, V: Clone + Drop, Node: NodeLike<Pair<K, V>>> BTreeMa
         self.set.iter_nodes()
     }
 
-    /// Takes a whole node of pairs in, as the set does. No event is given, and no number is used up. A
-    /// refused call hands the node back and changes nothing.
+    /// Inserts a whole node of pairs, as the set does. It gives no event and uses up no number. A
+    /// failed call hands the node back and changes nothing.
     pub fn attach_node(&mut self, node: Node) -> Result<(), Refused<Node>>
         ensures nodes { OnOk result (self.new.nodes ≡ attached (by_key K.cmp) self.old.nodes (Node.list node)) }
         ensures ascending { OnOk result (IsAscending (by_key K.cmp) (joined self.new.nodes)) }
@@ -161,7 +165,7 @@ impl<K: Ord + Clone + Drop, V: Clone + Drop, Node: NodeLike<Pair<K, V>>> BTreeMa
         self.set.attach_node(node)
     }
 
-    /// The pair of a key, where there is one.
+    /// Returns the pair of a key, or `None` where there is none.
     pub fn get(&self, key: &K) -> Option<&Pair<K, V>>
         ensures { option_copied result ≡ pair_of K.cmp (joined self.now.nodes) key.now }
     {
@@ -170,14 +174,26 @@ impl<K: Ord + Clone + Drop, V: Clone + Drop, Node: NodeLike<Pair<K, V>>> BTreeMa
         self.set.get_by(&mut ByKey::new(key))
     }
 
-    /// Whether a key is there.
+    /// Returns the first pair that the comparator finds equal, or `None` where there is none, by
+    /// two binary searches, as `get` makes. The comparator must find the pairs in order. (Not in
+    /// the Rust crate.)
+    pub fn get_by<P: Probe<Pair<K, V>>>(&self, probe: &mut P) -> Option<&Pair<K, V>>
+        requires { IsParted (P.answer probe.old) (joined self.now.nodes) }
+        ensures value { option_copied result ≡ find (λ p. is_eq (P.answer probe.old p)) (joined self.now.nodes) }
+        ensures fixed { P.answer probe.new ≡ P.answer probe.old }
+        ensures few { P.asked probe.new ≤ P.asked probe.old + (digits (length self.now.nodes) + digits self.now.size + 1) }
+    {
+        self.set.get_by(probe)
+    }
+
+    /// Returns whether a key is present, by two binary searches.
     pub fn contains_key(&self, key: &K) -> bool
         ensures { result ≡ has_key K.cmp (joined self.now.nodes) key.now }
     {
         self.get(key).is_some()
     }
 
-    // Where a search for a key ends.
+    // Returns where a search for a key ends.
     fn locate(&self, key: &K) -> Result<(usize, usize), (usize, usize)>
         ensures place { result ≡ located (λ p. K.cmp p.key key.now) self.now.nodes }
         ensures lawful { IsLawful (by_key K.cmp) self.now.size self.now.nodes }

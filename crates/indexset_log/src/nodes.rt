@@ -26,7 +26,7 @@ pub(crate) fn part_of<T>(items: &[T], full: bool, right: bool) -> &[T]
     }
 }
 
-/// Halves a node. A refused call leaves the items as they are.
+/// Halves a node. A failed call leaves the items as they are.
 pub(crate) fn halve_at<T: Ord + Drop, Node: NodeLike<T>>(
     nodes: &mut Vec<Node>,
     place: usize,
@@ -48,8 +48,8 @@ pub(crate) fn halve_at<T: Ord + Drop, Node: NodeLike<T>>(
     }
 }
 
-/// Makes room where an item goes, and answers its node: a full node is halved. A refused call
-/// leaves the items as they are.
+/// Makes room where an item goes, and returns its node: a full node is halved. A failed call leaves
+/// the items as they are.
 pub(crate) fn make_room<T: Ord + Drop, Node: NodeLike<T>>(
     nodes: &mut Vec<Node>,
     aim: &Aim,
@@ -75,8 +75,8 @@ pub(crate) fn make_room<T: Ord + Drop, Node: NodeLike<T>>(
     Ok(aim.node)
 }
 
-/// Puts an item into its place in a node, where a gap has room, and answers the equal item that it
-/// takes the place of.
+/// Inserts an item into its place in a node that has room, and returns the equal item that it
+/// replaces.
 pub(crate) fn put_in<T: Ord + Drop, Node: NodeLike<T>>(
     node: &mut Node,
     at: Result<usize, usize>,
@@ -98,7 +98,7 @@ pub(crate) fn put_in<T: Ord + Drop, Node: NodeLike<T>>(
     }
 }
 
-/// An empty node with room for one item, and room for it in the list.
+/// Returns an empty node with room for one item, and room for it in the list.
 pub(crate) fn first_node<T: Ord + Drop, Node: NodeLike<T>>(
     nodes: &mut Vec<Node>,
 ) -> Result<Node, Refusal>
@@ -113,7 +113,7 @@ pub(crate) fn first_node<T: Ord + Drop, Node: NodeLike<T>>(
     Node::with_capacity(*nodes.allocator(), 1)
 }
 
-/// Whether two nodes of these lengths hold no more than `most` items together.
+/// Returns whether two nodes of these lengths hold no more than `most` items together.
 pub(crate) fn fit_together(left: usize, right: usize, most: usize) -> bool
     ensures { result ≡ nat_le (left + right) most }
 {
@@ -121,7 +121,7 @@ pub(crate) fn fit_together(left: usize, right: usize, most: usize) -> bool
 }
 
 /// Removes the item at a place, and joins the node at `left` with the one after it: the item is in
-/// either. Room is asked for first. A failed call leaves the items as they are.
+/// either. Room is reserved first. A failed call leaves the items as they are.
 pub(crate) fn take_and_join<T: Ord + Drop, Node: NodeLike<T>>(
     nodes: &mut Vec<Node>,
     node: usize,
@@ -153,7 +153,7 @@ pub(crate) fn take_and_join<T: Ord + Drop, Node: NodeLike<T>>(
     Ok(item)
 }
 
-/// How many items the nodes hold.
+/// Returns how many items the nodes hold.
 pub(crate) fn count_items<T: Ord + Drop, Node: NodeLike<T>>(nodes: &[Node]) -> usize
     requires { length (joined (map Node.list nodes.now)) ≤ usize.MAX }
     ensures { result ≡ length (joined (map Node.list nodes.now)) }
@@ -165,7 +165,7 @@ pub(crate) fn count_items<T: Ord + Drop, Node: NodeLike<T>>(nodes: &[Node]) -> u
     count
 }
 
-/// How many items the nodes have room for, up to the greatest usize.
+/// Returns how many items the nodes have room for, up to `usize::MAX`.
 pub(crate) fn capacity_of<T: Ord + Drop, Node: NodeLike<T>>(nodes: &[Node]) -> usize
     ensures value { result ≡ min usize.MAX (sum_by Node.room nodes.now) }
     ensures enough { min usize.MAX (length (joined (map Node.list nodes.now))) ≤ result }

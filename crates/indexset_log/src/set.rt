@@ -26,7 +26,7 @@ use indexset_core::probe::{ByItem, Probe};
 use std::alloc::Global;
 use std::marker::{Model, PhantomData};
 
-/// An ascending list cut into nodes, which tells its changes.
+/// An ascending list cut into nodes, which returns its changes as events.
 #[derive(Drop)]
 pub struct BTreeSet<T: Ord + Clone + Drop, Node: NodeLike<T>> {
     nodes: Vec<Node>,
@@ -51,7 +51,7 @@ impl<T: Ord + Clone + Drop, Node: NodeLike<T>> Model for BTreeSet<T, Node> {
 }
 
 impl<T: Ord + Clone + Drop, Node: NodeLike<T>> BTreeSet<T, Node> {
-    /// An empty tree, whose first event has the number `next`.
+    /// Returns an empty tree, whose first event has the number `next`.
     pub fn starting_at(alloc: Global, size: usize, next: u64) -> Self
         requires two { 2 ≤ size }
         requires within { size ≤ Node.most }
@@ -66,7 +66,7 @@ impl<T: Ord + Clone + Drop, Node: NodeLike<T>> BTreeSet<T, Node> {
         }
     }
 
-    /// An empty tree, whose first event has the number 0.
+    /// Returns an empty tree, whose first event has the number 0.
     pub fn with_maximum_node_size(alloc: Global, size: usize) -> Self
         requires two { 2 ≤ size }
         requires within { size ≤ Node.most }
@@ -75,7 +75,7 @@ impl<T: Ord + Clone + Drop, Node: NodeLike<T>> BTreeSet<T, Node> {
         BTreeSet::starting_at(alloc, size, 0)
     }
 
-    /// An empty tree of the default node size, whose first event has the number 0.
+    /// Returns an empty tree of the default node size, whose first event has the number 0.
     pub fn new(alloc: Global) -> Self
         requires { DEFAULT_INNER_SIZE ≤ Node.most }
         ensures { result ≡ record { nodes = []; size = DEFAULT_INNER_SIZE; next = 0 } }
@@ -83,7 +83,7 @@ impl<T: Ord + Clone + Drop, Node: NodeLike<T>> BTreeSet<T, Node> {
         BTreeSet::with_maximum_node_size(alloc, DEFAULT_INNER_SIZE)
     }
 
-    /// An empty tree, as `new` makes it.
+    /// Returns an empty tree, as `new` makes it.
     pub fn default(alloc: Global) -> Self
         requires { DEFAULT_INNER_SIZE ≤ Node.most }
         ensures { result ≡ record { nodes = []; size = DEFAULT_INNER_SIZE; next = 0 } }
@@ -91,22 +91,22 @@ impl<T: Ord + Clone + Drop, Node: NodeLike<T>> BTreeSet<T, Node> {
         BTreeSet::new(alloc)
     }
 
-    /// How many items there are.
+    /// Returns the number of items.
     pub fn len(&self) -> usize
         ensures { result ≡ length (joined self.now.nodes) }
     {
         self.len
     }
 
-    /// Whether there is no item.
+    /// Returns whether there is no item.
     pub fn is_empty(&self) -> bool
         ensures { result ≡ (length (joined self.now.nodes) == 0) }
     {
         self.len == 0
     }
 
-    /// How many nodes there are: no more than items. None is empty or holds more than the node size,
-    /// and the items of all ascend, one node after another, which a caller learns here.
+    /// Returns the number of nodes: no more than items. None is empty or holds more than the node
+    /// size, and the items of all ascend, one node after another, which a caller learns here.
     pub fn node_count(&self) -> usize
         ensures value { result ≡ length self.now.nodes }
         ensures few { result ≤ length (joined self.now.nodes) }
@@ -115,14 +115,15 @@ impl<T: Ord + Clone + Drop, Node: NodeLike<T>> BTreeSet<T, Node> {
         self.nodes.len()
     }
 
-    /// The number of the next event.
+    /// Returns the number of the next event.
     pub fn events_issued(&self) -> u64
         ensures { result ≡ self.now.next }
     {
         self.next
     }
 
-    /// How many items a node holds at most: at least 2, and within the limit of the node type.
+    /// Returns how many items a node holds at most: at least 2, and within the limit of the node
+    /// type.
     pub fn maximum_node_size(&self) -> usize
         ensures value { result ≡ self.now.size }
         ensures two { 2 ≤ result }
@@ -131,13 +132,13 @@ impl<T: Ord + Clone + Drop, Node: NodeLike<T>> BTreeSet<T, Node> {
         self.size
     }
 
-    /// The allocator that it keeps. (The Rust crate's tree keeps none.)
+    /// Returns the allocator that it keeps. (The Rust crate's tree keeps none.)
     pub fn allocator(&self) -> &Global {
         self.nodes.allocator()
     }
 
-    /// Where the probe finds what it seeks, by two binary searches: the node and the offset in it.
-    /// Nothing is asked where there is no node.
+    /// Returns where the probe finds what it seeks, by two binary searches: the node and the offset
+    /// in it. It makes no comparison where there is no node.
     pub fn locate_by<P: Probe<T>>(&self, probe: &mut P) -> Result<(usize, usize), (usize, usize)>
         requires { IsParted (P.answer probe.old) (joined self.now.nodes) }
         ensures place { result ≡ located (P.answer probe.old) self.now.nodes }
@@ -157,7 +158,7 @@ impl<T: Ord + Clone + Drop, Node: NodeLike<T>> BTreeSet<T, Node> {
         }
     }
 
-    // Where the equal item is: its node, and the offset in it.
+    // Returns where the equal item is: its node, and the offset in it.
     fn place_of(&self, value: &T) -> Option<(usize, usize)>
         ensures { MatchOption result (equal_element T.cmp (joined self.now.nodes) value.now ≡ None) (λ p. IsFoundIn T.cmp self.now.nodes value.now p.0 p.1) }
     {
@@ -166,14 +167,14 @@ impl<T: Ord + Clone + Drop, Node: NodeLike<T>> BTreeSet<T, Node> {
         self.locate_by(&mut ByItem::new(value)).ok()
     }
 
-    /// Whether an equal item is there.
+    /// Returns whether an equal item is present.
     pub fn contains(&self, value: &T) -> bool
         ensures { result ≡ has_equal T.cmp (joined self.now.nodes) value.now }
     {
         self.place_of(value).is_some()
     }
 
-    /// The equal item.
+    /// Returns the equal item.
     pub fn get(&self, value: &T) -> Option<&T>
         ensures { option_copied result ≡ equal_element T.cmp (joined self.now.nodes) value.now }
     {
@@ -182,10 +183,13 @@ impl<T: Ord + Clone + Drop, Node: NodeLike<T>> BTreeSet<T, Node> {
         self.get_by(&mut ByItem::new(value))
     }
 
-    /// The first item that the probe answers Equal.
-    pub(crate) fn get_by<P: Probe<T>>(&self, probe: &mut P) -> Option<&T>
+    /// Returns the first item that the comparator finds equal, or `None` where there is none. It
+    /// compares as `locate_by` does. (Not in the Rust crate.)
+    pub fn get_by<P: Probe<T>>(&self, probe: &mut P) -> Option<&T>
         requires { IsParted (P.answer probe.old) (joined self.now.nodes) }
-        ensures { option_copied result ≡ find (λ x. is_eq (P.answer probe.old x)) (joined self.now.nodes) }
+        ensures value { option_copied result ≡ find (λ x. is_eq (P.answer probe.old x)) (joined self.now.nodes) }
+        ensures fixed { P.answer probe.new ≡ P.answer probe.old }
+        ensures few { P.asked probe.new ≤ P.asked probe.old + (digits (length self.now.nodes) + digits self.now.size + 1) }
     {
         match self.locate_by(probe) {
             Ok((node, offset)) => self.nodes[node].get_ith(offset),

@@ -1,5 +1,6 @@
 //! Events compared and shown.
 
+use indexset_core::multipair::MultiPair;
 use indexset_core::pair::Pair;
 use indexset_log::change::{ChangeEvent, ChangeEventUnassigned, Id};
 use std::test::Fail;
@@ -57,6 +58,24 @@ fn events_as_text(rt: HostRuntime) -> Result<(), Fail> {
     }
     let number = format!(in rt.alloc(); "{:>3}", Id::from(7))?;
     assert!(rt; number.as_str() == "  7");
+    Ok(())
+}
+
+#[test]
+fn events_of_pairs_as_text(rt: HostRuntime) -> Result<(), Fail> {
+    let event_id = Id::from(7);
+    let pair = ChangeEvent::CreateNode {
+        event_id,
+        max_value: Pair { key: 1, value: 'a' },
+    };
+    let text = format!(in rt.alloc(); "{pair}")?;
+    let numbered = ChangeEvent::CreateNode {
+        event_id,
+        max_value: MultiPair::new(1, 'a', 0),
+    };
+    let with_number = format!(in rt.alloc(); "{numbered}")?;
+    assert!(rt; text.as_str() == "7 create the node of 1:a");
+    assert!(rt; with_number.as_str() == "7 create the node of 1:a #0");
     Ok(())
 }
 

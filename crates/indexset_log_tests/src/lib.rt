@@ -1,41 +1,26 @@
-//! Worked examples of the logged family, the runs of commands to it, the replica and the program, as
-//! tests: the values are typed from the library's documents. What they share with the tests of the
-//! plain family (items with a tag, keys that count) stands in `indexset_tests`.
+//! Worked examples of the logged set, the runs of commands and the program, as tests: the values are
+//! typed from the library's documents. Those of the logged map, the multimap, the replica and the facade
+//! stand in `indexset_replica_tests`. What they share with the tests of the plain family (items with a
+//! tag, keys that count) stands in `indexset_tests`.
 #![tactic(auto)]
 
 #[cfg(test)]
 mod events;
 #[cfg(test)]
-mod follow;
-#[cfg(test)]
-mod from_nodes;
-#[cfg(test)]
-mod joining;
-#[cfg(test)]
-mod last_numbers;
-#[cfg(test)]
 mod logged;
 #[cfg(test)]
 mod logged_counted;
-#[cfg(test)]
-mod logged_map;
 #[cfg(test)]
 mod logged_run;
 #[cfg(test)]
 mod logged_walks;
 #[cfg(test)]
-mod multimap;
-#[cfg(test)]
-mod multimap_nodes;
-#[cfg(test)]
 mod program;
 #[cfg(test)]
-mod replica;
+mod run_map;
 #[cfg(test)]
-mod scarce;
-#[cfg(test)]
-mod snapshot;
+mod run_set;
 #[cfg(test)]
 mod terminal;
-#[cfg(test)]
-mod told;
+pub mod told;
+pub mod trees;

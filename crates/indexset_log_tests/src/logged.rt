@@ -1,8 +1,8 @@
 //! Worked examples of the logged set and its events.
-ghost use Rattle.std.specs.Prelude.{◌≤◌, ◌<◌, length, IfOk};
-ghost use Rattle.indexset_core.specs.Nodes.{node_at};
+ghost use Rattle.std.specs.Prelude.{◌≤◌};
 
 use crate::told::{Told, are_events, are_items, are_nodes, shown};
+use crate::trees::{place_of, tree_of};
 use indexset_core::array_node::ArrayNode;
 use indexset_core::node::NodeLike;
 use indexset_core::probe::ByItem;
@@ -19,37 +19,6 @@ use std::test::Fail;
 mod removed;
 
 type Set = BTreeSet<u64, Vec<u64>>;
-
-/// A tree of these values, put in one after another.
-fn tree_of<Node: NodeLike<u64>>(
-    alloc: Global,
-    size: usize,
-    values: &[u64],
-) -> Result<BTreeSet<u64, Node>, Fail>
-    requires two { 2 ≤ size }
-    requires within { size ≤ Node.most }
-{
-    let mut tree = BTreeSet::with_maximum_node_size(alloc, size);
-    for value in values {
-        tree.insert(*value)?;
-    }
-    Ok(tree)
-}
-
-/// Where a value stands: its node, and the place there.
-fn place_of<Node: NodeLike<u64>>(
-    tree: &BTreeSet<u64, Node>,
-    value: u64,
-) -> Result<(usize, usize), (usize, usize)>
-    ensures node { IfOk result (λ place. place.0 < length tree.now.nodes) }
-    ensures offset { IfOk result (λ place. place.1 < length (node_at tree.now.nodes place.0)) }
-{
-    let count = tree.node_count();
-    if count == 0 {
-        return Err((0, 0));
-    }
-    tree.locate_by(&mut ByItem::new(&value))
-}
 
 /// Why a node of these values is refused, where it is handed back as it was.
 fn refusal_of<Node: NodeLike<u64>>(
@@ -182,9 +151,12 @@ fn a_node_of_equal_items_is_refused(rt: HostRuntime) -> Result<(), Fail> {
 #[test]
 fn an_empty_tree_has_no_node(rt: HostRuntime) -> Result<(), Fail> {
     let tree: Set = BTreeSet::new(rt.alloc());
-    let none = tree.node_count() == 0 && tree.len() == 0 && tree.is_empty();
-    let absent = tree.get(&1).is_none() && place_of(&tree, 1) == Err((0, 0));
-    assert!(rt; none && absent && tree.maximum_node_size() == 1024);
+    let small: Set = BTreeSet::with_maximum_node_size(rt.alloc(), 2);
+    for (tree, size) in [(&tree, 1024), (&small, 2)] {
+        let none = tree.node_count() == 0 && tree.len() == 0 && tree.is_empty();
+        let absent = tree.get(&1).is_none() && place_of(tree, &1) == Err((0, 0));
+        assert!(rt; none && absent && tree.maximum_node_size() == size);
+    }
     Ok(())
 }
 
@@ -232,10 +204,10 @@ fn a_removal_by_place(rt: HostRuntime) -> Result<(), Fail> {
     let mut tree: Set = tree_of(rt.alloc(), 4, &[1, 2, 3])?;
     let old = tree.put(3)?;
     let put = old == Some(3) && tree.events_issued() == 5;
-    let (node, offset) = place_of(&tree, 2)?;
+    let (node, offset) = place_of(&tree, &2)?;
     let (item, events) = tree.remove_at_cdc(node, offset)?;
     let told = are_events(events.as_slice(), &[Told::Remove(5, 3, 2, 1)]);
-    let (node, offset) = place_of(&tree, 1)?;
+    let (node, offset) = place_of(&tree, &1)?;
     let first = tree.remove_at(node, offset)?;
     let left = are_nodes(tree.iter_nodes(), &[&[3]]) && tree.events_issued() == 7;
     assert!(rt; put && item == 2 && told && first == 1 && left);
@@ -258,5 +230,19 @@ fn a_tree_of_values(rt: HostRuntime) -> Result<(), Fail> {
     let ascends = are_nodes(tree.iter_nodes(), &[&[1, 2, 3]]);
     let none = BTreeSet::<u64, Vec<u64>>::default(rt.alloc()).is_empty();
     assert!(rt; ascends && none && tree.len() == 3 && tree.events_issued() == 3);
+    Ok(())
+}
+
+// Memory is ample here, so no call may fail, whatever the size.
+#[test]
+fn memory_is_found_for_many_items(rt: HostRuntime) -> Result<(), Fail> {
+    let mut tree: Set = BTreeSet::with_maximum_node_size(rt.alloc(), 1024);
+    for value in 0..200_001 {
+        tree.insert(value)?;
+    }
+    let (old, events) = tree.put_cdc(200_001)?;
+    let (out, told) = tree.remove_cdc(&5)?;
+    let put = old.is_none() && events.len() == 1 && out == Some(5) && told.len() == 1;
+    assert!(rt; put && tree.len() == 200_001);
     Ok(())
 }

@@ -5,6 +5,7 @@ use indexset_core::refusal::Refusal;
 use indexset_log::map::BTreeMap;
 use indexset_log::set::BTreeSet;
 use indexset_multi::multimap::BTreeMultiMap;
+use indexset_replica::Replica;
 use indexset_tests::counted::Counted;
 use std::alloc::Global;
 use std::cell::Cell;
@@ -126,6 +127,8 @@ fn few_comparisons_in_a_multimap(rt: HostRuntime) -> Result<(), Fail> {
         asked.set(0);
         let values = map.get(&sought).len();
         let get = asked.replace(0);
+        let numbers = map.raw_get(&sought).count();
+        let raw_get = asked.replace(0);
         let held = map.contains_key(&sought);
         let contains = asked.replace(0);
         let count = map.range((Included(&sought), Excluded(&next))).len();
@@ -136,9 +139,38 @@ fn few_comparisons_in_a_multimap(rt: HostRuntime) -> Result<(), Fail> {
         let remove = asked.replace(0);
         let old = map.insert(sought, key)?;
         let gone = some.is_some() && removed.is_none() && old.is_none();
-        assert!(rt; values == 1 && held && count == 1 && gone, "of {key}");
-        let few = get <= 34 && contains <= 17 && range <= 34 && remove_some <= 17 && remove <= 51;
-        assert!(rt; few && asked.get() <= 51, "of {key}");
+        assert!(rt;
+            values == 1 && numbers == 1 && held && count == 1 && gone,
+            "of {key}"
+        );
+        // The pairs of a key lie between two bounds.
+        let reads = get <= 34 && raw_get <= 34 && contains <= 17 && range <= 34;
+        let few = remove_some <= 17 && remove <= 51 && asked.get() <= 51;
+        assert!(rt; reads && few, "of {key}");
+    }
+    Ok(())
+}
+
+#[test]
+fn few_comparisons_in_a_replica(rt: HostRuntime) -> Result<(), Fail> {
+    let asked = Cell::new(0);
+    let set = many(rt.alloc(), &asked)?;
+    let mut nodes = Vec::new(rt.alloc());
+    for node in set.iter_nodes() {
+        nodes.push(node.clone()?)?;
+    }
+    assert_eq!(rt; nodes.len(), 19);
+    let replica = Replica::from_nodes(nodes, 0)?;
+    for key in [0, 5119, 10239] {
+        let sought = Counted { key, asked: &asked };
+        asked.set(0);
+        let found = replica.get(&sought).is_some_and(|found| found.key == key);
+        let get = asked.replace(0);
+        let held = replica.contains(&sought);
+        assert!(rt;
+            found && held && get <= 17 && asked.get() <= 17,
+            "of {key}: {get}"
+        );
     }
     Ok(())
 }

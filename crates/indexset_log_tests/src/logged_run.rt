@@ -144,6 +144,42 @@ fn each_command_to_a_multimap_once(rt: HostRuntime) -> Result<(), Fail> {
 }
 
 #[test]
+fn a_run_that_joins_neighbours(rt: HostRuntime) -> Result<(), Fail> {
+    let mut set: Set = BTreeSet::with_maximum_node_size(rt.alloc(), 4);
+    let commands = vec![in rt.alloc();
+        LoggedSetCommand::Put(0u64),
+        LoggedSetCommand::Put(1),
+        LoggedSetCommand::Put(2),
+        LoggedSetCommand::Put(3),
+        LoggedSetCommand::Put(4),
+        LoggedSetCommand::Remove(4),
+        LoggedSetCommand::Remove(3),
+        LoggedSetCommand::Remove(1),
+    ]?;
+    let run = run_logged(rt.alloc(), &mut set, commands);
+    let told = [
+        Told::Create(0, 0),
+        Told::Insert(1, 0, 1, 1),
+        Told::Insert(2, 1, 2, 2),
+        Told::Insert(3, 2, 3, 3),
+        Told::Split(4, 3, 2),
+        Told::Insert(5, 3, 4, 2),
+        Told::Remove(6, 4, 4, 2),
+        Told::Remove(7, 3, 3, 1),
+        Told::Remove(8, 1, 1, 1),
+        Told::Merge(9, 0, 2),
+    ];
+    let told_so = run.refused.is_none() && are_events(run.events.as_slice(), &told);
+    let mut replica = Replica::new(rt.alloc(), 0);
+    for event in run.events.iter() {
+        replica.apply(event)?;
+    }
+    let copied = are_copies(replica.nodes(), &[&[0, 2]]) && replica.next() == 10;
+    assert!(rt; told_so && copied && are_nodes(set.iter_nodes(), &[&[0, 2]]));
+    Ok(())
+}
+
+#[test]
 fn a_run_ends_where_numbers_are_wanting(rt: HostRuntime) -> Result<(), Fail> {
     let mut set: Set = BTreeSet::starting_at(rt.alloc(), 4, 18446744073709551614);
     let commands = vec![in rt.alloc();
@@ -170,5 +206,17 @@ fn no_commands(rt: HostRuntime) -> Result<(), Fail> {
     assert_eq!(rt; run.refused, None);
     assert!(rt; run.replies.is_empty() && run.events.is_empty());
     assert_eq!(rt; set.events_issued(), 5);
+    Ok(())
+}
+
+#[test]
+fn a_thousand_commands(rt: HostRuntime) -> Result<(), Fail> {
+    let mut set: Set = BTreeSet::with_maximum_node_size(rt.alloc(), 2);
+    let mut commands = Vec::new(rt.alloc());
+    for key in 0..1000u64 {
+        commands.push(LoggedSetCommand::Put(key))?;
+    }
+    let run = run_logged(rt.alloc(), &mut set, commands);
+    assert!(rt; run.refused.is_none() && run.replies.len() == 1000 && set.len() == 1000);
     Ok(())
 }

@@ -17,8 +17,8 @@ use std::test::Fail;
 
 type Set = BTreeSet<u64, Vec<u64>>;
 
-// The keys from one up to, but not with, the end, put in ascending.
-fn ascending<Node: NodeLike<u64>>(
+/// The keys from one up to, but not with, the end, put in ascending.
+pub fn ascending<Node: NodeLike<u64>>(
     alloc: Global,
     size: usize,
     start: u64,
@@ -49,26 +49,28 @@ fn meet_in_the_middle<Node: NodeLike<u64>>(rt: &impl Abort, alloc: Global) -> Re
 
 #[test]
 fn one_and_three_from_both_ends(rt: HostRuntime) -> Result<(), Fail> {
-    let one: Set = ascending(rt.alloc(), 1024, 1, 2)?;
-    let mut walk = one.iter();
-    let ends = (walk.next().copied(), walk.next_back().copied());
-    assert!(rt; ends == (Some(1), None));
-    let three: Set = ascending(rt.alloc(), 1024, 1, 4)?;
-    let mut walk = Iter::new(&three);
-    let rows = [
-        (true, Some(1)),
-        (false, Some(3)),
-        (true, Some(2)),
-        (true, None),
-        (false, None),
-    ];
-    for (from_front, key) in rows {
-        let item = if from_front {
-            walk.next()
-        } else {
-            walk.next_back()
-        };
-        assert!(rt; item.copied() == key);
+    for size in [2, 1024] {
+        let one: Set = ascending(rt.alloc(), size, 1, 2)?;
+        let mut walk = one.iter();
+        let ends = (walk.next().copied(), walk.next_back().copied());
+        assert!(rt; ends == (Some(1), None));
+        let three: Set = ascending(rt.alloc(), size, 1, 4)?;
+        let mut walk = Iter::new(&three);
+        let rows = [
+            (true, Some(1)),
+            (false, Some(3)),
+            (true, Some(2)),
+            (true, None),
+            (false, None),
+        ];
+        for (from_front, key) in rows {
+            let item = if from_front {
+                walk.next()
+            } else {
+                walk.next_back()
+            };
+            assert!(rt; item.copied() == key);
+        }
     }
     Ok(())
 }
@@ -113,15 +115,17 @@ fn ranges_from_both_ends(rt: HostRuntime) -> Result<(), Fail> {
 
 #[test]
 fn items_in_a_range_counted(rt: HostRuntime) -> Result<(), Fail> {
-    let ten: Set = ascending(rt.alloc(), 1024, 0, 10)?;
-    let end = ten.range((Included(&5), Included(&1034)));
-    assert!(rt; end.size_hint() == (5, Some(5)) && end.count() == 5);
-    let many: Set = ascending(rt.alloc(), 1024, 0, 1034)?;
-    let start = many.range((Included(&0), Excluded(&1024)));
-    assert!(rt; start.count() == 1024 && many.node_count() == 2);
-    let none: Set = ascending(rt.alloc(), 1024, 0, 0)?;
-    let any = none.range((Included(&0), Excluded(&1024))).next().is_some();
-    assert!(rt; !any && none.iter().next().is_none());
+    for size in [2, 1024] {
+        let ten: Set = ascending(rt.alloc(), size, 0, 10)?;
+        let end = ten.range((Included(&5), Included(&1034)));
+        assert!(rt; end.size_hint() == (5, Some(5)) && end.count() == 5);
+        let many: Set = ascending(rt.alloc(), size, 0, 1034)?;
+        let start = many.range((Included(&0), Excluded(&1024)));
+        assert!(rt; start.count() == 1024 && many.node_count() > 1);
+        let none: Set = ascending(rt.alloc(), size, 0, 0)?;
+        let any = none.range((Included(&0), Excluded(&1024))).next().is_some();
+        assert!(rt; !any && none.iter().next().is_none());
+    }
     Ok(())
 }
 

@@ -30,6 +30,24 @@ impl Read for Failing<'_> {
     }
 }
 
+/// Gives five bytes a read, and fails once it was read so often.
+#[derive(Drop)]
+struct FailingAfter<'a> {
+    bytes: &'a [u8],
+    reads: usize,
+}
+
+impl Read for FailingAfter<'_> {
+    fn read(&mut self, buf: &mut [u8]) -> io::Result<usize> {
+        match self.reads.checked_sub(1) {
+            Some(reads) => self.reads = reads,
+            None => return Err(io::Error::from(ErrorKind::BrokenPipe)),
+        }
+        let most = buf.len().min(5);
+        self.bytes.read(&mut buf[..most])
+    }
+}
+
 /// Is interrupted before each byte that it gives.
 #[derive(Drop)]
 struct Interrupted<'a> {
@@ -57,6 +75,28 @@ struct Full;
 impl Write for Full {
     fn write(&mut self, _buf: &[u8]) -> io::Result<usize> {
         Err(io::Error::from(ErrorKind::BrokenPipe))
+    }
+
+    fn flush(&mut self) -> io::Result<()> {
+        Ok(())
+    }
+}
+
+/// Fails once it took so many writes.
+#[derive(Drop)]
+struct FullAfter {
+    text: Vec<u8>,
+    writes: usize,
+}
+
+impl Write for FullAfter {
+    fn write(&mut self, buf: &[u8]) -> io::Result<usize> {
+        match self.writes.checked_sub(1) {
+            Some(writes) => self.writes = writes,
+            None => return Err(io::Error::from(ErrorKind::BrokenPipe)),
+        }
+        self.text.extend_from_slice(buf)?;
+        Ok(buf.len())
     }
 
     fn flush(&mut self) -> io::Result<()> {
@@ -212,6 +252,55 @@ fn tells_a_failed_write(rt: HostRuntime) -> Result<(), Fail> {
         run(rt.alloc(), &mut reader, &mut Stuck),
         Err(RunFault::Write)
     );
+    Ok(())
+}
+
+/// The worked lines.
+const LINES: &[u8] = b"add 5\nadd 5\nrank 9\nat 1\n\nlen";
+
+#[test]
+fn tells_each_failed_read(rt: HostRuntime) -> Result<(), Fail> {
+    let failed = Err(RunFault::Read);
+    // Of each row, so many reads succeed.
+    let rows: [(usize, &[u8], Result<(), RunFault>); 9] = [
+        (0, b"", failed),
+        (1, b"", failed),
+        (2, b"new\n", failed),
+        (3, b"new\nold\n", failed),
+        (4, b"new\nold\n1\n", failed),
+        (5, b"new\nold\n1\nnone\nbad\n", failed),
+        (6, b"new\nold\n1\nnone\nbad\n", failed),
+        (7, b"new\nold\n1\nnone\nbad\n1\n", Ok(())),
+        (8, b"new\nold\n1\nnone\nbad\n1\n", Ok(())),
+    ];
+    for (reads, text, outcome) in rows {
+        let bytes = LINES;
+        let mut reader = BufReader::new(rt.alloc(), FailingAfter { bytes, reads })?;
+        let mut written: Vec<u8> = Vec::new(rt.alloc());
+        let told = run(rt.alloc(), &mut reader, &mut written);
+        assert!(rt;
+            told == outcome && written.as_slice() == text,
+            "after {reads}"
+        );
+    }
+    Ok(())
+}
+
+#[test]
+fn tells_each_failed_write(rt: HostRuntime) -> Result<(), Fail> {
+    // Each of the six replies is one write at least.
+    let whole = b"new\nold\n1\nnone\nbad\n1\n".as_slice();
+    for writes in 0..40 {
+        let mut reader = LINES;
+        let text = Vec::new(rt.alloc());
+        let mut writer = FullAfter { text, writes };
+        let told = run(rt.alloc(), &mut reader, &mut writer);
+        let written = writer.text.as_slice();
+        let ended = told == Ok(()) && written == whole;
+        let failed = told == Err(RunFault::Write) && written != whole;
+        let is_right = if writes < 6 { failed } else { failed || ended };
+        assert!(rt; is_right && whole.starts_with(written), "after {writes}");
+    }
     Ok(())
 }
 

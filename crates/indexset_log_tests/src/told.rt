@@ -1,11 +1,11 @@
 //! Events and nodes in a short form, to be typed in a test and compared.
 
-use crate::scarce::Scarce;
 use indexset_core::multipair::MultiPair;
 use indexset_core::node::NodeLike;
 use indexset_core::pair::Pair;
 use indexset_log::change::{ChangeEvent, Id};
 use indexset_log::set::nodes::Nodes;
+use indexset_tests::owned::Owned;
 use indexset_tests::tagged::Tagged;
 use std::fmt::Debug;
 
@@ -62,11 +62,27 @@ impl Made for Tagged {
     }
 }
 
-impl Typed for Scarce<'_> {
+impl Typed for Owned {
     type Plain = u64;
 
     fn plain(&self) -> u64 {
-        self.key
+        self.number()
+    }
+}
+
+impl Typed for Pair<Owned, char> {
+    type Plain = (u64, char);
+
+    fn plain(&self) -> (u64, char) {
+        (self.key.number(), self.value)
+    }
+}
+
+impl Typed for MultiPair<Owned, char> {
+    type Plain = (u64, u64, char);
+
+    fn plain(&self) -> (u64, u64, char) {
+        (self.key.number(), self.discriminator, self.value)
     }
 }
 

@@ -9,8 +9,8 @@ use super::BTreeMap;
 use indexset_core::refusal::Refusal;
 
 impl<K: Ord + Drop, V: Drop> BTreeMap<K, V> {
-    /// Takes out the pairs whose keys are not below the key, as a map of the same node size. A refused
-    /// call changes nothing.
+    /// Removes the pairs whose keys are not below the key, and returns them as a map of the same
+    /// node size. Fails with `Memory`: a failed call changes nothing.
     pub fn split_off(&mut self, key: &K) -> Result<Self, Refusal>
         ensures below { OnOk result (self.new.pairs ≡ pairs_below K.cmp self.old.pairs key.now) }
         ensures rest { IfOk result (λ m. m.pairs ≡ pairs_from K.cmp self.old.pairs key.now) }
@@ -28,9 +28,9 @@ impl<K: Ord + Drop, V: Drop> BTreeMap<K, V> {
         Ok(BTreeMap { set })
     }
 
-    /// Puts the pairs of another map in their places, first to last, each for the pair of an equal key
-    /// where there is one, and takes them out of the other. A refused call has moved some first pairs
-    /// and leaves the others.
+    /// Moves all pairs of the other map into this one, first to last, replacing pairs of equal
+    /// keys. Fails with `Memory`: a failed call has moved a prefix, and the other map keeps the
+    /// rest.
     pub fn append(&mut self, other: &mut Self) -> Result<(), Refusal>
         ensures ok { OnOk result (self.new.pairs ≡ put_all (by_key K.cmp) self.old.pairs other.old.pairs) }
         ensures emptied { OnOk result (other.new.pairs ≡ []) }

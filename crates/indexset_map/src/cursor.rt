@@ -40,7 +40,8 @@ impl<'a, K: Ord, V> Model for CursorMap<'a, K, V> {
 }
 
 impl<K: Ord, V> BTreeMap<K, V> {
-    /// A cursor at the first pair whose key is within the bound, or at the end place where there is none.
+    /// Returns a cursor at the first pair whose key is within the bound, or at the end place where
+    /// there is none.
     pub fn lower_bound(&self, bound: Bound<&K>) -> CursorMap<'_, K, V>
         ensures pairs { result.list ≡ self.now.pairs }
         ensures position { result.position ≡ position_or_len (λ p. is_from_start K.cmp (bound_map (λ k. k.now) bound.entry) p.key) self.now.pairs }
@@ -76,21 +77,21 @@ impl<'a, K: Ord, V> CursorMap<'a, K, V> {
         self.cursor.move_index(i);
     }
 
-    /// The key at the position, and none at the end place.
+    /// Returns the key at the position, and none at the end place.
     pub fn key(&self) -> Option<&'a K>
         ensures { option_copied result ≡ option_map (λ p. p.key) (item_at self.now) }
     {
         Some(&self.cursor.item()?.key)
     }
 
-    /// The value at the position, and none at the end place.
+    /// Returns the value at the position, and none at the end place.
     pub fn value(&self) -> Option<&'a V>
         ensures { option_copied result ≡ option_map (λ p. p.value) (item_at self.now) }
     {
         Some(&self.cursor.item()?.value)
     }
 
-    /// The key and the value at the position, and none at the end place.
+    /// Returns the key and the value at the position, and none at the end place.
     pub fn key_value(&self) -> Option<(&'a K, &'a V)>
         ensures { option_map (λ p. (p.0.now, p.1.now)) result ≡ option_map entry_of (item_at self.now) }
     {
@@ -98,7 +99,8 @@ impl<'a, K: Ord, V> CursorMap<'a, K, V> {
         Some((&pair.key, &pair.value))
     }
 
-    /// The pair that `move_next` would go to: at the end place the first, where there is one.
+    /// Returns the pair that `move_next` would go to: at the end place the first, or `None` where
+    /// there is none.
     pub fn peek_next(&self) -> Option<(&'a K, &'a V)>
         ensures { option_map (λ p. (p.0.now, p.1.now)) result ≡ option_map entry_of (item_at (one_on self.now)) }
     {
@@ -106,7 +108,7 @@ impl<'a, K: Ord, V> CursorMap<'a, K, V> {
         Some((&pair.key, &pair.value))
     }
 
-    /// The pair before, and none at the first position.
+    /// Returns the pair before, and none at the first position.
     pub fn peek_prev(&self) -> Option<(&'a K, &'a V)>
         ensures { option_map (λ p. (p.0.now, p.1.now)) result ≡ (if self.now.position == 0 then None else option_map entry_of (slice_get self.now.list (self.now.position - 1))) }
     {
@@ -114,7 +116,7 @@ impl<'a, K: Ord, V> CursorMap<'a, K, V> {
         Some((&pair.key, &pair.value))
     }
 
-    /// The pair at another position, where there is one. The cursor stays.
+    /// Returns the pair at another position, or `None` where there is none. The cursor stays.
     pub fn peek_index(&self, i: usize) -> Option<(&'a K, &'a V)>
         ensures { option_map (λ p. (p.0.now, p.1.now)) result ≡ option_map entry_of (slice_get self.now.list i) }
     {

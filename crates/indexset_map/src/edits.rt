@@ -1,4 +1,4 @@
-//! Calls that put a pair, take one out, or choose which stay.
+//! Insertion and removal of pairs, and `retain`.
 ghost use Rattle.std.specs.Prelude.{◌≡◌, ◌-◌, ◌<◌, ◌++◌, true, false, Some, None, IfOk, OnOk, IfErr, OnErr, IsOk, MatchOption, length, map, take, drop, slice_get};
 ghost use Rattle.std.specs.Option.{option_map, option_to_list};
 ghost use Rattle.std.specs.List.Retain.{RetainsInTurn};
@@ -11,8 +11,9 @@ use indexset_core::refusal::{Refusal, Refused};
 use std::mem;
 
 impl<K: Ord + Drop, V: Drop> BTreeMap<K, V> {
-    /// Makes a value that of a key. Where the key is there, the stored one stays, the old value is the
-    /// answer, and no memory is taken. A refused call hands both back and changes nothing.
+    /// Inserts a pair and returns `None`. If the key is present, keeps the stored key, replaces its
+    /// value, allocates nothing and returns the old value. Fails with `Memory`: a failed call hands
+    /// back both and changes nothing.
     pub fn insert(&mut self, key: K, value: V) -> Result<Option<V>, Refused<(K, V)>>
         ensures old { IfOk result (λ o. o ≡ value_of K.cmp self.old.pairs key) }
         ensures ok { OnOk result (self.new ≡ with_entry K.cmp self.old key value) }
@@ -30,7 +31,8 @@ impl<K: Ord + Drop, V: Drop> BTreeMap<K, V> {
         }
     }
 
-    /// Takes out the pair of a key, where there is one. It takes no memory.
+    /// Removes the pair of a key and returns it, or returns `None`, by two binary searches. It
+    /// allocates nothing.
     pub fn remove_entry(&mut self, key: &K) -> Option<(K, V)>
         ensures value { result ≡ option_map entry_of (pair_of K.cmp self.old.pairs key.now) }
         ensures rest { self.new ≡ without_entry K.cmp self.old key.now }
@@ -43,7 +45,8 @@ impl<K: Ord + Drop, V: Drop> BTreeMap<K, V> {
         }
     }
 
-    /// Takes out the pair of a key, and answers its value, where there is one. It takes no memory.
+    /// Removes the pair of a key and returns its value, or returns `None`, by two binary searches.
+    /// It allocates nothing.
     pub fn remove(&mut self, key: &K) -> Option<V>
         ensures value { result ≡ value_of K.cmp self.old.pairs key.now }
         ensures rest { self.new ≡ without_entry K.cmp self.old key.now }
@@ -54,7 +57,8 @@ impl<K: Ord + Drop, V: Drop> BTreeMap<K, V> {
         Some(value)
     }
 
-    /// Takes out the pair of the least key, where there is one. It takes no memory.
+    /// Removes the pair of the least key and returns it, or returns `None` where the map is empty.
+    /// It allocates nothing.
     pub fn pop_first(&mut self) -> Option<(K, V)>
         ensures value { result ≡ option_map entry_of (slice_get self.old.pairs 0) }
         ensures rest { self.new.pairs ≡ drop 1 self.old.pairs }
@@ -65,7 +69,8 @@ impl<K: Ord + Drop, V: Drop> BTreeMap<K, V> {
         Some((key, value))
     }
 
-    /// Takes out the pair of the greatest key, where there is one. It takes no memory.
+    /// Removes the pair of the greatest key and returns it, or returns `None` where the map is
+    /// empty. It allocates nothing.
     pub fn pop_last(&mut self) -> Option<(K, V)>
         ensures value { result ≡ option_map entry_of (slice_get self.old.pairs (length self.old.pairs - 1)) }
         ensures rest { self.new.pairs ≡ take (length self.old.pairs - 1) self.old.pairs }
@@ -76,7 +81,7 @@ impl<K: Ord + Drop, V: Drop> BTreeMap<K, V> {
         Some((key, value))
     }
 
-    /// Takes out the pair at a position. It takes no memory.
+    /// Removes the pair at a position. It allocates nothing.
     pub fn pop_index(&mut self, i: usize) -> (K, V)
         requires { i < length self.old.pairs }
         ensures value { option_map entry_of (slice_get self.old.pairs i) ≡ Some result }
@@ -86,15 +91,15 @@ impl<K: Ord + Drop, V: Drop> BTreeMap<K, V> {
         (key, value)
     }
 
-    /// Takes out all pairs, and keeps one empty node. It takes no memory.
+    /// Removes all pairs, and keeps one empty node. It allocates nothing.
     pub fn clear(&mut self)
         ensures empty { self.new ≡ no_pairs self.old.size }
     {
         self.set.clear();
     }
 
-    /// Asks the closure once a pair, in order, and keeps the pairs for which it answered true, with the
-    /// values that it left. It takes no memory.
+    /// Calls the closure once for each pair, in order, and keeps the pairs for which it returned
+    /// true, with the values that it left. It allocates nothing.
     pub fn retain<F: FnMut(&K, &mut V) -> bool>(&mut self, f: F)
         requires { F.IsAlwaysCallable f }
         ensures kept { RetainsInTurn (CalledOnPair F.FnMut) f self.old.pairs self.new.pairs }

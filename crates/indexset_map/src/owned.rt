@@ -1,4 +1,4 @@
-//! Walks that own what they give, from both ends.
+//! Owning iterators, from both ends.
 ghost use Rattle.std.specs.Prelude.{◌≡◌, length, map, IfSome, Some};
 ghost use Rattle.std.specs.Iterator.{UpTo, at_most};
 ghost use Rattle.std.specs.Iterator.SizeHint.{IsWithinCount};
@@ -11,7 +11,7 @@ use indexset_set::IntoIter;
 use std::iter::FusedIterator;
 use std::marker::Model;
 
-/// The keys with their values that are left, from both ends.
+/// The keys with their values that remain, from both ends.
 #[derive(Drop)]
 pub struct IntoIterMap<K, V> {
     rest: IntoIter<Pair<K, V>>,
@@ -64,7 +64,7 @@ impl<K: Drop, V: Drop> ExactSizeIterator for IntoIterMap<K, V> {
 
 impl<K: Drop, V: Drop> FusedIterator for IntoIterMap<K, V> {}
 
-/// The keys that are left, from both ends.
+/// The remaining keys, from both ends.
 #[derive(Drop)]
 pub struct IntoKeys<K, V> {
     rest: IntoIter<Pair<K, V>>,
@@ -117,7 +117,7 @@ impl<K: Drop, V: Drop> ExactSizeIterator for IntoKeys<K, V> {
 
 impl<K: Drop, V: Drop> FusedIterator for IntoKeys<K, V> {}
 
-/// The values that are left, in the order of their keys, from both ends.
+/// The remaining values, in the order of their keys, from both ends.
 #[derive(Drop)]
 pub struct IntoValues<K, V> {
     rest: IntoIter<Pair<K, V>>,
@@ -171,7 +171,7 @@ impl<K: Drop, V: Drop> ExactSizeIterator for IntoValues<K, V> {
 impl<K: Drop, V: Drop> FusedIterator for IntoValues<K, V> {}
 
 impl<K: Ord + Drop, V: Drop> BTreeMap<K, V> {
-    /// The keys, in order; the values go.
+    /// Returns an iterator over the keys, in order, and drops the values.
     pub fn into_keys(self) -> IntoKeys<K, V>
         ensures rest { result ≡ pair_keys self.pairs }
         ensures runs { GivesInOrder K }
@@ -183,7 +183,7 @@ impl<K: Ord + Drop, V: Drop> BTreeMap<K, V> {
         }
     }
 
-    /// The values, in the order of their keys; the keys go.
+    /// Returns an iterator over the values, in the order of their keys, and drops the keys.
     pub fn into_values(self) -> IntoValues<K, V>
         ensures rest { result ≡ pair_values self.pairs }
         ensures runs { GivesInOrder V }

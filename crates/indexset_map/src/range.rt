@@ -11,12 +11,12 @@ use super::iter::IterMap;
 use indexset_core::probe::ByKey;
 use std::ops::Bound;
 
-/// The pairs of a part of a map that are left, from both ends.
+/// The remaining pairs of a part of a map, from both ends.
 pub type RangeMap<'a, K, V> = IterMap<'a, K, V>;
 
 impl<K: Ord, V> BTreeMap<K, V> {
-    /// The pairs whose keys satisfy both bounds, in order. The start must not be past the end, nor at it
-    /// where both are excluded, which `bounds_are_ordered` of the core tests.
+    /// Returns the pairs whose keys satisfy both bounds, in order. The start must not be past the
+    /// end, nor at it where both are excluded, which `bounds_are_ordered` of the core tests.
     ///
     /// ```
     /// // The pairs of the keys from 10 on that are below 20.
@@ -31,8 +31,8 @@ impl<K: Ord, V> BTreeMap<K, V> {
         IterMap::of(self.set.range_by_key(range))
     }
 
-    /// The pairs at the positions that satisfy both bounds, in order. There is none where the bounds
-    /// are the wrong way round, and positions past the end have none.
+    /// Returns the pairs at the positions that satisfy both bounds, in order. There is none where
+    /// the bounds are the wrong way round, and positions past the end have none.
     ///
     /// ```
     /// // The third page of a hundred pairs each.
@@ -46,7 +46,8 @@ impl<K: Ord, V> BTreeMap<K, V> {
         IterMap::of(self.set.range_idx(range))
     }
 
-    // The first position whose key is not before the start, or the length where there is none.
+    // Returns the first position whose key is not before the start, or the length where there is
+    // none.
     pub(super) fn start_position(&self, start: Bound<&K>) -> usize
         ensures { result ≡ count_by (λ p. is_before K.cmp (bound_map (λ k. k.now) start.entry) p.key) self.now.pairs }
     {
@@ -55,7 +56,7 @@ impl<K: Ord, V> BTreeMap<K, V> {
         self.set.count_before(start.map(ByKey::new))
     }
 
-    // The first position whose key is past the end, or the length where there is none.
+    // Returns the first position whose key is past the end, or the length where there is none.
     pub(super) fn end_position(&self, end: Bound<&K>) -> usize
         ensures { result ≡ count_by (λ p. is_up_to_end K.cmp (bound_map (λ k. k.now) end.entry) p.key) self.now.pairs }
     {

@@ -1,4 +1,4 @@
-//! Walks that lend the values between two bounds on keys, or between two positions, one at a time.
+//! Iterators with mutable references to the values between two bounds on keys, or two positions.
 ghost use Rattle.std.specs.Prelude.{◌≡◌, IsTrue, length, min};
 ghost use Rattle.std.specs.Range.Bound.{bound_map, end_index, start_index};
 ghost use Rattle.indexset_core.specs.Bounds.{are_ordered, in_positions, is_within};
@@ -9,14 +9,15 @@ use super::iter_mut::IterMut;
 use indexset_set::range::{end_position, first_position};
 use std::ops::Bound;
 
-/// The pairs of a part of a map that are left, each value to write, from both ends.
+/// The remaining pairs of a part of a map, with mutable references to the values, from both ends.
 pub type RangeMut<'a, K, V> = IterMut<'a, K, V>;
 
 impl<K: Ord, V> BTreeMap<K, V> {
     ghost use Rattle.indexset_map.specs.Walk.{IsSpan, walk_back, walk_front, walk_map, walk_rest};
 
-    /// The pairs whose keys satisfy both bounds, in order, each value to write. The start must not be
-    /// past the end, nor at it where both are excluded, which `bounds_are_ordered` of the core tests.
+    /// Returns the pairs whose keys satisfy both bounds, in order, with mutable references to the
+    /// values. The start must not be past the end, nor at it where both are excluded, which
+    /// `bounds_are_ordered` of the core tests.
     ///
     /// ```
     /// // Adds a hundred to the balances of the names from B on that are below Cheryl.
@@ -40,8 +41,9 @@ impl<K: Ord, V> BTreeMap<K, V> {
         self.range_mut_idx((Bound::Included(from), Bound::Excluded(to)))
     }
 
-    /// The pairs at the positions that satisfy both bounds, in order, each value to write. There is none
-    /// where the bounds are the wrong way round, and positions past the end have none.
+    /// Returns the pairs at the positions that satisfy both bounds, in order, with mutable
+    /// references to the values. There is none where the bounds are the wrong way round, and
+    /// positions past the end have none.
     pub fn range_mut_idx(&mut self, range: (Bound<usize>, Bound<usize>)) -> RangeMut<'_, K, V>
         ensures same_map { (walk_map result).ghost_name ≡ self.entry.ghost_name }
         ensures unchanged { (walk_map result).now ≡ self.old }

@@ -1,5 +1,5 @@
-//! Traits of the standard library that a map and its walks have beside their functions: so `derive`,
-//! `collect` and `extend` know a map.
+//! Traits of the standard library that a map and its iterators have beside their functions: so
+//! `derive`, `collect` and `extend` know a map.
 ghost use Rattle.std.specs.Prelude.{◌≡◌, ⊤};
 ghost use Rattle.indexset_core.specs.declared.constants.TheConstants.{DEFAULT_INNER_SIZE};
 ghost use Rattle.indexset_map.specs.Contents.{no_pairs, with_all};
@@ -19,7 +19,7 @@ impl<K: Ord + Clone, V: Clone> Clone for BTreeMap<K, V> {
     // Where clones of keys and values are identical to them, it is of the same pairs and node size.
     ghost is_clone = { λ m copy. (((x y : K) → K.is_clone x y → y ≡ x) → ((x y : V) → V.is_clone x y → y ≡ x) → copy.pairs ≡ m.pairs) × (copy.size ≡ m.size) };
 
-    /// Unlike the inherent `clone`, it takes any clones, inserts them in turn, and fails with `AllocError`.
+    /// Unlike the inherent `clone`, it inserts the clones in turn into new nodes, and fails with `AllocError`.
     fn clone(&self) -> Result<BTreeMap<K, V>, AllocError> {
         let set = Clone::clone(&self.set)?;
         Ok(BTreeMap { set })
@@ -64,21 +64,21 @@ impl<'a, K, V> Clone for IterMap<'a, K, V> {
     }
 }
 
-/// The pairs that are left.
+/// The remaining pairs.
 impl<'a, K: fmt::Debug, V: fmt::Debug> fmt::Debug for IterMap<'a, K, V> {
     fn fmt<W: fmt::Write>(&self, f: &mut fmt::Formatter<W>) -> fmt::Result {
         self.rest.fmt(f)
     }
 }
 
-/// The pairs whose keys are left.
+/// The pairs whose keys remain.
 impl<'a, K: fmt::Debug, V: fmt::Debug> fmt::Debug for Keys<'a, K, V> {
     fn fmt<W: fmt::Write>(&self, f: &mut fmt::Formatter<W>) -> fmt::Result {
         self.pairs.fmt(f)
     }
 }
 
-/// The pairs whose values are left.
+/// The pairs whose values remain.
 impl<'a, K: fmt::Debug, V: fmt::Debug> fmt::Debug for Values<'a, K, V> {
     fn fmt<W: fmt::Write>(&self, f: &mut fmt::Formatter<W>) -> fmt::Result {
         self.pairs.fmt(f)

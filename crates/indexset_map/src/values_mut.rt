@@ -1,11 +1,11 @@
-//! A walk that lends the values of a map one at a time, without their keys.
+//! An iterator with mutable references to the values of a map, without their keys.
 ghost use Rattle.std.specs.Prelude.{◌≡◌, ◌-◌, ◌<◌, ◌≤◌, Some, length, nat_lt, slice_get, MatchOption};
 ghost use Rattle.std.specs.Borrow.{sem};
 ghost use Rattle.std.specs.Option.{option_map};
 
 use super::BTreeMap;
 
-/// The values of a map that are left, each to write, from both ends.
+/// The remaining values of a map, by mutable references, from both ends.
 ///
 /// ```
 /// let mut values = map.values_mut();
@@ -25,7 +25,7 @@ impl<K: Ord, V> BTreeMap<K, V> {
     ghost use Rattle.indexset_map.specs.Walk.{walk_back, walk_front, walk_map};
     ghost use Rattle.indexset_map.specs.ValuesWalk.{values_walk};
 
-    /// The values in the order of their keys, each to write.
+    /// Returns an iterator over mutable references to the values, in the order of their keys.
     pub fn values_mut(&mut self) -> ValuesMut<'_, K, V>
         ensures same_map { (walk_map (values_walk result)).ghost_name ≡ self.entry.ghost_name }
         ensures unchanged { (walk_map (values_walk result)).now ≡ self.old }
@@ -45,7 +45,7 @@ impl<'a, K: Ord, V> ValuesMut<'a, K, V> {
     ghost use Rattle.indexset_map.specs.Walk.{walk_back, walk_front, walk_map, walk_rest};
     ghost use Rattle.indexset_map.specs.ValuesWalk.{lends_next_value, lends_next_value_back, lends_next_value_back_if, lends_next_value_if, values_walk};
 
-    /// How many values are left.
+    /// Returns the number of remaining values.
     pub fn len(&self) -> usize
         ensures value { result ≡ length (walk_rest (values_walk self.now)) }
         ensures places { result ≡ walk_back (values_walk self.now) - walk_front (values_walk self.now) }
@@ -53,14 +53,14 @@ impl<'a, K: Ord, V> ValuesMut<'a, K, V> {
         self.back.saturating_sub(self.front)
     }
 
-    /// Whether a value is left.
+    /// Returns whether a value remains.
     pub fn has_next(&self) -> bool
         ensures { result ≡ nat_lt (walk_front (values_walk self.now)) (walk_back (values_walk self.now)) }
     {
         self.front < self.back
     }
 
-    /// The next value, to write, where one is left.
+    /// Returns a mutable reference to the next value, or `None` where none remains.
     pub fn next(&mut self) -> Option<&mut V>
         ensures* writes_back { sem 𝓛 (lends_next_value_if K.row V.row self.entry result) }
         ensures value { let s = values_walk self.old in MatchOption result (walk_back s ≤ walk_front s) (λ r. (walk_front s < walk_back s) × (option_map (λ p. p.value) (slice_get (walk_map s).now.pairs (walk_front s)) ≡ Some r.now)) }
@@ -72,7 +72,7 @@ impl<'a, K: Ord, V> ValuesMut<'a, K, V> {
         }
     }
 
-    /// The last value that is left, to write.
+    /// Returns a mutable reference to the last remaining value.
     pub fn next_back(&mut self) -> Option<&mut V>
         ensures* writes_back { sem 𝓛 (lends_next_value_back_if K.row V.row self.entry result) }
         ensures value { let s = values_walk self.old in MatchOption result (walk_back s ≤ walk_front s) (λ r. (walk_front s < walk_back s) × (option_map (λ p. p.value) (slice_get (walk_map s).now.pairs (walk_back s - 1)) ≡ Some r.now)) }
@@ -84,7 +84,7 @@ impl<'a, K: Ord, V> ValuesMut<'a, K, V> {
         }
     }
 
-    /// The next value, to write.
+    /// Returns a mutable reference to the next value.
     pub fn next_value(&mut self) -> &mut V
         requires { let s = values_walk self.old in walk_front s < walk_back s }
         ensures* writes_back { sem 𝓛 (lends_next_value K.row V.row self.entry result) }
@@ -95,7 +95,7 @@ impl<'a, K: Ord, V> ValuesMut<'a, K, V> {
         self.map.value_at_mut(i)
     }
 
-    /// The last value that is left, to write.
+    /// Returns a mutable reference to the last remaining value.
     pub fn next_value_back(&mut self) -> &mut V
         requires { let s = values_walk self.old in walk_front s < walk_back s }
         ensures* writes_back { sem 𝓛 (lends_next_value_back K.row V.row self.entry result) }

@@ -18,6 +18,10 @@ pub pair_removal_few : {K V : Type 0} (cmp : K → K → Ordering) (size : ℕ) 
 pair_removal_few cmp size ns None = omega arith
 pair_removal_few cmp size ns (Some p) = removal_few (by_number cmp) size ns p
 
+-- clones of pairs are identical where those of keys and of values are
+pub pair_same : {K V : Type 0} {C : K → K → Type 0} {D : V → V → Type 0} → ((x y : K) → C x y → y ≡ x) → ((x y : V) → D x y → y ≡ x) → (p q : MultiPair K V) → C p.key q.key × (D p.value q.value × (q.discriminator ≡ p.discriminator)) → q ≡ p
+pair_same hk hv p q e = λ i. record { key = hk p.key q.key e.0 i; value = hv p.value q.value e.1.0 i; discriminator = e.1.1 i }
+
 some_read : {T : Type 0} (l : List T) (i : ℕ) → i < length l → (x : T) × (slice_get l i ≡ Some x)
 some_read [] i lt = absurd (omega arith)
 some_read (x ∷ xs) zero lt = (x, refl)

@@ -23,8 +23,8 @@ use indexset_log::set::nodes::Nodes;
 use std::alloc::Global;
 use std::marker::Model;
 
-/// A list of numbered pairs, ascending by key and then by number and cut into nodes, which tells its
-/// changes.
+/// A list of numbered pairs, ascending by key and then by number and cut into nodes, which returns
+/// its changes as events.
 #[derive(Drop)]
 pub struct BTreeMultiMap<
     K: Ord + Clone + Drop,
@@ -54,8 +54,8 @@ impl<K: Ord + Clone + Drop, V: Eq + Clone + Drop, Node: NodeLike<MultiPair<K, V>
     V,
     Node,
 > {
-    /// An empty map, whose nodes are to hold at most `size` pairs each, and whose first event has the
-    /// number `next`. (It is not in the Rust crate.)
+    /// Returns an empty map, whose nodes are to hold at most `size` pairs each, and whose first
+    /// event has the number `next`. (Not in the Rust crate.)
     pub fn starting_at(alloc: Global, size: usize, next: u64) -> Self
         requires two { 2 ≤ size }
         requires within { size ≤ Node.most }
@@ -67,7 +67,7 @@ impl<K: Ord + Clone + Drop, V: Eq + Clone + Drop, Node: NodeLike<MultiPair<K, V>
         }
     }
 
-    /// An empty map, whose first event has the number 0.
+    /// Returns an empty map, whose first event has the number 0.
     pub fn with_maximum_node_size(alloc: Global, size: usize) -> Self
         requires two { 2 ≤ size }
         requires within { size ≤ Node.most }
@@ -76,7 +76,7 @@ impl<K: Ord + Clone + Drop, V: Eq + Clone + Drop, Node: NodeLike<MultiPair<K, V>
         BTreeMultiMap::starting_at(alloc, size, 0)
     }
 
-    /// An empty map of the default node size, whose first event has the number 0.
+    /// Returns an empty map of the default node size, whose first event has the number 0.
     pub fn new(alloc: Global) -> Self
         requires { DEFAULT_INNER_SIZE ≤ Node.most }
         ensures { result ≡ record { nodes = []; size = DEFAULT_INNER_SIZE; next = 0; pair_next = 0 } }
@@ -84,7 +84,7 @@ impl<K: Ord + Clone + Drop, V: Eq + Clone + Drop, Node: NodeLike<MultiPair<K, V>
         BTreeMultiMap::with_maximum_node_size(alloc, DEFAULT_INNER_SIZE)
     }
 
-    /// An empty map, as `new` makes it.
+    /// Returns an empty map, as `new` makes it.
     pub fn default(alloc: Global) -> Self
         requires { DEFAULT_INNER_SIZE ≤ Node.most }
         ensures { result ≡ record { nodes = []; size = DEFAULT_INNER_SIZE; next = 0; pair_next = 0 } }
@@ -92,16 +92,16 @@ impl<K: Ord + Clone + Drop, V: Eq + Clone + Drop, Node: NodeLike<MultiPair<K, V>
         BTreeMultiMap::new(alloc)
     }
 
-    /// How many pairs there are.
+    /// Returns the number of pairs.
     pub fn len(&self) -> usize
         ensures { result ≡ length (joined self.now.nodes) }
     {
         self.set.len()
     }
 
-    /// How many nodes there are: no more than pairs. None is empty or holds more than the node size,
-    /// and the pairs of all ascend by key and then by number, one node after another, with numbers
-    /// below that of the next new pair, which a caller learns here.
+    /// Returns the number of nodes: no more than pairs. None is empty or holds more than the node
+    /// size, and the pairs of all ascend by key and then by number, one node after another, with
+    /// numbers below that of the next new pair, which a caller learns here.
     pub fn node_count(&self) -> usize
         ensures value { result ≡ length self.now.nodes }
         ensures few { result ≤ length (joined self.now.nodes) }
@@ -111,22 +111,22 @@ impl<K: Ord + Clone + Drop, V: Eq + Clone + Drop, Node: NodeLike<MultiPair<K, V>
         self.set.node_count()
     }
 
-    /// How many pairs there is room for: the sum of the nodes' capacities, which stops at the greatest
-    /// usize.
+    /// Returns how many pairs there is room for: the sum of the nodes' capacities, which stops at
+    /// `usize::MAX`.
     pub fn capacity(&self) -> usize
         ensures { length (joined self.now.nodes) ≤ result }
     {
         self.set.capacity()
     }
 
-    /// The number of the next event. (It is not in the Rust crate.)
+    /// Returns the number of the next event. (Not in the Rust crate.)
     pub fn events_issued(&self) -> u64
         ensures { result ≡ self.now.next }
     {
         self.set.events_issued()
     }
 
-    /// The nodes, in order. (The Rust crate lends them locked.)
+    /// Returns the nodes, in order. (The Rust crate lends them locked.)
     pub fn iter_nodes(&self) -> Nodes<'_, Node>
         ensures rest { map Node.list result ≡ self.now.nodes }
         ensures runs { ShowsInOrder (deref {X = Node}) }
@@ -135,14 +135,14 @@ impl<K: Ord + Clone + Drop, V: Eq + Clone + Drop, Node: NodeLike<MultiPair<K, V>
         self.set.iter_nodes()
     }
 
-    /// Whether a pair has the key.
+    /// Returns whether a pair has the key.
     pub fn contains_key(&self, key: &K) -> bool
         ensures { result ≡ has_pair_of K.cmp (joined self.now.nodes) key.now }
     {
         self.locate(key).is_ok()
     }
 
-    // Where a search for a key ends.
+    // Returns where a search for a key ends.
     fn locate(&self, key: &K) -> Result<(usize, usize), (usize, usize)>
         ensures place { result ≡ located (λ p. K.cmp p.key key.now) self.now.nodes }
         ensures lawful { IsLawful (by_number K.cmp) self.now.size self.now.nodes }

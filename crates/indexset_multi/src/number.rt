@@ -25,7 +25,7 @@ impl<'a, K> Model for ByNumber<'a, K> {
 impl<'a, K> ByNumber<'a, K> {
     ghost use Rattle.std.specs.Prelude.{◌≡◌};
 
-    /// No question yet.
+    /// No comparison yet.
     pub(crate) fn new(key: &'a K, number: u64) -> Self
         ensures { result ≡ (key.now, number, 0) }
     {

@@ -1,12 +1,11 @@
 -- Events delivered out of turn, and the beginning that they make.
-use Rattle.std.proofs.Common.{◌≡◌, ◌==◌, Result, Ok, Err, OnOk, is_some, inl, inr, ℕ, zero, suc, ◌+◌, ◌-◌, ◌<◌, ◌≤◌, Bool, true, false, if◌then◌else◌, List, [], ◌∷◌, ◌++◌, length, get_or, slice_get, take, drop, Option, Some, None, Ordering, option_and_then, refl, ap, sym, ◌∙◌, subst, arith}
+use Rattle.std.proofs.Common.{◌≡◌, ◌==◌, is_some, inl, inr, ℕ, zero, suc, ◌+◌, ◌-◌, ◌<◌, ◌≤◌, Bool, true, false, if◌then◌else◌, List, [], ◌∷◌, ◌++◌, length, get_or, slice_get, take, drop, Option, Some, None, Ordering, option_and_then, refl, ap, sym, ◌∙◌, subst, arith}
 use Rattle.std.below.core.specs.declared.int.u64.TheConstants.{MAX}
 use Rattle.std.specs.List.{fold}
-use Rattle.std.specs.Option.{option_map}
-use Rattle.std.proofs.lemmas.Bool.{false≢true, eqb-true, eqb-false, eq-eqb, ne_eqb, not-false}
-use Rattle.std.proofs.lemmas.List.{take-append-drop, take_more, drop_more}
+use Rattle.std.proofs.lemmas.Bool.{eqb-true, eqb-false, eq-eqb, ne_eqb, not-false}
+use Rattle.std.proofs.lemmas.List.{take-append-drop, take_more}
 use Rattle.indexset_core.specs.declared.refusal.Refusal.TheVariants.{Gap, Numbers}
-use Rattle.indexset_log.specs.Replay.{event_number, replay, step, unassigned, IsNumberedFrom}
+use Rattle.indexset_log.specs.Replay.{event_number, replay, step, unassigned}
 use Rattle.indexset_log.specs.declared.change.ChangeEvent.{ChangeEvent}
 use Rattle.indexset_log.proofs.CallerLemmas.{replay-append}
 use Rattle.indexset_replica.proofs.ReplicaEdits.{some_inj}
@@ -101,7 +100,7 @@ and_then_some : {X : Type 0} (o : Option X) → option_and_then (λ x. Some x) o
 and_then_some None = refl
 and_then_some (Some x) = refl
 
-read_at : {X : Type 0} (xs : List X) (i : ℕ) (x : X) → slice_get xs i ≡ Some x → (i < length xs) × (get_or xs i x ≡ x)
+pub read_at : {X : Type 0} (xs : List X) (i : ℕ) (x : X) → slice_get xs i ≡ Some x → (i < length xs) × (get_or xs i x ≡ x)
 read_at [] i x e = none_some e
 read_at (y ∷ xs) zero x e = (omega arith, some_inj e)
 read_at (y ∷ xs) (suc i) x e = let r = read_at xs i x e in (omega (arith, r.0), r.1)
@@ -125,18 +124,10 @@ module _ {T : Type 0} (cmp : T → T → Ordering) where
       let told = then_some (slice_get es p) (delivered cmp r) first.0 first.1 in
       (told.0, first.0, told.1, told.2, first.2)
 
-  pub followed_more : (es : List (ChangeEvent T)) (r q s : ReplicaState T) (e : ChangeEvent T) (order : List ℕ) (i p : ℕ)
-      → slice_get order i ≡ Some p → slice_get es p ≡ Some e → followed cmp es r (take i order) ≡ Some q → delivered cmp q e ≡ Some s → followed cmp es r (take (suc i) order) ≡ Some s
-  followed_more es r q s e [] i p placed told before made = none_some placed
-  followed_more es r q s e (x ∷ order) zero p placed told before made = rw (some_inj placed, told, some_inj before, made) refl
-  followed_more es r q s e (x ∷ order) (suc i) p placed told before made =
-      let first = followed_then es r q x (take i order) before in
-      rw (first.2, first.3) (followed_more es first.1 q s e order i p placed told first.4 made)
-
   -- ---- a feed
 
   module _ (s : ℕ) (ns : List (List T)) (es : List (ChangeEvent T)) (feed : IsFeed cmp s ns es) where
-    number_at : (p : ℕ) (e : ChangeEvent T) → slice_get es p ≡ Some e → event_number e ≡ s + p
+    pub number_at : (p : ℕ) (e : ChangeEvent T) → slice_get es p ≡ Some e → event_number e ≡ s + p
     number_at p e told =
         let read = read_at es p e told in
         ap event_number (sym read.1) ∙ feed.numbered p read.0 e
@@ -163,7 +154,7 @@ module _ {T : Type 0} (cmp : T → T → Ordering) where
         let more : r.next < MAX = omega (arith, at.next, feed.fits, read.0, same) in
         misfit_refused cmp r.nodes r.next e number (λ last. omega (arith, last, more)) ∙ step_fits cmp r.nodes (unassigned e) made.0 made.1
 
-    at_more : (j p : ℕ) (b : Bool) (r q : ReplicaState T) (e : ChangeEvent T) → (p == j) ≡ b → IsAt cmp s ns es j r → slice_get es p ≡ Some e → delivered cmp r e ≡ Some q → IsAt cmp s ns es (if b then j + 1 else j) q
+    pub at_more : (j p : ℕ) (b : Bool) (r q : ReplicaState T) (e : ChangeEvent T) → (p == j) ≡ b → IsAt cmp s ns es j r → slice_get es p ≡ Some e → delivered cmp r e ≡ Some q → IsAt cmp s ns es (if b then j + 1 else j) q
     unfolding delivered
     at_more j p true r q e here at told made =
         let same = eqb-true p j here in
@@ -189,9 +180,3 @@ module _ {T : Type 0} (cmp : T → T → Ordering) where
     pub delivered_after : (order : List ℕ) (j : ℕ) (r q : ReplicaState T) → IsAt cmp s ns es j r → followed cmp es r order ≡ Some q → IsDelivered cmp s ns es j order q
     delivered_after order j r q at done = λ m is.
         subst (λ n. IsAt cmp s ns es n q) (reached_once j (fold awaited j order) m order (reached j order) is) (at_after order j r q at done)
-
-module _ {T U E : Type 0} (cmp : T → T → Ordering) where
-  pub taken_where_ok : (o : Result U E) (r new : ReplicaState T) (e : ChangeEvent T) → OnOk o (apply_refusal cmp r.nodes r.next e ≡ None) → OnOk o (step cmp r.nodes e ≡ Some new.nodes) → OnOk o (new.next ≡ r.next + 1)
-      → OnOk o (delivered cmp r e ≡ Some new)
-  taken_where_ok (Ok u) r new e fits made next = taken_in cmp r new e fits made next
-  taken_where_ok (Err x) r new e fits made next = tt

@@ -1,4 +1,9 @@
+pub mod Alike
+pub mod AlikeDeliveries
+pub mod CallerLemmas
+pub mod Clones
 pub mod Deliveries
+pub mod ReplayedClones
 pub mod ReplicaAttach
 pub mod ReplicaEdits
 pub mod ReplicaNodes

@@ -2,19 +2,17 @@
 use Rattle.std.proofs.Common.{◌≡◌, ℕ, zero, suc, ◌+◌, ◌-◌, ◌<◌, ◌≤◌, ◌==◌, Bool, true, false, not, List, [], ◌∷◌, ◌++◌, length, map, get_or, slice_get, take, drop, insert, Option, Some, None, Ordering, All, inl, inr, refl, ap, sym, ◌∙◌, subst, arith, append_assoc, length-append}
 use Rattle.std.specs.Borrow.{Bor}
 use Rattle.std.specs.Cmp.{IsTotalOrder}
-use Rattle.std.specs.List.{find, position_or_len, splice, take-map}
+use Rattle.std.specs.List.{position_or_len, splice, take-map}
 use Rattle.std.specs.List.Sorted.{IsPartitionedBy, IsPartitionPoint}
 use Rattle.std.specs.Option.{option_copied, option_map_or, option_or}
 use Rattle.std.specs.Ordering.{is_lt, is_eq}
 use Rattle.std.specs.declared.cmp.Ordering.TheVariants.{Less}
 use Rattle.std.proofs.lemmas.Bool.{false≢true, and_from, and_parts, cases_lt, le-ltb, ne_eqb, not-true, not-false}
-use Rattle.std.proofs.lemmas.List.{append-nil, get_or_past, take-append-drop, get_or-map, length-map, nil_from_length}
+use Rattle.std.proofs.lemmas.List.{append-nil, take-append-drop, get_or-map, length-map, nil_from_length}
 use Rattle.std.proofs.lemmas.Option.{slice_get-map, slice_get_within}
-use Rattle.std.proofs.lemmas.List.Folds.{find-append}
 use Rattle.std.proofs.lemmas.List.Sums.{fails_before_first, position_or_len_is}
 use Rattle.std.proofs.Math.Seq.{drop-append_seam, get_or-append_seam, get_or-append_right}
 use Rattle.indexset_core.specs.Nodes.{joined, node_at, node_lengths}
-use Rattle.indexset_core.specs.Order.{equal_element}
 use Rattle.indexset_core.proofs.CallerLemmas.{joined-append, joined-splice, joined_around, less_from, slice_get-right}
 use Rattle.indexset_log.specs.Nodes.{is_filled, last_of, is_ascending}
 use Rattle.indexset_log.specs.Replay.{has_name, node_named, reaches}
@@ -221,37 +219,6 @@ module _ {T : Type 0} (cmp : T → T → Ordering) (o : IsTotalOrder cmp) (v : T
 
     pub unnamed_past : length items ≤ k → node_named cmp (map f items) v ≡ None
     unnamed_past past = named_not (map f items) rule (λ inside. absurd (omega (arith, inside, is, length-map items f)))
-
-  -- ---- the item equal to a value
-
-  unequal_low : (l : List T) → Each (λ x. cmp x v ≡ Less) l → equal_element cmp l v ≡ None
-  unequal_low [] low = refl
-  unequal_low (x ∷ l) low = rw low.0 (unequal_low l low.1)
-
-  unequal_high : (l : List T) → Each (λ x. cmp v x ≡ Less) l → equal_element cmp l v ≡ None
-  unequal_high [] high = refl
-  unequal_high (x ∷ l) high = rw (greater cmp o x v high.0) (unequal_high l high.1)
-
-  or_none : (s : Option T) → option_or s None ≡ s
-  or_none None = refl
-  or_none (Some x) = refl
-
-  element_in_node : (b a : List (List T)) → Each (λ x. cmp x v ≡ Less) (joined b) → Reached a → equal_element cmp (joined (b ++ a)) v ≡ equal_element cmp (node_at (b ++ a) (length b)) v
-  element_in_node b [] low on = rw (append-nil b, unequal_low (joined b) low, get_or_past b (length b) [] (omega arith)) refl
-  element_in_node b (n ∷ a) low on =
-      let p : T → Bool = λ x. is_eq (cmp x v) in
-      rw (get_or-append_seam, joined-append b (n ∷ a))
-      (find-append p (joined b) (n ++ joined a) ∙ rw (unequal_low (joined b) low) (find-append p n (joined a) ∙ rw (unequal_high (joined a) on.2) (or_none (find p n))))
-
-  module _ {N : Type 0} (f : N → List T) (items : List N) (rule : Ruled cmp (map f items)) (k : ℕ) (is : k ≡ position_or_len (reaches cmp v) (map f items)) where
-    element_here : equal_element cmp (joined (map f items)) v ≡ equal_element cmp (node_at (map f items) k) v
-    element_here = rw is (parted (λ q j. equal_element cmp (joined q) v ≡ equal_element cmp (node_at q j) v) element_in_node (map f items) rule)
-
-    pub element_when : (n : N) → k < length items → n ≡ get_or items k n → equal_element cmp (joined (map f items)) v ≡ equal_element cmp (f n) v
-    element_when n lt read = element_here ∙ ap (λ q. equal_element cmp q v) (sym (node_is f items (map f items) k n refl lt read))
-
-    pub element_past : length items ≤ k → equal_element cmp (joined (map f items)) v ≡ None
-    element_past past = element_here ∙ rw (get_or_past (map f items) k [] (omega (arith, past, length-map items f))) refl
 
   -- ---- the items before a place and after it
 

@@ -1,13 +1,15 @@
 -- What a replica makes of events that are delivered with losses, repeats and in any order.
-use Rattle.std.specs.Prelude.{◌≡◌, ℕ, ◌+◌, ◌-◌, ◌<◌, ◌≤◌, ◌==◌, ◌⊎◌, ⊤, zero, suc, true, is_some, if◌then◌else◌, Option, Some, None, unwrap_or, IsSomeAnd, slice_get, List, [], ◌∷◌, length, take}
+use Rattle.std.specs.Prelude.{◌≡◌, ◌≢◌, ℕ, ◌+◌, ◌-◌, ◌≤◌, ◌==◌, ◌⊎◌, ⊤, zero, suc, true, is_some, if◌then◌else◌, Option, Some, None, unwrap_or, IsSomeAnd, slice_get, List, [], ◌∷◌, length, take}
 use Rattle.std.below.core.specs.declared.int.u64.TheConstants.{MAX}
+use Rattle.std.specs.List.{AllZip}
 use Rattle.std.specs.Option.{option_map, option_and_then}
 use Rattle.std.specs.declared.cmp.Ordering.{Ordering}
+use Rattle.std.specs.declared.cmp.Ordering.TheVariants.{Equal}
 use Rattle.indexset_core.specs.declared.refusal.Refusal.{Refusal}
 use Rattle.indexset_core.specs.declared.refusal.Refusal.TheVariants.{Memory}
-use Rattle.indexset_log.specs.Replay.{event_number, replay, step, IsNumberedFrom}
+use Rattle.indexset_log.specs.Replay.{event_number, replay, step, unassigned, IsNumberedFrom}
 use Rattle.indexset_log.specs.declared.change.ChangeEvent.{ChangeEvent}
-use Rattle.indexset_replica.specs.Replica.{ReplicaState, apply_refusal}
+use Rattle.indexset_replica.specs.Replica.{IsClonedStep, ReplicaState, apply_refusal}
 
 -- the items xs are among the ys, in their order
 abbrev pub IsSubsequence : {A : Type 0} → List A → List A → Type 0
@@ -40,6 +42,17 @@ module _ {T : Type 0} (cmp : T → T → Ordering) where
   followed es r [] = Some r
   followed es r (p ∷ order) = option_and_then (λ q. followed es q order) (option_and_then (delivered r) (slice_get es p))
 
+  -- the same, with an equal clone in the place of the item that an event adds
+  module _ (C : T → T → Type 0) where
+    -- the replica q after an event
+    abbrev pub IsDelivery : ReplicaState T → ChangeEvent T → ReplicaState T → Type 0
+    IsDelivery r e q = ((event_number e ≢ r.next) × (q ≡ r)) ⊎ ((event_number e ≡ r.next) × (r.next ≢ MAX) × (q.next ≡ r.next + 1) × IsClonedStep cmp C r.nodes (unassigned e) q.nodes)
+
+    -- the replica q after the events at these places, one after the other
+    abbrev pub IsFollowed : List (ChangeEvent T) → ReplicaState T → List ℕ → ReplicaState T → Type 0
+    IsFollowed es r [] q = q ≡ r
+    IsFollowed es r (p ∷ order) q = (s : ReplicaState T) × IsSomeAnd (slice_get es p) (λ e. IsDelivery r e s) × IsFollowed es s order q
+
   -- why a replica fails at this event, where it may fail for memory too
   abbrev pub failure : ReplicaState T → ChangeEvent T → Refusal
   failure r e = unwrap_or (apply_refusal cmp r.nodes r.next e) Memory
@@ -48,6 +61,12 @@ module _ {T : Type 0} (cmp : T → T → Ordering) where
   pub record IsStopped (es : List (ChangeEvent T)) (old : ReplicaState T) (order : List ℕ) (cause : Refusal) (new : ReplicaState T) : Type 0 where
     pub count : ℕ
     pub before : followed es old (take count order) ≡ Some new
+    pub at : IsSomeAnd (slice_get order count) (λ p. IsSomeAnd (slice_get es p) (λ e. (event_number e ≡ new.next) × (cause ≡ failure new e)))
+
+  -- the same, with equal clones in the place of the items that were added
+  pub record HasStopped (C : T → T → Type 0) (es : List (ChangeEvent T)) (old : ReplicaState T) (order : List ℕ) (cause : Refusal) (new : ReplicaState T) : Type 0 where
+    pub count : ℕ
+    pub before : IsFollowed C es old (take count order) new
     pub at : IsSomeAnd (slice_get order count) (λ p. IsSomeAnd (slice_get es p) (λ e. (event_number e ≡ new.next) × (cause ≡ failure new e)))
 
   -- the events are numbered from s on, they lead from these nodes, and a number is left after them
@@ -61,6 +80,11 @@ module _ {T : Type 0} (cmp : T → T → Ordering) where
     pub within : j ≤ length es
     pub nodes : replay cmp ns (take j es) ≡ Some r.nodes
     pub next : r.next ≡ s + j
+
+  -- the replica q holds what r holds, with equal items in the place of its items, and awaits the same event
+  pub record IsAlike (r q : ReplicaState T) : Type 0 where
+    pub nodes : AllZip (AllZip (λ x y. cmp x y ≡ Equal)) r.nodes q.nodes
+    pub next : q.next ≡ r.next
 
   -- the replica holds what the longest beginning leads to whose events came in turn, from event j on
   abbrev pub IsDelivered : ℕ → List (List T) → List (ChangeEvent T) → ℕ → List ℕ → ReplicaState T → Type 0

@@ -4,11 +4,12 @@ use Rattle.std.below.core.specs.declared.int.u64.TheConstants.{MAX}
 use Rattle.std.specs.Option.{option_map_or}
 use Rattle.std.specs.Ordering.{is_lt, is_eq}
 use Rattle.std.specs.declared.cmp.Ordering.{Ordering}
+use Rattle.std.specs.declared.cmp.Ordering.TheVariants.{Equal}
 use Rattle.indexset_core.specs.Nodes.{joined, node_at}
 use Rattle.indexset_core.specs.declared.refusal.Refusal.{Refusal}
 use Rattle.indexset_core.specs.declared.refusal.Refusal.TheVariants.{Numbers, Gap, NoSuchNode, IndexOutside, ValueDiffers, WouldBeEmpty, OutOfOrder, BadSplit, NotNeighbours}
 use Rattle.indexset_log.specs.Nodes.{is_ascending}
-use Rattle.indexset_log.specs.Replay.{edit, event_number, node_named, unassigned}
+use Rattle.indexset_log.specs.Replay.{edit, event_number, node_named, step_plain, unassigned}
 use Rattle.indexset_log.specs.declared.change.ChangeEvent.{ChangeEvent}
 use Rattle.indexset_log.specs.declared.change.ChangeEventUnassigned.{ChangeEventUnassigned}
 use Rattle.indexset_log.specs.declared.change.ChangeEventUnassigned.TheVariants.{InsertAt, RemoveAt, CreateNode, RemoveNode, SplitNode, MergeNodes}
@@ -53,7 +54,34 @@ module _ {T : Type 0} (cmp : T → T → Ordering) where
   abbrev pub is_between : Option T → T → Option T → Bool
   is_between before v after = option_map_or (λ x. is_lt (cmp x v)) before true && option_map_or (λ x. is_lt (cmp v x)) after true
 
+module _ {T : Type 0} (cmp : T → T → Ordering) (C : T → T → Type 0) where
+  -- y is a clone of x, and equal to it
+  abbrev pub IsEqualClone : T → T → Type 0
+  IsEqualClone x y = C x y × (cmp y x ≡ Equal)
+
+  -- f is e, with an equal clone in the place of the item that it adds
+  abbrev pub AddsClone : ChangeEventUnassigned T → ChangeEventUnassigned T → Type 0
+  AddsClone (InsertAt m v i) f = (w : T) × IsEqualClone v w × (f ≡ InsertAt m w i)
+  AddsClone (CreateNode m) f = (w : T) × IsEqualClone m w × (f ≡ CreateNode w)
+  AddsClone (RemoveAt m v i) f = f ≡ RemoveAt m v i
+  AddsClone (RemoveNode m) f = f ≡ RemoveNode m
+  AddsClone (SplitNode m k) f = f ≡ SplitNode m k
+  AddsClone (MergeNodes m w) f = f ≡ MergeNodes m w
+
+  -- the nodes after are those that the event leads to, with an equal clone in the place of the item that it adds
+  pub record IsClonedStep (ns : List (List T)) (e : ChangeEventUnassigned T) (after : List (List T)) : Type 0 where
+    pub event : ChangeEventUnassigned T
+    pub adds : AddsClone e event
+    pub made : step_plain cmp ns event ≡ Some after
+
 -- the event fits the nodes, and changes them so
 pub record IsEdit {T : Type 0} (cmp : T → T → Ordering) (ns : List (List T)) (e : ChangeEventUnassigned T) (after : List (List T)) : Type 0 where
   pub fits : misfit cmp ns e ≡ None
   pub edited : edit cmp ns e ≡ Some after
+
+-- the event fits the nodes, and changes them so, with an equal clone in the place of the item that it adds
+pub record IsClonedEdit {T : Type 0} (cmp : T → T → Ordering) (C : T → T → Type 0) (ns : List (List T)) (e : ChangeEventUnassigned T) (after : List (List T)) : Type 0 where
+  pub fits : misfit cmp ns e ≡ None
+  pub event : ChangeEventUnassigned T
+  pub adds : AddsClone cmp C e event
+  pub done : IsEdit cmp ns event after

@@ -1,7 +1,7 @@
 //! The change that an event makes to a replica's nodes.
 ghost use Rattle.std.specs.Prelude.{◌≡◌, ◌<◌, [], ◌∷◌, IfOk, OnOk, IfErr, OnErr, unwrap_or, vec_len, vec_capacity};
 ghost use Rattle.indexset_core.specs.Nodes.{IsNodeList, vec_items};
-ghost use Rattle.indexset_replica.specs.Replica.{IsEdit, misfit};
+ghost use Rattle.indexset_replica.specs.Replica.{IsClonedEdit, IsEdit, IsEqualClone, misfit};
 ghost use Rattle.indexset_log.specs.Replay.{unassigned};
 ghost use Rattle.indexset_log.specs.declared.change.ChangeEventUnassigned.TheVariants.{InsertAt, RemoveAt, CreateNode, RemoveNode, SplitNode, MergeNodes};
 
@@ -15,9 +15,8 @@ pub(super) fn carry_out<T: Ord + Clone + Drop>(
     nodes: &mut Vec<Vec<T>>,
     event: &ChangeEvent<T>,
 ) -> Result<(), Refusal>
-    requires clones { (x y : T) → T.is_clone x y → y ≡ x }
     requires nodes { IsNodeList T.cmp (vec_items nodes.old.items) }
-    ensures done { OnOk result (IsEdit T.cmp (vec_items nodes.old.items) (unassigned event.now) (vec_items nodes.new.items)) }
+    ensures done { OnOk result (IsClonedEdit T.cmp T.is_clone (vec_items nodes.old.items) (unassigned event.now) (vec_items nodes.new.items)) }
     ensures refusal { IfErr result (λ e. e ≡ unwrap_or (misfit T.cmp (vec_items nodes.old.items) (unassigned event.now)) Refusal.Memory) }
     ensures unchanged { OnErr result (vec_items nodes.new.items ≡ vec_items nodes.old.items) }
 {
@@ -56,9 +55,8 @@ fn insert_item<T: Ord + Clone + Drop>(
     value: &T,
     index: usize,
 ) -> Result<(), Refusal>
-    requires clones { (x y : T) → T.is_clone x y → y ≡ x }
     requires nodes { IsNodeList T.cmp (vec_items nodes.old.items) }
-    ensures done { OnOk result (IsEdit T.cmp (vec_items nodes.old.items) (InsertAt name.now value.now index) (vec_items nodes.new.items)) }
+    ensures done { OnOk result (IsClonedEdit T.cmp T.is_clone (vec_items nodes.old.items) (InsertAt name.now value.now index) (vec_items nodes.new.items)) }
     ensures refusal { IfErr result (λ e. e ≡ unwrap_or (misfit T.cmp (vec_items nodes.old.items) (InsertAt name.now value.now index)) Refusal.Memory) }
     ensures unchanged { OnErr result (vec_items nodes.new.items ≡ vec_items nodes.old.items) }
 {
@@ -69,7 +67,7 @@ fn insert_item<T: Ord + Clone + Drop>(
     if !fits_at(nodes.as_slice(), place, index, value) {
         return Err(Refusal::OutOfOrder);
     }
-    let item = value.clone()?;
+    let item = equal_clone(value)?;
     let node = &mut nodes[place];
     node.reserve(1)?;
     moves::insert_item(node, index, item);
@@ -105,9 +103,8 @@ fn remove_item<T: Ord + Clone + Drop>(
 
 // Inserts a node of this item alone.
 fn create_node<T: Ord + Clone + Drop>(nodes: &mut Vec<Vec<T>>, value: &T) -> Result<(), Refusal>
-    requires clones { (x y : T) → T.is_clone x y → y ≡ x }
     requires nodes { IsNodeList T.cmp (vec_items nodes.old.items) }
-    ensures done { OnOk result (IsEdit T.cmp (vec_items nodes.old.items) (CreateNode value.now) (vec_items nodes.new.items)) }
+    ensures done { OnOk result (IsClonedEdit T.cmp T.is_clone (vec_items nodes.old.items) (CreateNode value.now) (vec_items nodes.new.items)) }
     ensures refusal { IfErr result (λ e. e ≡ unwrap_or (misfit T.cmp (vec_items nodes.old.items) (CreateNode value.now)) Refusal.Memory) }
     ensures unchanged { OnErr result (vec_items nodes.new.items ≡ vec_items nodes.old.items) }
 {
@@ -121,17 +118,31 @@ fn create_node<T: Ord + Clone + Drop>(nodes: &mut Vec<Vec<T>>, value: &T) -> Res
 }
 
 // Reserves room for one more node, and returns a node of this item alone.
-fn room_for_node_of<T: Clone + Drop>(nodes: &mut Vec<Vec<T>>, value: &T) -> Result<Vec<T>, Refusal>
-    requires clones { (x y : T) → T.is_clone x y → y ≡ x }
+fn room_for_node_of<T: Ord + Clone + Drop>(
+    nodes: &mut Vec<Vec<T>>,
+    value: &T,
+) -> Result<Vec<T>, Refusal>
     ensures nodes { nodes.new.items ≡ nodes.old.items }
     ensures room { OnOk result (vec_len nodes.new < vec_capacity nodes.new) }
-    ensures node { IfOk result (λ node. node.items ≡ value.now ∷ []) }
+    ensures node { IfOk result (λ node. (item : T) × IsEqualClone T.cmp T.is_clone value.now item × (node.items ≡ item ∷ [])) }
     ensures refusal { IfErr result (λ e. e ≡ Refusal.Memory) }
 {
     nodes.reserve(1)?;
     let mut node = Vec::with_capacity(*nodes.allocator(), 1)?;
-    node.push_reserved(value.clone()?);
+    node.push_reserved(equal_clone(value)?);
     Ok(node)
+}
+
+// A clone that equals its source, so that it stands where the source would.
+fn equal_clone<T: Ord + Clone + Drop>(value: &T) -> Result<T, Refusal>
+    ensures clone { IfOk result (λ item. IsEqualClone T.cmp T.is_clone value.now item) }
+    ensures refusal { IfErr result (λ e. e ≡ Refusal.Memory) }
+{
+    let item = value.clone()?;
+    if item.cmp(value).is_ne() {
+        return Err(Refusal::Memory);
+    }
+    Ok(item)
 }
 
 // Removes the node of that name.

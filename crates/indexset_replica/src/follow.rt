@@ -1,7 +1,8 @@
 //! Events that are delivered with losses, repeats and in any order.
 ghost use Rattle.std.specs.Prelude.{◌≡◌, ◌<◌, ◌≤◌, ℕ, List, Some, IfErr, OnOk, OnErr, length, take};
 ghost use Rattle.std.specs.List.{All};
-ghost use Rattle.indexset_replica.specs.Delivery.{delivered, failure, followed, IsAt, IsDelivered, IsFeed, IsStopped};
+ghost use Rattle.indexset_replica.specs.Delivery.{failure, followed, HasStopped, IsAlike, IsAt, IsDelivered, IsDelivery, IsFeed, IsFollowed, IsStopped};
+ghost use Rattle.indexset_replica.specs.Replica.{ReplicaState};
 ghost use Rattle.indexset_log.specs.Replay.{event_number};
 
 use crate::Replica;
@@ -17,18 +18,24 @@ impl<T: Ord + Clone + Drop> Replica<T> {
     /// Where the events are numbered without a gap, lead from some nodes to others, and the replica holds
     /// what the first j of them lead to, it then holds what the first m lead to, and awaits event m: m is
     /// the greatest number for which j, j + 1, .. m - 1 are among the places in this order. A call then
-    /// fails for memory alone, and the same holds of a beginning of the places.
+    /// fails for memory alone, and the same holds of a beginning of the places. What it holds are the
+    /// items themselves where clones are identical to their sources, and else items equal to them.
     pub fn follow(&mut self, events: &[ChangeEvent<T>], order: &[usize]) -> Result<(), Refusal>
-        requires clones { (x y : T) → T.is_clone x y → y ≡ x }
         requires inside { All (λ p. p < length events.now) order.now }
-        ensures followed { OnOk result (followed T.cmp events.now self.old order.now ≡ Some self.new) }
-        ensures stopped { IfErr result (λ e. IsStopped T.cmp events.now self.old order.now e self.new) }
-        ensures delivery { (s j : ℕ) (ns : List (List T)) → IsFeed T.cmp s ns events.now → IsAt T.cmp s ns events.now j self.old
+        ensures cloned { OnOk result (IsFollowed T.cmp T.is_clone events.now self.old order.now self.new) }
+        ensures followed { ((x y : T) → T.is_clone x y → y ≡ x) → OnOk result (followed T.cmp events.now self.old order.now ≡ Some self.new) }
+        ensures cloned_stopped { IfErr result (λ e. HasStopped T.cmp T.is_clone events.now self.old order.now e self.new) }
+        ensures stopped { ((x y : T) → T.is_clone x y → y ≡ x) → IfErr result (λ e. IsStopped T.cmp events.now self.old order.now e self.new) }
+        ensures delivery { ((x y : T) → T.is_clone x y → y ≡ x) → (s j : ℕ) (ns : List (List T)) → IsFeed T.cmp s ns events.now → IsAt T.cmp s ns events.now j self.old
             → OnOk result (IsDelivered T.cmp s ns events.now j order.now self.new) }
+        ensures alike { (s j : ℕ) (ns : List (List T)) → IsFeed T.cmp s ns events.now → IsAt T.cmp s ns events.now j self.old
+            → OnOk result ((r : ReplicaState T) × IsDelivered T.cmp s ns events.now j order.now r × IsAlike T.cmp r self.new) }
         ensures memory_alone { (s j : ℕ) (ns : List (List T)) → IsFeed T.cmp s ns events.now → IsAt T.cmp s ns events.now j self.old
             → IfErr result (λ e. e ≡ Refusal.Memory) }
-        ensures partly { (s j : ℕ) (ns : List (List T)) → IsFeed T.cmp s ns events.now → IsAt T.cmp s ns events.now j self.old
+        ensures partly { ((x y : T) → T.is_clone x y → y ≡ x) → (s j : ℕ) (ns : List (List T)) → IsFeed T.cmp s ns events.now → IsAt T.cmp s ns events.now j self.old
             → OnErr result ((k : ℕ) × (k ≤ length order.now) × IsDelivered T.cmp s ns events.now j (take k order.now) self.new) }
+        ensures partly_alike { (s j : ℕ) (ns : List (List T)) → IsFeed T.cmp s ns events.now → IsAt T.cmp s ns events.now j self.old
+            → OnErr result ((k : ℕ) × (r : ReplicaState T) × (k ≤ length order.now) × IsDelivered T.cmp s ns events.now j (take k order.now) r × IsAlike T.cmp r self.new) }
     {
         for place in order {
             self.deliver(&events[*place])?;
@@ -38,8 +45,7 @@ impl<T: Ord + Clone + Drop> Replica<T> {
 
     // Applies an event that is the next, and passes over any other.
     fn deliver(&mut self, event: &ChangeEvent<T>) -> Result<(), Refusal>
-        requires { (x y : T) → T.is_clone x y → y ≡ x }
-        ensures done { OnOk result (delivered T.cmp self.old event.now ≡ Some self.new) }
+        ensures cloned { OnOk result (IsDelivery T.cmp T.is_clone self.old event.now self.new) }
         ensures awaited { OnErr result (event_number event.now ≡ self.old.next) }
         ensures refusal { IfErr result (λ e. e ≡ failure T.cmp self.old event.now) }
         ensures unchanged { OnErr result (self.new ≡ self.old) }

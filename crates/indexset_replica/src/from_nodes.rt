@@ -20,7 +20,7 @@ impl<T: Ord + Clone + Drop> Replica<T> {
         ensures lawful { IsNodeList T.cmp (vec_items nodes.items) → IsOk result }
         ensures given_back { IfErr result (λ e. e.value ≡ nodes) }
     {
-        // No node holds more items than the greatest usize.
+        // No node holds more items than `usize::MAX`.
         match test_nodes(nodes.as_slice(), usize::MAX) {
             Ok(()) => Ok(Replica { nodes, next }),
             Err(cause) => Err(Refused {

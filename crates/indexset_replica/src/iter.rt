@@ -11,7 +11,7 @@ use super::Replica;
 use std::iter::FusedIterator;
 use std::marker::Model;
 
-/// The items of a replica that are left, from both ends: those of the front node, of the nodes between,
+/// The remaining items of a replica, from both ends: those of the front node, of the nodes between,
 /// and of the back node.
 #[derive(Drop)]
 pub struct Iter<'a, T> {
@@ -31,7 +31,7 @@ impl<'a, T> Model for Iter<'a, T> {
 }
 
 impl<'a, T> Iter<'a, T> {
-    // The items from one place, a node and an offset, to before another.
+    // Returns the items from one place, a node and an offset, to before another.
     pub(super) fn between(nodes: &'a [Vec<T>], from: (usize, usize), to: (usize, usize)) -> Self
         requires from { IsPlace (vec_items nodes.now) from }
         requires to { IsPlace (vec_items nodes.now) to }
@@ -115,7 +115,7 @@ impl<'a, T> DoubleEndedIterator for Iter<'a, T> {
 impl<'a, T> FusedIterator for Iter<'a, T> {}
 
 impl<T: Ord + Clone + Drop> Replica<T> {
-    /// Returns how many items are held, or the greatest usize where there are more. A replica does not
+    /// Returns how many items are held, or `usize::MAX` where there are more. A replica does not
     /// keep its length: the call adds up the lengths of the nodes, in time linear in their number.
     pub fn len(&self) -> usize
         ensures { result ≡ min (length (joined self.now.nodes)) usize.MAX }

@@ -14,9 +14,9 @@
 ghost use Rattle.std.specs.Prelude.{◌≡◌, ◌+◌, [], length, None, Some, OnOk, IfErr, OnErr, unwrap_or};
 ghost use Rattle.indexset_core.specs.Nodes.{joined, IsNodeList, vec_items};
 ghost use Rattle.indexset_core.specs.Order.{has_equal};
-ghost use Rattle.indexset_replica.specs.Replica.{apply_refusal};
+ghost use Rattle.indexset_replica.specs.Replica.{apply_refusal, IsClonedStep};
 ghost use Rattle.indexset_log.specs.Attach.{attached, attach_refusal};
-ghost use Rattle.indexset_log.specs.Replay.{step};
+ghost use Rattle.indexset_log.specs.Replay.{step, unassigned};
 
 mod edits;
 mod follow;
@@ -113,14 +113,15 @@ impl<T: Ord + Clone + Drop> Replica<T> {
     }
 
     /// Makes the change of an event, and waits for the next. It makes a binary search among the nodes
-    /// for each node that the event names, and moves no items of other nodes. It fails with the first of
-    /// these: `Gap`, where the event is not the next; `Numbers`, where its number is `u64::MAX`, so that
-    /// none is left after it; the reason why it does not fit the nodes (`NoSuchNode`, `IndexOutside`,
-    /// `ValueDiffers`, `WouldBeEmpty`, `OutOfOrder`, `BadSplit` or `NotNeighbours`); `Memory`. A call that
-    /// fails changes nothing.
+    /// for each node that the event names, moves no items of other nodes, and inserts a clone, which it
+    /// compares with its source. It fails with the first of these: `Gap`, where the event is not the next;
+    /// `Numbers`, where its number is `u64::MAX`, so that none is left after it; the reason why it does not
+    /// fit the nodes (`NoSuchNode`, `IndexOutside`, `ValueDiffers`, `WouldBeEmpty`, `OutOfOrder`, `BadSplit`
+    /// or `NotNeighbours`); `Memory`, also where the clone does not equal its source. A call that fails
+    /// changes nothing.
     pub fn apply(&mut self, event: &ChangeEvent<T>) -> Result<(), Refusal>
-        requires { (x y : T) → T.is_clone x y → y ≡ x }
-        ensures step { OnOk result (step T.cmp self.old.nodes event.now ≡ Some self.new.nodes) }
+        ensures cloned { OnOk result (IsClonedStep T.cmp T.is_clone self.old.nodes (unassigned event.now) self.new.nodes) }
+        ensures step { ((x y : T) → T.is_clone x y → y ≡ x) → OnOk result (step T.cmp self.old.nodes event.now ≡ Some self.new.nodes) }
         ensures next { OnOk result (self.new.next ≡ self.old.next + 1) }
         ensures fits { OnOk result (apply_refusal T.cmp self.old.nodes self.old.next event.now ≡ None) }
         ensures refusal { IfErr result (λ e. e ≡ unwrap_or (apply_refusal T.cmp self.old.nodes self.old.next event.now) Refusal.Memory) }

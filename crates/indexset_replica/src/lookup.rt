@@ -1,15 +1,21 @@
 //! The item equal to a value, the first and the last item, and whether an event is the next.
-ghost use Rattle.std.specs.Prelude.{◌≡◌, ◌==◌, if◌then◌else◌, length, nat_lt};
+ghost use Rattle.std.specs.Prelude.{◌≡◌, ℕ, ◌+◌, ◌≤◌, ◌==◌, if◌then◌else◌, find, length, nat_lt};
+ghost use Rattle.std.specs.List.{All};
 ghost use Rattle.std.specs.Option.{option_copied};
-ghost use Rattle.indexset_core.specs.Nodes.{joined};
+ghost use Rattle.std.specs.Ordering.{is_eq};
+ghost use Rattle.indexset_core.specs.Digits.{digits};
+ghost use Rattle.indexset_core.specs.Nodes.{joined, node_lengths};
 ghost use Rattle.indexset_core.specs.Order.{equal_element};
+ghost use Rattle.indexset_core.specs.Parted.{IsParted};
 ghost use Rattle.indexset_replica.specs.Replica.{first_item, last_item};
 ghost use Rattle.indexset_log.specs.Replay.{event_number};
 
 use super::Replica;
-use super::places::{first_reaching, item_before, item_from};
+use super::places::{item_before, item_from};
+use indexset_core::probe::{ByItem, Probe};
 use indexset_core::search;
 use indexset_log::change::ChangeEvent;
+use indexset_log::locate::node_by;
 
 /// Whether an event is the one that a replica waits for.
 #[derive(Clone, Copy, Debug, PartialEq, Eq)]
@@ -28,14 +34,29 @@ impl<T: Ord + Clone + Drop> Replica<T> {
     pub fn get(&self, value: &T) -> Option<&T>
         ensures { option_copied result ≡ equal_element T.cmp (joined self.now.nodes) value.now }
     {
-        let place = first_reaching(self.nodes.as_slice(), value);
-        if place >= self.nodes.len() {
+        // The nodes ascend, so a search by an item may go by them.
+        let _nodes = &self.nodes;
+        self.get_by(&mut ByItem::new(value))
+    }
+
+    /// Returns the first held item that the comparator finds equal, or `None` where there is none, by the
+    /// same two searches, with at most one comparison more. The comparator must find the items in order.
+    pub fn get_by<P: Probe<T>>(&self, probe: &mut P) -> Option<&T>
+        requires { IsParted (P.answer probe.old) (joined self.now.nodes) }
+        ensures value { option_copied result ≡ find (λ x. is_eq (P.answer probe.old x)) (joined self.now.nodes) }
+        ensures fixed { P.answer probe.new ≡ P.answer probe.old }
+        ensures few { (size : ℕ) → All (λ n. n ≤ size) (node_lengths self.now.nodes) → P.asked probe.new ≤ P.asked probe.old + (digits (length self.now.nodes) + digits size + 1) }
+    {
+        if self.nodes.is_empty() {
             return None;
         }
+        let place = node_by(self.nodes.as_slice(), probe);
         let node = self.nodes[place].as_slice();
-        match search::find(node, value) {
-            Ok(index) => Some(&node[index]),
-            Err(_) => None,
+        let index = search::first_not_less(node, probe);
+        if search::is_equal_at(node, index, probe) {
+            Some(&node[index])
+        } else {
+            None
         }
     }
 

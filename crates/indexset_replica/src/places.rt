@@ -10,7 +10,8 @@ ghost use Rattle.indexset_log.specs.Replay.{has_name, node_named, reaches};
 
 use indexset_core::refusal::Refusal;
 
-/// The place of the first node whose last item is not below the value, or the number of nodes.
+/// Returns the place of the first node whose last item is not below the value, or the number of
+/// nodes.
 pub(super) fn first_reaching<T: Ord>(nodes: &[Vec<T>], value: &T) -> usize
     requires { IsNodeList T.cmp (vec_items nodes.now) }
     ensures place { result ≡ position_or_len (reaches T.cmp value.now) (vec_items nodes.now) }
@@ -19,7 +20,7 @@ pub(super) fn first_reaching<T: Ord>(nodes: &[Vec<T>], value: &T) -> usize
     nodes.partition_point(|node| ends_less(node.as_slice(), value))
 }
 
-/// Whether the last item is below the value.
+/// Returns whether the last item is below the value.
 fn ends_less<T: Ord>(node: &[T], value: &T) -> bool
     ensures { result ≡ not (reaches T.cmp value.now node.now) }
 {
@@ -29,7 +30,7 @@ fn ends_less<T: Ord>(node: &[T], value: &T) -> bool
     }
 }
 
-/// The place of the node whose last item equals the name.
+/// Returns the place of the node whose last item equals the name.
 pub(super) fn place_named<T: Ord>(nodes: &[Vec<T>], name: &T) -> Result<usize, Refusal>
     requires { IsNodeList T.cmp (vec_items nodes.now) }
     ensures named { IfOk result (λ place. node_named T.cmp (vec_items nodes.now) name.now ≡ Some place) }
@@ -44,7 +45,7 @@ pub(super) fn place_named<T: Ord>(nodes: &[Vec<T>], name: &T) -> Result<usize, R
     }
 }
 
-/// Whether the last item equals the name.
+/// Returns whether the last item equals the name.
 fn is_named<T: Ord>(node: &[T], name: &T) -> bool
     ensures { result ≡ has_name T.cmp name.now node.now }
 {
@@ -54,7 +55,7 @@ fn is_named<T: Ord>(node: &[T], name: &T) -> bool
     }
 }
 
-/// Where a whole node goes among the nodes, if it may.
+/// Returns where a whole node goes among the nodes, if it may.
 pub(super) fn place_of_node<T: Ord>(nodes: &[Vec<T>], node: &[T]) -> Result<usize, Refusal>
     requires { IsNodeList T.cmp (vec_items nodes.now) }
     ensures place { IfOk result (λ place. place ≡ attach_index T.cmp (vec_items nodes.now) node.now) }
@@ -78,7 +79,7 @@ pub(super) fn place_of_node<T: Ord>(nodes: &[Vec<T>], node: &[T]) -> Result<usiz
     Ok(place)
 }
 
-/// The last item of the nodes before a place.
+/// Returns the last item of the nodes before a place.
 pub(super) fn item_before<T>(nodes: &[Vec<T>], place: usize) -> Option<&T>
     requires filled { All (λ n. 1 ≤ n) (node_lengths (vec_items nodes.now)) }
     requires place { place ≤ length nodes.now }
@@ -87,7 +88,7 @@ pub(super) fn item_before<T>(nodes: &[Vec<T>], place: usize) -> Option<&T>
     nodes[..place].last()?.last()
 }
 
-/// The first item of the nodes from a place on.
+/// Returns the first item of the nodes from a place on.
 pub(super) fn item_from<T>(nodes: &[Vec<T>], place: usize) -> Option<&T>
     requires { All (λ n. 1 ≤ n) (node_lengths (vec_items nodes.now)) }
     ensures { option_copied result ≡ first_item (joined (drop place (vec_items nodes.now))) }
@@ -95,7 +96,7 @@ pub(super) fn item_from<T>(nodes: &[Vec<T>], place: usize) -> Option<&T>
     nodes.get(place)?.first()
 }
 
-/// Whether the nodes ascend with the value at an index of the node at a place.
+/// Returns whether the nodes ascend with the value at an index of the node at a place.
 pub(super) fn fits_at<T: Ord>(nodes: &[Vec<T>], place: usize, index: usize, value: &T) -> bool
     requires nodes { IsNodeList T.cmp (vec_items nodes.now) }
     requires place { place < length nodes.now }
@@ -108,7 +109,7 @@ pub(super) fn fits_at<T: Ord>(nodes: &[Vec<T>], place: usize, index: usize, valu
     is_between(before, value, after)
 }
 
-/// Whether the nodes ascend with the value as a node before the one at a place.
+/// Returns whether the nodes ascend with the value as a node before the one at a place.
 pub(super) fn fits_before<T: Ord>(nodes: &[Vec<T>], place: usize, value: &T) -> bool
     requires nodes { IsNodeList T.cmp (vec_items nodes.now) }
     requires place { place ≤ length nodes.now }
@@ -117,7 +118,8 @@ pub(super) fn fits_before<T: Ord>(nodes: &[Vec<T>], place: usize, value: &T) -> 
     is_between(item_before(nodes, place), value, item_from(nodes, place))
 }
 
-/// Whether the value is above the item before it and below the item after it, where there are such.
+/// Returns whether the value is above the item before it and below the item after it, where there
+/// are such.
 fn is_between<T: Ord>(before: Option<&T>, value: &T, after: Option<&T>) -> bool
     ensures { result ≡ is_between T.cmp (option_copied before.entry) value.now (option_copied after.entry) }
 {

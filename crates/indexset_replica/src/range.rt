@@ -38,7 +38,7 @@ impl<T: Ord + Clone + Drop> Replica<T> {
     }
 }
 
-// The place behind the items that stand before the start.
+// Returns the place behind the items that stand before the start.
 fn place_from<T: Ord + Drop>(nodes: &[Vec<T>], start: Bound<&T>) -> (usize, usize)
     requires { IsNodeList T.cmp (vec_items nodes.now) }
     ensures place { IsPlace (vec_items nodes.now) result }
@@ -51,7 +51,7 @@ fn place_from<T: Ord + Drop>(nodes: &[Vec<T>], start: Bound<&T>) -> (usize, usiz
     }
 }
 
-// The place behind the items that are not past the end.
+// Returns the place behind the items that are not past the end.
 fn place_to<T: Ord + Drop>(nodes: &[Vec<T>], end: Bound<&T>) -> (usize, usize)
     requires { IsNodeList T.cmp (vec_items nodes.now) }
     ensures place { IsPlace (vec_items nodes.now) result }
@@ -64,7 +64,7 @@ fn place_to<T: Ord + Drop>(nodes: &[Vec<T>], end: Bound<&T>) -> (usize, usize)
     }
 }
 
-// The place before the first item that the probe does not answer Less.
+// Returns the place before the first item that the probe does not place below what it seeks.
 fn place_by<T: Ord + Drop, P: Probe<T>>(nodes: &[Vec<T>], probe: &mut P) -> (usize, usize)
     requires filled { All (λ n. 1 ≤ n) (node_lengths (vec_items nodes.now)) }
     requires parted { IsParted (P.answer probe.old) (joined (vec_items nodes.now)) }
@@ -79,7 +79,7 @@ fn place_by<T: Ord + Drop, P: Probe<T>>(nodes: &[Vec<T>], probe: &mut P) -> (usi
     (node, offset)
 }
 
-// The place behind all items.
+// Returns the place behind all items.
 fn last_place<T>(nodes: &[Vec<T>]) -> (usize, usize)
     ensures place { IsPlace (vec_items nodes.now) result }
     ensures before { items_before (vec_items nodes.now) result ≡ length (joined (vec_items nodes.now)) }

@@ -6,6 +6,7 @@ pub mod SetAlgebraLemmas
 pub mod SetAppendLemmas
 pub mod SetBulkLemmas
 pub mod SetCloneLemmas
+pub mod SetCopyLemmas
 pub mod SetEndLemmas
 pub mod SetNodeLemmas
 pub mod SetPairLemmas

@@ -1,5 +1,6 @@
 pub mod Merge
 pub mod SetAlgebra
+pub mod SetCopy
 pub mod SetCursor
 pub mod SetLends
 pub mod SetNodes

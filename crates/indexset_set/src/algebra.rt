@@ -1,4 +1,4 @@
-//! Two sets as sets: what both have, either has, or one has alone, as walks, and subset tests.
+//! Two sets as sets: what both have, either has, or one has alone, as iterators, and subset tests.
 ghost use Rattle.std.specs.Prelude.{◌≡◌, ◌+◌, ◌≤◌, length, not};
 ghost use Rattle.std.specs.List.{list_all};
 ghost use Rattle.std.specs.Map.Iter.{ShowsInOrder, deref};
@@ -21,7 +21,7 @@ pub use symmetric_walk::SymmetricDifference;
 pub use union_walk::Union;
 
 impl<T: Ord> BTreeSet<T> {
-    /// The elements of either set, ascending. Of two equal ones it gives this set's.
+    /// Returns the elements of either set, ascending. Of two equal ones it gives this set's.
     pub fn union<'a>(&'a self, other: &'a BTreeSet<T>) -> Union<'a, T>
         ensures rest { result ≡ union T.cmp (items self.now) (items other.now) }
         ensures few { length result ≤ length (items self.now) + length (items other.now) }
@@ -32,7 +32,7 @@ impl<T: Ord> BTreeSet<T> {
         }
     }
 
-    /// The elements of this set that have an equal one in the other, ascending.
+    /// Returns the elements of this set that have an equal one in the other, ascending.
     pub fn intersection<'a>(&'a self, other: &'a BTreeSet<T>) -> Intersection<'a, T>
         ensures rest { result ≡ intersection T.cmp (items self.now) (items other.now) }
         ensures few { length result ≤ length (items self.now) }
@@ -43,7 +43,7 @@ impl<T: Ord> BTreeSet<T> {
         }
     }
 
-    /// The elements of this set that have no equal one in the other, ascending.
+    /// Returns the elements of this set that have no equal one in the other, ascending.
     pub fn difference<'a>(&'a self, other: &'a BTreeSet<T>) -> Difference<'a, T>
         ensures rest { result ≡ difference T.cmp (items self.now) (items other.now) }
         ensures few { length result ≤ length (items self.now) }
@@ -54,7 +54,7 @@ impl<T: Ord> BTreeSet<T> {
         }
     }
 
-    /// The elements of either set that have no equal one in the other, ascending.
+    /// Returns the elements of either set that have no equal one in the other, ascending.
     pub fn symmetric_difference<'a>(&'a self, other: &'a BTreeSet<T>) -> SymmetricDifference<'a, T>
         ensures rest { result ≡ symmetric_difference T.cmp (items self.now) (items other.now) }
         ensures few { length result ≤ length (items self.now) + length (items other.now) }
@@ -65,28 +65,28 @@ impl<T: Ord> BTreeSet<T> {
         }
     }
 
-    /// Whether each element has an equal one in the other set.
+    /// Returns whether each element has an equal one in the other set.
     pub fn is_subset(&self, other: &BTreeSet<T>) -> bool
         ensures { result ≡ list_all (has_equal T.cmp (items other.now)) (items self.now) }
     {
         self.difference(other).next().is_none()
     }
 
-    /// Whether each element of the other set has an equal one here.
+    /// Returns whether each element of the other set has an equal one here.
     pub fn is_superset(&self, other: &BTreeSet<T>) -> bool
         ensures { result ≡ list_all (has_equal T.cmp (items self.now)) (items other.now) }
     {
         other.is_subset(self)
     }
 
-    /// Whether no element has an equal one in the other set.
+    /// Returns whether no element has an equal one in the other set.
     pub fn is_disjoint(&self, other: &BTreeSet<T>) -> bool
         ensures { result ≡ list_all (λ x. not (has_equal T.cmp (items other.now) x)) (items self.now) }
     {
         self.intersection(other).next().is_none()
     }
 
-    // The elements of both sets, merged.
+    // Returns the elements of both sets, merged.
     fn merge<'a>(&'a self, other: &'a BTreeSet<T>) -> Merge<'a, T>
         ensures rest { result ≡ merged T.cmp (items self.now) (items other.now) }
         ensures left { IsAscending T.cmp (items self.now) }

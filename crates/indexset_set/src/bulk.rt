@@ -16,8 +16,8 @@ use super::lookup::{locate, locate_near};
 use indexset_core::refusal::Refusal;
 
 impl<T: Ord + Drop> BTreeSet<T> {
-    /// Asks the closure once an element, in order, and keeps the elements for which it answered true.
-    /// It takes no memory.
+    /// Calls the closure once for each element, in order, and keeps the elements for which it
+    /// returned true. It allocates nothing.
     pub fn retain<F: FnMut(&T) -> bool>(&mut self, mut f: F)
         requires { F.IsAlwaysCallable f }
         ensures kept { IsFiltered (CalledAt F.FnMut) f (items self.old) (items self.new) }
@@ -33,8 +33,8 @@ impl<T: Ord + Drop> BTreeSet<T> {
         );
     }
 
-    /// Takes out the elements not below the value, as a set of the same node size. A refused call
-    /// changes nothing.
+    /// Removes the elements not below the value, and returns them as a set of the same node size.
+    /// Fails with `Memory`: a failed call changes nothing.
     pub fn split_off(&mut self, value: &T) -> Result<Self, Refusal>
         ensures below { OnOk result (items self.new ≡ below T.cmp (items self.old) value.now) }
         ensures rest { IfOk result (λ s. items s ≡ not_below T.cmp (items self.old) value.now) }
@@ -50,8 +50,8 @@ impl<T: Ord + Drop> BTreeSet<T> {
         Ok(BTreeSet { spine })
     }
 
-    /// Takes out the elements from a position on, as a set of the same node size. A refused call changes
-    /// nothing.
+    /// Removes the elements from a position on, and returns them as a set of the same node size.
+    /// Fails with `Memory`: a failed call changes nothing.
     pub fn split_off_index(&mut self, i: usize) -> Result<Self, Refusal>
         requires { i ≤ length (items self.old) }
         ensures first { OnOk result (items self.new ≡ take i (items self.old)) }
@@ -66,9 +66,9 @@ impl<T: Ord + Drop> BTreeSet<T> {
         Ok(BTreeSet { spine })
     }
 
-    /// Puts the elements of another set in their places, first to last, each as `replace` puts it, and takes
-    /// them out of the other. A refused call has moved some first elements and leaves the others. Elements
-    /// above all here move by blocks, and are compared with none.
+    /// Moves all elements of the other set into this one, first to last, replacing equal ones.
+    /// Elements above all here move by blocks without a comparison. Fails with `Memory`: a failed
+    /// call has moved a prefix, and the other set keeps the rest.
     pub fn append(&mut self, other: &mut Self) -> Result<(), Refusal>
         ensures ok { OnOk result (items self.new ≡ put_all T.cmp (items self.old) (items other.old)) }
         ensures nodes { OnOk result (self.new.nodes ≡ nodes_put_all T.cmp self.old (items other.old)) }
@@ -87,7 +87,7 @@ impl<T: Ord + Drop> BTreeSet<T> {
         self.append_above(other)
     }
 
-    // Whether each element here is below each there, by one comparison at most.
+    // Returns whether each element here is below each there, by one comparison at most.
     fn is_below(&self, other: &Self) -> bool
         ensures value { IsTrue result ↔ IsAscending T.cmp (items self.now ++ items other.now) }
         ensures some { result ≡ false → 0 < length (items other.now) }
@@ -98,8 +98,8 @@ impl<T: Ord + Drop> BTreeSet<T> {
         self.spine.item(&last).cmp(other.spine.item(&first)).is_lt()
     }
 
-    // Puts the elements of another set, which are above those here, behind them. A refused call has moved
-    // some first elements and leaves the others.
+    // Moves the elements of another set, which are above those here, behind them. A failed call has
+    // moved a prefix.
     fn append_above(&mut self, other: &mut Self) -> Result<(), Refusal>
         requires order { IsAscending T.cmp (items self.old ++ items other.old) }
         ensures moved { TakesSome (put T.cmp) (items self.old) (items other.old) (items self.new) (items other.new) }
@@ -114,8 +114,8 @@ impl<T: Ord + Drop> BTreeSet<T> {
         self.spine.append(&mut other.spine)
     }
 
-    // Puts the first element of another set in its place, takes it out of the other, and answers the
-    // node that it was put near. The node `near` is tried first. A refused call changes neither.
+    // Moves the first element of another set into its place here, and returns the node near which
+    // it went. The node `near` is tried first. A failed call changes neither.
     fn put_first_of(&mut self, other: &mut Self, near: usize) -> Result<usize, Refusal>
         requires some { 0 < length (items other.old) }
         ensures ok { OnOk result (IfSome (slice_get (items other.old) 0) (λ x. items self.new ≡ put T.cmp (items self.old) x)) }

@@ -36,7 +36,7 @@ impl<'a, T: Ord> Model for Cursor<'a, T> {
 }
 
 impl<T: Ord> BTreeSet<T> {
-    /// A cursor at a position, or at the end place where there is none.
+    /// Returns a cursor at a position, or at the end place where there is none.
     pub fn cursor_at(&self, i: usize) -> Cursor<'_, T>
         ensures { result ≡ standing_at (items self.now) i }
     {
@@ -73,21 +73,22 @@ impl<'a, T: Ord> Cursor<'a, T> {
         self.position = i.min(self.set.len());
     }
 
-    /// The element at the position, and none at the end place.
+    /// Returns the element at the position, and none at the end place.
     pub fn item(&self) -> Option<&'a T>
         ensures { option_copied result ≡ item_at self.now }
     {
         self.set.get_index(self.position)
     }
 
-    /// The element that `move_next` would go to: at the end place the first, where there is one.
+    /// Returns the element that `move_next` would go to: at the end place the first, or `None`
+    /// where there is none.
     pub fn peek_next(&self) -> Option<&'a T>
         ensures { option_copied result ≡ item_at (one_on self.now) }
     {
         self.set.get_index(self.next_position())
     }
 
-    /// The element before, and none at the first position.
+    /// Returns the element before, and none at the first position.
     pub fn peek_prev(&self) -> Option<&'a T>
         ensures { option_copied result ≡ (if self.now.position == 0 then None else slice_get self.now.list (self.now.position - 1)) }
     {
@@ -95,7 +96,7 @@ impl<'a, T: Ord> Cursor<'a, T> {
         self.set.get_index(before)
     }
 
-    /// The element at another position, where there is one. The cursor stays.
+    /// Returns the element at another position, or `None` where there is none. The cursor stays.
     pub fn peek_index(&self, i: usize) -> Option<&'a T>
         ensures { option_copied result ≡ slice_get self.now.list i }
     {

@@ -1,4 +1,4 @@
-//! Calls that add an element or take one out.
+//! Insertion and removal of one element.
 ghost use Rattle.std.specs.Prelude.{◌≡◌, [], ◌∷◌, true, false, not, IfOk, OnOk, IfErr, OnErr, IsOk};
 ghost use Rattle.indexset_spine.specs.Cut.{items};
 ghost use Rattle.indexset_core.specs.Order.{has_equal, keep, put, without, equal_element};
@@ -9,8 +9,10 @@ use super::lookup::{locate, locate_from_end};
 use indexset_core::refusal::{Refusal, Refused};
 
 impl<T: Ord + Drop> BTreeSet<T> {
-    /// Adds a value: true, or false where an equal element is there. That one stays, the value is let
-    /// go, and no memory is taken. A refused call hands the value back and changes nothing.
+    /// Inserts `value` and returns true. If an equal element is present, keeps it, drops `value`,
+    /// allocates nothing and returns false. It costs two binary searches at most, one comparison
+    /// where the value is above all elements, and moves items of one node. Fails with `Memory`: a
+    /// failed call hands the value back and changes nothing.
     pub fn insert(&mut self, value: T) -> Result<bool, Refused<T>>
         ensures added { IfOk result (λ b. b ≡ not (has_equal T.cmp (items self.old) value)) }
         ensures ok { OnOk result (items self.new ≡ keep T.cmp (items self.old) value) }
@@ -30,8 +32,9 @@ impl<T: Ord + Drop> BTreeSet<T> {
         Ok(true)
     }
 
-    /// Puts a value in place of the element equal to it, answers that one, and takes no memory; or adds
-    /// the value where there is none. A refused call hands the value back and changes nothing.
+    /// Replaces the element equal to `value` and returns the old one, and allocates nothing then.
+    /// If there is none, inserts `value` and returns `None`. Costs as `insert`. Fails with
+    /// `Memory`: a failed call hands the value back and changes nothing.
     pub fn replace(&mut self, value: T) -> Result<Option<T>, Refused<T>>
         ensures old { IfOk result (λ o. o ≡ equal_element T.cmp (items self.old) value) }
         ensures ok { OnOk result (items self.new ≡ put T.cmp (items self.old) value) }
@@ -50,7 +53,8 @@ impl<T: Ord + Drop> BTreeSet<T> {
         Ok(None)
     }
 
-    /// Takes out the element equal to the value, where there is one. It takes no memory.
+    /// Removes the element equal to the value and returns it, or returns `None`, by two binary
+    /// searches. It allocates nothing.
     pub fn take(&mut self, value: &T) -> Option<T>
         ensures value { result ≡ equal_element T.cmp (items self.old) value.now }
         ensures rest { items self.new ≡ without T.cmp (items self.old) value.now }
@@ -66,8 +70,8 @@ impl<T: Ord + Drop> BTreeSet<T> {
         }
     }
 
-    /// Takes out the element equal to the value: true, or false where there is none. It takes no
-    /// memory.
+    /// Removes the element equal to the value, and returns whether there was one. It allocates
+    /// nothing.
     pub fn remove(&mut self, value: &T) -> bool
         ensures removed { result ≡ has_equal T.cmp (items self.old) value.now }
         ensures rest { items self.new ≡ without T.cmp (items self.old) value.now }
@@ -78,7 +82,7 @@ impl<T: Ord + Drop> BTreeSet<T> {
         self.take(value).is_some()
     }
 
-    /// Takes out all elements, and keeps one empty node. It takes no memory.
+    /// Removes all elements, and keeps one empty node. It allocates nothing.
     pub fn clear(&mut self)
         ensures empty { self.new.nodes ≡ [] ∷ [] }
         ensures size { self.new.size ≡ self.old.size }

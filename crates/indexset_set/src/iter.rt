@@ -1,4 +1,4 @@
-//! Walks of a set from both ends.
+//! Iterators over a set, from both ends.
 ghost use Rattle.std.specs.Prelude.{◌≡◌, length, List, IfSome, Some};
 ghost use Rattle.std.specs.Iterator.{UpTo, at_most};
 ghost use Rattle.std.specs.Iterator.SizeHint.{IsWithinCount};
@@ -13,7 +13,7 @@ use indexset_spine::iter;
 use std::iter::FusedIterator;
 use std::marker::Model;
 
-/// The elements of a set that are left, from both ends.
+/// The remaining elements of a set, from both ends.
 #[derive(Drop)]
 pub struct Iter<'a, T> {
     rest: iter::Iter<'a, T>,
@@ -28,7 +28,7 @@ impl<'a, T> Model for Iter<'a, T> {
 }
 
 impl<'a, T: Ord> Iter<'a, T> {
-    /// All elements, in order.
+    /// Returns all elements, in order.
     pub fn new(set: &'a BTreeSet<T>) -> Self
         ensures rest { result ≡ items set.now }
         ensures runs { ShowsInOrder (deref {X = T}) }
@@ -41,7 +41,7 @@ impl<'a, T: Ord> Iter<'a, T> {
 }
 
 impl<'a, T> Iter<'a, T> {
-    // What a walk of a spine has left.
+    // The remaining elements of a spine's iterator.
     pub(super) fn of(rest: iter::Iter<'a, T>) -> Self
         ensures { result ≡ rest.entry }
     {
@@ -86,7 +86,7 @@ impl<'a, T> ExactSizeIterator for Iter<'a, T> {
 impl<'a, T> FusedIterator for Iter<'a, T> {}
 
 impl<T: Ord> BTreeSet<T> {
-    /// The elements, in order.
+    /// Returns the elements, in order.
     pub fn iter(&self) -> Iter<'_, T>
         ensures rest { result ≡ items self.now }
         ensures runs { ShowsInOrder (deref {X = T}) }

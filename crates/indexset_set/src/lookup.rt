@@ -1,4 +1,4 @@
-//! Calls that look for a value: whether an equal element is there, where, and what comes next.
+//! Look-ups by value: whether an equal element is present, where, and what comes next.
 ghost use Rattle.std.specs.Prelude.{◌≡◌, ◌+◌, ◌≤◌, IsTrue, IfOk, IfErr, None, Some, find, length, position};
 ghost use Rattle.std.specs.Bool.{OnTrue, OnFalse};
 ghost use Rattle.std.specs.Option.{option_copied};
@@ -15,7 +15,7 @@ use indexset_core::probe::{ByItem, Probe};
 use indexset_spine::spine::Spine;
 use indexset_spine::spot::Spot;
 
-// Where the element equal to the value is, or where the value would go.
+// Returns where the element equal to the value is, or where the value would go.
 #[inline(always)]
 pub(super) fn locate<T: Ord>(spine: &Spine<T>, value: &T) -> Spot
     requires { IsAscending T.cmp (items spine.now) }
@@ -29,7 +29,7 @@ pub(super) fn locate<T: Ord>(spine: &Spine<T>, value: &T) -> Spot
     spine.locate_by(&mut ByItem::new(value))
 }
 
-// The same, where the last element is compared first: it is for values that come in order.
+// Does the same, where the last element is compared first: it is for values that come in order.
 pub(super) fn locate_from_end<T: Ord>(spine: &Spine<T>, value: &T) -> Spot
     requires { IsAscending T.cmp (items spine.now) }
     ensures spot { IsSpot spine.now.nodes result }
@@ -42,7 +42,7 @@ pub(super) fn locate_from_end<T: Ord>(spine: &Spine<T>, value: &T) -> Spot
     spine.locate_from_end_by(&mut ByItem::new(value))
 }
 
-// The same, where a node is tried first: it is for values that go near each other.
+// Does the same, where a node is tried first: it is for values that go near each other.
 pub(super) fn locate_near<T: Ord>(spine: &Spine<T>, near: usize, value: &T) -> Spot
     requires { IsAscending T.cmp (items spine.now) }
     ensures spot { IsSpot spine.now.nodes result }
@@ -56,7 +56,7 @@ pub(super) fn locate_near<T: Ord>(spine: &Spine<T>, near: usize, value: &T) -> S
 }
 
 impl<T: Ord> BTreeSet<T> {
-    /// The element equal to the value, where there is one.
+    /// Returns the element equal to the value, or `None`, by two binary searches.
     pub fn get(&self, value: &T) -> Option<&T>
         ensures { option_copied result ≡ equal_element T.cmp (items self.now) value.now }
     {
@@ -68,28 +68,30 @@ impl<T: Ord> BTreeSet<T> {
         }
     }
 
-    /// Whether an element equal to the value is there.
+    /// Returns whether an element equal to the value is present, by two binary searches.
     pub fn contains(&self, value: &T) -> bool
         ensures { result ≡ has_equal T.cmp (items self.now) value.now }
     {
         locate(&self.spine, value).found
     }
 
-    /// How many elements are below the value.
+    /// Returns how many elements are below the value, by two binary searches and a sum over the
+    /// index.
     pub fn rank(&self, value: &T) -> usize
         ensures { result ≡ rank T.cmp (items self.now) value.now }
     {
         self.spine.position(&locate(&self.spine, value))
     }
 
-    /// The first element that is not below the value, where there is one.
+    /// Returns the first element that is not below the value, or `None` where there is none.
     pub fn lower_bound(&self, value: &T) -> Option<&T>
         ensures { option_copied result ≡ lower_element T.cmp (items self.now) value.now }
     {
         self.spine.item_from(&locate(&self.spine, value))
     }
 
-    /// The first element that the probe answers Equal, where there is one. It asks as `locate_by` does.
+    /// Returns the first element that the probe finds Equal, or `None` where there is none. It
+    /// compares as `locate_by` does.
     pub fn get_by<P: Probe<T>>(&self, probe: &mut P) -> Option<&T>
         requires { FindsInOrder (P.answer probe.old) (items self.now) }
         ensures value { option_copied result ≡ find (λ x. is_eq (P.answer probe.old x)) (items self.now) }
@@ -104,8 +106,8 @@ impl<T: Ord> BTreeSet<T> {
         }
     }
 
-    /// The position of the first element that the probe answers Equal, or where it answers none so,
-    /// how many it answers Less. It asks of one element a step of two binary searches.
+    /// Returns the position of the first element that the probe finds Equal, or where it finds
+    /// none, how many it finds Less. It makes one comparison a step of two binary searches.
     pub fn locate_by<P: Probe<T>>(&self, probe: &mut P) -> Result<usize, usize>
         requires { FindsInOrder (P.answer probe.old) (items self.now) }
         ensures found { IfOk result (λ i. position (λ x. is_eq (P.answer probe.old x)) (items self.now) ≡ Some i) }

@@ -1,9 +1,12 @@
 //! Calls that make a set.
-ghost use Rattle.std.specs.Prelude.{◌≡◌, ◌≤◌, List, [], ◌∷◌, IfOk, IfErr, fold};
+ghost use Rattle.std.specs.Prelude.{◌≡◌, ◌≤◌, false, IsTrue, List, [], ◌∷◌, IfOk, IfErr, fold};
+ghost use Rattle.std.specs.declared.cmp.Ordering.TheVariants.{Equal};
+ghost use Rattle.std.specs.List.{AllZip};
 ghost use Rattle.std.specs.Iterator.{IsFiniteIterable};
 ghost use Rattle.std.specs.Iterator.Runs.{WholeRun};
 ghost use Rattle.indexset_spine.specs.Cut.{cut, items};
-ghost use Rattle.indexset_core.specs.Order.{keep};
+ghost use Rattle.indexset_core.specs.Order.{IsAscending, keep};
+ghost use Rattle.indexset_set.specs.SetCopy.{IsSetCopy};
 ghost use Rattle.indexset_set.specs.SetNodes.{nodes_kept_all};
 
 use super::BTreeSet;
@@ -13,7 +16,7 @@ use indexset_spine::spine::Spine;
 use std::alloc::Global;
 
 impl<T: Ord + Drop> BTreeSet<T> {
-    /// The empty set: one empty node, of the default size.
+    /// Returns the empty set: one empty node, of the default size.
     pub fn new(alloc: Global) -> Result<Self, Refusal>
         ensures empty { IfOk result (λ s. s.nodes ≡ [] ∷ []) }
         ensures size { IfOk result (λ s. s.size ≡ DEFAULT_INNER_SIZE) }
@@ -22,7 +25,7 @@ impl<T: Ord + Drop> BTreeSet<T> {
         Self::with_maximum_node_size(alloc, DEFAULT_INNER_SIZE)
     }
 
-    /// The empty set, as `new` makes it.
+    /// Returns the empty set, as `new` makes it.
     pub fn default(alloc: Global) -> Result<Self, Refusal>
         ensures empty { IfOk result (λ s. s.nodes ≡ [] ∷ []) }
         ensures size { IfOk result (λ s. s.size ≡ DEFAULT_INNER_SIZE) }
@@ -31,7 +34,7 @@ impl<T: Ord + Drop> BTreeSet<T> {
         Self::new(alloc)
     }
 
-    /// The empty set, whose nodes are to hold at most `size` elements each.
+    /// Returns the empty set, whose nodes are to hold at most `size` elements each.
     pub fn with_maximum_node_size(alloc: Global, size: usize) -> Result<Self, Refusal>
         requires { 2 ≤ size }
         ensures empty { IfOk result (λ s. s.nodes ≡ [] ∷ []) }
@@ -42,8 +45,8 @@ impl<T: Ord + Drop> BTreeSet<T> {
         Ok(BTreeSet { spine })
     }
 
-    /// The set of what an iterator gives, of the default node size. Of equal ones the first stays. A
-    /// refused call lets all go.
+    /// Returns the set of the values of an iterator, of the default node size. Of equal ones the
+    /// first is kept. Fails with `Memory`: a failed call drops all values.
     pub fn from_iter<I: IntoIterator<Item = T>>(alloc: Global, iter: I) -> Result<Self, Refusal>
         requires { IsFiniteIterable I.into_iter_gives I.IntoIter.can_next I.IntoIter.remaining iter }
         ensures kept { IfOk result (λ s. (it : I.IntoIter) × I.into_iter_gives iter it
@@ -53,8 +56,26 @@ impl<T: Ord + Drop> BTreeSet<T> {
         ensures size { IfOk result (λ s. s.size ≡ DEFAULT_INNER_SIZE) }
         ensures refusal { IfErr result (λ e. e ≡ Refusal.Memory) }
     {
+        Self::kept_in(alloc, DEFAULT_INNER_SIZE, iter)
+    }
+
+    // Does the same, of a node size.
+    fn kept_in<I: IntoIterator<Item = T>>(
+        alloc: Global,
+        size: usize,
+        iter: I,
+    ) -> Result<Self, Refusal>
+        requires two { 2 ≤ size }
+        requires finite { IsFiniteIterable I.into_iter_gives I.IntoIter.can_next I.IntoIter.remaining iter }
+        ensures kept { IfOk result (λ s. (it : I.IntoIter) × I.into_iter_gives iter it
+            × WholeRun I.IntoIter.next_gives it (λ run. items s ≡ fold (keep T.cmp) [] run.items)) }
+        ensures nodes { IfOk result (λ s. (it : I.IntoIter) × I.into_iter_gives iter it
+            × WholeRun I.IntoIter.next_gives it (λ run. s.nodes ≡ nodes_kept_all T.cmp (cut ([] ∷ []) size) run.items)) }
+        ensures size { IfOk result (λ s. s.size ≡ size) }
+        ensures refusal { IfErr result (λ e. e ≡ Refusal.Memory) }
+    {
         let rest = iter.into_iter();
-        let mut set = Self::default(alloc)?;
+        let mut set = Self::with_maximum_node_size(alloc, size)?;
         let mut run = Vec::new(alloc);
         for value in rest {
             set.keep_behind(&mut run, value)?;
@@ -63,7 +84,7 @@ impl<T: Ord + Drop> BTreeSet<T> {
         Ok(set)
     }
 
-    /// The set of the values, as `from_iter` makes it.
+    /// Returns the set of the values, as `from_iter` makes it.
     pub fn from(alloc: Global, values: Vec<T>) -> Result<Self, Refusal>
         ensures kept { IfOk result (λ s. items s ≡ fold (keep T.cmp) [] values.items) }
         ensures nodes { IfOk result (λ s. s.nodes ≡ nodes_kept_all T.cmp (cut ([] ∷ []) DEFAULT_INNER_SIZE) values.items) }
@@ -73,16 +94,41 @@ impl<T: Ord + Drop> BTreeSet<T> {
         Self::from_iter(alloc, values)
     }
 
-    /// The same elements in the same nodes, each element cloned. A refused call changes nothing.
-    /// Unlike `Clone::clone`, it keeps the nodes, for clones that are identical to their elements.
+    /// Returns clones of the elements in nodes as long as these, by one comparison an element, where
+    /// the clones ascend, as those equal to their sources do. Else it inserts each clone in turn, as
+    /// `from_iter` does. Fails with `Memory`, and then drops the clones. Unlike `Clone::clone`, it
+    /// keeps the nodes, and fails with `Refusal`.
     pub fn clone(&self) -> Result<Self, Refusal>
     where
         T: Clone,
-        requires { (x y : T) → T.is_clone x y → y ≡ x }
-        ensures ok { IfOk result (λ s. s ≡ self.now) }
+        ensures copy { IfOk result (λ s. IsSetCopy T.cmp T.is_clone self.now s) }
+        ensures cloned { ((x y : T) → T.is_clone x y → T.cmp x y ≡ Equal) → IfOk result (λ s. AllZip (AllZip T.is_clone) self.now.nodes s.nodes) }
+        ensures ok { ((x y : T) → T.is_clone x y → y ≡ x) → IfOk result (λ s. s ≡ self.now) }
+        ensures size { IfOk result (λ s. s.size ≡ self.now.size) }
         ensures refusal { IfErr result (λ e. e ≡ Refusal.Memory) }
     {
         let spine = self.spine.clone()?;
-        Ok(BTreeSet { spine })
+        if is_ascending(&spine) {
+            return Ok(BTreeSet { spine });
+        }
+        Self::kept_in(*self.spine.allocator(), self.maximum_node_size(), spine)
     }
+}
+
+// Returns whether each item is below the next.
+fn is_ascending<T: Ord>(spine: &Spine<T>) -> bool
+    ensures ascending { IsTrue result → IsAscending T.cmp (items spine.now) }
+    ensures other { result ≡ false → IsAscending T.cmp (items spine.now) → ⊥ }
+{
+    let mut rest = spine.iter();
+    let Some(mut last) = rest.next() else {
+        return true;
+    };
+    while let Some(item) = rest.next() {
+        if !last.cmp(item).is_lt() {
+            return false;
+        }
+        last = item;
+    }
+    true
 }

@@ -19,7 +19,7 @@ use indexset_spine::spot::Spot;
 impl<K: Ord, V> BTreeSet<Pair<K, V>> {
     ghost use Rattle.indexset_set.specs.SetLends.{lends_value, lends_pair, lends_pair_if, lends_value_if};
 
-    /// The value at a position, to write, where there is one.
+    /// Returns a mutable reference to the value at a position, or `None` where there is none.
     pub fn value_mut(&mut self, i: usize) -> Option<&mut V>
         ensures* writes_back { sem 𝓛 (lends_value_if K.row V.row K.Ord self.entry i result) }
         ensures value { option_copied_mut result ≡ option_map (λ p. p.value) (slice_get (items self.old) i) }
@@ -31,8 +31,8 @@ impl<K: Ord, V> BTreeSet<Pair<K, V>> {
         }
     }
 
-    /// The value of the first pair that the probe answers Equal, to write, where there is one. It asks
-    /// as `locate_by` does.
+    /// Returns a mutable reference to the value of the first pair that the probe finds Equal, or
+    /// `None` where there is none. It compares as `locate_by` does.
     pub fn value_mut_by<P: Probe<Pair<K, V>>>(&mut self, probe: &mut P) -> Option<&mut V>
         requires { FindsInOrder (P.answer probe.old) (items self.old) }
         ensures* writes_back { sem 𝓛 (lends_value_if K.row V.row K.Ord self.entry (less_count (P.answer probe.old) (items self.old)) result) }
@@ -48,7 +48,7 @@ impl<K: Ord, V> BTreeSet<Pair<K, V>> {
         }
     }
 
-    /// The pair at a position, its value to write, where there is one.
+    /// Returns the key at a position with a mutable reference to its value, or `None` past the end.
     pub fn pair_mut(&mut self, i: usize) -> Option<(&K, &mut V)>
         ensures* writes_back { sem 𝓛 (lends_pair_if K.row V.row K.Ord self.entry i result) }
         ensures value { option_map deref_pair_mut result ≡ option_map entry_of (slice_get (items self.old) i) }
@@ -60,14 +60,14 @@ impl<K: Ord, V> BTreeSet<Pair<K, V>> {
         None
     }
 
-    // Whether a position has a pair, of a set that is lent to write.
+    // Returns whether a position has a pair, of a set that is borrowed mutably.
     fn reaches(&mut self, i: usize) -> bool
         ensures { (result ≡ nat_lt i (length (items self.old))) × (self.new ≡ self.old) }
     {
         i < self.spine.len()
     }
 
-    /// The pair at a position, its value to write.
+    /// Returns the key at a position with a mutable reference to its value.
     pub fn pair_at_mut(&mut self, i: usize) -> (&K, &mut V)
         requires { i < length (items self.old) }
         ensures* writes_back { sem 𝓛 (lends_pair K.row V.row K.Ord self.entry i result) }
@@ -77,7 +77,7 @@ impl<K: Ord, V> BTreeSet<Pair<K, V>> {
         (&pair.key, &mut pair.value)
     }
 
-    // The value at a spot, to write.
+    // Returns a mutable reference to the value at a spot.
     fn value_in(&mut self, spot: Spot) -> &mut V
         requires { IsItemSpot self.old.nodes spot }
         ensures* writes_back { sem 𝓛 (lends_value K.row V.row K.Ord self.entry (position_of self.old.nodes spot) result) }
@@ -87,7 +87,7 @@ impl<K: Ord, V> BTreeSet<Pair<K, V>> {
         &mut pair.value
     }
 
-    // The value at a position, to write.
+    // Returns a mutable reference to the value at a position.
     fn value_at_mut(&mut self, i: usize) -> &mut V
         requires { i < length (items self.old) }
         ensures* writes_back { sem 𝓛 (lends_value K.row V.row K.Ord self.entry i result) }
@@ -99,8 +99,8 @@ impl<K: Ord, V> BTreeSet<Pair<K, V>> {
 }
 
 impl<K: Ord + Drop, V: Drop> BTreeSet<Pair<K, V>> {
-    /// Asks the closure once a pair, in order, and keeps the pairs for which it answered true, with the
-    /// values that it left. It takes no memory.
+    /// Calls the closure once for each pair, in order, and keeps the pairs for which it returned
+    /// true, with the values that it left. It allocates nothing.
     pub fn retain_pairs<F: FnMut(&K, &mut V) -> bool>(&mut self, mut f: F)
         requires { F.IsAlwaysCallable f }
         ensures kept { RetainsInTurn (CalledOnPair F.FnMut) f (items self.old) (items self.new) }

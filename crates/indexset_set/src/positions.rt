@@ -1,4 +1,4 @@
-//! Calls that go by position: the element there, and the element there taken out.
+//! Look-ups and removals by position.
 ghost use Rattle.std.specs.Prelude.{◌≡◌, ◌-◌, ◌<◌, ◌↔◌, ◌++◌, [], Some, IsSome, IfSome, MatchOption, length, take, drop, remove, slice_get};
 ghost use Rattle.std.specs.Option.{option_copied, option_to_list};
 ghost use Rattle.indexset_core.specs.Order.{above, below};
@@ -9,14 +9,15 @@ use super::BTreeSet;
 use std::ops::Index;
 
 impl<T: Ord> BTreeSet<T> {
-    /// The element at a position, counted from 0, where there is one.
+    /// Returns the element at a position, counted from 0, or `None` past the end, in logarithmic
+    /// time.
     pub fn get_index(&self, i: usize) -> Option<&T>
         ensures { option_copied result ≡ slice_get (items self.now) i }
     {
         self.spine.get(i)
     }
 
-    /// The least element, where there is one.
+    /// Returns the least element, or `None` where there is none.
     pub fn first(&self) -> Option<&T>
         ensures element { option_copied result ≡ slice_get (items self.now) 0 }
         ensures variant { IsSome result ↔ (0 < length (items self.now)) }
@@ -25,7 +26,7 @@ impl<T: Ord> BTreeSet<T> {
         self.spine.iter().next()
     }
 
-    /// The greatest element, where there is one.
+    /// Returns the greatest element, or `None` where there is none.
     pub fn last(&self) -> Option<&T>
         ensures element { option_copied result ≡ slice_get (items self.now) (length (items self.now) - 1) }
         ensures variant { IsSome result ↔ (0 < length (items self.now)) }
@@ -36,7 +37,8 @@ impl<T: Ord> BTreeSet<T> {
 }
 
 impl<T: Ord + Drop> BTreeSet<T> {
-    /// Takes out the least element, where there is one. It takes no memory.
+    /// Removes the least element and returns it, or returns `None` where the set is empty. It
+    /// allocates nothing.
     pub fn pop_first(&mut self) -> Option<T>
         ensures value { result ≡ slice_get (items self.old) 0 }
         ensures rest { items self.new ≡ drop 1 (items self.old) }
@@ -48,7 +50,8 @@ impl<T: Ord + Drop> BTreeSet<T> {
         Some(self.spine.remove(spot))
     }
 
-    /// Takes out the greatest element, where there is one. It takes no memory.
+    /// Removes the greatest element and returns it, or returns `None` where the set is empty. It
+    /// allocates nothing.
     pub fn pop_last(&mut self) -> Option<T>
         ensures value { result ≡ slice_get (items self.old) (length (items self.old) - 1) }
         ensures rest { items self.new ≡ take (length (items self.old) - 1) (items self.old) }
@@ -60,7 +63,7 @@ impl<T: Ord + Drop> BTreeSet<T> {
         Some(self.spine.remove(spot))
     }
 
-    /// Takes out the element at a position. It takes no memory.
+    /// Removes the element at a position. It allocates nothing.
     pub fn pop_index(&mut self, i: usize) -> T
         requires { i < length (items self.old) }
         ensures value { slice_get (items self.old) i ≡ Some result }

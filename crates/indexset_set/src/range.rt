@@ -12,12 +12,12 @@ use super::iter::Iter;
 use indexset_core::probe::{ByItem, Probe};
 use std::ops::Bound;
 
-/// The elements of a part of a set that are left, from both ends.
+/// The remaining elements of a part of a set, from both ends.
 pub type Range<'a, T> = Iter<'a, T>;
 
 impl<T: Ord> BTreeSet<T> {
-    /// The elements that satisfy both bounds, in order. The start must not be past the end, nor at it
-    /// where both are excluded, which `bounds_are_ordered` of the core tests.
+    /// Returns the elements that satisfy both bounds, in order. The start must not be past the end,
+    /// nor at it where both are excluded, which `bounds_are_ordered` of the core tests.
     ///
     /// ```
     /// // The elements from 10 on that are below 20.
@@ -34,8 +34,8 @@ impl<T: Ord> BTreeSet<T> {
         Iter::of(self.spine.iter_from_to(&from, &to))
     }
 
-    /// The elements at the positions that satisfy both bounds, in order. There is none where the
-    /// bounds are the wrong way round, and positions past the end have none.
+    /// Returns the elements at the positions that satisfy both bounds, in order. There is none
+    /// where the bounds are the wrong way round, and positions past the end have none.
     ///
     /// ```
     /// // The third page of a hundred elements each.
@@ -52,7 +52,7 @@ impl<T: Ord> BTreeSet<T> {
         Iter::of(self.spine.iter_between(from, to))
     }
 
-    /// How many elements stand before the start, a bound on what a probe seeks.
+    /// Returns how many elements stand before the start, a bound on what a probe seeks.
     pub fn count_before<P: Probe<T> + Drop>(&self, start: Bound<P>) -> usize
         requires { IfBounded (λ p. FindsInOrder (P.answer p) (items self.now)) start }
         ensures { result ≡ count_by (is_before (λ x p. P.answer p x) start) (items self.now) }
@@ -60,7 +60,7 @@ impl<T: Ord> BTreeSet<T> {
         self.spine.position(&self.spine.start_of(start))
     }
 
-    /// How many elements are not past the end, a bound on what a probe seeks.
+    /// Returns how many elements are not past the end, a bound on what a probe seeks.
     pub fn count_up_to<P: Probe<T> + Drop>(&self, end: Bound<P>) -> usize
         requires { IfBounded (λ p. FindsInOrder (P.answer p) (items self.now)) end }
         ensures { result ≡ count_by (is_up_to_end (λ x p. P.answer p x) end) (items self.now) }
@@ -69,7 +69,7 @@ impl<T: Ord> BTreeSet<T> {
     }
 }
 
-// The first position that is not before the start, or the length where there is none.
+// Returns the first position that is not before the start, or the length where there is none.
 pub fn first_position(start: Bound<usize>, len: usize) -> usize
     ensures { result ≡ min (start_index start) len }
 {
@@ -80,7 +80,7 @@ pub fn first_position(start: Bound<usize>, len: usize) -> usize
     }
 }
 
-/// The first position past the end, or the length where there is none.
+/// Returns the first position past the end, or the length where there is none.
 pub fn end_position(end: Bound<usize>, len: usize) -> usize
     ensures { result ≡ min (end_index end len) len }
 {

@@ -8,8 +8,9 @@ use super::BTreeSet;
 use indexset_core::refusal::Refusal;
 
 impl<T: Ord + Drop> BTreeSet<T> {
-    /// Keeps a value as `insert` does, where the values of a run are yet to go behind the elements: one
-    /// above all joins the run, and before any other the run goes in. A refused call lets the value go.
+    /// Keeps a value as `insert` does, where the values of a run are yet to go behind the elements:
+    /// one above all joins the run, and any other goes in after the run. A failed call drops the
+    /// value.
     pub(super) fn keep_behind(&mut self, run: &mut Vec<T>, value: T) -> Result<(), Refusal>
         requires order { IsAscending T.cmp (items self.old ++ run.old.items) }
         ensures order { OnOk result (IsAscending T.cmp (items self.new ++ run.new.items)) }
@@ -31,7 +32,7 @@ impl<T: Ord + Drop> BTreeSet<T> {
         Ok(())
     }
 
-    /// Puts the values of a run behind the elements. A refused call has put some first ones.
+    /// Moves the values of a run behind the elements. A failed call has moved a prefix.
     pub(super) fn take_run(&mut self, run: &mut Vec<T>) -> Result<(), Refusal>
         requires order { IsAscending T.cmp (items self.old ++ run.old.items) }
         ensures items { items self.new ++ run.new.items ≡ items self.old ++ run.old.items }
@@ -44,7 +45,8 @@ impl<T: Ord + Drop> BTreeSet<T> {
         self.spine.append_items(run)
     }
 
-    // The same, where the run fills the half of a node, so that it goes whole into one that was just halved.
+    // Does the same where the run fills the half of a node, so that it goes whole into one that was
+    // just halved.
     fn take_full_run(&mut self, run: &mut Vec<T>) -> Result<(), Refusal>
         requires order { IsAscending T.cmp (items self.old ++ run.old.items) }
         ensures items { items self.new ++ run.new.items ≡ items self.old ++ run.old.items }
@@ -58,7 +60,7 @@ impl<T: Ord + Drop> BTreeSet<T> {
         self.take_run(run)
     }
 
-    // Whether a value is above the elements and a run behind them, by one comparison.
+    // Returns whether a value is above the elements and a run behind them, by one comparison.
     fn is_above(&self, run: &[T], value: &T) -> bool
         requires order { IsAscending T.cmp (items self.now ++ run.now) }
         ensures { IsTrue result → IsAscending T.cmp (items self.now ++ (run.now ++ value.now ∷ [])) }

@@ -19,7 +19,7 @@ impl<T: Ord + Clone> Clone for BTreeSet<T> {
     // Where clones of elements are identical to them, it is of the same elements and node size.
     ghost is_clone = { λ s copy. (((x y : T) → T.is_clone x y → y ≡ x) → items copy ≡ items s) × (copy.size ≡ s.size) };
 
-    /// Unlike the inherent `clone`, it takes any clones, inserts them in turn, and fails with `AllocError`.
+    /// Unlike the inherent `clone`, it inserts the clones in turn into new nodes, and fails with `AllocError`.
     fn clone(&self) -> Result<BTreeSet<T>, AllocError> {
         let alloc = *self.spine.allocator();
         let size = self.maximum_node_size();

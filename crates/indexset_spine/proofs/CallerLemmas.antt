@@ -1,5 +1,6 @@
 -- What crates above this one may cite of its proofs.
 pub use Rattle.indexset_spine.proofs.AppendLemmas.{cut_all_last, cut_last, joined_all_last, joined_last, takes_items}
+pub use Rattle.indexset_spine.proofs.CopyLemmas.{copies_joined, copies_lengths, copies_same}
 pub use Rattle.indexset_spine.proofs.CutEdits.{node_filled}
 pub use Rattle.indexset_spine.proofs.CutLemmas.{joined-set}
 pub use Rattle.indexset_spine.proofs.EndLemmas.{end_node, end_offset}

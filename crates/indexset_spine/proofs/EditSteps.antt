@@ -1,7 +1,7 @@
 -- The steps of an edit, on the nodes as the code holds them.
 use Rattle.std.proofs.Common.{◌≡◌, ℕ, suc, ◌+◌, ◌-◌, ◌/◌, ◌<◌, ◌≤◌, List, [], ◌∷◌, ◌++◌, length, take, drop, get_or, slice_set, nat_lt, true, false, Option, Some, None, refl, sym, ap, ◌∙◌, subst, arith, add-one, append_assoc, length-take, length-drop}
 use Rattle.std.proofs.lemmas.Bool.Decides.{nat_tests}
-use Rattle.std.proofs.lemmas.List.{map_push, take_more, length-set, length-append, set-get_or, set_split, set_at, get_or_at, get_or-set_same, drop_at, take_at, length-take-le}
+use Rattle.std.proofs.lemmas.List.{length-set, length-append, set-get_or, set_split, set_at, get_or_at, get_or-set_same, drop_at, take_at, length-take-le}
 use Rattle.std.proofs.lemmas.List.Edits.{get_or-insert_at, get_or-insert_below}
 use Rattle.std.specs.List.{insert, splice, HoldsAt}
 use Rattle.std.specs.Option.{IfSome}
@@ -179,10 +179,3 @@ module _ {X : Type 0} where
 pub some_is : {T : Type 0} (o : Option T) (x : T) (P : T → Type 0) → o ≡ Some x → P x → IfSome o P
 some_is (Some y) x P e p = let same : x ≡ y = cc in subst P same p
 some_is None x P e p = tt
-
--- a node more, equal to the next of vs
-pub copied_more : {X Z : Type 0} (ws vs : List (Vec X Z)) (i : ℕ) (u v : Vec X Z) → i < length vs → u ≡ get_or vs i u → v.items ≡ u.items → vec_items ws ≡ take i (vec_items vs) → vec_items (ws ++ v ∷ []) ≡ take (i + 1) (vec_items vs)
-copied_more ws vs i u v h at is same =
-    map_push (λ w. w.items) ws v
-    ∙ (ap (λ l. l ++ v.items ∷ []) same
-    ∙ (ap (λ n. take i (vec_items vs) ++ n ∷ []) (is ∙ sym (node_read vs i u h at [])) ∙ sym (take_more (vec_items vs) i [] (omega (arith, h, length-vec_items vs)))))

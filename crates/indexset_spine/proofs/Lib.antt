@@ -2,6 +2,7 @@ pub mod AppendLemmas
 pub mod CallerLemmas
 pub mod CellExamples
 pub mod CellLemmas
+pub mod CopyLemmas
 pub mod CutEdits
 pub mod CutExamples
 pub mod CutJoins

@@ -11,7 +11,7 @@ use indexset_core::refusal::Refusal;
 use std::alloc::Global;
 use std::marker::Model;
 
-/// An index of lengths, whose sum is at most the greatest usize.
+/// An index of lengths, whose sum is at most `usize::MAX`.
 #[derive(Drop)]
 pub struct Fenwick {
     // Cell i, counted from 1, is the sum of as many lengths up to the i-th as the lowest one bit of i says.
@@ -41,7 +41,7 @@ impl Fenwick {
         })
     }
 
-    /// The index of these lengths.
+    /// Returns the index of these lengths.
     pub fn from_lengths(alloc: Global, lengths: &[usize]) -> Result<Self, Refusal>
         requires { sum lengths.now < 2 ^ 64 }
         ensures ok { IfOk result (λ f. f.lengths ≡ lengths.now) }
@@ -54,7 +54,7 @@ impl Fenwick {
         Ok(index)
     }
 
-    /// How many lengths there are: at most as many as there is room for.
+    /// Returns the number of lengths: at most as many as there is room for.
     pub fn len(&self) -> usize
         ensures value { result ≡ length self.now.lengths }
         ensures within { length self.now.lengths ≤ self.now.room }
@@ -63,7 +63,7 @@ impl Fenwick {
         self.cells.len()
     }
 
-    /// Makes room for one more length. A refused call changes nothing.
+    /// Makes room for one more length. A failed call changes nothing.
     pub fn reserve_one(&mut self) -> Result<(), Refusal>
         ensures room { OnOk result (length self.new.lengths < self.new.room) }
         ensures lengths { self.new.lengths ≡ self.old.lengths }
@@ -73,7 +73,7 @@ impl Fenwick {
         self.reserve(1)
     }
 
-    /// Makes room for as many more lengths as are asked for. A refused call changes nothing.
+    /// Makes room for `additional` more lengths. A failed call changes nothing.
     pub fn reserve(&mut self, more: usize) -> Result<(), Refusal>
         ensures room { OnOk result (length self.new.lengths + more ≤ self.new.room) }
         ensures lengths { self.new.lengths ≡ self.old.lengths }
@@ -84,7 +84,7 @@ impl Fenwick {
         Ok(())
     }
 
-    /// One length more, where there is room. It takes no memory.
+    /// One length more, where there is room. It allocates nothing.
     pub fn push(&mut self, last: usize)
         requires room { length self.old.lengths < self.old.room }
         requires fits { sum self.old.lengths + last < 2 ^ 64 }
@@ -123,7 +123,7 @@ impl Fenwick {
         table::lower(self.cells.as_mut_slice(), i, n);
     }
 
-    /// The lengths of these nodes, where there is room. It takes no memory.
+    /// Returns the lengths of these nodes, where there is room. It allocates nothing.
     pub fn rebuild<T>(&mut self, nodes: &[Vec<T>])
         requires room { length nodes.now ≤ self.old.room }
         requires fits { sum (node_lengths (vec_items nodes.now)) < 2 ^ 64 }
@@ -133,7 +133,8 @@ impl Fenwick {
         self.rebuild_from(0, nodes);
     }
 
-    /// The lengths of these nodes, of which the first `k` are there already. It takes no memory.
+    /// Returns the lengths of these nodes, of which the first `k` are there already. It allocates
+    /// nothing.
     pub fn rebuild_from<T>(&mut self, k: usize, nodes: &[Vec<T>])
         requires same { take k self.old.lengths ≡ take k (node_lengths (vec_items nodes.now)) }
         requires within { k ≤ length nodes.now }

@@ -1,4 +1,4 @@
-//! An owned walk of a spine from both ends.
+//! An owning iterator over a spine from both ends.
 ghost use Rattle.std.specs.Prelude.{◌≡◌, length, List, Some, IfSome};
 ghost use Rattle.std.specs.Iterator.{at_most, UpTo};
 ghost use Rattle.std.specs.Iterator.SizeHint.{IsWithinCount};
@@ -11,7 +11,7 @@ use std::iter::FusedIterator;
 use std::marker::Model;
 use std::vec;
 
-/// The items that are left: those of the front node, of the nodes between, and of the back node.
+/// The remaining items: those of the front node, of the nodes between, and of the back node.
 #[derive(Drop)]
 pub struct IntoIter<T> {
     front: vec::IntoIter<T>,
@@ -34,7 +34,7 @@ impl<T> Model for IntoIter<T> {
 }
 
 impl<T> IntoIter<T> {
-    /// The items of all nodes.
+    /// Returns the items of all nodes.
     pub(crate) fn over(nodes: Vec<Vec<T>>, left: usize) -> Self
         requires { left ≡ length (joined (vec_items nodes.items)) }
         ensures { result ≡ joined (vec_items nodes.items) }

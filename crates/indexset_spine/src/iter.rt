@@ -1,4 +1,4 @@
-//! A shared walk of a spine from both ends.
+//! A shared iterator over a spine from both ends.
 ghost use Rattle.std.specs.Prelude.{◌≡◌, ◌+◌, length, List, IfSome, Some};
 ghost use Rattle.std.specs.List.{between};
 ghost use Rattle.std.specs.Iterator.{at_most, UpTo};
@@ -14,7 +14,7 @@ use crate::spot::Spot;
 use std::iter::FusedIterator;
 use std::marker::Model;
 
-/// The items that are left: those of the front node, of the nodes between, and of the back node.
+/// The remaining items: those of the front node, of the nodes between, and of the back node.
 #[derive(Drop)]
 pub struct Iter<'a, T> {
     front: &'a [T],
@@ -36,7 +36,7 @@ impl<'a, T> Model for Iter<'a, T> {
 }
 
 impl<'a, T> Iter<'a, T> {
-    /// The items of all nodes.
+    /// Returns the items of all nodes.
     pub(crate) fn over(nodes: &'a [Vec<T>], left: usize) -> Self
         requires { left ≡ length (joined (vec_items nodes.now)) }
         ensures { result ≡ joined (vec_items nodes.now) }
@@ -49,7 +49,7 @@ impl<'a, T> Iter<'a, T> {
         }
     }
 
-    /// The `left` items from one spot up to another.
+    /// Returns the `left` items from one spot up to another.
     pub(crate) fn from_to(nodes: &'a [Vec<T>], start: &Spot, end: &Spot, left: usize) -> Self
         requires start { IsSpot (vec_items nodes.now) start.now }
         requires end { IsSpot (vec_items nodes.now) end.now }

@@ -8,7 +8,7 @@ use crate::fenwick::Fenwick;
 use crate::fenwick::sums::{find_in, prefix_in};
 use crate::spot::Spot;
 
-/// The sum of the first `k` lengths.
+/// Returns the sum of the first `k` lengths.
 pub(crate) fn items_before(index: &Fenwick, k: usize) -> usize
     requires { k ≤ length index.now.lengths }
     ensures { result ≡ prefix_sum index.now.lengths k }
@@ -16,14 +16,14 @@ pub(crate) fn items_before(index: &Fenwick, k: usize) -> usize
     prefix_in(&mut index.cells(), k)
 }
 
-/// The node of a position, and the offset in that node.
+/// Returns the node of a position, and the offset in that node.
 pub(crate) fn node_and_offset(index: &Fenwick, position: usize) -> Option<(usize, usize)>
     ensures { MatchOption result (sum index.now.lengths ≤ position) (λ p. (p.0 < length index.now.lengths) × (p.1 < slice_index index.now.lengths p.0) × (prefix_sum index.now.lengths p.0 + p.1 ≡ position)) }
 {
     find_in(&mut index.cells(), position)
 }
 
-/// How many items the nodes hold.
+/// Returns how many items the nodes hold.
 pub(crate) fn count_items<T>(nodes: &[Vec<T>]) -> usize
     requires { length (joined (vec_items nodes.now)) < 2 ^ 64 }
     ensures { result ≡ length (joined (vec_items nodes.now)) }
@@ -35,7 +35,7 @@ pub(crate) fn count_items<T>(nodes: &[Vec<T>]) -> usize
     total
 }
 
-/// How many items stand from one spot up to another.
+/// Returns how many items stand from one spot up to another.
 pub(crate) fn distance_in<T>(nodes: &[Vec<T>], start: &Spot, end: &Spot) -> usize
     requires start { IsSpot (vec_items nodes.now) start.now }
     requires end { IsSpot (vec_items nodes.now) end.now }

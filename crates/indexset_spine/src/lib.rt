@@ -1,4 +1,4 @@
-//! A list that is cut into nodes, edited and searched by spots, with an index of positions.
+//! A node list, edited and searched by spots, with an index of positions.
 //!
 //! [`spine::Spine`] is the list. A [`spot::Spot`] is a node and an offset in it; `locate_by` finds the
 //! spot of what a probe seeks, `position` and `spot` turn spots into positions and back, `insert`,

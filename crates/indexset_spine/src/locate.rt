@@ -8,11 +8,11 @@ ghost use Rattle.indexset_core.specs.Nodes.{ends_less, equal_at, joined, node_le
 use indexset_core::probe::Probe;
 use indexset_core::search;
 
-// Among how many items a search within a node takes no branch on an answer: more would not stay in the
-// cache, where a branch that is guessed fetches ahead.
+// Up to how many items a search within a node does without branches: more would not stay in the
+// cache, and a predicted branch fetches ahead.
 const NEAR: usize = 1 << 20;
 
-/// The first node whose last item is not answered Less, else the last node.
+/// Returns the first node whose last item is not found Less, else the last node.
 pub(crate) fn node_by<T, P: Probe<T>>(nodes: &[Vec<T>], probe: &mut P) -> usize
     requires some { 1 ≤ length nodes.now }
     requires filled { 2 ≤ length nodes.now → All (λ n. 1 ≤ n) (node_lengths (vec_items nodes.now)) }
@@ -35,8 +35,8 @@ pub(crate) fn node_by<T, P: Probe<T>>(nodes: &[Vec<T>], probe: &mut P) -> usize
     low
 }
 
-/// Whether the node k is the one that `node_by` answers, by at most two questions: false of a node that
-/// is not there.
+/// Returns whether the node k is the one that `node_by` answers, by at most two comparisons: false
+/// of a node that is not there.
 pub(crate) fn is_sought<T, P: Probe<T>>(nodes: &[Vec<T>], k: usize, probe: &mut P) -> bool
     requires filled { 2 ≤ length nodes.now → All (λ n. 1 ≤ n) (node_lengths (vec_items nodes.now)) }
     requires parted { IsParted (P.answer probe.old) (joined (vec_items nodes.now)) }
@@ -53,8 +53,8 @@ pub(crate) fn is_sought<T, P: Probe<T>>(nodes: &[Vec<T>], k: usize, probe: &mut 
     k == 0 || ends_less(&nodes[k - 1], probe)
 }
 
-/// How many items of a node are answered Less, and whether the one after them is answered Equal, searched
-/// for as among `len` items.
+/// Returns how many items of a node are found Less, and whether the one after them is found Equal,
+/// searched for as among `len` items.
 pub(crate) fn place_in<T, P: Probe<T>>(node: &[T], probe: &mut P, len: usize) -> (usize, bool)
     requires { IsParted (P.answer probe.old) node.now }
     ensures count { result.0 ≡ less_count (P.answer probe.old) node.now }
@@ -69,7 +69,7 @@ pub(crate) fn place_in<T, P: Probe<T>>(node: &[T], probe: &mut P, len: usize) ->
     (offset, search::is_equal_at(node, offset, probe))
 }
 
-/// Whether the last item of a node is answered Less, by one question.
+/// Returns whether the last item of a node is found Less, by one comparison.
 pub(crate) fn ends_less<T, P: Probe<T>>(node: &[T], probe: &mut P) -> bool
     ensures value { result ≡ ends_less (P.answer probe.old) node.now }
     ensures fixed { P.answer probe.new ≡ P.answer probe.old }

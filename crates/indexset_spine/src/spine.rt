@@ -54,7 +54,7 @@ impl<T> Model for Spine<T> {
 impl<T> Spine<T> {
     ghost use Rattle.indexset_spine.specs.SpineLends.{lends_item, lends_at};
 
-    /// How many items a node holds at most.
+    /// Returns how many items a node holds at most.
     pub fn maximum_node_size(&self) -> usize
         ensures value { result ≡ self.now.size }
         ensures two { 2 ≤ result }
@@ -62,12 +62,12 @@ impl<T> Spine<T> {
         self.size
     }
 
-    /// What the nodes take memory of.
+    /// The allocator of the nodes.
     pub fn allocator(&self) -> &Global {
         self.nodes.allocator()
     }
 
-    /// How many nodes there are.
+    /// Returns the number of nodes.
     pub fn node_count(&self) -> usize
         ensures value { result ≡ length self.now.nodes }
         ensures some { 1 ≤ result }
@@ -77,14 +77,14 @@ impl<T> Spine<T> {
         self.nodes.len()
     }
 
-    /// How many items there are.
+    /// Returns the number of items.
     pub fn len(&self) -> usize
         ensures { result ≡ length (items self.now) }
     {
         self.len
     }
 
-    /// Where the probe finds what it seeks, by two binary searches.
+    /// Returns where the probe finds what it seeks, by two binary searches.
     #[inline(always)]
     pub fn locate_by<P: Probe<T>>(&self, probe: &mut P) -> Spot
         requires { IsParted (P.answer probe.old) (items self.now) }
@@ -100,8 +100,9 @@ impl<T> Spine<T> {
         self.locate_among(probe, self.len)
     }
 
-    /// The same, where the last item is asked for first: where that one is answered Less, all are, and no
-    /// other question follows. Else there is one question more. It is for items that come in order.
+    /// Does the same, with the last item compared first: if it is below what is sought, all are,
+    /// and no other comparison follows; if not, there is one comparison more. It is for items that
+    /// come in order.
     pub fn locate_from_end_by<P: Probe<T>>(&self, probe: &mut P) -> Spot
         requires { IsParted (P.answer probe.old) (items self.now) }
         ensures node { result.node ≡ node_for (P.answer probe.old) self.now.nodes }
@@ -122,12 +123,12 @@ impl<T> Spine<T> {
                 found: false,
             };
         }
-        // An item that is put in moves others, which a search that branches has fetched by then.
+        // An insertion moves other items, which a search with branches has fetched by then.
         self.locate_among(probe, self.len.saturating_mul(4))
     }
 
-    /// The same, where the node `near` is tried first, by two questions at most: it is for items that go
-    /// near each other.
+    /// Does the same, where the node `near` is tried first, by two comparisons at most: it is for
+    /// items that go near each other.
     pub fn locate_near_by<P: Probe<T>>(&self, near: usize, probe: &mut P) -> Spot
         requires { IsParted (P.answer probe.old) (items self.now) }
         ensures node { result.node ≡ node_for (P.answer probe.old) self.now.nodes }
@@ -145,7 +146,7 @@ impl<T> Spine<T> {
         self.locate_by(probe)
     }
 
-    // Where the probe finds what it seeks, searched for as among `len` items.
+    // Returns where the probe finds what it seeks, searched for as among `len` items.
     #[inline(always)]
     fn locate_among<P: Probe<T>>(&self, probe: &mut P, len: usize) -> Spot
         requires { IsParted (P.answer probe.old) (items self.now) }
@@ -162,7 +163,7 @@ impl<T> Spine<T> {
         self.locate_in(node, probe, len)
     }
 
-    // The same, in the node that a search names.
+    // Does the same, in the node that a search names.
     fn locate_in<P: Probe<T>>(&self, node: usize, probe: &mut P, len: usize) -> Spot
         requires parted { IsParted (P.answer probe.old) (items self.now) }
         requires node { node ≡ node_for (P.answer probe.old) self.now.nodes }
@@ -184,7 +185,7 @@ impl<T> Spine<T> {
         }
     }
 
-    /// How many items stand before a spot: its position.
+    /// Returns how many items stand before a spot: its position.
     pub fn position(&self, spot: &Spot) -> usize
         requires { IsSpot self.now.nodes spot.now }
         ensures { result ≡ position_of self.now.nodes spot.now }
@@ -194,7 +195,7 @@ impl<T> Spine<T> {
         lengths::items_before(&self.index, spot.node) + spot.offset
     }
 
-    /// The spot of the item at a position, or `None` past the end.
+    /// Returns the spot of the item at a position, or `None` past the end.
     pub fn spot(&self, i: usize) -> Option<Spot>
         ensures { MatchOption result (length (items self.now) ≤ i) (λ s. IsItemSpot self.now.nodes s × (position_of self.now.nodes s ≡ i) × IsTrue s.found) }
     {
@@ -206,7 +207,7 @@ impl<T> Spine<T> {
         })
     }
 
-    /// The spot after the first `i` items.
+    /// Returns the spot after the first `i` items.
     pub fn spot_after(&self, i: usize) -> Spot
         requires { i ≤ length (items self.now) }
         ensures spot { IsSpot self.now.nodes result }
@@ -230,7 +231,7 @@ impl<T> Spine<T> {
         }
     }
 
-    /// The item at a spot.
+    /// Returns the item at a spot.
     pub fn item(&self, spot: &Spot) -> &T
         requires { IsItemSpot self.now.nodes spot.now }
         ensures { slice_get (items self.now) (position_of self.now.nodes spot.now) ≡ Some result.now }
@@ -238,7 +239,8 @@ impl<T> Spine<T> {
         &self.nodes[spot.node][spot.offset]
     }
 
-    /// The item at a spot, or where the spot is the end of its node, the first item of the next, if any.
+    /// Returns the item at a spot, or where the spot is the end of its node, the first item of the
+    /// next, if any.
     pub fn item_from(&self, spot: &Spot) -> Option<&T>
         requires { IsSpot self.now.nodes spot.now }
         ensures { option_copied result ≡ slice_get (items self.now) (position_of self.now.nodes spot.now) }
@@ -249,7 +251,7 @@ impl<T> Spine<T> {
         }
     }
 
-    /// The item at a position, or `None` past the end.
+    /// Returns the item at a position, or `None` past the end.
     pub fn get(&self, i: usize) -> Option<&T>
         ensures { option_copied result ≡ slice_get (items self.now) i }
     {
@@ -257,7 +259,7 @@ impl<T> Spine<T> {
         Some(self.item(&spot))
     }
 
-    /// The item at a position, to write, or `None` past the end.
+    /// Returns a mutable reference to the item at a position, or `None` past the end.
     pub fn get_mut(&mut self, i: usize) -> Option<&mut T>
         ensures* writes_back { sem 𝓛 (lends_item T.row self.entry i result) }
         ensures value { option_copied_mut result ≡ slice_get (items self.old) i }
@@ -268,7 +270,7 @@ impl<T> Spine<T> {
         }
     }
 
-    /// The items, in order.
+    /// Returns the items, in order.
     pub fn iter(&self) -> Iter<'_, T>
         ensures rest { result ≡ items self.now }
         ensures runs { ShowsInOrder (deref {X = T}) }
@@ -277,7 +279,7 @@ impl<T> Spine<T> {
         Iter::over(self.nodes.as_slice(), self.len)
     }
 
-    /// The items from position `i` up to position `j`, in order.
+    /// Returns the items from position `i` up to position `j`, in order.
     pub fn iter_between(&self, i: usize, j: usize) -> Iter<'_, T>
         requires order { i ≤ j }
         requires within { j ≤ length (items self.now) }
@@ -289,7 +291,7 @@ impl<T> Spine<T> {
         Iter::from_to(self.nodes.as_slice(), &start, &end, j - i)
     }
 
-    /// The item at a spot, to write.
+    /// Returns a mutable reference to the item at a spot.
     pub fn item_mut(&mut self, spot: Spot) -> &mut T
         requires { IsItemSpot self.old.nodes spot }
         ensures* writes_back { sem 𝓛 (lends_at T.row self.entry (position_of self.old.nodes spot) result) }
@@ -300,7 +302,7 @@ impl<T> Spine<T> {
     }
 }
 
-// The item at an offset of the node k, where there is one.
+// Returns the item at an offset of the node k, or `None` where there is none.
 fn item_in<T>(nodes: &[Vec<T>], k: usize, offset: usize) -> Option<&T>
     ensures { option_copied result ≡ slice_get (node_at (vec_items nodes.now) k) offset }
 {

@@ -1,6 +1,6 @@
 //! A spot in a spine.
 
-/// A spot in a spine: a node and an offset in it, as a search answers them.
+/// A spot in a spine: a node and an offset in it, as a search returns them.
 #[derive(Clone, Copy, Debug, PartialEq, Eq)]
 pub struct Spot {
     /// The index of the node.

@@ -1,31 +1,26 @@
-//! Worked examples of the plain family and of what both families stand on, as tests: the values are
-//! typed from the library's documents, and each public call runs once with ample memory. Those of the
-//! logged family stand in `indexset_log_tests`.
+//! Worked examples of the set and of what both families stand on, as tests: the values are typed from
+//! the library's documents, and each public call runs once with ample memory. Those of the map stand
+//! in `indexset_map_tests`, those of the logged family and of the runs in `indexset_log_tests` and
+//! `indexset_replica_tests`.
 #![tactic(auto)]
 
-pub mod callers;
 pub mod counted;
 #[cfg(test)]
 mod fenwick;
-#[cfg(test)]
-mod map;
+pub mod mirrored;
+pub mod misled;
 #[cfg(test)]
 mod node;
 pub mod nodes;
-#[cfg(test)]
-mod paths;
+pub mod owned;
 #[cfg(test)]
 mod probe;
 #[cfg(test)]
-mod readme;
-#[cfg(test)]
 mod refusal;
-#[cfg(test)]
-mod run_map;
-#[cfg(test)]
-mod run_set;
+pub mod scarce;
 #[cfg(test)]
 mod set;
+pub mod sized;
 #[cfg(test)]
 mod spine;
 pub mod tagged;

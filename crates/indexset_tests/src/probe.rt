@@ -2,8 +2,7 @@
 
 use indexset_core::probe::{ByItem, Counting, Probe};
 use indexset_core::refusal::Refusal;
-use indexset_core::steps::Steps;
-use indexset_core::{laws, search};
+use indexset_core::search;
 use std::cmp::Ordering;
 use std::test::Fail;
 
@@ -39,9 +38,6 @@ fn a_probe_is_counted(rt: HostRuntime) {
     let equal = probe.place(&4) == Ordering::Equal;
     let greater = probe.place(&5) == Ordering::Greater;
     assert!(rt; none && less && equal && greater && probe.asked() == 3);
-    let mut steps = Steps::new();
-    steps.tick();
-    laws::digits_count_binary_digits();
 }
 
 #[test]

@@ -1,7 +1,8 @@
 //! Worked examples of the set.
 ghost use Rattle.std.specs.Prelude.{◌≤◌};
 
-use indexset_core::constants::DEFAULT_INNER_SIZE;
+use crate::sized::set_of;
+use bulk::nodes_held;
 use indexset_core::probe::{ByItem, Counting};
 use indexset_core::refusal::Refusal;
 use indexset_set::BTreeSet;
@@ -73,11 +74,13 @@ fn finds_by_few(set: &BTreeSet<u64>, end: u64, most: u64) -> bool {
 
 #[test]
 fn positions_and_ranks_of_three(rt: HostRuntime) -> Result<(), Fail> {
-    let set = BTreeSet::from(rt.alloc(), vec![in rt.alloc(); 3u64, 1, 2]?)?;
-    let ends = set.get_index(0) == Some(&1) && set.get_index(2) == Some(&3);
-    let none = set.get_index(4).is_none();
-    let within = set.rank(&1) == 0 && set.rank(&3) == 2;
-    assert!(rt; ends && none && within && set.rank(&4) == 3 && set.rank(&100) == 3);
+    for size in [2, 1024] {
+        let set = set_of(rt.alloc(), size, &[3u64, 1, 2])?;
+        let ends = set.get_index(0) == Some(&1) && set.get_index(2) == Some(&3);
+        let none = set.get_index(4).is_none();
+        let within = set.rank(&1) == 0 && set.rank(&3) == 2;
+        assert!(rt; ends && none && within && set.rank(&4) == 3 && set.rank(&100) == 3);
+    }
     Ok(())
 }
 
@@ -97,8 +100,10 @@ fn two_to_a_node(rt: HostRuntime) -> Result<(), Fail> {
         add(&mut up, key)?;
         add(&mut down, 8 - key)?;
     }
-    let cut = up.node_count() == 6 && down.node_count() == 6;
-    assert!(rt; cut && up.maximum_node_size() == 2 && up == down);
+    let sizes = up.maximum_node_size() == 2 && down.maximum_node_size() == 2;
+    let all = up.iter().copied().eq(1..8) && down.iter().copied().eq(1..8);
+    let cut = nodes_held(up, &[1, 1, 1, 1, 1, 2]) && nodes_held(down, &[2, 1, 1, 1, 1, 1]);
+    assert!(rt; sizes && all && cut);
     Ok(())
 }
 
@@ -139,85 +144,97 @@ fn equal_whatever_the_nodes(rt: HostRuntime) -> Result<(), Fail> {
 
 #[test]
 fn nothing_in_the_empty_set(rt: HostRuntime) -> Result<(), Fail> {
-    let mut set: BTreeSet<u64> = BTreeSet::new(rt.alloc())?;
-    let ends = set.is_empty() && set.first().is_none() && set.last().is_none();
-    let none = set.get_index(0).is_none() && set.lower_bound(&0).is_none();
-    let first = set.pop_first();
-    let last = set.pop_last();
-    let sizes = set.node_count() == 1 && set.maximum_node_size() == DEFAULT_INNER_SIZE;
-    assert!(rt; ends && none && first.is_none() && last.is_none() && sizes);
+    for size in [2, 1024] {
+        let mut set: BTreeSet<u64> = BTreeSet::with_maximum_node_size(rt.alloc(), size)?;
+        let ends = set.is_empty() && set.first().is_none() && set.last().is_none();
+        let none = set.get_index(0).is_none() && set.lower_bound(&0).is_none();
+        let first = set.pop_first();
+        let last = set.pop_last();
+        let sizes = set.node_count() == 1 && set.maximum_node_size() == size;
+        assert!(rt; ends && none && first.is_none() && last.is_none() && sizes);
+    }
     Ok(())
 }
 
 #[test]
 fn once_again_changes_nothing(rt: HostRuntime) -> Result<(), Fail> {
-    let mut set = BTreeSet::new(rt.alloc())?;
-    for i in 0..3072u64 {
-        let is_new = add(&mut set, 1024 - i % 1025)?;
-        assert!(rt; is_new == (i < 1025), "at {i}");
+    for size in [2, 1024] {
+        let mut set = BTreeSet::with_maximum_node_size(rt.alloc(), size)?;
+        for i in 0..3072u64 {
+            let is_new = add(&mut set, 1024 - i % 1025)?;
+            assert!(rt; is_new == (i < 1025), "at {i}");
+        }
+        let many = set.node_count() > 1 && set.len() == 1025;
+        assert!(rt; many && set.iter().copied().eq(0..1025));
     }
-    let many = set.node_count() > 1 && set.len() == 1025;
-    assert!(rt; many && set.iter().copied().eq(0..1025));
     Ok(())
 }
 
 #[test]
 fn each_key_stands_at_itself(rt: HostRuntime) -> Result<(), Fail> {
-    let set = descending(rt.alloc(), 1024, 1025)?;
-    for i in 0..1025usize {
-        let key = i as u64;
-        let placed = set.get_index(i) == Some(&key) && set.lower_bound(&key) == Some(&key);
-        assert!(rt;
-            placed && set.get(&key) == Some(&key) && set.contains(&key),
-            "at {i}"
-        );
+    for size in [2, 1024] {
+        let set = descending(rt.alloc(), size, 1025)?;
+        for i in 0..1025usize {
+            let key = i as u64;
+            let placed = set.get_index(i) == Some(&key) && set.lower_bound(&key) == Some(&key);
+            assert!(rt;
+                placed && set.get(&key) == Some(&key) && set.contains(&key),
+                "at {i}"
+            );
+        }
+        assert!(rt; set.node_count() > 1 && set.lower_bound(&1025).is_none());
     }
-    assert!(rt; set.node_count() > 1 && set.lower_bound(&1025).is_none());
     Ok(())
 }
 
 #[test]
 fn removed_and_taken_to_the_last(rt: HostRuntime) -> Result<(), Fail> {
-    let mut removed = ascending(rt.alloc(), 1024, 1025)?;
-    let mut taken = removed.clone()?;
-    for key in 0..1025u64 {
-        let gone = removed.remove(&key);
-        let gone_again = removed.remove(&key);
-        let out = taken.take(&key);
-        let out_again = taken.take(&key);
-        let once = !gone_again && out_again.is_none();
-        assert!(rt; gone && out == Some(key) && once, "at {key}");
+    for size in [2, 1024] {
+        let mut removed = ascending(rt.alloc(), size, 1025)?;
+        let mut taken = removed.clone()?;
+        for key in 0..1025u64 {
+            let gone = removed.remove(&key);
+            let gone_again = removed.remove(&key);
+            let out = taken.take(&key);
+            let out_again = taken.take(&key);
+            let once = !gone_again && out_again.is_none();
+            assert!(rt; gone && out == Some(key) && once, "at {key}");
+        }
+        assert!(rt; removed.is_empty() && taken.is_empty());
     }
-    assert!(rt; removed.is_empty() && taken.is_empty());
     Ok(())
 }
 
 #[test]
 fn popped_at_either_end(rt: HostRuntime) -> Result<(), Fail> {
-    let mut up = ascending(rt.alloc(), 1024, 1025)?;
-    let mut down = up.clone()?;
-    for key in 0..1025u64 {
-        let first = up.pop_first();
-        let last = down.pop_last();
-        assert!(rt; first == Some(key) && last == Some(1024 - key), "at {key}");
+    for size in [2, 1024] {
+        let mut up = ascending(rt.alloc(), size, 1025)?;
+        let mut down = up.clone()?;
+        for key in 0..1025u64 {
+            let first = up.pop_first();
+            let last = down.pop_last();
+            assert!(rt; first == Some(key) && last == Some(1024 - key), "at {key}");
+        }
+        let no_first = up.first().is_none() && down.first().is_none();
+        assert!(rt; no_first && up.last().is_none() && down.last().is_none());
     }
-    let no_first = up.first().is_none() && down.first().is_none();
-    assert!(rt; no_first && up.last().is_none() && down.last().is_none());
     Ok(())
 }
 
 #[test]
 fn each_call_once(rt: HostRuntime) -> Result<(), Fail> {
     let mut set = BTreeSet::from_iter(rt.alloc(), 0..10u64)?;
-    let same = set == BTreeSet::from_iter(rt.alloc(), (0..10u64).rev())?;
+    let all = set.iter().copied().eq(0..10);
     let ends = set.first() == Some(&0) && set.last() == Some(&9);
     assert!(rt; set.len() == 10);
     let third = set[3] == 3;
     let out = set.pop_index(3);
     let below = set.rank(&9);
     set.clear();
-    let clear = set == BTreeSet::default(rt.alloc())?;
+    let clear = set.len() == 0 && set.first().is_none() && set.node_count() == 1;
     let popped = out == 3 && below == 8;
-    assert!(rt; same && ends && third && popped && clear && set.node_count() == 1);
+    assert!(rt; all && ends && third && popped && clear);
+    let empty: BTreeSet<u64> = BTreeSet::default(rt.alloc())?;
+    assert!(rt; empty.is_empty() && empty.maximum_node_size() == 1024);
     Ok(())
 }

@@ -1,4 +1,4 @@
-//! A change log: what a copy of a tree elsewhere needs to be told.
+//! A change log: the events that a copy of a tree elsewhere needs.
 ghost use Rattle.std.specs.Prelude.{◌≡◌, ◌≤◌, length, true, Some, IfOk, IfErr, OnErr, OnOk};
 ghost use Rattle.std.specs.Ordering.{nat_cmp};
 ghost use Rattle.indexset.specs.Words.{IsNumberedFrom, joined, put, replay, value_of, without};
@@ -12,8 +12,8 @@ use indexset::concurrent::set::BTreeSet;
 /// A logged set of numbers.
 pub type Numbers = BTreeSet<u64, Vec<u64>>;
 
-/// Puts a number in, and answers the events, at most three, which make of a copy's nodes the nodes
-/// that are here now.
+/// Inserts a number, and returns the events, at most three, that turn the nodes of a copy into the
+/// present ones.
 pub fn put(tree: &mut Numbers, value: u64) -> Result<Vec<ChangeEvent<u64>>, Refused<u64>>
     ensures contents { IfOk result (λ _. joined tree.new.nodes ≡ put nat_cmp (joined tree.old.nodes) value) }
     ensures replay { IfOk result (λ events. replay nat_cmp tree.old.nodes events.items ≡ Some tree.new.nodes) }
@@ -26,7 +26,7 @@ pub fn put(tree: &mut Numbers, value: u64) -> Result<Vec<ChangeEvent<u64>>, Refu
     Ok(events)
 }
 
-/// Puts a number in, and tells whether it is there, as it then always is.
+/// Inserts a number, and returns whether it is present, as it then always is.
 pub fn hold(tree: &mut Numbers, value: u64) -> Result<bool, Refused<u64>>
     ensures { IfOk result (λ there. there ≡ true) }
 {
@@ -34,7 +34,7 @@ pub fn hold(tree: &mut Numbers, value: u64) -> Result<bool, Refused<u64>>
     Ok(tree.contains(&value))
 }
 
-/// Takes a number out, and answers the events.
+/// Removes a number, and returns the events.
 pub fn take(tree: &mut Numbers, value: u64) -> Result<Vec<ChangeEvent<u64>>, Refusal>
     ensures contents { IfOk result (λ _. joined tree.new.nodes ≡ without nat_cmp (joined tree.old.nodes) value) }
     ensures replay { IfOk result (λ events. replay nat_cmp tree.old.nodes events.items ≡ Some tree.new.nodes) }
@@ -49,7 +49,7 @@ pub fn take(tree: &mut Numbers, value: u64) -> Result<Vec<ChangeEvent<u64>>, Ref
 /// A logged map of prices by item.
 pub type Quotes = BTreeMap<u64, u64, Vec<Pair<u64, u64>>>;
 
-/// Sets the price of an item, and tells the one that is found for it, as it then always is.
+/// Sets the price of an item, and returns the price that is found for it, as it then always is.
 pub fn quote(quotes: &mut Quotes, item: u64, price: u64) -> Result<Option<u64>, Refused<(u64, u64)>>
     ensures now { OnOk result (value_of nat_cmp (joined quotes.new.nodes) item ≡ Some price) }
     ensures told { IfOk result (λ told. told ≡ Some price) }

@@ -25,7 +25,7 @@ pub fn insert(
     ensures given_back { IfErr result (λ refused. refused.value ≡ value) }
     ensures same { OnErr result (tree.new ≡ tree.old) }
 {
-    // A call tells at most three events: with room for three before it, none is lost.
+    // A call returns at most three events: with room for three before it, none is lost.
     if journal.reserve(3).is_err() {
         let cause = Refusal::Memory;
         return Err(Refused { value, cause });

@@ -8,7 +8,7 @@ ghost use Rattle.indexset.specs.Words.{above, items, rank};
 use indexset::BTreeSet;
 use indexset::base::refusal::Refusal;
 
-/// Enters a score, and tells whether it is on the board, as it then always is.
+/// Inserts a score, and returns whether it is on the board, as it then always is.
 pub fn enter(board: &mut BTreeSet<u64>, score: u64) -> Result<bool, Refusal>
     ensures { IfOk result (λ on_board. on_board ≡ true) }
 {
@@ -16,7 +16,7 @@ pub fn enter(board: &mut BTreeSet<u64>, score: u64) -> Result<bool, Refusal>
     Ok(board.contains(&score))
 }
 
-/// The best score: none is above it.
+/// Returns the best score: none is above it.
 pub fn best(board: &BTreeSet<u64>) -> Option<u64>
     ensures last { result ≡ slice_get (items board.now) (length (items board.now) - 1) }
     ensures greatest { IfSome result (λ best. above nat_cmp (items board.now) best ≡ []) }
@@ -24,7 +24,7 @@ pub fn best(board: &BTreeSet<u64>) -> Option<u64>
     board.last().copied()
 }
 
-/// How many scores are not below this one.
+/// Returns how many scores are not below this one.
 pub fn scores_from(board: &BTreeSet<u64>, score: u64) -> usize
     ensures { result + rank nat_cmp (items board.now) score ≡ length (items board.now) }
 {

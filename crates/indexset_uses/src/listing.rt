@@ -8,7 +8,7 @@ use indexset::BTreeSet;
 use std::alloc::{AllocError, Global};
 use std::ops::Bound;
 
-/// The elements from a position on, a page of at most `size`.
+/// Returns the elements from a position on, a page of at most `size`.
 pub fn page(
     alloc: Global,
     set: &BTreeSet<u64>,
@@ -23,7 +23,7 @@ pub fn page(
     set.range_idx(bounds).copied().collect(alloc)
 }
 
-/// How many pages there are.
+/// Returns the number of pages.
 pub fn page_count(set: &BTreeSet<u64>, size: usize) -> usize
     requires { 0 < size }
     ensures { result ≡ div_ceil (length (items set.now)) size }

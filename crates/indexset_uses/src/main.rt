@@ -1,16 +1,21 @@
-//! What people build on the library, one file a use: small callers, each proved to meet its contract.
-//! The program prints what they answer.
+//! What people build on the library, one file a use: small callers, each proved to meet its
+//! contract. The program prints what they return.
 #![tactic(auto)]
 
 mod change_log;
+mod copies;
 mod counting;
 mod follower;
 mod journal;
 mod leaderboard;
 mod listing;
+mod names;
 mod order_book;
 mod prices;
+mod runs;
 mod stock;
+mod strings;
+mod tags;
 
 use anyhow::Result;
 use bytes::ByteStr;

@@ -4,7 +4,7 @@ ghost use Rattle.indexset.specs.Words.{items};
 
 use indexset::BTreeSet;
 
-/// The highest bid and the lowest ask, taken out where the bid is not below the ask.
+/// Returns the highest bid and the lowest ask, removed where the bid is not below the ask.
 pub fn take_match(bids: &mut BTreeSet<u64>, asks: &mut BTreeSet<u64>) -> Option<(u64, u64)>
     ensures bid { IfSome result (λ pair. slice_get (items bids.old) (length (items bids.old) - 1) ≡ Some pair.0) }
     ensures ask { IfSome result (λ pair. slice_get (items asks.old) 0 ≡ Some pair.1) }
@@ -23,7 +23,7 @@ pub fn take_match(bids: &mut BTreeSet<u64>, asks: &mut BTreeSet<u64>) -> Option<
     Some((bid, ask))
 }
 
-/// Takes out all prices, the lowest first, and answers their sum, up to the greatest u64.
+/// Removes all prices, the lowest first, and returns their sum, up to `u64::MAX`.
 pub fn clear(asks: &mut BTreeSet<u64>) -> u64
     ensures { items asks.new ≡ [] }
 {

@@ -8,7 +8,7 @@ use indexset::BTreeMap;
 use indexset::base::refusal::Refused;
 use std::ops::Bound;
 
-/// Writes a price, and answers the price that the item has then.
+/// Writes a price, and returns the price that the item has then.
 pub fn set_price(
     prices: &mut BTreeMap<u64, u64>,
     item: u64,
@@ -21,14 +21,14 @@ pub fn set_price(
     Ok(prices.get(&item).copied())
 }
 
-/// The price of an item, where it has one.
+/// Returns the price of an item, where it has one.
 pub fn price_of(prices: &BTreeMap<u64, u64>, item: u64) -> Option<u64>
     ensures { result ≡ value_of nat_cmp prices.now.pairs item }
 {
     prices.get(&item).copied()
 }
 
-/// The price of an item, which it has from now on: the usual one, where it has none.
+/// Returns the price of an item, which it has from now on: the usual one, where it has none.
 pub fn price_or(
     prices: &mut BTreeMap<u64, u64>,
     item: u64,
@@ -53,7 +53,7 @@ pub fn raise(prices: &mut BTreeMap<u64, u64>)
     }
 }
 
-/// Takes the price of an item away, and answers the price that it has then: none.
+/// Removes the price of an item, and returns the price that it has then: none.
 pub fn forget(prices: &mut BTreeMap<u64, u64>, item: u64) -> Option<u64>
     ensures { result ≡ None }
 {
@@ -61,7 +61,7 @@ pub fn forget(prices: &mut BTreeMap<u64, u64>, item: u64) -> Option<u64>
     prices.get(&item).copied()
 }
 
-/// How many of the items below one have a price.
+/// Returns how many of the items below one have a price.
 pub fn priced_below(prices: &BTreeMap<u64, u64>, item: u64) -> usize
     ensures { result ≡ length (pairs_within nat_cmp prices.now.pairs Unbounded (Excluded item)) }
 {

@@ -2,12 +2,12 @@
 ghost use Rattle.std.specs.Prelude.{◌≡◌, Some, OnOk};
 ghost use Rattle.std.specs.Ordering.{nat_cmp};
 ghost use Rattle.std.specs.Cmp.Lexicographic.{slice_cmp};
-ghost use Rattle.indexset.specs.Words.{by_key, joined, replay, value_of};
+ghost use Rattle.indexset.specs.Words.{joined, value_of};
 
+use crate::copies::apply_all;
 use bytes::ByteStr;
 use indexset::base::pair::Pair;
 use indexset::base::refusal::Refusal;
-use indexset::cdc::change::ChangeEvent;
 use indexset::concurrent::map::BTreeMap;
 use indexset::replica::Replica;
 
@@ -41,14 +41,4 @@ pub fn forget(stock: &mut Stock, copy: &mut Replica<Count>, name: &ByteStr) -> R
 {
     let (_, events) = stock.remove_cdc(name)?;
     apply_all(copy, events.as_slice())
-}
-
-// Applies events one after the other.
-fn apply_all(copy: &mut Replica<Count>, events: &[ChangeEvent<Count>]) -> Result<(), Refusal>
-    ensures { OnOk result (replay (by_key (slice_cmp nat_cmp)) copy.old.nodes events.now ≡ Some copy.new.nodes) }
-{
-    for event in events {
-        copy.apply(event)?;
-    }
-    Ok(())
 }

@@ -7,12 +7,12 @@ use indexset_core::refusal::Refusal;
 use indexset_log::change::ChangeEvent;
 use indexset_log::map::BTreeMap;
 
-/// What is asked of a logged map. The reply is `OldValue`, `Added` or `Out`, as it is said here.
+/// A command to a logged map. The reply is `OldValue`, `Added` or `Out`, as said at each.
 #[derive(Debug, Drop)]
 pub enum LoggedMapCommand<K, V> {
-    /// Puts the pair in, for any of an equal key: `OldValue`, its value.
+    /// Inserts the pair, or replaces that of an equal key: `OldValue`, its value.
     Insert(K, V),
-    /// Puts the pair in, unless the key is there: `Added`, whether it was put in.
+    /// Inserts the pair, unless the key is present: `Added`, whether it was inserted.
     CheckedInsert(K, V),
     /// Takes the pair of the key out: `Out`, that pair.
     Remove(K),
@@ -23,7 +23,7 @@ pub enum LoggedMapCommand<K, V> {
 pub enum LoggedMapReply<K, V> {
     /// The value that was there, where there was one.
     OldValue(Option<V>),
-    /// Whether the pair was put in.
+    /// Whether the pair was inserted.
     Added(bool),
     /// The key and the value that were there, where they were.
     Out(Option<(K, V)>),
@@ -64,6 +64,8 @@ impl<K: Ord + Clone + Drop, V: Clone + Drop, Node: NodeLike<Pair<K, V>>> Logged
     ghost lacks_numbers = { λ t command. nat_lt MAX (t.next + length (logged_map_events K.cmp t command)) };
 
     ghost clones = { ((x y : K) → K.is_clone x y → y ≡ x) × ((x y : V) → V.is_clone x y → y ≡ x) };
+
+    ghost cloned = { λ p q. K.is_clone p.key q.key × V.is_clone p.value q.value };
 
     fn act(
         &mut self,

@@ -7,10 +7,11 @@ use indexset_core::refusal::Refusal;
 use indexset_log::change::ChangeEvent;
 use indexset_multi::multimap::BTreeMultiMap;
 
-/// What is asked of a multimap. The reply is `OldValue` or `Out`, as it is said here.
+/// A command to a multimap. The reply is `OldValue` or `Out`, as said at each.
 #[derive(Debug, Drop)]
 pub enum LoggedMultiCommand<K, V> {
-    /// Puts the pair in, for the first of its key with an equal value: `OldValue`, that value.
+    /// Inserts the pair, or replaces the first of its key with an equal value: `OldValue`, that
+    /// value.
     Insert(K, V),
     /// Takes the first pair of the key out: `Out`, that pair.
     RemoveSome(K),
@@ -62,6 +63,8 @@ impl<K: Ord + Clone + Drop, V: Eq + Clone + Drop, Node: NodeLike<MultiPair<K, V>
     ghost lacks_numbers = { λ m command. lacks_pair_number K.cmp V.eq m command || nat_lt MAX (m.next + length (logged_multi_events K.cmp V.eq m command)) };
 
     ghost clones = { ((x y : K) → K.is_clone x y → y ≡ x) × ((x y : V) → V.is_clone x y → y ≡ x) };
+
+    ghost cloned = { λ p q. K.is_clone p.key q.key × (V.is_clone p.value q.value × (q.discriminator ≡ p.discriminator)) };
 
     fn act(
         &mut self,

@@ -6,12 +6,12 @@ use indexset_core::refusal::Refusal;
 use indexset_log::change::ChangeEvent;
 use indexset_log::set::BTreeSet;
 
-/// What is asked of a logged set. The reply is `Old` or `Added`, as it is said here.
+/// A command to a logged set. The reply is `Old` or `Added`, as said at each.
 #[derive(Debug, Drop)]
 pub enum LoggedSetCommand<T> {
-    /// Puts the value in, for any equal item: `Old`, that item.
+    /// Inserts the value, or replaces the equal item: `Old`, that item.
     Put(T),
-    /// Puts the value in, unless an equal item is there: `Added`, whether it was put in.
+    /// Inserts the value, unless an equal item is present: `Added`, whether it was inserted.
     PutChecked(T),
     /// Takes the item equal to the value out: `Old`, that item.
     Remove(T),
@@ -22,7 +22,7 @@ pub enum LoggedSetCommand<T> {
 pub enum LoggedSetReply<T> {
     /// The item that was there, where there was one.
     Old(Option<T>),
-    /// Whether the value was put in.
+    /// Whether the value was inserted.
     Added(bool),
 }
 
@@ -59,6 +59,8 @@ impl<T: Ord + Clone + Drop, Node: NodeLike<T>> Logged for BTreeSet<T, Node> {
     ghost lacks_numbers = { λ t command. nat_lt MAX (t.next + length (logged_set_events T.cmp t command)) };
 
     ghost clones = { (x y : T) → T.is_clone x y → y ≡ x };
+
+    ghost cloned = { T.is_clone };
 
     fn act(
         &mut self,

@@ -1,4 +1,4 @@
-//! Walks of a map from both ends.
+//! Iterators over a map, from both ends.
 ghost use Rattle.std.specs.Prelude.{◌≡◌, length, IfSome, Some};
 ghost use Rattle.std.specs.Iterator.{UpTo, at_most};
 ghost use Rattle.std.specs.Iterator.SizeHint.{IsWithinCount};
@@ -13,7 +13,7 @@ use indexset_core::pair::Pair;
 use std::iter::FusedIterator;
 use std::marker::Model;
 
-/// The pairs of a map that are left, from both ends.
+/// The remaining pairs of a map, from both ends.
 #[derive(Drop)]
 pub struct Iter<'a, K: Ord + Clone + Drop, V: Clone + Drop, Node: NodeLike<Pair<K, V>>> {
     pub(super) rest: iter::Iter<'a, Pair<K, V>, Node>,
@@ -72,7 +72,7 @@ impl<'a, K: Ord + Clone + Drop, V: Clone + Drop, Node: NodeLike<Pair<K, V>>> Fus
     for Iter<'a, K, V, Node> {}
 
 impl<K: Ord + Clone + Drop, V: Clone + Drop, Node: NodeLike<Pair<K, V>>> BTreeMap<K, V, Node> {
-    /// The pairs, in order.
+    /// Returns the pairs, in order.
     pub fn iter(&self) -> Iter<'_, K, V, Node>
         ensures rest { result ≡ joined self.now.nodes }
         ensures runs { ShowsInOrder (pair_shown {K = K} {V = V}) }

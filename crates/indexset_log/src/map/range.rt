@@ -14,12 +14,12 @@ use indexset_core::pair::Pair;
 use indexset_core::probe::ByKey;
 use std::ops::Bound;
 
-/// The pairs of a part of a map that are left, from both ends.
+/// The remaining pairs of a part of a map, from both ends.
 pub type Range<'a, K, V, Node> = Iter<'a, K, V, Node>;
 
 impl<K: Ord + Clone + Drop, V: Clone + Drop, Node: NodeLike<Pair<K, V>>> BTreeMap<K, V, Node> {
-    /// The pairs whose keys satisfy both bounds, in order. The start must not be past the end, nor at
-    /// it where both are excluded, which `bounds_are_ordered` of the core tests.
+    /// Returns the pairs whose keys satisfy both bounds, in order. The start must not be past the
+    /// end, nor at it where both are excluded, which `bounds_are_ordered` of the core tests.
     ///
     /// ```
     /// // The pairs of the keys from 10 on that are below 20.

@@ -1,8 +1,10 @@
 //! Calls that remove pairs.
 ghost use Rattle.std.specs.Prelude.{◌≡◌, ◌+◌, ◌/◌, ◌<◌, ◌≤◌, [], length, Some, false, IfOk, OnOk, IfErr, OnErr, IsOk};
+ghost use Rattle.std.specs.List.{AllZip};
 ghost use Rattle.std.specs.Option.{option_map};
 ghost use Rattle.indexset_core.specs.Nodes.{joined};
 ghost use Rattle.indexset_core.specs.Pairs.{by_key, entry_of, has_key, pair_of, without_key};
+ghost use Rattle.indexset_log.specs.Clones.{IsEventClone};
 ghost use Rattle.indexset_log.specs.Keys.{key_removal_events};
 ghost use Rattle.indexset_log.specs.Joining.{IsSpaced};
 ghost use Rattle.indexset_log.specs.Replay.{replay, numbered_from, IsNumberedFrom};
@@ -22,14 +24,14 @@ impl<K: Ord + Clone + Drop, V: Clone + Drop, Node: NodeLike<Pair<K, V>>> BTreeMa
         &mut self,
         key: &K,
     ) -> Result<(Option<(K, V)>, Vec<ChangeEvent<Pair<K, V>>>), Refusal>
-        requires keys { (x y : K) → K.is_clone x y → y ≡ x }
-        requires values { (x y : V) → V.is_clone x y → y ≡ x }
         ensures answer { IfOk result (λ r. r.0 ≡ option_map entry_of (pair_of K.cmp (joined self.old.nodes) key.now)) }
         ensures contents { OnOk result (joined self.new.nodes ≡ without_key K.cmp (joined self.old.nodes) key.now) }
         ensures gone { OnOk result (has_key K.cmp (joined self.new.nodes) key.now ≡ false) }
-        ensures events { IfOk result (λ r. r.1.items ≡ numbered_from self.old.next (key_removal_events K.cmp self.old.size self.old.nodes key.now)) }
+        ensures clones { IfOk result (λ r. AllZip (IsEventClone (λ p q. K.is_clone p.key q.key × V.is_clone p.value q.value)) (numbered_from self.old.next (key_removal_events K.cmp self.old.size self.old.nodes key.now)) r.1.items) }
+        ensures events { ((x y : K) → K.is_clone x y → y ≡ x) → ((x y : V) → V.is_clone x y → y ≡ x) → IfOk result (λ r. r.1.items ≡ numbered_from self.old.next (key_removal_events K.cmp self.old.size self.old.nodes key.now)) }
         ensures numbered { IfOk result (λ r. IsNumberedFrom self.old.next r.1.items) }
-        ensures replay { IfOk result (λ r. replay (by_key K.cmp) self.old.nodes r.1.items ≡ Some self.new.nodes) }
+        ensures replay { ((x y : K) → K.is_clone x y → y ≡ x) → ((x y : V) → V.is_clone x y → y ≡ x) → IfOk result (λ r. replay (by_key K.cmp) self.old.nodes r.1.items ≡ Some self.new.nodes) }
+        ensures table { OnOk result (replay (by_key K.cmp) self.old.nodes (numbered_from self.old.next (key_removal_events K.cmp self.old.size self.old.nodes key.now)) ≡ Some self.new.nodes) }
         ensures few { IfOk result (λ r. length r.1.items ≤ 3) }
         ensures size { self.new.size ≡ self.old.size }
         ensures spaced { IsSpaced (self.old.size / 2) self.old.nodes → IsSpaced (self.new.size / 2) self.new.nodes }

@@ -1,4 +1,4 @@
-//! Whole nodes taken in.
+//! Insertion of whole nodes.
 ghost use Rattle.std.specs.Prelude.{◌≡◌, ◌+◌, ◌≤◌, true, length, slice_get, None, IfOk, OnOk, IfErr, OnErr, IsOk};
 ghost use Rattle.std.specs.List.{position_or_len};
 ghost use Rattle.std.specs.Option.{option_map_or, unwrap_or};
@@ -16,11 +16,11 @@ use indexset_core::probe::ByItem;
 use indexset_core::refusal::{Refusal, Refused};
 
 impl<T: Ord + Clone + Drop, Node: NodeLike<T>> BTreeSet<T, Node> {
-    /// Takes a whole node in, in its place among the others. No event is given, and no number is used
-    /// up. A node is refused by the first of these that holds: it is `Empty`; it is `TooLarge`, with
-    /// more items than the node size; it is `Unsorted`, not strictly ascending; it `Overlaps`, where
-    /// it does not lie wholly before, after or between two neighbouring nodes. Want of `Memory` comes
-    /// after all others. A refused call hands the node back and changes nothing.
+    /// Inserts a whole node in its place among the others. It gives no event and uses up no number.
+    /// Fails with the first of these that holds: `Empty`; `TooLarge`, with more items than the node
+    /// size; `Unsorted`, not strictly ascending; `Overlaps`, where it does not lie wholly before,
+    /// after or between two neighbouring nodes; then `Memory`. A failed call hands the node back
+    /// and changes nothing.
     pub fn attach_node(&mut self, node: Node) -> Result<(), Refused<Node>>
         ensures nodes { OnOk result (self.new.nodes ≡ attached T.cmp self.old.nodes (Node.list node)) }
         ensures ascending { OnOk result (IsAscending T.cmp (joined self.new.nodes)) }
@@ -49,7 +49,7 @@ impl<T: Ord + Clone + Drop, Node: NodeLike<T>> BTreeSet<T, Node> {
         }
     }
 
-    // Where a node goes among the others, if it may.
+    // Returns where a node goes among the others, if it may.
     fn attach_place(&self, node: &Node) -> Result<usize, Refusal>
         ensures place { IfOk result (λ place. place ≡ attach_index T.cmp self.now.nodes (Node.list node.now)) }
         ensures good { OnOk result (attach_refusal T.cmp self.now.size self.now.nodes (Node.list node.now) ≡ None) }
@@ -76,7 +76,7 @@ impl<T: Ord + Clone + Drop, Node: NodeLike<T>> BTreeSet<T, Node> {
         Ok(place)
     }
 
-    // Whether the node at a place, if there is one, starts above an item.
+    // Returns whether the node at a place, if there is one, starts above an item.
     fn starts_above(&self, place: usize, value: &T) -> bool
         ensures { result ≡ option_map_or (λ x. is_lt (T.cmp value.now x)) (slice_get (node_at self.now.nodes place) 0) true }
     {
@@ -87,7 +87,7 @@ impl<T: Ord + Clone + Drop, Node: NodeLike<T>> BTreeSet<T, Node> {
         value.cmp(&items[0]).is_lt()
     }
 
-    // How many nodes end below an item.
+    // Returns how many nodes end below an item.
     fn nodes_below(&self, value: &T) -> usize
         ensures { result ≡ position_or_len (reaches T.cmp value.now) self.now.nodes }
     {
@@ -102,7 +102,7 @@ impl<T: Ord + Clone + Drop, Node: NodeLike<T>> BTreeSet<T, Node> {
     }
 }
 
-// Whether each item is below the next.
+// Returns whether each item is below the next.
 pub(super) fn is_ascending<T: Ord>(items: &[T]) -> bool
     ensures { result ≡ is_ascending T.cmp items.now }
 {

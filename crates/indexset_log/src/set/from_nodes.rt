@@ -13,13 +13,13 @@ use indexset_core::refusal::{Refusal, Refused};
 use std::marker::PhantomData;
 
 impl<T: Ord + Clone + Drop, Node: NodeLike<T>> BTreeSet<T, Node> {
-    /// The tree of these nodes, whose first event has the number `next`: it goes on where another
-    /// stopped. The nodes are taken as they are, no item is copied, nothing is allocated, and no number
-    /// is used up; neighbouring nodes are compared once. Fails at the first node that is `Empty`,
-    /// `TooLarge`, `Unsorted`, or `Overlaps` the one before, by the first of these that holds, and after
-    /// all others with `Memory` where there are more items than the greatest usize. A failed call hands
-    /// the nodes back. No call fails where the nodes are lawful for this size and the number of items is
-    /// a usize. (It is not in the Rust crate.)
+    /// Returns the tree of these nodes, whose first event has the number `next`: it goes on where
+    /// another stopped. The nodes are taken as they are, no item is copied, nothing is allocated,
+    /// and no number is used up; neighbouring nodes are compared once. Fails at the first node that
+    /// is `Empty`, `TooLarge`, `Unsorted`, or `Overlaps` the one before, by the first of these that
+    /// holds, and after all others with `Memory` where there are more items than `usize::MAX`. A
+    /// failed call hands the nodes back. No call fails where the nodes are lawful for this size and
+    /// the number of items is a usize. (Not in the Rust crate.)
     pub fn from_nodes(nodes: Vec<Node>, size: usize, next: u64) -> Result<Self, Refused<Vec<Node>>>
         requires two { 2 ≤ size }
         requires within { size ≤ Node.most }
@@ -47,7 +47,7 @@ impl<T: Ord + Clone + Drop, Node: NodeLike<T>> BTreeSet<T, Node> {
     }
 }
 
-// How many items the nodes hold, if they may be those of a tree.
+// Returns how many items the nodes hold, if they may be those of a tree.
 fn test_and_count<T: Ord + Drop, Node: NodeLike<T>>(
     nodes: &[Node],
     size: usize,
@@ -64,7 +64,7 @@ fn test_and_count<T: Ord + Drop, Node: NodeLike<T>>(
     }
 }
 
-// How many items the nodes hold, if that is a usize.
+// Returns how many items the nodes hold, if that is a usize.
 fn count<T: Ord + Drop, Node: NodeLike<T>>(nodes: &[Node]) -> Option<usize>
     ensures { MatchOption result (usize.MAX < length (joined (map Node.list nodes.now))) (λ len. len ≡ length (joined (map Node.list nodes.now))) }
 {
@@ -76,10 +76,10 @@ fn count<T: Ord + Drop, Node: NodeLike<T>>(nodes: &[Node]) -> Option<usize>
 }
 
 /// Tests whether the nodes may be those of a tree whose nodes hold at most `size` items each, and
-/// allocates nothing: it compares neighbouring items once, those of two neighbouring nodes too. Fails at
-/// the first node that is `Empty`, `TooLarge`, `Unsorted`, or `Overlaps` the one before, by the first of
-/// these that holds; `TooLarge` is impossible where `size` is the greatest usize. (It is not in the Rust
-/// crate.)
+/// allocates nothing: it compares neighbouring items once, those of two neighbouring nodes too.
+/// Fails at the first node that is `Empty`, `TooLarge`, `Unsorted`, or `Overlaps` the one before,
+/// by the first of these that holds; `TooLarge` is impossible where `size` is `usize::MAX`. (Not in
+/// the Rust crate.)
 pub fn test_nodes<'a, T: Ord + Drop + 'a, Node: NodeLike<T>>(
     nodes: &'a [Node],
     size: usize,
@@ -99,7 +99,7 @@ pub fn test_nodes<'a, T: Ord + Drop + 'a, Node: NodeLike<T>>(
     Ok(())
 }
 
-// Whether a node may follow another.
+// Returns whether a node may follow another.
 fn test_node<T: Ord>(before: &[T], items: &[T], size: usize) -> Result<(), Refusal>
     requires { is_ascending T.cmp before.now ≡ true }
     ensures good { OnOk result (follow_refusal T.cmp size before.now items.now ≡ None) }
@@ -122,7 +122,7 @@ fn test_node<T: Ord>(before: &[T], items: &[T], size: usize) -> Result<(), Refus
     Ok(())
 }
 
-// Whether the last item, if there is one, is below a value.
+// Returns whether the last item, if there is one, is below a value.
 fn ends_below<T: Ord>(items: &[T], value: &T) -> bool
     ensures { result ≡ option_map_or (λ x. is_lt (T.cmp x value.now)) (slice_get items.now (length items.now - 1)) true }
 {

@@ -1,4 +1,4 @@
-//! Walks of a set from both ends.
+//! Iterators over a set, from both ends.
 ghost use Rattle.std.specs.Prelude.{◌≡◌, ◌+◌, ◌≤◌, length, List, map, IfSome, Some};
 ghost use Rattle.std.specs.List.{between};
 ghost use Rattle.std.specs.Iterator.{UpTo, at_most};
@@ -13,8 +13,8 @@ use indexset_core::node::NodeLike;
 use std::iter::FusedIterator;
 use std::marker::Model;
 
-/// The items of a set that are left, from both ends: those of the front node, of the nodes between,
-/// and of the back node.
+/// The remaining items of a set, from both ends: those of the front node, of the nodes between, and
+/// of the back node.
 #[derive(Drop)]
 pub struct Iter<'a, T: Ord + Clone + Drop, Node: NodeLike<T>> {
     front: &'a [T],
@@ -35,7 +35,7 @@ impl<'a, T: Ord + Clone + Drop, Node: NodeLike<T>> Model for Iter<'a, T, Node> {
 }
 
 impl<'a, T: Ord + Clone + Drop, Node: NodeLike<T>> Iter<'a, T, Node> {
-    /// All items of a set, in order.
+    /// Returns all items of a set, in order.
     pub fn new(set: &'a BTreeSet<T, Node>) -> Self
         ensures rest { result ≡ joined set.now.nodes }
         ensures runs { ShowsInOrder (deref {X = T}) }
@@ -44,7 +44,7 @@ impl<'a, T: Ord + Clone + Drop, Node: NodeLike<T>> Iter<'a, T, Node> {
         Iter::over(set.nodes.as_slice(), set.len)
     }
 
-    // The items of all nodes.
+    // Returns the items of all nodes.
     fn over(nodes: &'a [Node], left: usize) -> Self
         requires { left ≡ length (joined (map Node.list nodes.now)) }
         ensures { result ≡ joined (map Node.list nodes.now) }
@@ -57,7 +57,7 @@ impl<'a, T: Ord + Clone + Drop, Node: NodeLike<T>> Iter<'a, T, Node> {
         }
     }
 
-    // The items from one place, a node and an offset, to before another.
+    // Returns the items from one place, a node and an offset, to before another.
     pub(super) fn between(nodes: &'a [Node], from: (usize, usize), to: (usize, usize)) -> Self
         requires from { IsPlace (map Node.list nodes.now) from }
         requires to { IsPlace (map Node.list nodes.now) to }
@@ -159,7 +159,7 @@ impl<'a, T: Ord + Clone + Drop, Node: NodeLike<T>> ExactSizeIterator for Iter<'a
 impl<'a, T: Ord + Clone + Drop, Node: NodeLike<T>> FusedIterator for Iter<'a, T, Node> {}
 
 impl<T: Ord + Clone + Drop, Node: NodeLike<T>> BTreeSet<T, Node> {
-    /// The items, in order.
+    /// Returns the items, in order.
     pub fn iter(&self) -> Iter<'_, T, Node>
         ensures rest { result ≡ joined self.now.nodes }
         ensures runs { ShowsInOrder (deref {X = T}) }

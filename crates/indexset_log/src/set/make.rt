@@ -13,9 +13,9 @@ use indexset_core::refusal::Refusal;
 use std::alloc::Global;
 
 impl<T: Ord + Clone + Drop> BTreeSet<T, Vec<T>> {
-    /// The tree of what an iterator gives, each item put in by `insert`: of equal ones the first
-    /// stays. Fails with `Memory`, or with `Numbers` where the events of the items that came do not fit,
-    /// and then all are dropped.
+    /// Returns the tree of what an iterator gives, each item put in by `insert`: of equal ones the
+    /// first stays. Fails with `Memory`, or with `Numbers` where the events of the items that came
+    /// do not fit, and then all are dropped.
     pub fn from_iter<I: IntoIterator<Item = T>>(alloc: Global, iter: I) -> Result<Self, Refusal>
         requires { IsFiniteIterable I.into_iter_gives I.IntoIter.can_next I.IntoIter.remaining iter }
         ensures contents { IfOk result (λ s. (it : I.IntoIter) × I.into_iter_gives iter it
@@ -34,7 +34,7 @@ impl<T: Ord + Clone + Drop> BTreeSet<T, Vec<T>> {
         Ok(set)
     }
 
-    /// The tree of the values, as `from_iter` makes it.
+    /// Returns the tree of the values, as `from_iter` makes it.
     pub fn from(alloc: Global, values: Vec<T>) -> Result<Self, Refusal>
         ensures contents { IfOk result (λ s. joined s.nodes ≡ fold (keep T.cmp) [] values.items) }
         ensures tree { IfOk result (λ s. s ≡ fold (inserted T.cmp) (fresh DEFAULT_INNER_SIZE) values.items) }

@@ -12,7 +12,7 @@ use std::iter::FusedIterator;
 use std::marker::Model;
 use std::slice;
 
-/// The nodes of a tree that are left, from both ends.
+/// The remaining nodes of a tree, from both ends.
 #[derive(Drop)]
 pub struct Nodes<'a, Node> {
     rest: slice::Iter<'a, Node>,
@@ -65,7 +65,8 @@ impl<'a, Node> ExactSizeIterator for Nodes<'a, Node> {
 impl<'a, Node> FusedIterator for Nodes<'a, Node> {}
 
 impl<T: Ord + Clone + Drop, Node: NodeLike<T>> BTreeSet<T, Node> {
-    /// The nodes, in order. (In the Rust crate it is the maps' alone, and lends them locked.)
+    /// Returns the nodes, in order. (In the Rust crate it is the maps' alone, and lends them
+    /// locked.)
     pub fn iter_nodes(&self) -> Nodes<'_, Node>
         ensures rest { map Node.list result ≡ self.now.nodes }
         ensures runs { ShowsInOrder (deref {X = Node}) }
@@ -76,8 +77,8 @@ impl<T: Ord + Clone + Drop, Node: NodeLike<T>> BTreeSet<T, Node> {
         }
     }
 
-    /// How many items there is room for: the sum of the nodes' capacities, which stops at the greatest
-    /// usize.
+    /// Returns how many items there is room for: the sum of the nodes' capacities, which stops at
+    /// `usize::MAX`.
     pub fn capacity(&self) -> usize
         ensures { length (joined self.now.nodes) ≤ result }
     {

@@ -1,8 +1,10 @@
-//! Calls that put items in.
+//! Insertion of items.
 ghost use Rattle.std.specs.Prelude.{◌≡◌, ◌+◌, ◌/◌, ◌≤◌, [], ◌++◌, length, Some, None, IfOk, OnOk, IfErr, OnErr, IsOk, IfSome, is_none, not, true};
+ghost use Rattle.std.specs.List.{AllZip};
 ghost use Rattle.indexset_core.specs.Nodes.{joined};
 ghost use Rattle.indexset_core.specs.Order.{put, keep, has_equal, equal_element};
 ghost use Rattle.indexset_log.specs.Aim.{IsAim, IsAimed, count_for, is_present};
+ghost use Rattle.indexset_log.specs.Clones.{IsEventClone};
 ghost use Rattle.indexset_log.specs.Edits.{with_put, with_checked_put};
 ghost use Rattle.indexset_log.specs.Joining.{IsSpaced};
 ghost use Rattle.indexset_log.specs.Replay.{replay, numbered_from, IsNumberedFrom};
@@ -21,17 +23,18 @@ use indexset_core::refusal::{Refusal, Refused};
 use indexset_core::search;
 
 impl<T: Ord + Clone + Drop, Node: NodeLike<T>> BTreeSet<T, Node> {
-    /// Puts an item in, for any equal one, and tells the events. A refused call hands the item back
-    /// and changes nothing.
+    /// Inserts an item, replaces an equal one, and returns the events. A failed call hands the item
+    /// back and changes nothing.
     pub fn put_cdc(&mut self, value: T) -> Result<(Option<T>, Vec<ChangeEvent<T>>), Refused<T>>
-        requires clones { (x y : T) → T.is_clone x y → y ≡ x }
         ensures answer { IfOk result (λ r. r.0 ≡ equal_element T.cmp (joined self.old.nodes) value) }
         ensures contents { OnOk result (joined self.new.nodes ≡ put T.cmp (joined self.old.nodes) value) }
         ensures there { OnOk result (has_equal T.cmp (joined self.new.nodes) value ≡ true) }
         ensures nodes { OnOk result (self.new.nodes ≡ with_put T.cmp self.old.size self.old.nodes value) }
-        ensures events { IfOk result (λ r. r.1.items ≡ numbered_from self.old.next (put_events T.cmp self.old.size self.old.nodes value)) }
+        ensures clones { IfOk result (λ r. AllZip (IsEventClone T.is_clone) (numbered_from self.old.next (put_events T.cmp self.old.size self.old.nodes value)) r.1.items) }
+        ensures events { ((x y : T) → T.is_clone x y → y ≡ x) → IfOk result (λ r. r.1.items ≡ numbered_from self.old.next (put_events T.cmp self.old.size self.old.nodes value)) }
         ensures numbered { IfOk result (λ r. IsNumberedFrom self.old.next r.1.items) }
-        ensures replay { IfOk result (λ r. replay T.cmp self.old.nodes r.1.items ≡ Some self.new.nodes) }
+        ensures replay { ((x y : T) → T.is_clone x y → y ≡ x) → IfOk result (λ r. replay T.cmp self.old.nodes r.1.items ≡ Some self.new.nodes) }
+        ensures table { OnOk result (replay T.cmp self.old.nodes (numbered_from self.old.next (put_events T.cmp self.old.size self.old.nodes value)) ≡ Some self.new.nodes) }
         ensures few { IfOk result (λ r. length r.1.items ≤ 3) }
         ensures size { self.new.size ≡ self.old.size }
         ensures spaced { IsSpaced (self.old.size / 2) self.old.nodes → IsSpaced (self.new.size / 2) self.new.nodes }
@@ -45,16 +48,16 @@ impl<T: Ord + Clone + Drop, Node: NodeLike<T>> BTreeSet<T, Node> {
         self.put_cdc_at(aim, value)
     }
 
-    /// The same, where no equal item is there. Else `None`: nothing changes, no number and no memory
-    /// is taken, and the item is dropped.
+    /// Does the same where no equal item is present. If one is, returns `None`, drops the item,
+    /// uses up no number, allocates nothing and changes nothing.
     #[tactic(auto, unfolding(indexset_core::specs::Order::keep, crate::specs::Edits::with_checked_put, crate::specs::Table::checked_put_events))]
     pub fn put_cdc_checked(&mut self, value: T) -> Result<Option<Vec<ChangeEvent<T>>>, Refused<T>>
-        requires clones { (x y : T) → T.is_clone x y → y ≡ x }
         ensures answer { IfOk result (λ r. is_none r ≡ has_equal T.cmp (joined self.old.nodes) value) }
         ensures contents { OnOk result (joined self.new.nodes ≡ keep T.cmp (joined self.old.nodes) value) }
         ensures there { OnOk result (has_equal T.cmp (joined self.new.nodes) value ≡ true) }
         ensures nodes { OnOk result (self.new.nodes ≡ with_checked_put T.cmp self.old.size self.old.nodes value) }
-        ensures events { IfOk result (λ r. IfSome r (λ events. events.items ≡ numbered_from self.old.next (checked_put_events T.cmp self.old.size self.old.nodes value))) }
+        ensures clones { IfOk result (λ r. IfSome r (λ events. AllZip (IsEventClone T.is_clone) (numbered_from self.old.next (checked_put_events T.cmp self.old.size self.old.nodes value)) events.items)) }
+        ensures events { ((x y : T) → T.is_clone x y → y ≡ x) → IfOk result (λ r. IfSome r (λ events. events.items ≡ numbered_from self.old.next (checked_put_events T.cmp self.old.size self.old.nodes value))) }
         ensures numbered { IfOk result (λ r. IfSome r (λ events. IsNumberedFrom self.old.next events.items)) }
         ensures replay { OnOk result (replay T.cmp self.old.nodes (numbered_from self.old.next (checked_put_events T.cmp self.old.size self.old.nodes value)) ≡ Some self.new.nodes) }
         ensures few { IfOk result (λ r. IfSome r (λ events. length events.items ≤ 3)) }
@@ -79,8 +82,8 @@ impl<T: Ord + Clone + Drop, Node: NodeLike<T>> BTreeSet<T, Node> {
         }
     }
 
-    /// Puts an item in, for any equal one. It uses up as many numbers as `put_cdc`. A refused call
-    /// hands the item back and changes nothing.
+    /// Inserts an item, or replaces an equal one. It uses up as many numbers as `put_cdc`. A failed
+    /// call hands the item back and changes nothing.
     pub fn put(&mut self, value: T) -> Result<Option<T>, Refused<T>>
         ensures answer { IfOk result (λ old. old ≡ equal_element T.cmp (joined self.old.nodes) value) }
         ensures contents { OnOk result (joined self.new.nodes ≡ put T.cmp (joined self.old.nodes) value) }
@@ -100,8 +103,8 @@ impl<T: Ord + Clone + Drop, Node: NodeLike<T>> BTreeSet<T, Node> {
         self.put_at(aim, value)
     }
 
-    /// Puts an item in, where no equal one is there: true. Else false: nothing changes, no number and
-    /// no memory is taken, and the item is dropped.
+    /// Inserts an item and returns true. If an equal one is present, returns false, drops the item,
+    /// uses up no number, allocates nothing and changes nothing.
     #[tactic(auto, unfolding(indexset_core::specs::Order::keep, crate::specs::Edits::with_checked_put, crate::specs::Table::checked_put_events))]
     pub fn insert(&mut self, value: T) -> Result<bool, Refused<T>>
         ensures answer { IfOk result (λ r. r ≡ not (has_equal T.cmp (joined self.old.nodes) value)) }
@@ -131,7 +134,7 @@ impl<T: Ord + Clone + Drop, Node: NodeLike<T>> BTreeSet<T, Node> {
         }
     }
 
-    // Where an item goes: `None` in an empty tree.
+    // Returns where an item goes: `None` in an empty tree.
     fn aim(&self, value: &T) -> Option<Aim>
         ensures aim { IsAimed T.cmp self.now.size self.now.nodes value.now result }
         ensures present { is_present result ≡ has_equal T.cmp (joined self.now.nodes) value.now }
@@ -142,19 +145,19 @@ impl<T: Ord + Clone + Drop, Node: NodeLike<T>> BTreeSet<T, Node> {
         Some(self.aim_in_target(value))
     }
 
-    // Puts an item where it goes, and tells the events.
+    // Inserts an item where it goes, and returns the events.
     fn put_cdc_at(
         &mut self,
         aim: Option<Aim>,
         value: T,
     ) -> Result<(Option<T>, Vec<ChangeEvent<T>>), Refused<T>>
-        requires clones { (x y : T) → T.is_clone x y → y ≡ x }
         requires aim { IsAimed T.cmp self.old.size self.old.nodes value aim }
         ensures answer { IfOk result (λ r. r.0 ≡ equal_element T.cmp (joined self.old.nodes) value) }
         ensures contents { OnOk result (joined self.new.nodes ≡ put T.cmp (joined self.old.nodes) value) }
         ensures there { OnOk result (has_equal T.cmp (joined self.new.nodes) value ≡ true) }
         ensures nodes { OnOk result (self.new.nodes ≡ with_put T.cmp self.old.size self.old.nodes value) }
-        ensures events { IfOk result (λ r. r.1.items ≡ numbered_from self.old.next (put_events T.cmp self.old.size self.old.nodes value)) }
+        ensures clones { IfOk result (λ r. AllZip (IsEventClone T.is_clone) (numbered_from self.old.next (put_events T.cmp self.old.size self.old.nodes value)) r.1.items) }
+        ensures events { ((x y : T) → T.is_clone x y → y ≡ x) → IfOk result (λ r. r.1.items ≡ numbered_from self.old.next (put_events T.cmp self.old.size self.old.nodes value)) }
         ensures numbered { IfOk result (λ r. IsNumberedFrom self.old.next r.1.items) }
         ensures replay { OnOk result (replay T.cmp self.old.nodes (numbered_from self.old.next (put_events T.cmp self.old.size self.old.nodes value)) ≡ Some self.new.nodes) }
         ensures few { IfOk result (λ r. length r.1.items ≤ 3) }
@@ -175,7 +178,7 @@ impl<T: Ord + Clone + Drop, Node: NodeLike<T>> BTreeSet<T, Node> {
         }
     }
 
-    // Puts an item where it goes.
+    // Inserts an item where it goes.
     fn put_at(&mut self, aim: Option<Aim>, value: T) -> Result<Option<T>, Refused<T>>
         requires { IsAimed T.cmp self.old.size self.old.nodes value aim }
         ensures answer { IfOk result (λ old. old ≡ equal_element T.cmp (joined self.old.nodes) value) }
@@ -199,7 +202,7 @@ impl<T: Ord + Clone + Drop, Node: NodeLike<T>> BTreeSet<T, Node> {
         }
     }
 
-    // Whether there are numbers for the events of a put.
+    // Returns whether there are numbers for the events of a put.
     fn check_numbers(&self, aim: &Option<Aim>) -> Result<(), Refusal>
         ensures fits { OnOk result (self.now.next + count_for aim.now ≤ u64.MAX) }
         ensures memory { OnOk result (refusal_for self.now.next (count_for aim.now) ≡ Refusal.Memory) }
@@ -211,11 +214,11 @@ impl<T: Ord + Clone + Drop, Node: NodeLike<T>> BTreeSet<T, Node> {
         Ok(())
     }
 
-    // The events of a put.
+    // Returns the events of a put.
     fn put_log(&self, aim: &Option<Aim>, value: &T) -> Result<Vec<ChangeEvent<T>>, Refusal>
-        requires clones { (x y : T) → T.is_clone x y → y ≡ x }
         requires aim { IsAimed T.cmp self.now.size self.now.nodes value.now aim.now }
-        ensures events { IfOk result (λ events. events.items ≡ numbered_from self.now.next (put_events T.cmp self.now.size self.now.nodes value.now)) }
+        ensures clones { IfOk result (λ events. AllZip (IsEventClone T.is_clone) (numbered_from self.now.next (put_events T.cmp self.now.size self.now.nodes value.now)) events.items) }
+        ensures events { ((x y : T) → T.is_clone x y → y ≡ x) → IfOk result (λ events. events.items ≡ numbered_from self.now.next (put_events T.cmp self.now.size self.now.nodes value.now)) }
         ensures refusal { IfErr result (λ e. e ≡ refusal_for self.now.next (length (put_events T.cmp self.now.size self.now.nodes value.now))) }
     {
         // The nodes are lawful.
@@ -227,7 +230,7 @@ impl<T: Ord + Clone + Drop, Node: NodeLike<T>> BTreeSet<T, Node> {
         }
     }
 
-    // Puts an item where it goes. A refused call hands it back and changes nothing.
+    // Inserts an item where it goes. A failed call hands it back and changes nothing.
     fn carry_out(&mut self, aim: Option<Aim>, value: T) -> Result<Option<T>, Refused<T>>
         requires aim { IsAimed T.cmp self.old.size self.old.nodes value aim }
         requires fits { self.old.next + count_for aim ≤ u64.MAX }
@@ -245,7 +248,7 @@ impl<T: Ord + Clone + Drop, Node: NodeLike<T>> BTreeSet<T, Node> {
         }
     }
 
-    // Where an item goes, in a tree with nodes.
+    // Returns where an item goes, in a tree with nodes.
     fn aim_in_target(&self, value: &T) -> Aim
         requires { 1 ≤ length self.now.nodes }
         ensures { IsAim T.cmp self.now.size self.now.nodes value.now result }
@@ -262,12 +265,12 @@ impl<T: Ord + Clone + Drop, Node: NodeLike<T>> BTreeSet<T, Node> {
         }
     }
 
-    // The events of a put where the item goes.
+    // Returns the events of a put where the item goes.
     fn target_log(&self, aim: &Aim, value: &T) -> Result<Vec<ChangeEvent<T>>, Refusal>
-        requires clones { (x y : T) → T.is_clone x y → y ≡ x }
         requires aim { IsAim T.cmp self.now.size self.now.nodes value.now aim.now }
         requires fits { self.now.next + count_for (Some aim.now) ≤ u64.MAX }
-        ensures events { IfOk result (λ events. events.items ≡ numbered_from self.now.next (put_events T.cmp self.now.size self.now.nodes value.now)) }
+        ensures clones { IfOk result (λ events. AllZip (IsEventClone T.is_clone) (numbered_from self.now.next (put_events T.cmp self.now.size self.now.nodes value.now)) events.items) }
+        ensures events { ((x y : T) → T.is_clone x y → y ≡ x) → IfOk result (λ events. events.items ≡ numbered_from self.now.next (put_events T.cmp self.now.size self.now.nodes value.now)) }
         ensures refusal { IfErr result (λ e. e ≡ Refusal.Memory) }
     {
         let mut log = Log::new(*self.nodes.allocator(), self.next);
@@ -282,7 +285,7 @@ impl<T: Ord + Clone + Drop, Node: NodeLike<T>> BTreeSet<T, Node> {
         Ok(log.events)
     }
 
-    // Puts an item where it goes. A refused call hands it back and changes nothing.
+    // Inserts an item where it goes. A failed call hands it back and changes nothing.
     fn put_in_target(&mut self, aim: Aim, value: T) -> Result<Option<T>, Refused<T>>
         requires aim { IsAim T.cmp self.old.size self.old.nodes value aim }
         requires fits { self.old.next + count_for (Some aim) ≤ u64.MAX }
@@ -310,7 +313,7 @@ impl<T: Ord + Clone + Drop, Node: NodeLike<T>> BTreeSet<T, Node> {
         }
     }
 
-    // Puts the first item in. A refused call hands it back and changes nothing.
+    // Inserts the first item. A failed call hands it back and changes nothing.
     #[tactic(auto, unfolding(crate::specs::Edits::with_put, crate::specs::Table::put_events))]
     fn put_first(&mut self, value: T) -> Result<Option<T>, Refused<T>>
         requires none { self.old.nodes ≡ [] }
@@ -335,13 +338,13 @@ impl<T: Ord + Clone + Drop, Node: NodeLike<T>> BTreeSet<T, Node> {
         }
     }
 
-    // The event of the first item.
+    // Returns the event of the first item.
     #[tactic(auto, unfolding(crate::specs::Table::put_events))]
     fn first_log(&self, value: &T) -> Result<Vec<ChangeEvent<T>>, Refusal>
-        requires clones { (x y : T) → T.is_clone x y → y ≡ x }
         requires none { self.now.nodes ≡ [] }
         requires fits { self.now.next + 1 ≤ u64.MAX }
-        ensures events { IfOk result (λ events. events.items ≡ numbered_from self.now.next (put_events T.cmp self.now.size self.now.nodes value.now)) }
+        ensures clones { IfOk result (λ events. AllZip (IsEventClone T.is_clone) (numbered_from self.now.next (put_events T.cmp self.now.size self.now.nodes value.now)) events.items) }
+        ensures events { ((x y : T) → T.is_clone x y → y ≡ x) → IfOk result (λ events. events.items ≡ numbered_from self.now.next (put_events T.cmp self.now.size self.now.nodes value.now)) }
         ensures refusal { IfErr result (λ e. e ≡ Refusal.Memory) }
     {
         let mut log = Log::new(*self.nodes.allocator(), self.next);

@@ -18,7 +18,7 @@ use std::iter::FusedIterator;
 use std::marker::Model;
 use std::ops::Bound;
 
-/// The items of a part of a set that are left, from both ends.
+/// The remaining items of a part of a set, from both ends.
 #[derive(Drop)]
 pub struct Range<'a, T: Ord + Clone + Drop, Node: NodeLike<T>> {
     pub(crate) rest: Iter<'a, T, Node>,
@@ -33,7 +33,7 @@ impl<'a, T: Ord + Clone + Drop, Node: NodeLike<T>> Model for Range<'a, T, Node> 
 }
 
 impl<'a, T: Ord + Clone + Drop, Node: NodeLike<T>> Range<'a, T, Node> {
-    /// The items of a set that satisfy both bounds, as the set's `range` tells them.
+    /// Returns the items of a set that satisfy both bounds, as the set's `range` has them.
     pub fn new(set: &'a BTreeSet<T, Node>, range: (Bound<&T>, Bound<&T>)) -> Self
         requires { IsTrue (are_ordered T.cmp (bound_map (λ v. v.now) range.0) (bound_map (λ v. v.now) range.1)) }
         ensures rest { result ≡ in_range T.cmp (joined set.now.nodes) (bound_map (λ v. v.now) range.entry.0) (bound_map (λ v. v.now) range.entry.1) }
@@ -81,8 +81,8 @@ impl<'a, T: Ord + Clone + Drop, Node: NodeLike<T>> ExactSizeIterator for Range<'
 impl<'a, T: Ord + Clone + Drop, Node: NodeLike<T>> FusedIterator for Range<'a, T, Node> {}
 
 impl<T: Ord + Clone + Drop, Node: NodeLike<T>> BTreeSet<T, Node> {
-    /// The items that satisfy both bounds, in order. The start must not be past the end, nor at it
-    /// where both are excluded, which `bounds_are_ordered` of the core tests.
+    /// Returns the items that satisfy both bounds, in order. The start must not be past the end,
+    /// nor at it where both are excluded, which `bounds_are_ordered` of the core tests.
     ///
     /// ```
     /// // The items from 10 on that are below 20.
@@ -101,10 +101,10 @@ impl<T: Ord + Clone + Drop, Node: NodeLike<T>> BTreeSet<T, Node> {
         self.range_between(from, to)
     }
 
-    /// The items from one place to before another, in order. A place is a node and an offset in it of
-    /// at most its length, as `locate_by` answers it; where there is no node it is (0, 0). No fewer
-    /// items may stand before the second place. The lengths of the nodes between the two are added up,
-    /// so that the walk knows its own. (It is not in the Rust crate.)
+    /// Returns the items from one place to before another, in order. A place is a node and an
+    /// offset in it of at most its length, as `locate_by` returns it; where there is no node it is
+    /// (0, 0). No fewer items may stand before the second place. The lengths of the nodes between
+    /// the two are added up, so that the iterator knows its own. (Not in the Rust crate.)
     pub fn range_between(&self, from: (usize, usize), to: (usize, usize)) -> Range<'_, T, Node>
         requires from { IsPlace self.now.nodes from }
         requires to { IsPlace self.now.nodes to }
@@ -120,8 +120,8 @@ impl<T: Ord + Clone + Drop, Node: NodeLike<T>> BTreeSet<T, Node> {
         }
     }
 
-    /// The place after the items before the start, by two binary searches, or none where it is unbounded.
-    /// Its probe must find the items in order. (It is not in the Rust crate.)
+    /// Returns the place after the items before the start, by two binary searches, or none where it
+    /// is unbounded. Its probe must find the items in order. (Not in the Rust crate.)
     pub fn place_from<P: Probe<T> + Drop>(&self, start: Bound<P>) -> (usize, usize)
         requires { IfBounded (λ p. IsParted (P.answer p) (joined self.now.nodes)) start }
         ensures place { IsPlace self.now.nodes result }
@@ -134,8 +134,8 @@ impl<T: Ord + Clone + Drop, Node: NodeLike<T>> BTreeSet<T, Node> {
         }
     }
 
-    /// The place after the items that are not past the end, by two binary searches, or none where it is
-    /// unbounded. Its probe must find the items in order. (It is not in the Rust crate.)
+    /// Returns the place after the items that are not past the end, by two binary searches, or none
+    /// where it is unbounded. Its probe must find the items in order. (Not in the Rust crate.)
     pub fn place_to<P: Probe<T> + Drop>(&self, end: Bound<P>) -> (usize, usize)
         requires { IfBounded (λ p. IsParted (P.answer p) (joined self.now.nodes)) end }
         ensures place { IsPlace self.now.nodes result }
@@ -148,7 +148,7 @@ impl<T: Ord + Clone + Drop, Node: NodeLike<T>> BTreeSet<T, Node> {
         }
     }
 
-    // The place before the first item that the probe does not answer Less.
+    // Returns the place before the first item that the probe does not place below what it seeks.
     fn place_by<P: Probe<T>>(&self, probe: &mut P) -> (usize, usize)
         requires { IsParted (P.answer probe.old) (joined self.now.nodes) }
         ensures place { IsPlace self.now.nodes result }
@@ -162,7 +162,7 @@ impl<T: Ord + Clone + Drop, Node: NodeLike<T>> BTreeSet<T, Node> {
         }
     }
 
-    // The place behind all items.
+    // Returns the place behind all items.
     fn last_place(&self) -> (usize, usize)
         ensures place { IsPlace self.now.nodes result }
         ensures before { items_before self.now.nodes result ≡ length (joined self.now.nodes) }

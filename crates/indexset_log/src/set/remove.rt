@@ -1,11 +1,13 @@
 //! Calls that remove items.
 ghost use Rattle.std.specs.Prelude.{◌≡◌, ℕ, ◌+◌, ◌/◌, ◌<◌, ◌≤◌, [], length, set, remove, slice_get, Some, None, false, IfOk, OnOk, IfErr, OnErr, IsOk, IfSome};
+ghost use Rattle.std.specs.List.{AllZip};
 ghost use Rattle.indexset_core.specs.Nodes.{joined, node_at};
 ghost use Rattle.indexset_core.specs.Order.{equal_element, has_equal, without};
+ghost use Rattle.indexset_log.specs.Clones.{IsEventClone};
 ghost use Rattle.indexset_log.specs.Edits.{with_taken};
 ghost use Rattle.indexset_log.specs.Joining.{are_small, IsSpaced, join_after, with_joined, item_removed};
 ghost use Rattle.indexset_log.specs.Nodes.{last_of};
-ghost use Rattle.indexset_log.specs.Replay.{replay, numbered_from, IsNumberedFrom};
+ghost use Rattle.indexset_log.specs.Replay.{assigned, replay, numbered_from, IsNumberedFrom};
 ghost use Rattle.indexset_log.specs.Table.{count_with, joining_event, taking_count, taking_event, taking_events, removal_events};
 ghost use Rattle.indexset_log.specs.Tree.{refusal_for};
 
@@ -21,13 +23,14 @@ impl<T: Ord + Clone + Drop, Node: NodeLike<T>> BTreeSet<T, Node> {
     /// joined with a small neighbour. Fails with `Numbers` where the events do not fit the counter, else
     /// with `Memory`. A failed call changes nothing.
     pub fn remove_cdc(&mut self, value: &T) -> Result<(Option<T>, Vec<ChangeEvent<T>>), Refusal>
-        requires clones { (x y : T) → T.is_clone x y → y ≡ x }
         ensures answer { IfOk result (λ r. r.0 ≡ equal_element T.cmp (joined self.old.nodes) value.now) }
         ensures contents { OnOk result (joined self.new.nodes ≡ without T.cmp (joined self.old.nodes) value.now) }
         ensures gone { OnOk result (has_equal T.cmp (joined self.new.nodes) value.now ≡ false) }
-        ensures events { IfOk result (λ r. r.1.items ≡ numbered_from self.old.next (removal_events T.cmp self.old.size self.old.nodes value.now)) }
+        ensures clones { IfOk result (λ r. AllZip (IsEventClone T.is_clone) (numbered_from self.old.next (removal_events T.cmp self.old.size self.old.nodes value.now)) r.1.items) }
+        ensures events { ((x y : T) → T.is_clone x y → y ≡ x) → IfOk result (λ r. r.1.items ≡ numbered_from self.old.next (removal_events T.cmp self.old.size self.old.nodes value.now)) }
         ensures numbered { IfOk result (λ r. IsNumberedFrom self.old.next r.1.items) }
-        ensures replay { IfOk result (λ r. replay T.cmp self.old.nodes r.1.items ≡ Some self.new.nodes) }
+        ensures replay { ((x y : T) → T.is_clone x y → y ≡ x) → IfOk result (λ r. replay T.cmp self.old.nodes r.1.items ≡ Some self.new.nodes) }
+        ensures table { OnOk result (replay T.cmp self.old.nodes (numbered_from self.old.next (removal_events T.cmp self.old.size self.old.nodes value.now)) ≡ Some self.new.nodes) }
         ensures few { IfOk result (λ r. length r.1.items ≤ 3) }
         ensures size { self.new.size ≡ self.old.size }
         ensures spaced { IsSpaced (self.old.size / 2) self.old.nodes → IsSpaced (self.new.size / 2) self.new.nodes }
@@ -53,14 +56,15 @@ impl<T: Ord + Clone + Drop, Node: NodeLike<T>> BTreeSet<T, Node> {
         node: usize,
         offset: usize,
     ) -> Result<(T, Vec<ChangeEvent<T>>), Refusal>
-        requires clones { (x y : T) → T.is_clone x y → y ≡ x }
         requires node { node < length self.old.nodes }
         requires offset { offset < length (node_at self.old.nodes node) }
         ensures item { IfOk result (λ r. slice_get (node_at self.old.nodes node) offset ≡ Some r.0) }
         ensures nodes { OnOk result (self.new.nodes ≡ with_taken self.old.size self.old.nodes node offset) }
-        ensures events { IfOk result (λ r. r.1.items ≡ numbered_from self.old.next (taking_events self.old.size self.old.nodes node offset r.0)) }
+        ensures clones { IfOk result (λ r. AllZip (IsEventClone T.is_clone) (numbered_from self.old.next (taking_events self.old.size self.old.nodes node offset r.0)) r.1.items) }
+        ensures events { ((x y : T) → T.is_clone x y → y ≡ x) → IfOk result (λ r. r.1.items ≡ numbered_from self.old.next (taking_events self.old.size self.old.nodes node offset r.0)) }
         ensures numbered { IfOk result (λ r. IsNumberedFrom self.old.next r.1.items) }
-        ensures replay { IfOk result (λ r. replay T.cmp self.old.nodes r.1.items ≡ Some self.new.nodes) }
+        ensures replay { ((x y : T) → T.is_clone x y → y ≡ x) → IfOk result (λ r. replay T.cmp self.old.nodes r.1.items ≡ Some self.new.nodes) }
+        ensures table { IfOk result (λ r. replay T.cmp self.old.nodes (numbered_from self.old.next (taking_events self.old.size self.old.nodes node offset r.0)) ≡ Some self.new.nodes) }
         ensures few { IfOk result (λ r. length r.1.items ≤ 3) }
         ensures size { self.new.size ≡ self.old.size }
         ensures spaced { IsSpaced (self.old.size / 2) self.old.nodes → IsSpaced (self.new.size / 2) self.new.nodes }
@@ -131,7 +135,8 @@ impl<T: Ord + Clone + Drop, Node: NodeLike<T>> BTreeSet<T, Node> {
         self.take(node, offset, join)
     }
 
-    // The first of the two nodes that are joined once a node has lost an item, whichever it is.
+    // Returns the first of the two nodes that are joined once a node has lost an item, whichever it
+    // is.
     fn join_after(&self, node: usize) -> Option<usize>
         requires { node < length self.now.nodes }
         ensures { (i : ℕ) → i < length (node_at self.now.nodes node) → result ≡ join_after self.now.size self.now.nodes node i }
@@ -148,7 +153,8 @@ impl<T: Ord + Clone + Drop, Node: NodeLike<T>> BTreeSet<T, Node> {
         None
     }
 
-    // Whether the node at `left` and the one after it are few items together, once a node has lost one.
+    // Returns whether the node at `left` and the one after it are few items together, once a node
+    // has lost one.
     fn are_small(&self, left: usize, node: usize) -> bool
         requires left { left < length self.now.nodes }
         requires node { node < length self.now.nodes }
@@ -163,7 +169,7 @@ impl<T: Ord + Clone + Drop, Node: NodeLike<T>> BTreeSet<T, Node> {
             )
     }
 
-    // The length of the node at a place, once a node has lost an item.
+    // Returns the length of the node at a place, once a node has lost an item.
     fn length_without(&self, place: usize, node: usize) -> usize
         requires place { place < length self.now.nodes }
         requires node { node < length self.now.nodes }
@@ -173,7 +179,7 @@ impl<T: Ord + Clone + Drop, Node: NodeLike<T>> BTreeSet<T, Node> {
         if place == node { length - 1 } else { length }
     }
 
-    // Whether there are numbers for the events of a removal.
+    // Returns whether there are numbers for the events of a removal.
     fn check_removal(&self, join: Option<usize>) -> Result<(), Refusal>
         ensures fits { OnOk result (self.now.next + count_with join ≤ u64.MAX) }
         ensures memory { OnOk result (refusal_for self.now.next (count_with join) ≡ Refusal.Memory) }
@@ -186,19 +192,19 @@ impl<T: Ord + Clone + Drop, Node: NodeLike<T>> BTreeSet<T, Node> {
         Ok(())
     }
 
-    // The events of a removal.
+    // Returns the events of a removal.
     fn removal_log(
         &self,
         node: usize,
         offset: usize,
         join: Option<usize>,
     ) -> Result<Vec<ChangeEvent<T>>, Refusal>
-        requires clones { (x y : T) → T.is_clone x y → y ≡ x }
         requires node { node < length self.now.nodes }
         requires offset { offset < length (node_at self.now.nodes node) }
         requires join { join ≡ join_after self.now.size self.now.nodes node offset }
         requires numbers { self.now.next + count_with join ≤ u64.MAX }
-        ensures events { IfOk result (λ events. IfSome (slice_get (node_at self.now.nodes node) offset) (λ x. events.items ≡ numbered_from self.now.next (taking_events self.now.size self.now.nodes node offset x))) }
+        ensures clones { IfOk result (λ events. IfSome (slice_get (node_at self.now.nodes node) offset) (λ x. AllZip (IsEventClone T.is_clone) (numbered_from self.now.next (taking_events self.now.size self.now.nodes node offset x)) events.items)) }
+        ensures events { ((x y : T) → T.is_clone x y → y ≡ x) → IfOk result (λ events. IfSome (slice_get (node_at self.now.nodes node) offset) (λ x. events.items ≡ numbered_from self.now.next (taking_events self.now.size self.now.nodes node offset x))) }
         ensures refusal { IfErr result (λ e. e ≡ Refusal.Memory) }
     {
         let mut log = Log::new(*self.nodes.allocator(), self.next);
@@ -212,12 +218,12 @@ impl<T: Ord + Clone + Drop, Node: NodeLike<T>> BTreeSet<T, Node> {
         }
     }
 
-    // The event of the removal of the item at a place.
+    // Returns the event of the removal of the item at a place.
     fn taking_event(&self, node: usize, offset: usize) -> Result<ChangeEventUnassigned<T>, Refusal>
-        requires clones { (x y : T) → T.is_clone x y → y ≡ x }
         requires node { node < length self.now.nodes }
         requires offset { offset < length (node_at self.now.nodes node) }
-        ensures event { IfOk result (λ event. IfSome (slice_get (node_at self.now.nodes node) offset) (λ x. event ≡ taking_event (node_at self.now.nodes node) offset x)) }
+        ensures clones { (s : ℕ) → IfOk result (λ event. IfSome (slice_get (node_at self.now.nodes node) offset) (λ x. IsEventClone T.is_clone (assigned s (taking_event (node_at self.now.nodes node) offset x)) (assigned s event))) }
+        ensures event { ((x y : T) → T.is_clone x y → y ≡ x) → IfOk result (λ event. IfSome (slice_get (node_at self.now.nodes node) offset) (λ x. event ≡ taking_event (node_at self.now.nodes node) offset x)) }
         ensures refusal { IfErr result (λ e. e ≡ Refusal.Memory) }
     {
         let items = self.nodes[node].iter().as_slice();
@@ -232,18 +238,19 @@ impl<T: Ord + Clone + Drop, Node: NodeLike<T>> BTreeSet<T, Node> {
         })
     }
 
-    // The event of the node at `left` and the one after it that are joined once the item at a place is gone.
+    // Returns the event of the node at `left` and the one after it that are joined once the item at
+    // a place is gone.
     fn joining_event(
         &self,
         left: usize,
         node: usize,
         offset: usize,
     ) -> Result<ChangeEventUnassigned<T>, Refusal>
-        requires clones { (x y : T) → T.is_clone x y → y ≡ x }
         requires node { node < length self.now.nodes }
         requires offset { offset < length (node_at self.now.nodes node) }
         requires join { join_after self.now.size self.now.nodes node offset ≡ Some left }
-        ensures event { IfOk result (λ event. (d : T) → event ≡ joining_event (item_removed self.now.nodes node offset) d left) }
+        ensures clones { (s : ℕ) (d : T) → IfOk result (λ event. IsEventClone T.is_clone (assigned s (joining_event (item_removed self.now.nodes node offset) d left)) (assigned s event)) }
+        ensures event { ((x y : T) → T.is_clone x y → y ≡ x) → IfOk result (λ event. (d : T) → event ≡ joining_event (item_removed self.now.nodes node offset) d left) }
         ensures refusal { IfErr result (λ e. e ≡ Refusal.Memory) }
     {
         // A usize counts the nodes.
@@ -254,7 +261,7 @@ impl<T: Ord + Clone + Drop, Node: NodeLike<T>> BTreeSet<T, Node> {
         })
     }
 
-    // The last item of a node once the item at a place, in a node of two or more, is gone.
+    // Returns the last item of a node once the item at a place, in a node of two or more, is gone.
     fn last_without(&self, place: usize, node: usize, offset: usize) -> &T
         requires place { place < length self.now.nodes }
         requires node { node < length self.now.nodes }
@@ -332,7 +339,7 @@ impl<T: Ord + Clone + Drop, Node: NodeLike<T>> BTreeSet<T, Node> {
     }
 }
 
-// How many events a removal gives.
+// Returns how many events a removal gives.
 fn removal_count(join: Option<usize>) -> u64
     ensures { result ≡ count_with join }
 {
@@ -342,7 +349,7 @@ fn removal_count(join: Option<usize>) -> u64
     }
 }
 
-// The last of the other items.
+// Returns the last of the other items.
 fn last_but<T>(items: &[T], index: usize) -> &T
     requires index { index < length items.now }
     requires two { 2 ≤ length items.now }

@@ -37,7 +37,7 @@ fn remove_within<T: Ord + Drop>(nodes: &mut [Vec<T>], range: (Bound<&T>, Bound<&
     left
 }
 
-// Whether an item satisfies both bounds.
+// Returns whether an item satisfies both bounds.
 fn is_within<T: Ord>(item: &T, range: (Bound<&T>, Bound<&T>)) -> bool
     ensures { result ≡ is_within T.cmp (bound_map (λ v. v.now) range.entry.0) (bound_map (λ v. v.now) range.entry.1) item.now }
 {

@@ -1,4 +1,4 @@
-//! Whole nodes taken in.
+//! Insertion of whole nodes.
 ghost use Rattle.std.specs.Prelude.{◌≡◌, ◌+◌, max, false, true, length, None, MatchOption, IfOk, OnOk, IfErr, OnErr, IsOk};
 ghost use Rattle.std.specs.Option.{unwrap_or};
 ghost use Rattle.indexset_core.specs.MultiPairs.{by_number};
@@ -17,11 +17,11 @@ impl<K: Ord + Clone + Drop, V: Eq + Clone + Drop, Node: NodeLike<MultiPair<K, V>
     V,
     Node,
 > {
-    /// Takes a whole node of pairs in, in its place among the others. No event is given, and no number
-    /// is used up; where the number of the next new pair is not above those of the node's pairs, it is
-    /// raised to the one after the greatest of them. A node with a pair that has the greatest number is
-    /// refused with `PairNumber`, before all that `attach_node` of the set refuses. A refused call hands
-    /// the node back and changes nothing.
+    /// Inserts a whole node of pairs in its place among the others. It gives no event and uses up
+    /// no number; where the number of the next new pair is not above those of the node's pairs, it
+    /// is raised to the one after the greatest of them. A node with a pair that has the greatest
+    /// number is refused with `PairNumber`, before all that `attach_node` of the set refuses. A
+    /// failed call hands the node back and changes nothing.
     pub fn attach_multi_node(&mut self, node: Node) -> Result<(), Refused<Node>>
         ensures nodes { OnOk result (self.new.nodes ≡ attached (by_number K.cmp) self.old.nodes (Node.list node)) }
         ensures ascending { OnOk result (IsAscending (by_number K.cmp) (joined self.new.nodes)) }
@@ -46,7 +46,7 @@ impl<K: Ord + Clone + Drop, V: Eq + Clone + Drop, Node: NodeLike<MultiPair<K, V>
     }
 }
 
-// The least number above those of all pairs, if there is one.
+// Returns the least number above those of all pairs, if there is one.
 pub(super) fn free_number<K, V>(pairs: &[MultiPair<K, V>]) -> Option<u64>
     ensures { MatchOption result (has_greatest pairs.now ≡ true) (λ free. (has_greatest pairs.now ≡ false) × (free ≡ free_number pairs.now)) }
 {

@@ -1,7 +1,8 @@
 //! Multimaps made of nodes.
-ghost use Rattle.std.specs.Prelude.{◌≡◌, ◌≤◌, ◌<◌, true, false, length, map, None, MatchOption, IfOk, OnOk, IfErr};
+ghost use Rattle.std.specs.Prelude.{◌≡◌, ◌≤◌, ◌<◌, true, false, length, map, None, MatchOption, IsOk, IfOk, OnOk, IfErr};
 ghost use Rattle.std.specs.Option.{unwrap_or};
-ghost use Rattle.indexset_core.specs.Nodes.{joined};
+ghost use Rattle.indexset_core.specs.MultiPairs.{by_number};
+ghost use Rattle.indexset_core.specs.Nodes.{joined, IsLawful};
 ghost use Rattle.indexset_multi.specs.Attach.{free_number, has_greatest, pair_nodes_refusal};
 
 use super::BTreeMultiMap;
@@ -16,12 +17,14 @@ impl<K: Ord + Clone + Drop, V: Eq + Clone + Drop, Node: NodeLike<MultiPair<K, V>
     V,
     Node,
 > {
-    /// The multimap of these nodes, whose first event has the number `next`: it goes on where another
-    /// stopped. The number of the next new pair is one above the greatest number among all pairs, and 0
-    /// where there are none. The nodes are taken as they are, no pair is copied, nothing is allocated,
-    /// and no number is used up; each pair's number is read once, and neighbouring nodes are compared
-    /// once. Fails with `PairNumber` where a pair has the greatest number, before all that `from_nodes`
-    /// of the set refuses. A failed call hands the nodes back. (It is not in the Rust crate.)
+    /// Returns the multimap of these nodes, whose first event has the number `next`: it goes on
+    /// where another stopped. The number of the next new pair is one above the greatest number
+    /// among all pairs, and 0 where there are none. The nodes are taken as they are, no pair is
+    /// copied, nothing is allocated, and no number is used up; each pair's number is read once, and
+    /// neighbouring nodes are compared once. Fails with `PairNumber` where a pair has the greatest
+    /// number, before all that `from_nodes` of the set refuses. A failed call hands the nodes back.
+    /// No call fails where the nodes are lawful for this size, no pair has the greatest number and
+    /// the number of pairs is a usize. (Not in the Rust crate.)
     pub fn from_nodes(nodes: Vec<Node>, size: usize, next: u64) -> Result<Self, Refused<Vec<Node>>>
         requires two { 2 ≤ size }
         requires within { size ≤ Node.most }
@@ -29,6 +32,7 @@ impl<K: Ord + Clone + Drop, V: Eq + Clone + Drop, Node: NodeLike<MultiPair<K, V>
         ensures good { OnOk result (pair_nodes_refusal K.cmp size (map Node.list nodes.items) ≡ None) }
         ensures refusal { IfErr result (λ e. e.cause ≡ unwrap_or (pair_nodes_refusal K.cmp size (map Node.list nodes.items)) Refusal.Memory) }
         ensures memory { IfErr result (λ e. pair_nodes_refusal K.cmp size (map Node.list nodes.items) ≡ None → usize.MAX < length (joined (map Node.list nodes.items))) }
+        ensures lawful { IsLawful (by_number K.cmp) size (map Node.list nodes.items) → has_greatest (joined (map Node.list nodes.items)) ≡ false → length (joined (map Node.list nodes.items)) ≤ usize.MAX → IsOk result }
         ensures given_back { IfErr result (λ e. e.value ≡ nodes) }
     {
         let Some(pair_next) = free_number_of_nodes(nodes.as_slice()) else {
@@ -42,7 +46,7 @@ impl<K: Ord + Clone + Drop, V: Eq + Clone + Drop, Node: NodeLike<MultiPair<K, V>
     }
 }
 
-// The least number above those of all pairs in the nodes, if there is one.
+// Returns the least number above those of all pairs in the nodes, if there is one.
 fn free_number_of_nodes<K: Ord + Drop, V: Drop, Node: NodeLike<MultiPair<K, V>>>(
     nodes: &[Node],
 ) -> Option<u64>

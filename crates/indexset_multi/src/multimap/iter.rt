@@ -1,4 +1,4 @@
-//! Walks of a multimap from both ends.
+//! Iterators over a multimap, from both ends.
 ghost use Rattle.std.specs.Prelude.{◌≡◌, length, IfSome, Some};
 ghost use Rattle.std.specs.Iterator.{UpTo, at_most};
 ghost use Rattle.std.specs.Iterator.SizeHint.{IsWithinCount};
@@ -14,7 +14,7 @@ use indexset_log::set::iter;
 use std::iter::FusedIterator;
 use std::marker::Model;
 
-/// The pairs of a multimap that are left, from both ends.
+/// The remaining pairs of a multimap, from both ends.
 #[derive(Drop)]
 pub struct Iter<'a, K: Ord + Clone + Drop, V: Eq + Clone + Drop, Node: NodeLike<MultiPair<K, V>>> {
     rest: iter::Iter<'a, MultiPair<K, V>, Node>,
@@ -86,7 +86,7 @@ impl<K: Ord + Clone + Drop, V: Eq + Clone + Drop, Node: NodeLike<MultiPair<K, V>
     V,
     Node,
 > {
-    /// The pairs, in order.
+    /// Returns the pairs, in order.
     pub fn iter(&self) -> Iter<'_, K, V, Node>
         ensures rest { result ≡ entries (joined self.now.nodes) }
         ensures runs { ShowsInOrder (pair_shown {K = K} {V = V}) }

@@ -1,10 +1,12 @@
-//! Calls that put pairs in.
+//! Insertion of pairs.
 ghost use Rattle.std.specs.Prelude.{◌≡◌, ◌+◌, ◌/◌, ◌≤◌, [], ◌∷◌, ◌++◌, true, false, length, Some, IfOk, OnOk, IfErr, OnErr};
+ghost use Rattle.std.specs.List.{AllZip};
 ghost use Rattle.std.specs.Option.{option_map};
 ghost use Rattle.std.specs.Ordering.{is_eq};
 ghost use Rattle.indexset_core.specs.MultiPairs.{by_number};
 ghost use Rattle.indexset_core.specs.Nodes.{joined, IsLawful};
 ghost use Rattle.indexset_core.specs.Order.{equal_element, put};
+ghost use Rattle.indexset_log.specs.Clones.{IsEventClone};
 ghost use Rattle.indexset_log.specs.Edits.{with_put};
 ghost use Rattle.indexset_log.specs.Joining.{IsSpaced};
 ghost use Rattle.indexset_log.specs.Replay.{replay, numbered_from, IsNumberedFrom};
@@ -22,27 +24,27 @@ impl<K: Ord + Clone + Drop, V: Eq + Clone + Drop, Node: NodeLike<MultiPair<K, V>
     V,
     Node,
 > {
-    /// Inserts a pair, and returns the events. Where the key has pairs of an equal value, the first of
-    /// them is replaced in its place and keeps its number, and its value is returned. Else the pair gets
-    /// the next number and is the last of its key. Fails with `Numbers` where the events do not fit, or
-    /// where a new number is needed and none is left, else with `Memory`. A failed call hands key and
-    /// value back and changes nothing.
+    /// Inserts a pair, and returns the events. Where the key has pairs of an equal value, the first
+    /// of them is replaced in its place and keeps its number, and its value is returned. Else the
+    /// pair gets the next number and is the last of its key. Fails with `Numbers` where the events
+    /// do not fit, or where a new number is needed and none remains, else with `Memory`. A failed
+    /// call hands key and value back and changes nothing.
     pub fn insert_cdc(
         &mut self,
         key: K,
         value: V,
     ) -> Result<(Option<V>, Vec<ChangeEvent<MultiPair<K, V>>>), Refused<(K, V)>>
-        requires keys { (x y : K) → K.is_clone x y → y ≡ x }
-        requires values { (x y : V) → V.is_clone x y → y ≡ x }
         ensures answer { IfOk result (λ r. r.0 ≡ option_map (λ p. p.value) (equal_pair K.cmp V.eq (joined self.old.nodes) key value)) }
         ensures contents { OnOk result (joined self.new.nodes ≡ put (by_number K.cmp) (joined self.old.nodes) (inserted_pair K.cmp V.eq self.old key value)) }
         ensures there { OnOk result (equal_pair K.cmp V.eq (joined self.new.nodes) key value ≡ Some (inserted_pair K.cmp V.eq self.old key value)) }
         ensures last { OnOk result (takes_number K.cmp V.eq self.old key value ≡ true → pairs_of K.cmp (joined self.new.nodes) key ≡ pairs_of K.cmp (joined self.old.nodes) key ++ inserted_pair K.cmp V.eq self.old key value ∷ []) }
         ensures others { OnOk result ((other : K) → is_eq (K.cmp other key) ≡ false → pairs_of K.cmp (joined self.new.nodes) other ≡ pairs_of K.cmp (joined self.old.nodes) other) }
         ensures nodes { OnOk result (self.new.nodes ≡ with_put (by_number K.cmp) self.old.size self.old.nodes (inserted_pair K.cmp V.eq self.old key value)) }
-        ensures events { IfOk result (λ r. r.1.items ≡ numbered_from self.old.next (insertion_events K.cmp V.eq self.old key value)) }
+        ensures clones { IfOk result (λ r. AllZip (IsEventClone (λ p q. K.is_clone p.key q.key × (V.is_clone p.value q.value × (q.discriminator ≡ p.discriminator)))) (numbered_from self.old.next (insertion_events K.cmp V.eq self.old key value)) r.1.items) }
+        ensures events { ((x y : K) → K.is_clone x y → y ≡ x) → ((x y : V) → V.is_clone x y → y ≡ x) → IfOk result (λ r. r.1.items ≡ numbered_from self.old.next (insertion_events K.cmp V.eq self.old key value)) }
         ensures numbered { IfOk result (λ r. IsNumberedFrom self.old.next r.1.items) }
-        ensures replay { IfOk result (λ r. replay (by_number K.cmp) self.old.nodes r.1.items ≡ Some self.new.nodes) }
+        ensures replay { ((x y : K) → K.is_clone x y → y ≡ x) → ((x y : V) → V.is_clone x y → y ≡ x) → IfOk result (λ r. replay (by_number K.cmp) self.old.nodes r.1.items ≡ Some self.new.nodes) }
+        ensures table { OnOk result (replay (by_number K.cmp) self.old.nodes (numbered_from self.old.next (insertion_events K.cmp V.eq self.old key value)) ≡ Some self.new.nodes) }
         ensures few { IfOk result (λ r. length r.1.items ≤ 3) }
         ensures size { self.new.size ≡ self.old.size }
         ensures spaced { IsSpaced (self.old.size / 2) self.old.nodes → IsSpaced (self.new.size / 2) self.new.nodes }
@@ -57,7 +59,7 @@ impl<K: Ord + Clone + Drop, V: Eq + Clone + Drop, Node: NodeLike<MultiPair<K, V>
         let (pair, pair_next) = self.pair_for(key, value)?;
         let (old, events) = self.set.put_cdc(pair)?;
         self.pair_next = pair_next;
-        Ok((old.map(|pair| pair.value), events))
+        Ok((value_in(old), events))
     }
 
     /// Inserts a pair, as `insert_cdc` does, and uses up as many numbers. A failed call hands key and
@@ -87,7 +89,7 @@ impl<K: Ord + Clone + Drop, V: Eq + Clone + Drop, Node: NodeLike<MultiPair<K, V>
         Ok(old.map(|pair| pair.value))
     }
 
-    // The pair that an insertion puts, and the number of the next new pair after it.
+    // Returns the pair that an insertion puts, and the number of the next new pair after it.
     fn pair_for(&self, key: K, value: V) -> Result<(MultiPair<K, V>, u64), Refused<(K, V)>>
         ensures pair { IfOk result (λ r. r.0 ≡ inserted_pair K.cmp V.eq self.now key value) }
         ensures pair_next { IfOk result (λ r. r.1 ≡ pair_next_after K.cmp V.eq self.now key value) }
@@ -115,7 +117,7 @@ impl<K: Ord + Clone + Drop, V: Eq + Clone + Drop, Node: NodeLike<MultiPair<K, V>
         }
     }
 
-    // The number of the first pair of the key with an equal value.
+    // Returns the number of the first pair of the key with an equal value.
     pub(super) fn kept_number(&self, key: &K, value: &V) -> Option<u64>
         ensures { result ≡ kept_number K.cmp V.eq (joined self.now.nodes) key.now value.now }
     {
@@ -123,4 +125,11 @@ impl<K: Ord + Clone + Drop, V: Eq + Clone + Drop, Node: NodeLike<MultiPair<K, V>
             .find(|pair| pair.value == *value)
             .map(|pair| pair.discriminator)
     }
+}
+
+// Returns the value of a pair, or `None` where there is none.
+fn value_in<K: Drop, V>(pair: Option<MultiPair<K, V>>) -> Option<V>
+    ensures { result ≡ option_map (λ p. p.value) pair }
+{
+    Some(pair?.value)
 }

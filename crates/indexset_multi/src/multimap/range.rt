@@ -18,7 +18,7 @@ use std::iter::FusedIterator;
 use std::marker::Model;
 use std::ops::Bound;
 
-/// The pairs of a part of a multimap that are left, from both ends.
+/// The remaining pairs of a part of a multimap, from both ends.
 #[derive(Drop)]
 pub struct Range<'a, K: Ord + Clone + Drop, V: Eq + Clone + Drop, Node: NodeLike<MultiPair<K, V>>> {
     rest: range::Range<'a, MultiPair<K, V>, Node>,
@@ -85,7 +85,7 @@ impl<
 impl<'a, K: Ord + Clone + Drop, V: Eq + Clone + Drop, Node: NodeLike<MultiPair<K, V>>> FusedIterator
     for Range<'a, K, V, Node> {}
 
-/// The pairs of a part of a multimap that are left, with their numbers, from both ends.
+/// The remaining pairs of a part of a multimap, with their numbers, from both ends.
 #[derive(Drop)]
 pub struct RawRange<
     'a,
@@ -161,7 +161,7 @@ impl<K: Ord + Clone + Drop, V: Eq + Clone + Drop, Node: NodeLike<MultiPair<K, V>
     V,
     Node,
 > {
-    /// The pairs of a key, in order of their numbers.
+    /// Returns the pairs of a key, in order of their numbers.
     pub fn get(&self, key: &K) -> Range<'_, K, V, Node>
         ensures rest { result ≡ entries (pairs_of K.cmp (joined self.now.nodes) key.now) }
         ensures runs { ShowsInOrder (pair_shown {K = K} {V = V}) }
@@ -172,7 +172,7 @@ impl<K: Ord + Clone + Drop, V: Eq + Clone + Drop, Node: NodeLike<MultiPair<K, V>
         }
     }
 
-    /// The same, with their numbers. (In the Rust crate it is private.)
+    /// Does the same, with their numbers. (In the Rust crate it is private.)
     pub fn raw_get(&self, key: &K) -> RawRange<'_, K, V, Node>
         ensures rest { result ≡ pairs_of K.cmp (joined self.now.nodes) key.now }
         ensures runs { ShowsInOrder (number_shown {K = K} {V = V}) }
@@ -183,8 +183,8 @@ impl<K: Ord + Clone + Drop, V: Eq + Clone + Drop, Node: NodeLike<MultiPair<K, V>
         }
     }
 
-    /// The pairs whose keys satisfy both bounds, in order. The start must not be past the end, nor at
-    /// it where both are excluded, which `bounds_are_ordered` of the core tests.
+    /// Returns the pairs whose keys satisfy both bounds, in order. The start must not be past the
+    /// end, nor at it where both are excluded, which `bounds_are_ordered` of the core tests.
     ///
     /// ```
     /// // The pairs of the keys from 10 on that are below 20.
@@ -201,7 +201,7 @@ impl<K: Ord + Clone + Drop, V: Eq + Clone + Drop, Node: NodeLike<MultiPair<K, V>
         }
     }
 
-    // The pairs of a key.
+    // Returns the pairs of a key.
     pub(super) fn pairs_of(&self, key: &K) -> range::Range<'_, MultiPair<K, V>, Node>
         ensures rest { result ≡ pairs_of K.cmp (joined self.now.nodes) key.now }
         ensures runs { ShowsInOrder (deref {X = MultiPair K V}) }
@@ -209,7 +209,7 @@ impl<K: Ord + Clone + Drop, V: Eq + Clone + Drop, Node: NodeLike<MultiPair<K, V>
         self.pairs_between((Bound::Included(key), Bound::Included(key)))
     }
 
-    // The pairs whose keys satisfy both bounds.
+    // Returns the pairs whose keys satisfy both bounds.
     fn pairs_between(
         &self,
         range: (Bound<&K>, Bound<&K>),

@@ -1,9 +1,11 @@
 //! Calls that remove pairs.
 ghost use Rattle.std.specs.Prelude.{◌≡◌, ◌+◌, ◌/◌, ◌<◌, ◌≤◌, [], drop, length, false, Some, IfOk, OnOk, IfErr, OnErr, IsOk};
+ghost use Rattle.std.specs.List.{AllZip};
 ghost use Rattle.std.specs.Option.{option_map};
 ghost use Rattle.std.specs.Ordering.{is_eq, nat_cmp, ordering_then};
 ghost use Rattle.indexset_core.specs.MultiPairs.{by_number};
 ghost use Rattle.indexset_core.specs.Nodes.{joined, IsLawful};
+ghost use Rattle.indexset_log.specs.Clones.{IsEventClone};
 ghost use Rattle.indexset_log.specs.Joining.{IsSpaced};
 ghost use Rattle.indexset_log.specs.Located.{located};
 ghost use Rattle.indexset_log.specs.Replay.{replay, numbered_from, IsNumberedFrom};
@@ -31,15 +33,15 @@ impl<K: Ord + Clone + Drop, V: Eq + Clone + Drop, Node: NodeLike<MultiPair<K, V>
         &mut self,
         key: &K,
     ) -> Result<(Option<(K, V)>, Vec<ChangeEvent<MultiPair<K, V>>>), Refusal>
-        requires keys { (x y : K) → K.is_clone x y → y ≡ x }
-        requires values { (x y : V) → V.is_clone x y → y ≡ x }
         ensures answer { IfOk result (λ r. r.0 ≡ option_map key_and_value (first_pair K.cmp (joined self.old.nodes) key.now)) }
         ensures contents { OnOk result (joined self.new.nodes ≡ without_named K.cmp (joined self.old.nodes) (first_pair K.cmp (joined self.old.nodes) key.now)) }
         ensures gone { OnOk result (pairs_of K.cmp (joined self.new.nodes) key.now ≡ drop 1 (pairs_of K.cmp (joined self.old.nodes) key.now)) }
         ensures others { OnOk result ((other : K) → is_eq (K.cmp other key.now) ≡ false → pairs_of K.cmp (joined self.new.nodes) other ≡ pairs_of K.cmp (joined self.old.nodes) other) }
-        ensures events { IfOk result (λ r. r.1.items ≡ numbered_from self.old.next (pair_removal_events K.cmp self.old.size self.old.nodes (first_pair K.cmp (joined self.old.nodes) key.now))) }
+        ensures clones { IfOk result (λ r. AllZip (IsEventClone (λ p q. K.is_clone p.key q.key × (V.is_clone p.value q.value × (q.discriminator ≡ p.discriminator)))) (numbered_from self.old.next (pair_removal_events K.cmp self.old.size self.old.nodes (first_pair K.cmp (joined self.old.nodes) key.now))) r.1.items) }
+        ensures events { ((x y : K) → K.is_clone x y → y ≡ x) → ((x y : V) → V.is_clone x y → y ≡ x) → IfOk result (λ r. r.1.items ≡ numbered_from self.old.next (pair_removal_events K.cmp self.old.size self.old.nodes (first_pair K.cmp (joined self.old.nodes) key.now))) }
         ensures numbered { IfOk result (λ r. IsNumberedFrom self.old.next r.1.items) }
-        ensures replay { IfOk result (λ r. replay (by_number K.cmp) self.old.nodes r.1.items ≡ Some self.new.nodes) }
+        ensures replay { ((x y : K) → K.is_clone x y → y ≡ x) → ((x y : V) → V.is_clone x y → y ≡ x) → IfOk result (λ r. replay (by_number K.cmp) self.old.nodes r.1.items ≡ Some self.new.nodes) }
+        ensures table { OnOk result (replay (by_number K.cmp) self.old.nodes (numbered_from self.old.next (pair_removal_events K.cmp self.old.size self.old.nodes (first_pair K.cmp (joined self.old.nodes) key.now))) ≡ Some self.new.nodes) }
         ensures few { IfOk result (λ r. length r.1.items ≤ 3) }
         ensures size { self.new.size ≡ self.old.size }
         ensures spaced { IsSpaced (self.old.size / 2) self.old.nodes → IsSpaced (self.new.size / 2) self.new.nodes }
@@ -88,15 +90,15 @@ impl<K: Ord + Clone + Drop, V: Eq + Clone + Drop, Node: NodeLike<MultiPair<K, V>
         key: &K,
         value: &V,
     ) -> Result<(Option<(K, V)>, Vec<ChangeEvent<MultiPair<K, V>>>), Refusal>
-        requires keys { (x y : K) → K.is_clone x y → y ≡ x }
-        requires values { (x y : V) → V.is_clone x y → y ≡ x }
         ensures answer { IfOk result (λ r. r.0 ≡ option_map key_and_value (equal_pair K.cmp V.eq (joined self.old.nodes) key.now value.now)) }
         ensures contents { OnOk result (joined self.new.nodes ≡ without_named K.cmp (joined self.old.nodes) (equal_pair K.cmp V.eq (joined self.old.nodes) key.now value.now)) }
         ensures gone { OnOk result (pairs_of K.cmp (joined self.new.nodes) key.now ≡ without_first (λ p. V.eq p.value value.now) (pairs_of K.cmp (joined self.old.nodes) key.now)) }
         ensures others { OnOk result ((other : K) → is_eq (K.cmp other key.now) ≡ false → pairs_of K.cmp (joined self.new.nodes) other ≡ pairs_of K.cmp (joined self.old.nodes) other) }
-        ensures events { IfOk result (λ r. r.1.items ≡ numbered_from self.old.next (pair_removal_events K.cmp self.old.size self.old.nodes (equal_pair K.cmp V.eq (joined self.old.nodes) key.now value.now))) }
+        ensures clones { IfOk result (λ r. AllZip (IsEventClone (λ p q. K.is_clone p.key q.key × (V.is_clone p.value q.value × (q.discriminator ≡ p.discriminator)))) (numbered_from self.old.next (pair_removal_events K.cmp self.old.size self.old.nodes (equal_pair K.cmp V.eq (joined self.old.nodes) key.now value.now))) r.1.items) }
+        ensures events { ((x y : K) → K.is_clone x y → y ≡ x) → ((x y : V) → V.is_clone x y → y ≡ x) → IfOk result (λ r. r.1.items ≡ numbered_from self.old.next (pair_removal_events K.cmp self.old.size self.old.nodes (equal_pair K.cmp V.eq (joined self.old.nodes) key.now value.now))) }
         ensures numbered { IfOk result (λ r. IsNumberedFrom self.old.next r.1.items) }
-        ensures replay { IfOk result (λ r. replay (by_number K.cmp) self.old.nodes r.1.items ≡ Some self.new.nodes) }
+        ensures replay { ((x y : K) → K.is_clone x y → y ≡ x) → ((x y : V) → V.is_clone x y → y ≡ x) → IfOk result (λ r. replay (by_number K.cmp) self.old.nodes r.1.items ≡ Some self.new.nodes) }
+        ensures table { OnOk result (replay (by_number K.cmp) self.old.nodes (numbered_from self.old.next (pair_removal_events K.cmp self.old.size self.old.nodes (equal_pair K.cmp V.eq (joined self.old.nodes) key.now value.now))) ≡ Some self.new.nodes) }
         ensures few { IfOk result (λ r. length r.1.items ≤ 3) }
         ensures size { self.new.size ≡ self.old.size }
         ensures spaced { IsSpaced (self.old.size / 2) self.old.nodes → IsSpaced (self.new.size / 2) self.new.nodes }
@@ -137,7 +139,7 @@ impl<K: Ord + Clone + Drop, V: Eq + Clone + Drop, Node: NodeLike<MultiPair<K, V>
         self.take(place)
     }
 
-    // Where the first pair of a key stands.
+    // Returns where the first pair of a key stands.
     fn first_place(&self, key: &K) -> Option<(usize, usize)>
         ensures place { IsItemPlace self.now.nodes result }
         ensures pair { placed_item self.now.nodes result ≡ first_pair K.cmp (joined self.now.nodes) key.now }
@@ -145,7 +147,7 @@ impl<K: Ord + Clone + Drop, V: Eq + Clone + Drop, Node: NodeLike<MultiPair<K, V>
         self.locate(key).ok()
     }
 
-    // Where the first pair of a key with an equal value stands.
+    // Returns where the first pair of a key with an equal value stands.
     fn equal_place(&self, key: &K, value: &V) -> Option<(usize, usize)>
         ensures place { IsItemPlace self.now.nodes result }
         ensures pair { placed_item self.now.nodes result ≡ equal_pair K.cmp V.eq (joined self.now.nodes) key.now value.now }
@@ -156,7 +158,7 @@ impl<K: Ord + Clone + Drop, V: Eq + Clone + Drop, Node: NodeLike<MultiPair<K, V>
         }
     }
 
-    // Where a search for a pair of this number ends.
+    // Returns where a search for a pair of this number ends.
     fn locate_number(&self, key: &K, number: u64) -> Result<(usize, usize), (usize, usize)>
         ensures place { result ≡ located (λ p. ordering_then (K.cmp p.key key.now) (nat_cmp p.discriminator number)) self.now.nodes }
         ensures lawful { IsLawful (by_number K.cmp) self.now.size self.now.nodes }
@@ -171,15 +173,15 @@ impl<K: Ord + Clone + Drop, V: Eq + Clone + Drop, Node: NodeLike<MultiPair<K, V>
         &mut self,
         place: Option<(usize, usize)>,
     ) -> Result<(Option<(K, V)>, Vec<ChangeEvent<MultiPair<K, V>>>), Refusal>
-        requires keys { (x y : K) → K.is_clone x y → y ≡ x }
-        requires values { (x y : V) → V.is_clone x y → y ≡ x }
         requires place { IsItemPlace self.old.nodes place }
         ensures answer { IfOk result (λ r. r.0 ≡ option_map key_and_value (placed_item self.old.nodes place)) }
         ensures contents { OnOk result (joined self.new.nodes ≡ without_named K.cmp (joined self.old.nodes) (placed_item self.old.nodes place)) }
         ensures lawful { IsLawful (by_number K.cmp) self.old.size self.old.nodes }
-        ensures events { IfOk result (λ r. r.1.items ≡ numbered_from self.old.next (pair_removal_events K.cmp self.old.size self.old.nodes (placed_item self.old.nodes place))) }
+        ensures clones { IfOk result (λ r. AllZip (IsEventClone (λ p q. K.is_clone p.key q.key × (V.is_clone p.value q.value × (q.discriminator ≡ p.discriminator)))) (numbered_from self.old.next (pair_removal_events K.cmp self.old.size self.old.nodes (placed_item self.old.nodes place))) r.1.items) }
+        ensures events { ((x y : K) → K.is_clone x y → y ≡ x) → ((x y : V) → V.is_clone x y → y ≡ x) → IfOk result (λ r. r.1.items ≡ numbered_from self.old.next (pair_removal_events K.cmp self.old.size self.old.nodes (placed_item self.old.nodes place))) }
         ensures numbered { IfOk result (λ r. IsNumberedFrom self.old.next r.1.items) }
-        ensures replay { IfOk result (λ r. replay (by_number K.cmp) self.old.nodes r.1.items ≡ Some self.new.nodes) }
+        ensures replay { ((x y : K) → K.is_clone x y → y ≡ x) → ((x y : V) → V.is_clone x y → y ≡ x) → IfOk result (λ r. replay (by_number K.cmp) self.old.nodes r.1.items ≡ Some self.new.nodes) }
+        ensures table { OnOk result (replay (by_number K.cmp) self.old.nodes (numbered_from self.old.next (pair_removal_events K.cmp self.old.size self.old.nodes (placed_item self.old.nodes place))) ≡ Some self.new.nodes) }
         ensures few { IfOk result (λ r. length r.1.items ≤ 3) }
         ensures size { self.new.size ≡ self.old.size }
         ensures spaced { IsSpaced (self.old.size / 2) self.old.nodes → IsSpaced (self.new.size / 2) self.new.nodes }

@@ -1,4 +1,4 @@
-//! The walk of what both of two sets have.
+//! The iterator over what both of two sets have.
 ghost use Rattle.std.specs.Prelude.{◌≡◌, length};
 ghost use Rattle.std.specs.Iterator.{at_most};
 ghost use Rattle.std.specs.Map.Iter.{TakesFirst, deref};
@@ -8,7 +8,7 @@ use super::merge::{Merge, Side};
 use std::iter::FusedIterator;
 use std::marker::Model;
 
-/// The elements of one set that are left of those that have an equal one in another.
+/// The remaining elements of one set of those that have an equal one in another.
 #[derive(Debug, Drop)]
 pub struct Intersection<'a, T: Ord> {
     pub(super) merge: Merge<'a, T>,

@@ -1,4 +1,4 @@
-//! Two walks merged into one, whose items tell which of the two lists has them.
+//! Two iterators merged into one, whose items say which of the two lists has them.
 ghost use Rattle.std.specs.Prelude.{◌≡◌, ◌<◌, ◌↔◌, IsTrue, length};
 ghost use Rattle.std.specs.Iterator.{at_most};
 ghost use Rattle.std.specs.Map.Iter.{TakesFirst, deref};
@@ -16,7 +16,7 @@ pub(crate) enum Side<X> {
     Both(X, X),
 }
 
-/// What is left of two lists, merged.
+/// The remaining items of two lists, merged.
 #[derive(Debug, Drop)]
 pub(crate) struct Merge<'a, T: Ord> {
     // The next item of each list, and what follows it there.
@@ -42,7 +42,7 @@ impl<'a, T: Ord> Model for Merge<'a, T> {
 }
 
 impl<'a, T: Ord> Merge<'a, T> {
-    /// The items of both lists.
+    /// Returns the items of both lists.
     pub(crate) fn new(mut left: Iter<'a, T>, mut right: Iter<'a, T>) -> Self
         ensures { result ≡ merged T.cmp left.entry right.entry }
     {
@@ -54,14 +54,14 @@ impl<'a, T: Ord> Merge<'a, T> {
         }
     }
 
-    /// Whether an item of the left list is left.
+    /// Returns whether an item of the left list remains.
     pub(crate) fn has_left(&self) -> bool
         ensures { IsTrue result ↔ (0 < length (read of_left self.now)) }
     {
         self.next_left.is_some()
     }
 
-    /// Whether an item of the right list is left.
+    /// Returns whether an item of the right list remains.
     pub(crate) fn has_right(&self) -> bool
         ensures { IsTrue result ↔ (0 < length (read of_right self.now)) }
     {

@@ -1,4 +1,4 @@
-//! The walk of what one of two sets has alone.
+//! The iterator over what one of two sets has alone.
 ghost use Rattle.std.specs.Prelude.{◌≡◌, length};
 ghost use Rattle.std.specs.Iterator.{at_most};
 ghost use Rattle.std.specs.Map.Iter.{TakesFirst, deref};
@@ -8,7 +8,7 @@ use super::merge::{Merge, Side};
 use std::iter::FusedIterator;
 use std::marker::Model;
 
-/// The elements that are left of those that one of two sets has alone.
+/// The remaining elements of those that one of two sets has alone.
 #[derive(Debug, Drop)]
 pub struct SymmetricDifference<'a, T: Ord> {
     pub(super) merge: Merge<'a, T>,

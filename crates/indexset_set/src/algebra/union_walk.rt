@@ -1,4 +1,4 @@
-//! The walk of what either of two sets has.
+//! The iterator over what either of two sets has.
 ghost use Rattle.std.specs.Prelude.{◌≡◌, length};
 ghost use Rattle.std.specs.Iterator.{at_most};
 ghost use Rattle.std.specs.Map.Iter.{TakesFirst, deref};
@@ -8,7 +8,7 @@ use super::merge::{Merge, Side};
 use std::iter::FusedIterator;
 use std::marker::Model;
 
-/// The elements of either of two sets that are left.
+/// The remaining elements of either of two sets.
 #[derive(Debug, Drop)]
 pub struct Union<'a, T: Ord> {
     pub(super) merge: Merge<'a, T>,

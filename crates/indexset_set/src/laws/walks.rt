@@ -1,5 +1,6 @@
-//! Laws of walks, ranges, cuts and the algebra of sets, for every ascending list and every lawful
-//! order, and so for what a set's calls answer. Each function does nothing; its contract is the law.
+//! Laws of iterators, ranges, cuts and the algebra of sets, for every ascending list and every
+//! lawful order, and so for what a set's calls return. Each function does nothing; its contract is
+//! the law.
 ghost use Rattle.std.specs.Prelude.{◌≡◌, ℕ, ◌+◌, ◌-◌, ◌⊎◌, ◌&&◌, ◌||◌, Bool, not, List, [], ◌++◌, Option, None, length, map, filter, true, false};
 ghost use Rattle.std.specs.declared.cmp.Ordering.{Ordering};
 ghost use Rattle.std.specs.declared.ops.Bound.{Bound};
@@ -13,8 +14,8 @@ ghost use Rattle.indexset_set.specs.SetAlgebra.{difference, intersection, symmet
 ghost use Rattle.indexset_set.specs.SetRanges.{not_below};
 ghost use Rattle.indexset_set.specs.SetWalks.{Pulls, given_at_back, given_in_front};
 
-/// Over any turns from either end, what a walk gave in front, what it has left, and what it gave at
-/// the back are its list: it gives each item once.
+/// Over any turns from either end, what an iterator gave in front, what it has left, and what it
+/// gave at the back are its list: it gives each item once.
 pub fn a_walk_gives_each_item_once<T>()
     ensures { (ends : List Bool) (s t : List T) (rs : List (Option _)) → Pulls deref ends s rs t → s ≡ given_in_front deref ends rs ++ (t ++ given_at_back deref ends rs) }
 {}
@@ -24,7 +25,7 @@ pub fn a_walk_ends<T>()
     ensures { (ends : List Bool) (s t : List T) (rs : List (Option _)) → Pulls deref ends s rs t → length t ≡ length s - length ends }
 {}
 
-/// With nothing left, either end answers `None` and leaves nothing.
+/// With nothing remaining, either end returns `None`.
 pub fn a_walk_stays_at_its_end<T>()
     ensures first { (r : Option _) (t : List T) → TakesFirst deref [] r t → (r ≡ None) × (t ≡ []) }
     ensures last { (r : Option _) (t : List T) → TakesLast deref [] r t → (r ≡ None) × (t ≡ []) }
@@ -35,7 +36,7 @@ pub fn positions_satisfy_both_bounds<T>()
     ensures { (l : List T) (start end : Bound ℕ) → in_positions l start end ≡ map (λ p. p.1) (filter (λ p. is_at_position start end p.0) (enumerate_from 0 l)) }
 {}
 
-/// A cut at a value leaves what is below it, and takes out the others: nothing is lost.
+/// A cut at a value leaves what is below it, and removes the others: nothing is lost.
 pub fn a_cut_parts_the_list<T>()
     ensures parts { (cmp : T → T → Ordering) (l : List T) → IsTotalOrder cmp → IsAscending cmp l → (v : T) → below cmp l v ++ not_below cmp l v ≡ l }
     ensures below { (cmp : T → T → Ordering) (l : List T) (v : T) → All (λ x. is_lt (cmp x v) ≡ true) (below cmp l v) }

@@ -17,7 +17,7 @@ pub trait Cells {
     /// How many cells were read.
     ghost asked: { Self → ℕ };
 
-    /// How many cells there are.
+    /// Returns the number of cells.
     fn count(&self) -> usize
         ensures { result ≡ number self.now };
 
@@ -32,7 +32,7 @@ pub trait Cells {
 }
 
 impl Fenwick {
-    /// The cells, none of them read yet.
+    /// Returns the cells, none of them read yet.
     pub fn cells(&self) -> IndexCells<'_>
         ensures value { result ≡ (self.now.lengths, 0) }
         ensures lawful { IsFenwickOf (cell_of result.0) (length result.0) result.0 }

@@ -15,7 +15,7 @@ pub fn cells_add_up()
     ensures { (lengths : List ℕ) (i : ℕ) → prefix_sum lengths (i - lowbit i) + cell_of lengths i ≡ prefix_sum lengths i }
 {}
 
-/// The cells tell the lengths.
+/// The cells determine the lengths.
 pub fn cells_tell_lengths()
     ensures { (cells lengths : List ℕ) → IsFenwickOf (cell_in cells) (length cells) lengths → lengths_of cells ≡ lengths }
 {}

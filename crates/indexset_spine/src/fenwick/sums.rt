@@ -5,7 +5,7 @@ ghost use Rattle.indexset_spine.specs.Fenwick.{IsFenwickOf, prefix_sum};
 
 use super::cells::Cells;
 
-/// The sum of the first `k` lengths. It reads as many cells as `k` has one bits.
+/// Returns the sum of the first `k` lengths. It reads as many cells as `k` has one bits.
 pub fn prefix_in<C: Cells>(cells: &mut C, k: usize) -> usize
     ghost lengths: { List ℕ }
     requires cells { IsFenwickOf (C.cell cells.old) (C.number cells.old) lengths }
@@ -24,8 +24,8 @@ pub fn prefix_in<C: Cells>(cells: &mut C, k: usize) -> usize
     total
 }
 
-/// The node of a position, and the offset in it, or `None` past the end. It reads at most as many
-/// cells as their number has binary digits.
+/// Returns the node of a position, and the offset in it, or `None` past the end. It reads at most
+/// as many cells as their number has binary digits.
 pub fn find_in<C: Cells>(cells: &mut C, position: usize) -> Option<(usize, usize)>
     ghost lengths: { List ℕ }
     requires cells { IsFenwickOf (C.cell cells.old) (C.number cells.old) lengths }
@@ -40,7 +40,8 @@ pub fn find_in<C: Cells>(cells: &mut C, position: usize) -> Option<(usize, usize
     let mut before = 0;
     while step > 0 {
         if step <= count - node {
-            // A sum that is compared and kept costs no branch, as what is left to find would.
+            // Comparing and keeping the sum compiles to conditional moves; keeping the remainder
+            // would become a branch.
             let sum = before + cells.read(node + step);
             if sum <= position {
                 node += step;
@@ -56,7 +57,7 @@ pub fn find_in<C: Cells>(cells: &mut C, position: usize) -> Option<(usize, usize
     }
 }
 
-// The greatest power of two that is not above a number, or 0 of 0.
+// Returns the greatest power of two that is not above a number, or 0 of 0.
 fn highest_one(n: usize) -> usize
     ensures { result ≡ 2 ^ digits n / 2 }
 {
@@ -66,7 +67,7 @@ fn highest_one(n: usize) -> usize
     }
 }
 
-// How many binary digits a number has.
+// Returns how many binary digits a number has.
 fn digits_of(n: usize) -> u32
     ensures value { result ≡ digits n }
     ensures most { n < 2 ^ result }

@@ -2,7 +2,7 @@
 ghost use Rattle.std.specs.Prelude.{◌≡◌, ◌+◌, ◌-◌, ◌<◌, ◌≤◌, ◌^◌, [], ◌∷◌, ◌++◌, length, sum, slice_index, slice_set};
 ghost use Rattle.indexset_spine.specs.Fenwick.{lowbit, cell_of, lengths_of, IsFenwick};
 
-/// The cell that comes after the others, for one length more.
+/// Returns the cell that comes after the others, for one length more.
 pub(super) fn next_cell(cells: &[usize], last: usize) -> usize
     requires cells { IsFenwick cells.now }
     requires fits { sum (lengths_of cells.now) + last < 2 ^ 64 }
@@ -48,7 +48,7 @@ pub(super) fn lower(cells: &mut [usize], i: usize, n: usize)
     }
 }
 
-// The value of the lowest one bit.
+// Returns the value of the lowest one bit.
 fn lowest_one(i: usize) -> usize
     requires { 1 ≤ i }
     ensures value { result ≡ lowbit i }

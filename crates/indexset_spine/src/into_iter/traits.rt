@@ -1,9 +1,9 @@
-//! The text of an owned walk.
+//! The text of an owned iterator.
 
 use super::IntoIter;
 use std::fmt;
 
-/// How many items are left: what holds them lends none.
+/// How many items remain: their holder lends no slice.
 impl<T> fmt::Debug for IntoIter<T> {
     fn fmt<W: fmt::Write>(&self, f: &mut fmt::Formatter<W>) -> fmt::Result {
         f.debug_struct("IntoIter")

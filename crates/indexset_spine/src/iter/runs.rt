@@ -1,11 +1,12 @@
-//! A walk by runs, the items that stand in one node, and two walks compared by them.
+//! An iterator by runs, the items that stand in one node, and two iterators compared by them.
 ghost use Rattle.std.specs.Prelude.{◌≡◌, ◌<◌, ◌++◌, length};
 ghost use Rattle.std.specs.Cmp.Lexicographic.{pointwise};
 
 use super::Iter;
 
 impl<'a, T> Iter<'a, T> {
-    /// Takes off what is left of the front node, or of the next that has items: nothing only at the end.
+    /// Returns the remaining items of the front node, or of the next that has items; none only at
+    /// the end.
     fn next_run(&mut self) -> &'a [T]
         ensures taken { self.old ≡ result.now ++ self.new }
         ensures some { 0 < length self.old → 0 < length result.now }
@@ -27,7 +28,8 @@ impl<'a, T> Iter<'a, T> {
     }
 }
 
-/// Whether two walks have as many items left, each equal to its counterpart: slice by slice, as far as both nodes reach.
+/// Returns whether two iterators have as many items left, each equal to its counterpart: slice by
+/// slice, as far as both nodes reach.
 pub fn have_equal_items<'a, T: PartialEq>(mut left: Iter<'a, T>, mut right: Iter<'a, T>) -> bool
     ensures { result ≡ pointwise T.eq left.entry right.entry }
 {
@@ -49,7 +51,7 @@ pub fn have_equal_items<'a, T: PartialEq>(mut left: Iter<'a, T>, mut right: Iter
     }
 }
 
-// The run, or where it is used up, the next one of the walk.
+// Returns the run, or where it is used up, the next one of the iterator.
 fn or_next_run<'a, T>(run: &'a [T], walk: &mut Iter<'a, T>) -> &'a [T]
     ensures taken { result.now ++ walk.new ≡ run.now ++ walk.old }
     ensures some { 0 < length (run.now ++ walk.old) → 0 < length result.now }

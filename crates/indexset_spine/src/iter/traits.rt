@@ -1,4 +1,4 @@
-//! Copies of a shared walk, and its text.
+//! Copies of a shared iterator, and its text.
 
 use super::Iter;
 use std::alloc::AllocError;
@@ -21,7 +21,7 @@ impl<'a, T> Clone for Iter<'a, T> {
     }
 }
 
-/// The items that are left.
+/// The remaining items.
 impl<'a, T: fmt::Debug> fmt::Debug for Iter<'a, T> {
     fn fmt<W: fmt::Write>(&self, f: &mut fmt::Formatter<W>) -> fmt::Result {
         f.debug_list().entries(self.clone().unwrap()).finish()

@@ -34,9 +34,9 @@ impl<T: Drop> Spine<T> {
         moved
     }
 
-    /// Moves the items of a list behind those of this spine, each as `insert` puts it there: only a full
-    /// node is halved. They move by blocks, as many at once as the last node has room for. A refused call
-    /// has moved some first items so, and leaves the others.
+    /// Moves the items of a list behind those of this spine, each as `insert` puts it there: only a
+    /// full node is halved. They move by blocks, as many at once as the last node has room for. A
+    /// failed call has moved some first items so, and leaves the others.
     pub fn append_items(&mut self, from: &mut Vec<T>) -> Result<(), Refusal>
         ensures nodes { OnOk result (self.new.nodes ≡ with_all_last self.old.size self.old.nodes from.old.items) }
         ensures items { items self.new ++ from.new.items ≡ items self.old ++ from.old.items }
@@ -53,8 +53,8 @@ impl<T: Drop> Spine<T> {
         Ok(())
     }
 
-    // Moves as many first items of a list as the last node has room for, once it was halved if it was
-    // full. A refused call changes neither.
+    // Moves as many first items of a list as the last node has room for, once it was halved if it
+    // was full. A failed call changes neither.
     fn append_block(&mut self, from: &mut Vec<T>) -> Result<(), Refusal>
         requires { 0 < length from.old.items }
         ensures moved { TakesSome (with_last self.old.size) self.old.nodes from.old.items self.new.nodes from.new.items }
@@ -80,8 +80,8 @@ impl<T: Drop> Spine<T> {
     }
 }
 
-// Moves the items of nodes behind those of a spine, first to last, and leaves each node that it moved
-// empty. A refused call has moved some first items so.
+// Moves the items of nodes behind those of a spine, first to last, and leaves each node that it
+// moved empty. A failed call has moved some first items so.
 fn move_nodes<T: Drop>(spine: &mut Spine<T>, from: &mut Vec<Vec<T>>) -> Result<(), Refusal>
     ensures moved { TakesSome (with_last spine.old.size) spine.old.nodes (joined (vec_items from.old.items)) spine.new.nodes (joined (vec_items from.new.items)) }
     ensures emptied { OnOk result (joined (vec_items from.new.items) ≡ []) }
@@ -99,7 +99,7 @@ fn move_nodes<T: Drop>(spine: &mut Spine<T>, from: &mut Vec<Vec<T>>) -> Result<(
     Ok(())
 }
 
-// Takes out the empty nodes, and puts in one where all are.
+// Removes the empty nodes, and inserts one where all are.
 fn drop_emptied<T: Drop>(nodes: &mut Vec<Vec<T>>)
     requires { 0 < length nodes.old.items }
     ensures { vec_items nodes.new.items ≡ without_all_emptied (vec_items nodes.old.items) }

@@ -11,7 +11,7 @@ use indexset_core::probe::{Past, Probe};
 use std::ops::Bound;
 
 impl<T> Spine<T> {
-    /// The spot after the items before the start.
+    /// Returns the spot after the items before the start.
     pub fn start_of<P: Probe<T> + Drop>(&self, start: Bound<P>) -> Spot
         requires { IfBounded (λ p. IsParted (P.answer p) (items self.now)) start }
         ensures spot { IsSpot self.now.nodes result }
@@ -24,7 +24,7 @@ impl<T> Spine<T> {
         }
     }
 
-    /// The spot after the items that are not past the end.
+    /// Returns the spot after the items that are not past the end.
     pub fn end_of<P: Probe<T> + Drop>(&self, end: Bound<P>) -> Spot
         requires { IfBounded (λ p. IsParted (P.answer p) (items self.now)) end }
         ensures spot { IsSpot self.now.nodes result }

@@ -1,4 +1,4 @@
-//! The spots of the first and of the last item, which no sum is asked for.
+//! The spots of the first and of the last item, found without the index.
 ghost use Rattle.std.specs.Prelude.{◌≡◌, ◌-◌, IsTrue, length, MatchOption};
 ghost use Rattle.indexset_spine.specs.Cut.{items, IsItemSpot, position_of};
 
@@ -6,7 +6,7 @@ use super::Spine;
 use crate::spot::Spot;
 
 impl<T> Spine<T> {
-    /// The spot of the first item, or `None` where there is none.
+    /// Returns the spot of the first item, or `None` where there is none.
     pub fn first_spot(&self) -> Option<Spot>
         ensures { MatchOption result (length (items self.now) ≡ 0) (λ s. IsItemSpot self.now.nodes s × (position_of self.now.nodes s ≡ 0) × IsTrue s.found) }
     {
@@ -20,7 +20,7 @@ impl<T> Spine<T> {
         })
     }
 
-    /// The spot of the last item, or `None` where there is none.
+    /// Returns the spot of the last item, or `None` where there is none.
     pub fn last_spot(&self) -> Option<Spot>
         ensures { MatchOption result (length (items self.now) ≡ 0) (λ s. IsItemSpot self.now.nodes s × (position_of self.now.nodes s ≡ length (items self.now) - 1) × IsTrue s.found) }
     {

@@ -13,8 +13,9 @@ use indexset_core::moves::insert_item;
 use indexset_core::refusal::{Refusal, Refused};
 
 impl<T: Drop> Spine<T> {
-    /// Inserts an item at a spot. A full node is first halved, and the item goes right where the offset
-    /// is above half its length, else left. A refused call hands back the item and changes nothing.
+    /// Inserts an item at a spot. A full node is first halved, and the item goes right where the
+    /// offset is above half its length, else left. A failed call hands back the item and changes
+    /// nothing.
     pub fn insert(&mut self, spot: Spot, value: T) -> Result<(), Refused<T>>
         requires { IsSpot self.old.nodes spot }
         ensures nodes { OnOk result (self.new.nodes ≡ with_inserted self.old.size self.old.nodes spot value) }
@@ -39,8 +40,8 @@ impl<T: Drop> Spine<T> {
         }
     }
 
-    /// Inserts the first item of another spine at a spot, as `insert` does, and takes it out of the
-    /// other, as `remove` does. A refused call changes neither.
+    /// Inserts the first item of another spine at a spot, as `insert` does, and removes it from the
+    /// other, as `remove` does. A failed call changes neither.
     pub fn insert_from(&mut self, spot: Spot, other: &mut Spine<T>) -> Result<(), Refusal>
         requires spot { IsSpot self.old.nodes spot }
         requires other { 0 < length (items other.old) }
@@ -72,9 +73,9 @@ impl<T: Drop> Spine<T> {
     }
 }
 
-// Makes room for more items at a spot, and answers the spot where the first then goes: a full node is
-// halved first, into nodes that have room for as many as it held. The index stays that of the nodes. A
-// refused call changes nothing.
+// Makes room for more items at a spot, and returns the spot where the first then goes: a full node
+// is halved first, into nodes that have room for as many as it held. The index stays that of the
+// nodes. A failed call changes nothing.
 pub(super) fn make_room<T>(
     nodes: &mut Vec<Vec<T>>,
     index: &mut Fenwick,
@@ -106,7 +107,7 @@ pub(super) fn make_room<T>(
     Ok(to)
 }
 
-// Halves the node of a spot, and answers where that spot then is. A refused call changes nothing.
+// Halves the node of a spot, and returns where that spot then is. A failed call changes nothing.
 fn halve_at<T>(nodes: &mut Vec<Vec<T>>, spot: Spot) -> Result<Spot, Refusal>
     requires spot { IsSpot (vec_items nodes.old.items) spot }
     requires two { 2 ≤ length (node_at (vec_items nodes.old.items) spot.node) }

@@ -1,6 +1,7 @@
 //! Calls that make a spine, and `clear`.
 ghost use Rattle.std.specs.Prelude.{◌≡◌, ◌≤◌, [], ◌∷◌, IfOk, IfErr};
-ghost use Rattle.indexset_core.specs.Nodes.{vec_items};
+ghost use Rattle.std.specs.List.{AllZip};
+ghost use Rattle.indexset_core.specs.Nodes.{node_lengths, vec_items};
 
 use super::Spine;
 use crate::fenwick::Fenwick;
@@ -28,12 +29,15 @@ impl<T: Drop> Spine<T> {
         }
     }
 
-    /// The same nodes, each item cloned. A refused call leaves the spine as it is.
+    /// Nodes as long as these, of clones of their items: the same nodes where clones are identical to
+    /// their sources. It fails with `Memory` alone, and then drops the clones made so far.
     pub fn clone(&self) -> Result<Self, Refusal>
     where
         T: Clone,
-        requires { (x y : T) → T.is_clone x y → y ≡ x }
-        ensures ok { IfOk result (λ s. s ≡ self.now) }
+        ensures cloned { IfOk result (λ s. AllZip (AllZip T.is_clone) self.now.nodes s.nodes) }
+        ensures lengths { IfOk result (λ s. node_lengths s.nodes ≡ node_lengths self.now.nodes) }
+        ensures size { IfOk result (λ s. s.size ≡ self.now.size) }
+        ensures ok { ((x y : T) → T.is_clone x y → y ≡ x) → IfOk result (λ s. s ≡ self.now) }
         ensures refusal { IfErr result (λ e. e ≡ Refusal.Memory) }
     {
         let alloc = *self.nodes.allocator();
@@ -48,7 +52,7 @@ impl<T: Drop> Spine<T> {
         })
     }
 
-    /// Takes out all items, and keeps one empty node.
+    /// Removes all items, and keeps one empty node.
     pub fn clear(&mut self)
         ensures nodes { self.new.nodes ≡ [] ∷ [] }
         ensures size { self.new.size ≡ self.old.size }
@@ -62,10 +66,11 @@ impl<T: Drop> Spine<T> {
     }
 }
 
-// The same nodes, each item cloned.
+// Nodes of clones of the items of these.
 fn clone_nodes<T: Clone + Drop>(alloc: Global, nodes: &[Vec<T>]) -> Result<Vec<Vec<T>>, Refusal>
-    requires { (x y : T) → T.is_clone x y → y ≡ x }
-    ensures nodes { IfOk result (λ copies. vec_items copies.items ≡ vec_items nodes.now) }
+    ensures cloned { IfOk result (λ copies. AllZip (AllZip T.is_clone) (vec_items nodes.now) (vec_items copies.items)) }
+    ensures lengths { IfOk result (λ copies. node_lengths (vec_items copies.items) ≡ node_lengths (vec_items nodes.now)) }
+    ensures nodes { ((x y : T) → T.is_clone x y → y ≡ x) → IfOk result (λ copies. vec_items copies.items ≡ vec_items nodes.now) }
     ensures refusal { IfErr result (λ e. e ≡ Refusal.Memory) }
 {
     let mut copies = Vec::with_capacity(alloc, nodes.len())?;

@@ -10,7 +10,7 @@ use crate::lengths;
 use crate::spot::Spot;
 
 impl<T> Spine<T> {
-    /// The spot before the first item.
+    /// Returns the spot before the first item.
     pub fn start(&self) -> Spot
         ensures spot { IsSpot self.now.nodes result }
         ensures position { position_of self.now.nodes result ≡ 0 }
@@ -23,7 +23,7 @@ impl<T> Spine<T> {
         }
     }
 
-    /// The spot after the last item.
+    /// Returns the spot after the last item.
     pub fn end(&self) -> Spot
         ensures spot { IsSpot self.now.nodes result }
         ensures place { result ≡ end_spot self.now.nodes }
@@ -37,7 +37,7 @@ impl<T> Spine<T> {
         }
     }
 
-    /// The items from one spot up to another, in order.
+    /// Returns the items from one spot up to another, in order.
     pub fn iter_from_to(&self, start: &Spot, end: &Spot) -> Iter<'_, T>
         requires start { IsSpot self.now.nodes start.now }
         requires end { IsSpot self.now.nodes end.now }

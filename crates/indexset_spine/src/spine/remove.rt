@@ -1,4 +1,4 @@
-//! Calls that take an item out, or write another over it.
+//! Calls that remove an item, or write another over it.
 ghost use Rattle.std.specs.Prelude.{◌≡◌, ◌<◌, false, Some, length, remove, slice_get, slice_set};
 ghost use Rattle.indexset_core.specs.Nodes.{node_at, node_lengths, vec_items};
 ghost use Rattle.indexset_spine.specs.Cut.{items, IsItemSpot, position_of, without_item, with_replaced};
@@ -11,7 +11,7 @@ use indexset_core::moves::remove_item;
 use std::mem;
 
 impl<T: Drop> Spine<T> {
-    /// Takes out the item at a spot. An emptied node goes too, unless it is the only one.
+    /// Removes the item at a spot. An emptied node goes too, unless it is the only one.
     pub fn remove(&mut self, spot: Spot) -> T
         requires { IsItemSpot self.old.nodes spot }
         ensures value { slice_get (items self.old) (position_of self.old.nodes spot) ≡ Some result }
@@ -23,7 +23,7 @@ impl<T: Drop> Spine<T> {
         take_out(&mut self.nodes, &mut self.index, spot)
     }
 
-    /// Writes an item over the one at a spot, and answers that one.
+    /// Writes an item over the one at a spot, and returns that one.
     pub fn replace(&mut self, spot: Spot, value: T) -> T
         requires { IsItemSpot self.old.nodes spot }
         ensures value { slice_get (items self.old) (position_of self.old.nodes spot) ≡ Some result }
@@ -36,7 +36,7 @@ impl<T: Drop> Spine<T> {
     }
 }
 
-// Takes out the item at a spot, and an emptied node with it, unless it is the only one. The index
+// Removes the item at a spot, and an emptied node with it, unless it is the only one. The index
 // stays that of the nodes.
 fn take_out<T: Drop>(nodes: &mut Vec<Vec<T>>, index: &mut Fenwick, spot: Spot) -> T
     requires spot { IsItemSpot (vec_items nodes.old.items) spot }
@@ -51,7 +51,7 @@ fn take_out<T: Drop>(nodes: &mut Vec<Vec<T>>, index: &mut Fenwick, spot: Spot) -
     value
 }
 
-// Takes out a node if it is empty and not the only one. The index stays that of the nodes.
+// Removes a node if it is empty and not the only one. The index stays that of the nodes.
 fn drop_indexed_if_empty<T: Drop>(nodes: &mut Vec<Vec<T>>, index: &mut Fenwick, k: usize)
     requires node { k < length (vec_items nodes.old.items) }
     requires index { index.old.lengths ≡ node_lengths (vec_items nodes.old.items) }
@@ -65,7 +65,7 @@ fn drop_indexed_if_empty<T: Drop>(nodes: &mut Vec<Vec<T>>, index: &mut Fenwick, 
     }
 }
 
-// Takes out a node if it is empty and not the only one, and answers whether it did.
+// Removes a node if it is empty and not the only one, and returns whether it did.
 pub(super) fn drop_if_empty<T: Drop>(nodes: &mut Vec<Vec<T>>, k: usize) -> bool
     requires { k < length (vec_items nodes.old.items) }
     ensures nodes { vec_items nodes.new.items ≡ without_emptied (vec_items nodes.old.items) k }

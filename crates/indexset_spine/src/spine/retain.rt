@@ -10,8 +10,9 @@ use super::Spine;
 use crate::lengths;
 
 impl<T: Drop> Spine<T> {
-    /// Asks the closure once an item, first to last, and keeps the items for which it answered true,
-    /// as it left them, each in its node. An emptied node goes, unless all are. It takes no memory.
+    /// Calls the closure once for each item, first to last, and keeps the items for which it
+    /// returned true, as it left them, each in its node. An emptied node goes, unless all are. It
+    /// allocates nothing.
     pub fn retain_mut<F: FnMut(&mut T) -> bool>(&mut self, f: F)
         requires { F.IsAlwaysCallable f }
         ensures nodes { RetainsNodes (CalledAtMut F.FnMut) f self.old.nodes self.new.nodes }
@@ -26,7 +27,7 @@ impl<T: Drop> Spine<T> {
     }
 }
 
-// Keeps in each node the items for which the closure answers true, and of the nodes those that have
+// Keeps in each node the items for which the closure returns true, and of the nodes those that have
 // one left, or one that is empty.
 fn retain_nodes<T: Drop, F: FnMut(&mut T) -> bool>(nodes: &mut Vec<Vec<T>>, mut f: F)
     requires callable { F.IsAlwaysCallable f }
@@ -50,7 +51,7 @@ fn retain_nodes<T: Drop, F: FnMut(&mut T) -> bool>(nodes: &mut Vec<Vec<T>>, mut 
     }
 }
 
-// Keeps the items for which the closure answers true: once one has gone, each of them is swapped
+// Keeps the items for which the closure returns true: once one has gone, each of them is swapped
 // with the first that went.
 fn retain_node<T: Drop, F: FnMut(&mut T) -> bool>(node: &mut Vec<T>, f: &mut F)
     requires { F.IsAlwaysCallable f.old }

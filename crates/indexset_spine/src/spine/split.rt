@@ -13,8 +13,8 @@ use indexset_core::refusal::Refusal;
 use std::mem;
 
 impl<T: Drop> Spine<T> {
-    /// Takes out the items from a spot on, as a spine of the same size. All memory is asked for before
-    /// an item moves; a refused call changes nothing.
+    /// Removes the items from a spot on, as a spine of the same size. All memory is asked for
+    /// before an item moves; a failed call changes nothing.
     pub fn split_off(&mut self, spot: Spot) -> Result<Spine<T>, Refusal>
         requires { IsSpot self.old.nodes spot }
         ensures nodes { OnOk result (self.new.nodes ≡ left_nodes self.old.nodes spot) }
@@ -44,7 +44,7 @@ impl<T: Drop> Spine<T> {
     }
 }
 
-// Takes out the nodes from a spot on. A refused call changes nothing.
+// Removes the nodes from a spot on. A failed call changes nothing.
 fn split_nodes<T: Drop>(nodes: &mut Vec<Vec<T>>, spot: Spot) -> Result<Vec<Vec<T>>, Refusal>
     requires { IsSpot (vec_items nodes.old.items) spot }
     ensures left { OnOk result (vec_items nodes.new.items ≡ left_nodes (vec_items nodes.old.items) spot) }
@@ -62,7 +62,7 @@ fn split_nodes<T: Drop>(nodes: &mut Vec<Vec<T>>, spot: Spot) -> Result<Vec<Vec<T
     Ok(right)
 }
 
-// Takes out the items from an offset on. A refused call leaves the node as it is.
+// Removes the items from an offset on. A failed call leaves the node as it is.
 fn take_back<T>(node: &mut Vec<T>, offset: usize) -> Result<Vec<T>, Refusal>
     requires { offset ≤ length node.old.items }
     ensures front { OnOk result (node.new.items ≡ take offset node.old.items) }

@@ -1,20 +1,22 @@
 //! Two sets as sets.
-use super::{add, ascending};
+use super::ascending;
+use crate::sized::set_of;
 use crate::tagged::Tagged;
-use indexset_set::BTreeSet;
 use std::test::Fail;
 
 #[test]
 fn two_of_two(rt: HostRuntime) -> Result<(), Fail> {
-    let left = BTreeSet::from(rt.alloc(), vec![in rt.alloc(); 1u64, 2]?)?;
-    let right = BTreeSet::from(rt.alloc(), vec![in rt.alloc(); 2u64, 3]?)?;
-    let union = left.union(&right).copied().eq([1, 2, 3]);
-    let difference = left.difference(&right).copied().eq([1]);
-    let either = left.symmetric_difference(&right).copied().eq([1, 3]);
-    let both = left.intersection(&right).copied().eq([2]);
-    let apart = left.is_disjoint(&right);
-    let within = left.is_subset(&right) || left.is_superset(&right);
-    assert!(rt; union && difference && either && both && !apart && !within);
+    for size in [2, 1024] {
+        let left = set_of(rt.alloc(), size, &[1u64, 2])?;
+        let right = set_of(rt.alloc(), size, &[2u64, 3])?;
+        let union = left.union(&right).copied().eq([1, 2, 3]);
+        let difference = left.difference(&right).copied().eq([1]);
+        let either = left.symmetric_difference(&right).copied().eq([1, 3]);
+        let both = left.intersection(&right).copied().eq([2]);
+        let apart = left.is_disjoint(&right);
+        let within = left.is_subset(&right) || left.is_superset(&right);
+        assert!(rt; union && difference && either && both && !apart && !within);
+    }
     Ok(())
 }
 
@@ -35,16 +37,17 @@ fn one_within_another(rt: HostRuntime) -> Result<(), Fail> {
 
 #[test]
 fn equal_ones_of_the_first(rt: HostRuntime) -> Result<(), Fail> {
-    let mut left = BTreeSet::new(rt.alloc())?;
-    let mut right = BTreeSet::new(rt.alloc())?;
-    add(&mut left, Tagged { key: 1, tag: 'p' })?;
-    add(&mut right, Tagged { key: 1, tag: 'q' })?;
-    let union = left.union(&right).map(|x| x.tag).eq(['p']);
-    let both = left.intersection(&right).map(|x| x.tag).eq(['p']);
-    let difference = left.difference(&right).next().is_none();
-    let either = left.symmetric_difference(&right).next().is_none();
-    left.append(&mut right)?;
-    let moved = left.iter().map(|x| x.tag).eq(['q']) && right.is_empty();
-    assert!(rt; union && both && difference && either && moved);
+    for size in [2, 1024] {
+        let [p, q] = ['p', 'q'].map(|tag| Tagged { key: 1, tag });
+        let mut left = set_of(rt.alloc(), size, &[p])?;
+        let mut right = set_of(rt.alloc(), size, &[q])?;
+        let union = left.union(&right).map(|x| x.tag).eq(['p']);
+        let both = left.intersection(&right).map(|x| x.tag).eq(['p']);
+        let difference = left.difference(&right).next().is_none();
+        let either = left.symmetric_difference(&right).next().is_none();
+        left.append(&mut right)?;
+        let moved = left.iter().map(|x| x.tag).eq(['q']) && right.is_empty();
+        assert!(rt; union && both && difference && either && moved);
+    }
     Ok(())
 }

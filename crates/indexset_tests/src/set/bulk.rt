@@ -1,7 +1,11 @@
 //! Many elements at once.
 use super::{add, ascending};
+use crate::mirrored::Mirrored;
+use crate::scarce::Scarce;
+use indexset_core::refusal::Refusal;
 use indexset_set::BTreeSet;
 use std::alloc::Global;
+use std::cell::Cell;
 use std::test::Fail;
 
 // The keys 1 to 7, two to a node.
@@ -58,7 +62,7 @@ fn first_node_held(set: &mut BTreeSet<u64>, length: usize) -> bool {
 }
 
 // Whether the nodes hold so many elements each. It takes them out.
-fn nodes_held(mut set: BTreeSet<u64>, lengths: &[usize]) -> bool {
+pub fn nodes_held(mut set: BTreeSet<u64>, lengths: &[usize]) -> bool {
     for length in lengths {
         if !first_node_held(&mut set, *length) {
             return false;
@@ -134,18 +138,49 @@ fn made_of_many_in_order(rt: HostRuntime) -> Result<(), Fail> {
     Ok(())
 }
 
-// What holds however many allocations were granted: the first elements were moved, and the others stay.
 #[test]
-fn a_refused_append_moves_a_beginning(rt: HostRuntime) -> Result<(), Fail> {
-    let mut set = ascending(rt.alloc(), 4, 40)?;
-    let mut other = BTreeSet::with_maximum_node_size(rt.alloc(), 3)?;
-    for key in 40..100 {
-        add(&mut other, key)?;
+fn clone_fails_at_each_element(rt: HostRuntime) -> Result<(), Fail> {
+    let clones = Cell::new(0);
+    let mut set = BTreeSet::with_maximum_node_size(rt.alloc(), 2)?;
+    for key in 0..3 {
+        let clones = &clones;
+        add(&mut set, Scarce { key, clones })?;
     }
-    let appended = set.append(&mut other);
-    let moved = set.len() as u64;
-    let first = set.iter().copied().eq(0..moved);
-    let others = other.iter().copied().eq(moved..100);
-    assert!(rt; first && others && appended.is_ok() == (moved == 100));
+    for count in 0..3 {
+        clones.set(count);
+        let copy = set.clone();
+        let stays = set.iter().map(|item| item.key).eq(0..3);
+        assert!(rt;
+            copy == Err(Refusal::Memory) && stays,
+            "with {count} clones"
+        );
+    }
+    clones.set(3);
+    let copy = set.clone()?;
+    assert!(rt; copy.iter().map(|item| item.key).eq(0..3) && copy.node_count() == 2);
+    Ok(())
+}
+
+#[test]
+fn clones_that_descend_are_inserted_in_turn(rt: HostRuntime) -> Result<(), Fail> {
+    let mut set = BTreeSet::with_maximum_node_size(rt.alloc(), 2)?;
+    for number in [1, 4, 9, 12] {
+        add(&mut set, Mirrored { number })?;
+    }
+    let copy = set.clone()?;
+    let inserted = copy.iter().map(|item| item.number).eq([0, 5, 8]);
+    assert!(rt; inserted && copy.maximum_node_size() == 2 && set.len() == 4);
+    Ok(())
+}
+
+// Memory is ample here, so no call may fail, whatever the size.
+#[test]
+fn memory_is_found_for_many_elements(rt: HostRuntime) -> Result<(), Fail> {
+    let mut set = ascending(rt.alloc(), 1024, 200_001)?;
+    let old = set.replace(200_001).map_err(|refused| refused.cause)?;
+    let mut copy = set.clone()?;
+    let mut rest = copy.split_off(&100_000)?;
+    rest.append(&mut set)?;
+    assert!(rt; old.is_none() && copy.len() == 100_000 && rest.len() == 200_002);
     Ok(())
 }

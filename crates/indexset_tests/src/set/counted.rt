@@ -35,7 +35,8 @@ fn few_comparisons_in_many_nodes(rt: HostRuntime) -> Result<(), Fail> {
             .is_some_and(|found| found.key == key);
         let bound = asked.replace(0);
         let ranked = set.rank(&sought) as u64 == key;
-        let few = get <= 17 && contains <= 17 && bound <= 17 && asked.get() <= 17;
+        let rank = asked.replace(0);
+        let few = get <= 17 && contains <= 17 && bound <= 17 && rank <= 17;
         assert!(rt;
             read && held && first && ranked && few,
             "of {key}: {get} {contains} {bound}"

@@ -1,36 +1,41 @@
 //! A cursor of a set, and values written in a set of pairs.
+use crate::sized::set_of;
 use indexset_core::pair::Pair;
 use indexset_set::BTreeSet;
 use std::test::Fail;
 
 #[test]
 fn round_three_elements(rt: HostRuntime) -> Result<(), Fail> {
-    let set = BTreeSet::from(rt.alloc(), vec![in rt.alloc(); 1u64, 2, 3]?)?;
-    let mut cursor = set.cursor_at(2);
-    let at_last = cursor.item() == Some(&3) && cursor.peek_prev() == Some(&2);
-    let none_after = cursor.peek_next().is_none();
-    cursor.move_next();
-    let at_end = cursor.item().is_none() && cursor.peek_next() == Some(&1);
-    cursor.move_next();
-    let at_first = cursor.item() == Some(&1) && cursor.peek_prev().is_none();
-    let at_one = cursor.peek_index(1) == Some(&2);
-    assert!(rt; at_last && none_after && at_end && at_first && at_one);
+    for size in [2, 1024] {
+        let set = set_of(rt.alloc(), size, &[1u64, 2, 3])?;
+        let mut cursor = set.cursor_at(2);
+        let at_last = cursor.item() == Some(&3) && cursor.peek_prev() == Some(&2);
+        let none_after = cursor.peek_next().is_none();
+        cursor.move_next();
+        let at_end = cursor.item().is_none() && cursor.peek_next() == Some(&1);
+        cursor.move_next();
+        let at_first = cursor.item() == Some(&1) && cursor.peek_prev().is_none();
+        let at_one = cursor.peek_index(1) == Some(&2);
+        assert!(rt; at_last && none_after && at_end && at_first && at_one);
+    }
     Ok(())
 }
 
 #[test]
 fn back_over_the_end_place(rt: HostRuntime) -> Result<(), Fail> {
-    let set = BTreeSet::from(rt.alloc(), vec![in rt.alloc(); 1u64, 2, 3]?)?;
-    let mut cursor = set.cursor_at(0);
-    cursor.move_prev();
-    let at_end = cursor.item().is_none() && cursor.peek_prev() == Some(&3);
-    cursor.move_prev();
-    let at_last = cursor.item() == Some(&3);
-    cursor.move_index(usize::MAX);
-    let past = cursor.item().is_none() && cursor.peek_next() == Some(&1);
-    let empty = BTreeSet::<u64>::new(rt.alloc())?;
-    let none = empty.cursor_at(5).peek_next().is_none();
-    assert!(rt; at_end && at_last && past && none);
+    for size in [2, 1024] {
+        let set = set_of(rt.alloc(), size, &[1u64, 2, 3])?;
+        let mut cursor = set.cursor_at(0);
+        cursor.move_prev();
+        let at_end = cursor.item().is_none() && cursor.peek_prev() == Some(&3);
+        cursor.move_prev();
+        let at_last = cursor.item() == Some(&3);
+        cursor.move_index(usize::MAX);
+        let past = cursor.item().is_none() && cursor.peek_next() == Some(&1);
+        let empty = set_of::<u64>(rt.alloc(), size, &[])?;
+        let none = empty.cursor_at(5).peek_next().is_none();
+        assert!(rt; at_end && at_last && past && none);
+    }
     Ok(())
 }
 

@@ -1,5 +1,6 @@
 //! Ranges by bounds and by positions.
 use super::{add, ascending};
+use crate::sized::set_of;
 use indexset_core::bounds::bounds_are_ordered;
 use indexset_core::pair::Pair;
 use indexset_set::BTreeSet;
@@ -15,16 +16,34 @@ fn has(set: &BTreeSet<u64>, start: Bound<&u64>, end: Bound<&u64>, elements: &[u6
 
 #[test]
 fn bounds_between_elements(rt: HostRuntime) -> Result<(), Fail> {
-    let set = BTreeSet::from(rt.alloc(), vec![in rt.alloc(); 1u64, 3, 5]?)?;
-    let rows: [(Bound<&u64>, Bound<&u64>, &[u64]); 5] = [
-        (Included(&1), Included(&2), &[1]),
-        (Excluded(&2), Unbounded, &[3, 5]),
-        (Unbounded, Excluded(&1), &[]),
-        (Excluded(&1), Excluded(&5), &[3]),
-        (Included(&3), Included(&5), &[3, 5]),
-    ];
-    for (start, end, elements) in rows {
-        assert!(rt; has(&set, start, end, elements));
+    for size in [2, 1024] {
+        let set = set_of(rt.alloc(), size, &[1u64, 3, 5])?;
+        let rows: [(Bound<&u64>, Bound<&u64>, &[u64]); 5] = [
+            (Included(&1), Included(&2), &[1]),
+            (Excluded(&2), Unbounded, &[3, 5]),
+            (Unbounded, Excluded(&1), &[]),
+            (Excluded(&1), Excluded(&5), &[3]),
+            (Included(&3), Included(&5), &[3, 5]),
+        ];
+        for (start, end, elements) in rows {
+            assert!(rt; has(&set, start, end, elements));
+        }
+    }
+    Ok(())
+}
+
+#[test]
+fn positions_at_the_greatest_usize(rt: HostRuntime) -> Result<(), Fail> {
+    let far = 18446744073709551615;
+    for size in [2, 1024] {
+        let set = set_of(rt.alloc(), size, &[1u64, 2, 3])?;
+        let none = set.get_index(far).is_none();
+        let nothing = set.range_idx((Excluded(far), Unbounded)).next().is_none();
+        let all = set.range_idx((Included(0), Included(far))).copied();
+        assert!(rt; none && nothing && all.eq([1, 2, 3]));
+        let mut cursor = set.cursor_at(0);
+        cursor.move_index(far);
+        assert!(rt; cursor.item().is_none() && cursor.peek_next() == Some(&1));
     }
     Ok(())
 }

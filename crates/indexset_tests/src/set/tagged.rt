@@ -7,16 +7,18 @@ use std::test::Fail;
 
 #[test]
 fn insert_keeps_and_replace_puts(rt: HostRuntime) -> Result<(), Fail> {
-    let old = Tagged { key: 1, tag: 'a' };
-    let new = Tagged { key: 1, tag: 'b' };
-    let mut set = BTreeSet::new(rt.alloc())?;
-    let is_new = add(&mut set, old)?;
-    let is_new_again = add(&mut set, new)?;
-    let kept = set.get(&new).map(|x| x.tag) == Some('a');
-    let out = set.replace(new).map_err(|refused| refused.cause)?;
-    let replaced = out.map(|x| x.tag) == Some('a');
-    let held = set.get(&old).map(|x| x.tag) == Some('b') && set.len() == 1;
-    let taken = set.take(&old).map(|x| x.tag) == Some('b');
-    assert!(rt; is_new && !is_new_again && kept && replaced && held && taken);
+    for size in [2, 1024] {
+        let old = Tagged { key: 1, tag: 'a' };
+        let new = Tagged { key: 1, tag: 'b' };
+        let mut set = BTreeSet::with_maximum_node_size(rt.alloc(), size)?;
+        let is_new = add(&mut set, old)?;
+        let is_new_again = add(&mut set, new)?;
+        let kept = set.get(&new).map(|x| x.tag) == Some('a');
+        let out = set.replace(new).map_err(|refused| refused.cause)?;
+        let replaced = out.map(|x| x.tag) == Some('a');
+        let held = set.get(&old).map(|x| x.tag) == Some('b') && set.len() == 1;
+        let taken = set.take(&old).map(|x| x.tag) == Some('b');
+        assert!(rt; is_new && !is_new_again && kept && replaced && held && taken);
+    }
     Ok(())
 }

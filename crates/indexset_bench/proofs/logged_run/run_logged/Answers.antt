@@ -1,6 +1,6 @@
-use Rattle.std.proofs.Common.{◌/◌, ◌++◌, length, refl, ap, subst, sym, arith, length-append, rules, ◌∙◌}
+use Rattle.std.proofs.Common.{◌/◌, [], ◌∷◌, ◌++◌, length, refl, ap, subst, sym, arith, length-append, rules, ◌∙◌}
 use Rattle.std.specs.Vec.Iter.{into_iter_items}
-use Rattle.indexset_bench.proofs.LoggedRuns.{LogSoFar, few_after, few_from_none, more_log, more_table, next_command, no_log, no_table, table_to_first, tree_to_first}
+use Rattle.indexset_bench.proofs.LoggedRuns.{LogSoFar, clones_to_first, few_after, few_from_none, more_log, next_command, no_log, replay_to_first, table_to_first, told_next, told_numbered, told_replayed, tree_to_first}
 use Rattle.indexset_bench.proofs.CommandRuns.{replies_to_first, held_after_first, first_commands, count_of_replies, count_of_done, further}
 use Rattle.indexset_bench.proofs.logged_run.run_logged.Goals as goal
 
@@ -10,8 +10,7 @@ loop-command-init g c =
     let start = c.args.tree.now in
     record {
       so_far = search rules;
-      log = rw (c.new-replies.ensures.items, c.new-events.ensures.items) (no_log g.L.Item.Ord.cmp (tree.nodes start) (tree.next start));
-      table = rw c.new-events.ensures.items (no_table tree.left tree.events start (tree.next start));
+      log = rw (c.new-replies.ensures.items, c.new-events.ensures.items) (no_log g.L.Item.Ord.cmp tree.left tree.events tree.cloned tree.clones start (tree.nodes start) (tree.next start));
       spaced = λ s. s;
       left = search rules;
       size = refl;
@@ -25,11 +24,10 @@ loop-command-preserved g c =
     let now = c.loop-command.tree in
     let after = c.answer.new.tree in
     let done = c.in_default.ensures in
-    let log = more_log g.L.Item.Ord.cmp (tree.nodes c.args.tree.now) (tree.next c.args.tree.now) (tree.nodes now) (tree.nodes after) (tree.next now) (tree.next after) (length c.loop-command.replies.items) c.loop-command.events.items c.answer.new.events.items (tree.events now c.in-Some.command) before.log done.events done.replay done.few done.next in
+    let log = more_log g.L.Item.Ord.cmp tree.left tree.events tree.cloned tree.clones c.args.tree.now (tree.nodes c.args.tree.now) (tree.next c.args.tree.now) now after (tree.nodes now) (tree.nodes after) (tree.next now) (tree.next after) (length c.loop-command.replies.items) c.loop-command.yielded c.in-Some.command c.loop-command.events.items c.answer.new.events.items before.log done.clones done.events done.table done.few done.next done.tree in
     record {
       so_far = further before.so_far c.in-Some.command (into_iter_items c.next.new.self) (tree.state after) c.answer.new.replies.items next done.told done.state;
-      log = subst (λ n. LogSoFar g.L.Item.Ord.cmp (tree.nodes c.args.tree.now) (tree.nodes after) (tree.next c.args.tree.now) (tree.next after) n c.answer.new.events.items) (sym (ap (λ q. length q) done.told ∙ length-append c.loop-command.replies.items _)) log;
-      table = more_table tree.left tree.events c.args.tree.now (tree.next c.args.tree.now) now after (tree.next now) (tree.next after) c.loop-command.yielded c.in-Some.command c.loop-command.events.items c.answer.new.events.items before.table done.events done.next done.tree;
+      log = subst (λ n. LogSoFar g.L.Item.Ord.cmp tree.left tree.events tree.cloned tree.clones c.args.tree.now after (tree.nodes c.args.tree.now) (tree.nodes after) (tree.next c.args.tree.now) (tree.next after) n (c.loop-command.yielded ++ c.in-Some.command ∷ []) c.answer.new.events.items) (sym (ap (λ q. length q) done.told ∙ length-append c.loop-command.replies.items _)) log;
       spaced = λ s. c.answer.ensures.spaced (before.spaced s);
       left = omega (arith, ap length next);
       size = cc;
@@ -63,13 +61,30 @@ pub returns-clause-all : goal.returns-clause-all
 returns-clause-all g c =
     omega (arith, c.in-None.ensures.steps.0, count_of_replies c.loop-command.invariant.so_far)
 
+pub returns-in-Err-clause-clones : goal.returns-in-Err-clause-clones
+returns-in-Err-clause-clones g c =
+    rw (c.in-Err.ensures.untold, c.in-Err.ensures.no_event) (clones_to_first c.loop-command.invariant.log (first_commands c.loop-command.invariant.so_far))
+
 pub returns-in-Err-clause-events : goal.returns-in-Err-clause-events
-returns-in-Err-clause-events g c =
-    rw (c.in-Err.ensures.untold, c.in-Err.ensures.no_event) (table_to_first c.loop-command.invariant.table (first_commands c.loop-command.invariant.so_far))
+returns-in-Err-clause-events g c p =
+    rw (c.in-Err.ensures.untold, c.in-Err.ensures.no_event) (table_to_first c.loop-command.invariant.log (first_commands c.loop-command.invariant.so_far) p)
+
+pub returns-in-Err-clause-table : goal.returns-in-Err-clause-table
+returns-in-Err-clause-table g c =
+    rw (c.in-Err.ensures.untold, c.in-Err.ensures.unchanged) (replay_to_first c.loop-command.invariant.log (first_commands c.loop-command.invariant.so_far))
+
+pub returns-in-Err-clause-replay : goal.returns-in-Err-clause-replay
+returns-in-Err-clause-replay g c p = rw (c.in-Err.ensures.no_event, c.in-Err.ensures.unchanged) (told_replayed c.loop-command.invariant.log p)
+
+pub returns-in-Err-clause-numbered : goal.returns-in-Err-clause-numbered
+returns-in-Err-clause-numbered g c = rw c.in-Err.ensures.no_event (told_numbered c.loop-command.invariant.log)
+
+pub returns-in-Err-clause-next : goal.returns-in-Err-clause-next
+returns-in-Err-clause-next g c = rw (c.in-Err.ensures.no_event, c.in-Err.ensures.unchanged) (told_next c.loop-command.invariant.log)
 
 pub returns-in-Err-clause-tree : goal.returns-in-Err-clause-tree
 returns-in-Err-clause-tree g c =
-    rw (c.in-Err.ensures.untold, c.in-Err.ensures.unchanged) (tree_to_first c.loop-command.invariant.table (first_commands c.loop-command.invariant.so_far))
+    rw (c.in-Err.ensures.untold, c.in-Err.ensures.unchanged) (tree_to_first c.loop-command.invariant.log (first_commands c.loop-command.invariant.so_far))
 
 pub returns-in-Err-clause-spaced : goal.returns-in-Err-clause-spaced
 returns-in-Err-clause-spaced g c = rw c.in-Err.ensures.unchanged c.loop-command.invariant.spaced
@@ -77,11 +92,26 @@ returns-in-Err-clause-spaced g c = rw c.in-Err.ensures.unchanged c.loop-command.
 pub returns-in-Err-clause-few_nodes : goal.returns-in-Err-clause-few_nodes
 returns-in-Err-clause-few_nodes g c = λ s. few_after _ _ _ _ (rw c.in-Err.ensures.unchanged c.loop-command.invariant.spaced) s
 
+pub returns-clause-clones : goal.returns-clause-clones
+returns-clause-clones g c = clones_to_first c.loop-command.invariant.log (first_commands c.loop-command.invariant.so_far)
+
 pub returns-clause-events : goal.returns-clause-events
-returns-clause-events g c = table_to_first c.loop-command.invariant.table (first_commands c.loop-command.invariant.so_far)
+returns-clause-events g c = table_to_first c.loop-command.invariant.log (first_commands c.loop-command.invariant.so_far)
+
+pub returns-clause-table : goal.returns-clause-table
+returns-clause-table g c = replay_to_first c.loop-command.invariant.log (first_commands c.loop-command.invariant.so_far)
+
+pub returns-clause-replay : goal.returns-clause-replay
+returns-clause-replay g c = told_replayed c.loop-command.invariant.log
+
+pub returns-clause-numbered : goal.returns-clause-numbered
+returns-clause-numbered g c = told_numbered c.loop-command.invariant.log
+
+pub returns-clause-next : goal.returns-clause-next
+returns-clause-next g c = told_next c.loop-command.invariant.log
 
 pub returns-clause-tree : goal.returns-clause-tree
-returns-clause-tree g c = tree_to_first c.loop-command.invariant.table (first_commands c.loop-command.invariant.so_far)
+returns-clause-tree g c = tree_to_first c.loop-command.invariant.log (first_commands c.loop-command.invariant.so_far)
 
 pub returns-clause-few_nodes : goal.returns-clause-few_nodes
 returns-clause-few_nodes g c = few_after _ _ _ _ c.loop-command.invariant.spaced

@@ -2,6 +2,7 @@ use Rattle.std.proofs.Common.{◌≡◌, ap, sym, refl, ◌∙◌}
 use Rattle.std.proofs.lemmas.Result.{err_from_is_err_and}
 use Rattle.indexset_log.specs.Replay.{event_number}
 use Rattle.indexset_log.proofs.CallerLemmas.{nodes_ruled, ruled_nodes}
+use Rattle.indexset_replica.proofs.Clones.{step_same}
 use Rattle.indexset_replica.proofs.ReplicaSteps.{edited_ruled, edited_step, gap_refused, last_refused, misfit_refused}
 use Rattle.indexset_replica.proofs.Replica.apply.Goals as goal
 
@@ -29,13 +30,21 @@ returns-in_err-carry_out-clause-refusal g c =
 pub invariant_of-self-2 : goal.invariant_of-self-2
 invariant_of-self-2 g c =
     let cmp = g.T.Ord.cmp in
-    ruled_nodes cmp _ (edited_ruled cmp g.met.T.Ord.total _ _ _ (nodes_ruled cmp _ c.self.invariant) c.in_ok-carry_out.ensures.done)
+    ruled_nodes cmp _ (edited_ruled cmp g.met.T.Ord.total _ _ _ (nodes_ruled cmp _ c.self.invariant) c.in_ok-carry_out.ensures.done.done)
 
-pub returns-clause-step : goal.returns-clause-step
-returns-clause-step g c =
+pub returns-clause-cloned : goal.returns-clause-cloned
+returns-clause-cloned g c =
     let cmp = g.T.Ord.cmp in
     let nodes = ap (λ t. t.nodes) c.self.view_is in
-    rw (sym nodes) (edited_step cmp g.met.T.Ord.total _ _ _ (nodes_ruled cmp _ c.self.invariant) c.in_ok-carry_out.ensures.done)
+    let d = c.in_ok-carry_out.ensures.done in
+    rw (sym nodes) (record { event = d.event; adds = d.adds; made = edited_step cmp g.met.T.Ord.total _ _ _ (nodes_ruled cmp _ c.self.invariant) d.done })
+
+pub returns-clause-step : goal.returns-clause-step
+returns-clause-step g c h =
+    let cmp = g.T.Ord.cmp in
+    let nodes = ap (λ t. t.nodes) c.self.view_is in
+    let d = c.in_ok-carry_out.ensures.done in
+    rw (sym nodes) (step_same cmp g.T.Clone.is_clone h _ _ _ (record { event = d.event; adds = d.adds; made = edited_step cmp g.met.T.Ord.total _ _ _ (nodes_ruled cmp _ c.self.invariant) d.done }))
 
 pub returns-clause-fits : goal.returns-clause-fits
 returns-clause-fits g c =

@@ -1,14 +1,16 @@
-use Rattle.std.proofs.Common.{◌≡◌, ap, sym, ◌∙◌}
+use Rattle.std.proofs.Common.{◌≡◌, ap, sym, refl, inl, ◌∙◌}
 use Rattle.indexset_log.specs.Replay.{event_number}
-use Rattle.indexset_replica.proofs.Deliveries.{passed_over, taken_where_ok}
+use Rattle.indexset_replica.proofs.Clones.{delivery_where_ok}
 use Rattle.indexset_replica.proofs.Replica.deliver.Goals as goal
 
-pub returns-then-inner-self-clause-done : goal.returns-then-inner-self-clause-done
-returns-then-inner-self-clause-done g c =
+pub returns-then-inner-self-clause-cloned : goal.returns-then-inner-self-clause-cloned
+returns-then-inner-self-clause-cloned g c =
     let next = ap (λ t. t.next) c.self.view_is in
     let number : c.inner.result ≡ event_number c.args.event.now = c.inner.ensures ∙ ap (λ i. i.0) c.id.ensures in
-    passed_over g.T.Ord.cmp c.args.self.now c.args.event.now (λ same. c.if-inner-self.true (number ∙ (same ∙ sym next)))
+    inl ((λ same. c.if-inner-self.true (number ∙ (same ∙ sym next))), refl)
 
-pub returns-clause-done : goal.returns-clause-done
-returns-clause-done g c =
-    taken_where_ok g.T.Ord.cmp c.apply.result c.args.self.now c.apply.new.self c.args.event.now c.apply.ensures.fits c.apply.ensures.step c.apply.ensures.next
+pub returns-clause-cloned : goal.returns-clause-cloned
+returns-clause-cloned g c =
+    let next = ap (λ t. t.next) c.self.view_is in
+    let number : c.inner.result ≡ event_number c.args.event.now = c.inner.ensures ∙ ap (λ i. i.0) c.id.ensures in
+    delivery_where_ok g.T.Ord.cmp g.T.Clone.is_clone c.apply.result c.args.self.now c.apply.new.self c.args.event.now (sym number ∙ (c.if-inner-self.false ∙ next)) c.apply.ensures.fits c.apply.ensures.next c.apply.ensures.cloned

@@ -1,10 +1,12 @@
-use Rattle.std.proofs.Common.{◌≡◌, ◌<◌, ◌≤◌, ℕ, suc, ◌+◌, Some, get_or, slice_get, take, ap, sym, subst, refl, ◌∙◌, arith, length, unwrap_or}
+use Rattle.std.proofs.Common.{◌≡◌, ◌<◌, ◌≤◌, suc, ◌+◌, get_or, take, ap, sym, subst, refl, ◌∙◌, arith, length, unwrap_or}
 use Rattle.std.proofs.lemmas.List.{take_all}
 use Rattle.std.proofs.lemmas.Option.{slice_get-get_or, slice_get_read}
 use Rattle.std.proofs.lemmas.Result.{err_from_is_err_and}
 use Rattle.indexset_core.specs.declared.refusal.Refusal.TheVariants.{Memory}
-use Rattle.indexset_replica.specs.Delivery.{followed, IsDelivered}
-use Rattle.indexset_replica.proofs.Deliveries.{at_after, delivered_after, followed_more, nothing_fatal}
+use Rattle.indexset_replica.specs.Delivery.{HasStopped, IsAlike, IsDelivered, IsFollowed, IsStopped}
+use Rattle.indexset_replica.proofs.AlikeDeliveries.{alike_fits, alike_followed, alike_itself}
+use Rattle.indexset_replica.proofs.Clones.{followed_on, followed_same}
+use Rattle.indexset_replica.proofs.Deliveries.{at_after, delivered_after}
 use Rattle.indexset_replica.proofs.Replica.follow.Goals as goal
 
 pub loop-place-preserved : goal.loop-place-preserved
@@ -16,16 +18,26 @@ loop-place-preserved g c =
     let p = get_or order i 0 in
     let told = slice_get_read events (length events) p c.index-events-place.result refl (c.requires.inside i 0 inside) c.index-events-place.is in
     let next : i + 1 ≡ suc i = omega arith in
-    subst (λ n. followed g.T.Ord.cmp events c.args.self.now (take n order) ≡ Some c.deliver.new.self) (sym next)
-    (followed_more g.T.Ord.cmp events c.args.self.now c.loop-place.self c.deliver.new.self c.index-events-place.result order i p (slice_get-get_or order i 0 inside) told c.loop-place.invariant c.in_ok-deliver.ensures.done)
+    subst (λ n. IsFollowed g.T.Ord.cmp g.T.Clone.is_clone events c.args.self.now (take n order) c.deliver.new.self) (sym next)
+    (followed_on g.T.Ord.cmp g.T.Clone.is_clone events c.args.self.now c.loop-place.self c.deliver.new.self c.index-events-place.result order i p (slice_get-get_or order i 0 inside) told c.loop-place.invariant c.in_ok-deliver.ensures.cloned)
 
 pub returns-clause-delivery : goal.returns-clause-delivery
-returns-clause-delivery g c = λ s j ns feed at.
+returns-clause-delivery g c = λ same s j ns feed at.
     let order = c.args.order.now in
     let i = c.loop-place.place-index in
     let all : take i order ≡ order = take_all i order (omega arith) in
-    let done = rw all at c.loop-place.invariant in
+    let done = rw all at (followed_same g.T.Ord.cmp g.T.Clone.is_clone same c.args.events.now c.args.self.now c.loop-place.self (take i order) c.loop-place.invariant) in
     delivered_after g.T.Ord.cmp s ns c.args.events.now feed order j c.args.self.now c.loop-place.self at done
+
+pub returns-clause-alike : goal.returns-clause-alike
+returns-clause-alike g c = λ s j ns feed at.
+    let cmp = g.T.Ord.cmp in
+    let order = c.args.order.now in
+    let events = c.args.events.now in
+    let i = c.loop-place.place-index in
+    let all : take i order ≡ order = take_all i order (omega arith) in
+    let near = alike_followed cmp g.met.T.Ord.total s ns events feed g.T.Clone.is_clone order j c.args.self.now c.args.self.now c.loop-place.self at (alike_itself cmp g.met.T.Ord.total c.args.self.now) (rw all at c.loop-place.invariant) in
+    (near.0, delivered_after cmp s ns events feed order j c.args.self.now near.0 at near.1, near.2)
 
 pub returns-in_err-deliver-clause-memory_alone : goal.returns-in_err-deliver-clause-memory_alone
 returns-in_err-deliver-clause-memory_alone g c = λ s j ns feed at.
@@ -37,17 +49,68 @@ returns-in_err-deliver-clause-memory_alone g c = λ s j ns feed at.
     let p = get_or order i 0 in
     let event = c.index-events-place.result in
     let told = slice_get_read events (length events) p event refl (c.requires.inside i 0 inside) c.index-events-place.is in
-    let here = at_after cmp s ns events feed (take i order) j c.args.self.now c.loop-place.self at c.loop-place.invariant in
-    let fits = nothing_fatal cmp s ns events feed _ c.loop-place.self p event here told c.in_err-deliver.ensures.awaited in
+    let near = alike_followed cmp g.met.T.Ord.total s ns events feed g.T.Clone.is_clone (take i order) j c.args.self.now c.args.self.now c.loop-place.self at (alike_itself cmp g.met.T.Ord.total c.args.self.now) c.loop-place.invariant in
+    let here = at_after cmp s ns events feed (take i order) j c.args.self.now near.0 at near.1 in
+    let fits = alike_fits cmp g.met.T.Ord.total s ns events feed _ near.0 c.loop-place.self p event here near.2 told c.in_err-deliver.ensures.awaited in
     let cause = err_from_is_err_and c.from_residual.result c.from_residual.ensures.1 in
     rw cause.1 (cause.2 ∙ c.in_err-deliver.ensures.refusal ∙ ap (λ o. unwrap_or o Memory) fits)
 
+pub returns-in_err-deliver-clause-partly_alike : goal.returns-in_err-deliver-clause-partly_alike
+returns-in_err-deliver-clause-partly_alike g c = λ s j ns feed at.
+    let cmp = g.T.Ord.cmp in
+    let order = c.args.order.now in
+    let events = c.args.events.now in
+    let i = c.loop-place.place-index in
+    let most : i ≤ length order = omega arith in
+    let near = alike_followed cmp g.met.T.Ord.total s ns events feed g.T.Clone.is_clone (take i order) j c.args.self.now c.args.self.now c.loop-place.self at (alike_itself cmp g.met.T.Ord.total c.args.self.now) c.loop-place.invariant in
+    let part = delivered_after cmp s ns events feed (take i order) j c.args.self.now near.0 at near.1 in
+    let cause = err_from_is_err_and c.from_residual.result c.from_residual.ensures.1 in
+    rw cause.1 (i, near.0, most, part, subst (λ r. IsAlike cmp near.0 r) (sym c.in_err-deliver.ensures.unchanged) near.2)
+
 pub returns-in_err-deliver-clause-partly : goal.returns-in_err-deliver-clause-partly
-returns-in_err-deliver-clause-partly g c = λ s j ns feed at.
+returns-in_err-deliver-clause-partly g c = λ same s j ns feed at.
     let cmp = g.T.Ord.cmp in
     let order = c.args.order.now in
     let i = c.loop-place.place-index in
     let most : i ≤ length order = omega arith in
-    let part = delivered_after cmp s ns c.args.events.now feed (take i order) j c.args.self.now c.loop-place.self at c.loop-place.invariant in
+    let part = delivered_after cmp s ns c.args.events.now feed (take i order) j c.args.self.now c.loop-place.self at (followed_same g.T.Ord.cmp g.T.Clone.is_clone same c.args.events.now c.args.self.now c.loop-place.self (take i order) c.loop-place.invariant) in
     let cause = err_from_is_err_and c.from_residual.result c.from_residual.ensures.1 in
     rw cause.1 (i, most, subst (λ r. IsDelivered cmp s ns c.args.events.now j (take i order) r) (sym c.in_err-deliver.ensures.unchanged) part)
+
+pub returns-clause-cloned : goal.returns-clause-cloned
+returns-clause-cloned g c =
+    let order = c.args.order.now in
+    let i = c.loop-place.place-index in
+    let all : take i order ≡ order = take_all i order (omega arith) in
+    rw all at c.loop-place.invariant
+
+pub returns-clause-followed : goal.returns-clause-followed
+returns-clause-followed g c = λ same.
+    let order = c.args.order.now in
+    let i = c.loop-place.place-index in
+    let all : take i order ≡ order = take_all i order (omega arith) in
+    rw all at (followed_same g.T.Ord.cmp g.T.Clone.is_clone same c.args.events.now c.args.self.now c.loop-place.self (take i order) c.loop-place.invariant)
+
+pub returns-in_err-deliver-clause-cloned_stopped : goal.returns-in_err-deliver-clause-cloned_stopped
+returns-in_err-deliver-clause-cloned_stopped g c =
+    let order = c.args.order.now in
+    let events = c.args.events.now in
+    let i = c.loop-place.place-index in
+    let inside : i < length order = omega arith in
+    let p = get_or order i 0 in
+    let told = slice_get_read events (length events) p c.index-events-place.result refl (c.requires.inside i 0 inside) c.index-events-place.is in
+    let cause = err_from_is_err_and c.from_residual.result c.from_residual.ensures.1 in
+    rw cause.1 (subst (HasStopped g.T.Ord.cmp g.T.Clone.is_clone events c.args.self.now order _) (sym c.in_err-deliver.ensures.unchanged)
+    (record { count = i; before = c.loop-place.invariant; at = rw (slice_get-get_or order i 0 inside, told) (c.in_err-deliver.ensures.awaited, cause.2 ∙ c.in_err-deliver.ensures.refusal) }))
+
+pub returns-in_err-deliver-clause-stopped : goal.returns-in_err-deliver-clause-stopped
+returns-in_err-deliver-clause-stopped g c = λ same.
+    let order = c.args.order.now in
+    let events = c.args.events.now in
+    let i = c.loop-place.place-index in
+    let inside : i < length order = omega arith in
+    let p = get_or order i 0 in
+    let told = slice_get_read events (length events) p c.index-events-place.result refl (c.requires.inside i 0 inside) c.index-events-place.is in
+    let cause = err_from_is_err_and c.from_residual.result c.from_residual.ensures.1 in
+    rw cause.1 (subst (IsStopped g.T.Ord.cmp events c.args.self.now order _) (sym c.in_err-deliver.ensures.unchanged)
+    (record { count = i; before = (followed_same g.T.Ord.cmp g.T.Clone.is_clone same c.args.events.now c.args.self.now c.loop-place.self (take i order) c.loop-place.invariant); at = rw (slice_get-get_or order i 0 inside, told) (c.in_err-deliver.ensures.awaited, cause.2 ∙ c.in_err-deliver.ensures.refusal) }))

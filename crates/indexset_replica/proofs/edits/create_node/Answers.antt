@@ -1,7 +1,8 @@
 use Rattle.std.proofs.Common.{[], ◌∷◌, map, insert, refl, sym, ◌∙◌}
 use Rattle.std.proofs.lemmas.Result.{err_from_is_err_and}
 use Rattle.indexset_log.specs.declared.change.ChangeEventUnassigned.TheVariants.{CreateNode}
-use Rattle.indexset_log.proofs.CallerLemmas.{map_insert}
+use Rattle.indexset_log.proofs.CallerLemmas.{map_insert, nodes_ruled}
+use Rattle.indexset_replica.proofs.Clones.{created_same, reaching_same}
 use Rattle.indexset_replica.specs.Replica.{IsEdit}
 use Rattle.indexset_replica.proofs.ReplicaEdits.{create_disorder, create_edit}
 use Rattle.indexset_replica.proofs.edits.create_node.Given.{Over}
@@ -28,4 +29,14 @@ returns-in_err-node-clause-refusal g c =
 
 pub returns-clause-done : goal.returns-clause-done
 returns-clause-done g c =
-    rw (c.insert_item.ensures.items, c.room_for_node_of.ensures.nodes, map_insert (λ v. v.items) c.args.nodes.now.items c.first_reaching-place.result c.in_ok-node.node, c.in_ok-node.ensures.node) (created g (goal.at.returns-clause-done g c).After-room_for_node_of)
+    let cmp = g.T.Ord.cmp in
+    let ns = map (λ v. v.items) c.args.nodes.now.items in
+    let p = c.first_reaching-place.result in
+    let place = rw c.as_slice.ensures.value at c.first_reaching-place.ensures.place in
+    let good = rw c.as_slice-2.ensures.value at (sym c.fits_before.ensures ∙ c.if-not-fits_before.false) in
+    let node = c.in_ok-node.ensures.node in
+    let w = node.0 in
+    let reach = place ∙ sym (reaching_same cmp g.met.T.Ord.total c.args.value.now w node.1.1 ns) in
+    let fine = created_same cmp g.met.T.Ord.total c.args.value.now w node.1.1 ns (nodes_ruled cmp ns c.requires.nodes) p ∙ good in
+    rw (c.insert_item.ensures.items, c.room_for_node_of.ensures.nodes, map_insert (λ v. v.items) c.args.nodes.now.items p c.in_ok-node.node, node.2)
+    (record { fits = (created g (goal.at.returns-clause-done g c).After-room_for_node_of).fits; event = CreateNode w; adds = (w, node.1, refl); done = create_edit cmp ns w p reach fine })

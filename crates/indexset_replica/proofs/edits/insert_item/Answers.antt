@@ -4,7 +4,9 @@ use Rattle.std.proofs.Math.Seq.{map-set_same}
 use Rattle.std.proofs.lemmas.Result.{err_from_is_err_and}
 use Rattle.indexset_log.specs.declared.change.ChangeEventUnassigned.TheVariants.{InsertAt}
 use Rattle.indexset_replica.specs.Replica.{IsEdit}
-use Rattle.indexset_replica.proofs.ReplicaEdits.{absent_insert, held, insert_disorder, insert_edit, insert_outside}
+use Rattle.indexset_log.proofs.CallerLemmas.{nodes_ruled}
+use Rattle.indexset_replica.proofs.Clones.{inserted_same}
+use Rattle.indexset_replica.proofs.ReplicaEdits.{absent_insert, held, insert_disorder, insert_edit, insert_outside, named_inside}
 use Rattle.indexset_replica.proofs.edits.insert_item.Given.{Over}
 use Rattle.indexset_replica.proofs.edits.insert_item.Goals as goal
 use Rattle.indexset_replica.proofs.edits.insert_item.Goals.{Else-not-fits_at}
@@ -39,7 +41,7 @@ returns-then-not-fits_at-clause-refusal g c =
 pub returns-in_err-item-clause-refusal : goal.returns-in_err-item-clause-refusal
 returns-in_err-item-clause-refusal g c =
     let p = err_from_is_err_and c.from_residual-in_err-item.result c.from_residual-in_err-item.ensures.1 in
-    rw (p.1, (inserted g (goal.at.returns-in_err-item-clause-refusal g c).Else-not-fits_at).fits) p.2
+    rw (p.1, (inserted g (goal.at.returns-in_err-item-clause-refusal g c).Else-not-fits_at).fits) (p.2 ∙ c.in_err-item.ensures.refusal)
 
 pub returns-in_err-reserve-clause-refusal : goal.returns-in_err-reserve-clause-refusal
 returns-in_err-reserve-clause-refusal g c =
@@ -56,10 +58,16 @@ pub returns-clause-done : goal.returns-clause-done
 returns-clause-done g c =
     let cmp = g.T.Ord.cmp in
     let vs = c.args.nodes.now.items in
+    let ns = map (λ v. v.items) vs in
     let k = c.in_ok-place.place in
     let named = rw c.as_slice.ensures.value at c.in_ok-place.ensures.named in
     let n = c.index.result.now in
     let m = c.index_mut-node.result.now in
     let same : m.items ≡ n.items = sym (held cmp (λ v. v.items) vs c.args.name.now k named m c.index_mut-node.ensures.value) ∙ held cmp (λ v. v.items) vs c.args.name.now k named n c.index.ensures in
-    let copy = c.requires.clones _ _ c.in_ok-item.ensures.cases in
-    rw (map-set (λ v. v.items) vs k c.insert_item.new.items, c.insert_item.ensures.items, c.in_ok-reserve.ensures.items, same, copy) (inserted g (goal.at.returns-clause-done g c).Else-not-fits_at)
+    let copy = c.in_ok-item.ensures.clone in
+    let w = c.in_ok-item.item in
+    let good = rw c.as_slice-2.ensures.value at (sym c.fits_at.ensures ∙ c.if-not-fits_at.false) in
+    let fine = inserted_same cmp g.met.T.Ord.total c.args.value.now w copy.1 ns (nodes_ruled cmp ns c.requires.nodes) k (named_inside cmp ns c.args.name.now k named) c.args.index ∙ good in
+    let edited = insert_edit cmp (λ v. v.items) vs c.args.name.now k named n c.index.ensures w c.args.index (omega (arith, n.ok.0)) fine in
+    rw (map-set (λ v. v.items) vs k c.insert_item.new.items, c.insert_item.ensures.items, c.in_ok-reserve.ensures.items, same)
+    (record { fits = (inserted g (goal.at.returns-clause-done g c).Else-not-fits_at).fits; event = InsertAt c.args.name.now w c.args.index; adds = (w, copy, refl); done = edited })

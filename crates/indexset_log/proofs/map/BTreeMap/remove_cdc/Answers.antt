@@ -1,13 +1,17 @@
-use Rattle.std.proofs.Common.{rules, ◌≡◌, ◌+◌, ◌≤◌, length, IfErr, refl, arith, ap, subst, ◌∙◌}
+use Rattle.std.proofs.Common.{rules, ◌≡◌, ◌+◌, ◌≤◌, length, IfErr, Some, refl, arith, ap, subst, ◌∙◌}
 use Rattle.std.below.core.specs.declared.int.u64.TheConstants.{MAX}
+use Rattle.std.specs.List.{AllZip}
 use Rattle.std.proofs.lemmas.Grind.{common_steps}
+use Rattle.indexset_core.specs.declared.pair.Pair.{Pair}
 use Rattle.indexset_core.specs.Nodes.{joined}
-use Rattle.indexset_core.specs.Pairs.{has_key}
+use Rattle.indexset_core.specs.Pairs.{by_key, has_key}
 use Rattle.indexset_core.proofs.CallerLemmas.{key_gone}
+use Rattle.indexset_log.specs.Clones.{IsEventClone}
 use Rattle.indexset_log.specs.Edits.{with_taken}
-use Rattle.indexset_log.specs.Replay.{numbered_from}
+use Rattle.indexset_log.specs.Replay.{numbered_from, replay}
 use Rattle.indexset_log.specs.Table.{taking_count, taking_events}
 use Rattle.indexset_log.specs.Tree.{refusal_for}
+use Rattle.indexset_log.proofs.Clones.{pair_same}
 use Rattle.indexset_log.proofs.Keys.{key_count, key_taken, no_key}
 use Rattle.indexset_log.proofs.Takes.{some_taken}
 use Rattle.indexset_log.proofs.map.BTreeMap.remove_cdc.Goals as goal
@@ -29,7 +33,7 @@ returns-in_ok-pair-in-Ok g c =
     let k = c.in-Ok.node in
     let i = c.in-Ok.offset in
     let nodes = subst (λ t. c.remove_at_cdc.new.self.nodes ≡ with_taken t.size t.nodes k i) c.self.view_is done.nodes in
-    let events = subst (λ t. c.in_ok-pair-in-Ok.events.items ≡ numbered_from t.next (taking_events t.size t.nodes k i c.in_ok-pair-in-Ok.pair)) c.self.view_is done.events in
+    let clones = subst (λ t. AllZip (IsEventClone {T = Pair g.row.K.Denot g.row.V.Denot} (λ p q. g.K.Clone.is_clone p.key q.key × g.V.Clone.is_clone p.value q.value)) (numbered_from t.next (taking_events t.size t.nodes k i c.in_ok-pair-in-Ok.pair)) c.in_ok-pair-in-Ok.events.items) c.self.view_is done.clones in
     let next = subst (λ t. c.remove_at_cdc.new.self.next ≡ t.next + taking_count t.size t.nodes k i) c.self.view_is done.next in
     let fits = subst (λ t. t.next + taking_count t.size t.nodes k i ≤ MAX) c.self.view_is done.fits in
     let taken = key_taken g.met.K.Ord.total c.locate.ensures.lawful c.args.key.now c.locate.ensures.place c.in-Ok.is item in
@@ -38,9 +42,11 @@ returns-in_ok-pair-in-Ok g c =
       answer = rw taken.pair_is refl;
       contents = ap joined nodes ∙ taken.contents;
       gone = ap (λ l. has_key g.K.Ord.cmp l c.args.key.now) (ap joined nodes ∙ taken.contents) ∙ key_gone g.K.Ord.cmp (joined c.args.self.now.nodes) c.args.key.now;
-      events = rw taken.events events;
+      clones = rw taken.events clones;
+      events = λ hk hv. rw taken.events (subst (λ t. c.in_ok-pair-in-Ok.events.items ≡ numbered_from t.next (taking_events t.size t.nodes k i c.in_ok-pair-in-Ok.pair)) c.self.view_is (done.events (pair_same hk hv)));
       numbered = rw c.self.view_is at done.numbered;
-      replay = rw c.self.view_is at done.replay;
+      replay = λ hk hv. rw c.self.view_is at (done.replay (pair_same hk hv));
+      table = rw taken.events (subst (λ t. replay (by_key g.K.Ord.cmp) t.nodes (numbered_from t.next (taking_events t.size t.nodes k i c.in_ok-pair-in-Ok.pair)) ≡ Some c.remove_at_cdc.new.self.nodes) c.self.view_is done.table);
       few = done.few;
       size = rw c.self.view_is at done.size;
       spaced = rw c.self.view_is at done.spaced;
@@ -63,10 +69,16 @@ returns-in-Err-clause-gone g c =
     ap (λ l. has_key g.K.Ord.cmp l c.args.key.now) none.contents ∙ key_gone g.K.Ord.cmp (joined c.args.self.now.nodes) c.args.key.now
 
 pub returns-in-Err-clause-events : goal.returns-in-Err-clause-events
-returns-in-Err-clause-events g c = let none = no_key g.met.K.Ord.total c.locate.ensures.lawful c.args.key.now c.locate.ensures.place c.in-Err.is in rw none.events (grind (arith, common_steps))
+returns-in-Err-clause-events g c hk hv = let none = no_key g.met.K.Ord.total c.locate.ensures.lawful c.args.key.now c.locate.ensures.place c.in-Err.is in rw none.events (grind (arith, common_steps))
 
 pub returns-in-Err-clause-next : goal.returns-in-Err-clause-next
 returns-in-Err-clause-next g c = let none = no_key g.met.K.Ord.total c.locate.ensures.lawful c.args.key.now c.locate.ensures.place c.in-Err.is in rw none.events (omega arith)
 
 pub returns-in-Err-clause-fits : goal.returns-in-Err-clause-fits
 returns-in-Err-clause-fits g c = let none = no_key g.met.K.Ord.total c.locate.ensures.lawful c.args.key.now c.locate.ensures.place c.in-Err.is in rw none.events (omega (arith, c.locate.ensures.number))
+
+pub returns-in-Err-clause-clones : goal.returns-in-Err-clause-clones
+returns-in-Err-clause-clones g c = let none = no_key g.met.K.Ord.total c.locate.ensures.lawful c.args.key.now c.locate.ensures.place c.in-Err.is in rw (none.events, c.new.ensures.items) tt
+
+pub returns-in-Err-clause-table : goal.returns-in-Err-clause-table
+returns-in-Err-clause-table g c = let none = no_key g.met.K.Ord.total c.locate.ensures.lawful c.args.key.now c.locate.ensures.place c.in-Err.is in rw none.events refl

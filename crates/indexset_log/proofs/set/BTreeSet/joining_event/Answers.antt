@@ -1,4 +1,4 @@
-use Rattle.std.proofs.Common.{arith}
+use Rattle.std.proofs.Common.{arith, refl}
 use Rattle.indexset_log.proofs.Joins.{after_from, next_inside, two_held}
 use Rattle.indexset_log.proofs.Trees.{held}
 use Rattle.indexset_log.proofs.set.BTreeSet.joining_event.Goals as goal
@@ -22,3 +22,7 @@ overflow_add-left g c =
     let after = after_from c.args.self.now.size ns c.args.node c.args.offset c.args.left c.requires.join in
     let inside = next_inside c.args.self.now.size ns c.args.node c.args.offset c.args.left c.requires.offset after in
     omega (arith, inside, t.many, c.self.inside.nodes.ok, c.len-count.ensures, c.len-count.type_inv)
+
+pub returns-clause-clones : goal.returns-clause-clones
+returns-clause-clones g c s d =
+    rw (c.last_without.ensures d, c.last_without-2.ensures d) (refl, (c.in_ok-clone.ensures.cases, (c.in_ok-clone-2.ensures.cases, tt)))

@@ -27,9 +27,11 @@ returns-in_ok-item-in-Some g c =
       answer = sym done.item ∙ found.item;
       contents = ap joined done.nodes ∙ found_contents g.met.T.Ord.total t.rule.lawful found done.item;
       gone = ap (λ l. has_equal g.T.Ord.cmp l c.args.value.now) (ap joined done.nodes ∙ found_contents g.met.T.Ord.total t.rule.lawful found done.item) ∙ has_none g.T.Ord.cmp (joined c.args.self.now.nodes) c.args.value.now;
-      events = rw (found_events g.met.T.Ord.total t.rule.lawful found done.item) done.events;
+      clones = rw (found_events g.met.T.Ord.total t.rule.lawful found done.item) done.clones;
+      events = λ h. rw (found_events g.met.T.Ord.total t.rule.lawful found done.item) (done.events h);
       numbered = done.numbered;
       replay = done.replay;
+      table = rw (found_events g.met.T.Ord.total t.rule.lawful found done.item) done.table;
       few = done.few;
       size = done.size;
       spaced = done.spaced;
@@ -47,8 +49,11 @@ pub returns-in-None-clause-gone : goal.returns-in-None-clause-gone
 returns-in-None-clause-gone g c =
     ap (λ l. has_equal g.T.Ord.cmp l c.args.value.now) (absent_contents g.T.Ord.cmp c.args.self.now.nodes c.args.value.now c.in-None.ensures) ∙ has_none g.T.Ord.cmp (joined c.args.self.now.nodes) c.args.value.now
 
+pub returns-in-None-clause-clones : goal.returns-in-None-clause-clones
+returns-in-None-clause-clones g c = rw (absent_events g.T.Ord.cmp c.args.self.now.nodes c.args.value.now c.in-None.ensures c.args.self.now.size, c.new.ensures.items) tt
+
 pub returns-in-None-clause-events : goal.returns-in-None-clause-events
-returns-in-None-clause-events g c = rw (absent_events g.T.Ord.cmp c.args.self.now.nodes c.args.value.now c.in-None.ensures c.args.self.now.size) (grind (arith, common_steps))
+returns-in-None-clause-events g c h = rw (absent_events g.T.Ord.cmp c.args.self.now.nodes c.args.value.now c.in-None.ensures c.args.self.now.size) (grind (arith, common_steps))
 
 pub returns-in-None-clause-next : goal.returns-in-None-clause-next
 returns-in-None-clause-next g c = rw (absent_events g.T.Ord.cmp c.args.self.now.nodes c.args.value.now c.in-None.ensures c.args.self.now.size) (omega arith)
@@ -57,3 +62,6 @@ pub returns-in-None-clause-fits : goal.returns-in-None-clause-fits
 returns-in-None-clause-fits g c =
     let t = held g.Node.NodeLike.list c.self.inside.nodes.items c.self.view_is c.self.invariant in
     rw (absent_events g.T.Ord.cmp c.args.self.now.nodes c.args.value.now c.in-None.ensures c.args.self.now.size) (omega arith)
+
+pub returns-in-None-clause-table : goal.returns-in-None-clause-table
+returns-in-None-clause-table g c = rw (absent_events g.T.Ord.cmp c.args.self.now.nodes c.args.value.now c.in-None.ensures c.args.self.now.size) refl

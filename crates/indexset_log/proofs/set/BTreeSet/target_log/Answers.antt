@@ -1,6 +1,7 @@
 use Rattle.std.proofs.Common.{◌≡◌, arith, ◌∙◌}
 use Rattle.indexset_core.specs.Nodes.{node_at}
 use Rattle.indexset_log.specs.Table.{part_for}
+use Rattle.indexset_log.proofs.Clones.{zip_on}
 use Rattle.indexset_log.proofs.Puts.{events_count, events_numbered, half_is, part_some, part_up, parts_length}
 use Rattle.indexset_log.proofs.Trees.{held, node_held}
 use Rattle.indexset_log.proofs.Views.{node_some}
@@ -36,7 +37,6 @@ add_put-requires g c =
     let part = half g (goal.at.add_put-requires g c).After-part_of in
     let next = rw (c.new-log.ensures.next, t.numbered, t.sized, read g (goal.at.add_put-requires g c).After-as_slice-items) at c.in_ok-add_halving.ensures.next in
     record {
-      clones = c.requires.clones;
       some = rw part (part_some g.met.T.Ord.total t.rule c.requires.aim);
       ascending = rw part (part_up g.met.T.Ord.total t.rule c.requires.aim);
       found = rw part c.requires.aim.found;
@@ -45,8 +45,16 @@ add_put-requires g c =
     }
 
 pub returns-clause-events : goal.returns-clause-events
-returns-clause-events g c =
+returns-clause-events g c h =
     let t = held g.Node.NodeLike.list c.self.inside.nodes.items c.self.view_is c.self.invariant in
     let next = rw (c.new-log.ensures.next, t.numbered, t.sized, read g (goal.at.returns-clause-events g c).After-as_slice-items) at c.in_ok-add_halving.ensures.next in
-    let halving = rw (c.new-log.ensures.events, c.new-log.ensures.next, t.numbered, t.sized, read g (goal.at.returns-clause-events g c).After-as_slice-items) at (c.in_ok-add_halving.ensures.events c.args.value.now) in
-    rw (events_numbered g.met.T.Ord.total t.rule c.requires.aim c.args.self.now.next, ← halving, ← next, ← half g (goal.at.returns-clause-events g c).After-part_of) c.in_ok-add_put.ensures.events
+    let halving = rw (c.new-log.ensures.events, c.new-log.ensures.next, t.numbered, t.sized, read g (goal.at.returns-clause-events g c).After-as_slice-items) at (c.in_ok-add_halving.ensures.events h c.args.value.now) in
+    rw (events_numbered g.met.T.Ord.total t.rule c.requires.aim c.args.self.now.next, ← halving, ← next, ← half g (goal.at.returns-clause-events g c).After-part_of) (c.in_ok-add_put.ensures.events h)
+
+pub returns-clause-clones : goal.returns-clause-clones
+returns-clause-clones g c =
+    let t = held g.Node.NodeLike.list c.self.inside.nodes.items c.self.view_is c.self.invariant in
+    let next = rw (c.new-log.ensures.next, t.numbered, t.sized, read g (goal.at.returns-clause-clones g c).After-as_slice-items) at c.in_ok-add_halving.ensures.next in
+    let halving = rw (c.new-log.ensures.events, c.new-log.ensures.next, t.numbered, t.sized, read g (goal.at.returns-clause-clones g c).After-as_slice-items) at (c.in_ok-add_halving.ensures.clones c.args.value.now) in
+    let told = c.in_ok-add_put.ensures.clones in
+    rw (events_numbered g.met.T.Ord.total t.rule c.requires.aim c.args.self.now.next, ← next, ← half g (goal.at.returns-clause-clones g c).After-part_of) (rw (told.1, halving.1) (zip_on _ _ _ _ _ halving.2 told.2))

@@ -1,8 +1,10 @@
-use Rattle.std.proofs.Common.{◌≡◌, ◌/◌, ap, subst, sym, arith}
+use Rattle.std.proofs.Common.{◌≡◌, ◌/◌, ◌∙◌, ap, subst, sym, arith}
+use Rattle.std.specs.Option.{option_map}
 use Rattle.std.proofs.lemmas.Grind.{common_steps}
 use Rattle.indexset_log.specs.Joining.{IsSpaced}
 use Rattle.indexset_multi.specs.Keys.{AreNumberedBelow}
 use Rattle.indexset_multi.proofs.Lists.{inserted}
+use Rattle.indexset_multi.proofs.Takes.{pair_same}
 use Rattle.indexset_multi.proofs.multimap.BTreeMultiMap.insert_cdc.Goals as goal
 
 pub returns-in_err-old-clause-refusal : goal.returns-in_err-old-clause-refusal
@@ -55,3 +57,68 @@ pub returns-clause-spaced : goal.returns-clause-spaced
 returns-clause-spaced g c =
     let after = c.put_cdc.new.self in
     subst (λ m. IsSpaced (m.size / 2) m.nodes → IsSpaced (after.size / 2) after.nodes) c.self.view_is c.in_ok-old.ensures.spaced
+
+pub returns-clause-clones : goal.returns-clause-clones
+returns-clause-clones g c =
+    let m = c.args.self.now in
+    let same : c.self.inside.set.nodes ≡ m.nodes = ap (λ t. t.nodes) c.self.view_is in
+    let size : c.self.inside.set.size ≡ m.size = ap (λ t. t.size) c.self.view_is in
+    let next : c.self.inside.set.next ≡ m.next = ap (λ t. t.next) c.self.view_is in
+    rw (c.in_ok-pair.ensures.pair, same, size, next) at c.in_ok-old.ensures.clones
+
+pub returns-clause-events : goal.returns-clause-events
+returns-clause-events g c hk hv =
+    let m = c.args.self.now in
+    let same : c.self.inside.set.nodes ≡ m.nodes = ap (λ t. t.nodes) c.self.view_is in
+    let size : c.self.inside.set.size ≡ m.size = ap (λ t. t.size) c.self.view_is in
+    let next : c.self.inside.set.next ≡ m.next = ap (λ t. t.next) c.self.view_is in
+    rw (c.in_ok-pair.ensures.pair, same, size, next) at (c.in_ok-old.ensures.events (pair_same hk hv))
+
+pub returns-clause-replay : goal.returns-clause-replay
+returns-clause-replay g c hk hv =
+    let m = c.args.self.now in
+    let same : c.self.inside.set.nodes ≡ m.nodes = ap (λ t. t.nodes) c.self.view_is in
+    let size : c.self.inside.set.size ≡ m.size = ap (λ t. t.size) c.self.view_is in
+    let next : c.self.inside.set.next ≡ m.next = ap (λ t. t.next) c.self.view_is in
+    rw same at (c.in_ok-old.ensures.replay (pair_same hk hv))
+
+pub returns-clause-contents : goal.returns-clause-contents
+returns-clause-contents g c =
+    let m = c.args.self.now in
+    let same : c.self.inside.set.nodes ≡ m.nodes = ap (λ t. t.nodes) c.self.view_is in
+    let size : c.self.inside.set.size ≡ m.size = ap (λ t. t.size) c.self.view_is in
+    let next : c.self.inside.set.next ≡ m.next = ap (λ t. t.next) c.self.view_is in
+    rw (c.in_ok-pair.ensures.pair, same) at c.in_ok-old.ensures.contents
+
+pub returns-clause-nodes : goal.returns-clause-nodes
+returns-clause-nodes g c =
+    let m = c.args.self.now in
+    let same : c.self.inside.set.nodes ≡ m.nodes = ap (λ t. t.nodes) c.self.view_is in
+    let size : c.self.inside.set.size ≡ m.size = ap (λ t. t.size) c.self.view_is in
+    let next : c.self.inside.set.next ≡ m.next = ap (λ t. t.next) c.self.view_is in
+    rw (c.in_ok-pair.ensures.pair, same, size) at c.in_ok-old.ensures.nodes
+
+pub returns-clause-fits : goal.returns-clause-fits
+returns-clause-fits g c =
+    let m = c.args.self.now in
+    let same : c.self.inside.set.nodes ≡ m.nodes = ap (λ t. t.nodes) c.self.view_is in
+    let size : c.self.inside.set.size ≡ m.size = ap (λ t. t.size) c.self.view_is in
+    let next : c.self.inside.set.next ≡ m.next = ap (λ t. t.next) c.self.view_is in
+    rw (c.in_ok-pair.ensures.pair, same, size, next) at c.in_ok-old.ensures.fits
+
+pub returns-clause-few : goal.returns-clause-few
+returns-clause-few g c = c.in_ok-old.ensures.few
+
+pub returns-clause-answer : goal.returns-clause-answer
+returns-clause-answer g c =
+    let same : c.self.inside.set.nodes ≡ c.args.self.now.nodes = ap (λ t. t.nodes) c.self.view_is in
+    let answer = rw same at c.in_ok-old.ensures.answer in
+    c.value_in.ensures ∙ ap (λ o. option_map (λ p. p.value) o) (answer ∙ c.in_ok-pair.ensures.replaced)
+
+pub returns-clause-table : goal.returns-clause-table
+returns-clause-table g c =
+    let m = c.args.self.now in
+    let same : c.self.inside.set.nodes ≡ m.nodes = ap (λ t. t.nodes) c.self.view_is in
+    let size : c.self.inside.set.size ≡ m.size = ap (λ t. t.size) c.self.view_is in
+    let next : c.self.inside.set.next ≡ m.next = ap (λ t. t.next) c.self.view_is in
+    rw (c.in_ok-pair.ensures.pair, same, size, next) at c.in_ok-old.ensures.table

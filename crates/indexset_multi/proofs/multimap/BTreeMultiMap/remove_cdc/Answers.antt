@@ -18,3 +18,9 @@ returns-clause-others g c =
     let cmp = g.K.Ord.cmp in
     let l = joined c.args.self.now.nodes in
     on_ok_map c.take_cdc.result c.take_cdc.ensures.contents (λ left other ne. ap (λ l. pairs_of cmp l other) (left ∙ ap (without_named cmp l) c.equal_place-place.ensures.pair) ∙ others_left cmp g.met.K.Ord.total c.args.key.now (λ p. g.V.PartialEq.eq p.value c.args.value.now) l other ne)
+
+pub returns-clause-clones : goal.returns-clause-clones
+returns-clause-clones g c = rw (← c.equal_place-place.ensures.pair) c.take_cdc.ensures.clones
+
+pub returns-clause-refusal : goal.returns-clause-refusal
+returns-clause-refusal g c = rw (← c.equal_place-place.ensures.pair) c.take_cdc.ensures.refusal

@@ -4,7 +4,7 @@ use Rattle.indexset_core.specs.Nodes.{IsLawful}
 use Rattle.indexset_log.specs.Joining.{IsSpaced}
 use Rattle.indexset_log.specs.Replay.{replay}
 use Rattle.indexset_log.proofs.CallerLemmas.{some_taken}
-use Rattle.indexset_multi.proofs.Takes.{taken, taken_count}
+use Rattle.indexset_multi.proofs.Takes.{pair_same, taken, taken_count}
 use Rattle.indexset_multi.proofs.multimap.BTreeMultiMap.take_cdc.Goals as goal
 
 pub returns-in_err-pair-in-Some-clause-refusal : goal.returns-in_err-pair-in-Some-clause-refusal
@@ -22,20 +22,20 @@ returns-in_err-pair-in-Some-clause-no_event g c =
 pub invariant_of-self-in-Some : goal.invariant_of-self-in-Some
 invariant_of-self-in-Some g c =
     let done = c.in_ok-pair-in-Some.ensures in
-    let taken = taken g.K.Ord.cmp g.met.K.Ord.total c.self.view_is c.node_count-nodes.ensures.lawful c.in-Some.is c.requires.place done.item (rw done.events at done.replay) in
+    let taken = taken g.K.Ord.cmp g.met.K.Ord.total c.self.view_is c.node_count-nodes.ensures.lawful c.in-Some.is c.requires.place done.item done.table in
     taken.below c.self.inside.pair_next c.self.invariant
 
 pub returns-in_ok-pair-in-Some-clause-contents : goal.returns-in_ok-pair-in-Some-clause-contents
 returns-in_ok-pair-in-Some-clause-contents g c =
     let done = c.in_ok-pair-in-Some.ensures in
-    let taken = taken g.K.Ord.cmp g.met.K.Ord.total c.self.view_is c.node_count-nodes.ensures.lawful c.in-Some.is c.requires.place done.item (rw done.events at done.replay) in
+    let taken = taken g.K.Ord.cmp g.met.K.Ord.total c.self.view_is c.node_count-nodes.ensures.lawful c.in-Some.is c.requires.place done.item done.table in
     taken.contents
 
 pub returns-in_ok-pair-in-Some-clause-events : goal.returns-in_ok-pair-in-Some-clause-events
-returns-in_ok-pair-in-Some-clause-events g c =
+returns-in_ok-pair-in-Some-clause-events g c hk hv =
     let done = c.in_ok-pair-in-Some.ensures in
-    let taken = taken g.K.Ord.cmp g.met.K.Ord.total c.self.view_is c.node_count-nodes.ensures.lawful c.in-Some.is c.requires.place done.item (rw done.events at done.replay) in
-    done.events ∙ taken.told
+    let taken = taken g.K.Ord.cmp g.met.K.Ord.total c.self.view_is c.node_count-nodes.ensures.lawful c.in-Some.is c.requires.place done.item done.table in
+    done.events (pair_same hk hv) ∙ taken.told
 
 pub returns-in_ok-pair-in-Some-clause-numbered : goal.returns-in_ok-pair-in-Some-clause-numbered
 returns-in_ok-pair-in-Some-clause-numbered g c =
@@ -55,9 +55,9 @@ returns-in_ok-pair-in-Some-clause-fits g c =
     rw (count, ← next) c.in_ok-pair-in-Some.ensures.fits
 
 pub returns-in_ok-pair-in-Some-clause-replay : goal.returns-in_ok-pair-in-Some-clause-replay
-returns-in_ok-pair-in-Some-clause-replay g c =
+returns-in_ok-pair-in-Some-clause-replay g c hk hv =
     let nodes : c.self.inside.set.nodes ≡ c.args.self.now.nodes = ap (λ m. m.nodes) c.self.view_is in
-    subst (λ ns. replay (by_number g.K.Ord.cmp) ns c.in_ok-pair-in-Some.events.items ≡ Some c.remove_at_cdc.new.self.nodes) nodes c.in_ok-pair-in-Some.ensures.replay
+    subst (λ ns. replay (by_number g.K.Ord.cmp) ns c.in_ok-pair-in-Some.events.items ≡ Some c.remove_at_cdc.new.self.nodes) nodes (c.in_ok-pair-in-Some.ensures.replay (pair_same hk hv))
 
 pub returns-in_ok-pair-in-Some-clause-spaced : goal.returns-in_ok-pair-in-Some-clause-spaced
 returns-in_ok-pair-in-Some-clause-spaced g c =
@@ -69,3 +69,15 @@ returns-in_ok-pair-in-Some-clause-lawful g c = subst (λ m. IsLawful (by_number 
 
 pub returns-in-None-clause-lawful : goal.returns-in-None-clause-lawful
 returns-in-None-clause-lawful g c = subst (λ m. IsLawful (by_number g.K.Ord.cmp) m.size m.nodes) c.self.view_is c.node_count-nodes.ensures.lawful
+
+pub returns-in_ok-pair-in-Some-clause-clones : goal.returns-in_ok-pair-in-Some-clause-clones
+returns-in_ok-pair-in-Some-clause-clones g c =
+    let done = c.in_ok-pair-in-Some.ensures in
+    let taken = taken g.K.Ord.cmp g.met.K.Ord.total c.self.view_is c.node_count-nodes.ensures.lawful c.in-Some.is c.requires.place done.item done.table in
+    rw (← taken.told) done.clones
+
+pub returns-in_ok-pair-in-Some-clause-table : goal.returns-in_ok-pair-in-Some-clause-table
+returns-in_ok-pair-in-Some-clause-table g c =
+    let done = c.in_ok-pair-in-Some.ensures in
+    let taken = taken g.K.Ord.cmp g.met.K.Ord.total c.self.view_is c.node_count-nodes.ensures.lawful c.in-Some.is c.requires.place done.item done.table in
+    taken.replayed

@@ -1,0 +1,48 @@
+/* What the tests share: requests for memory that are refused, checks that are counted, and numbers that are
+ * drawn. */
+#ifndef CHECKS_H
+#define CHECKS_H
+
+#include "indexset.h"
+#include <stdio.h>
+#include <stdlib.h>
+#include <string.h>
+
+/* ---- requests for memory: every nth is refused, where n is not 0 */
+void *__real_malloc(size_t size);
+void *__real_realloc(void *at, size_t size);
+static unsigned long nth, requests;
+
+static bool refused(void) { return nth != 0 && ++requests % nth == 0; }
+void *__wrap_malloc(size_t size) { return refused() ? NULL : __real_malloc(size); }
+void *__wrap_realloc(void *at, size_t size) { return refused() ? NULL : __real_realloc(at, size); }
+
+/* ---- checks */
+static unsigned passed, failed;
+
+static void check(bool holds, const char *text, const char *file, int line) {
+    if (holds) {
+        passed++;
+    } else if (++failed < 20) {
+        printf("%s:%d: not so: %s\n", file, line, text);
+    }
+}
+#define CHECK(condition) check((condition), #condition, __FILE__, __LINE__)
+
+/* Prints how many checks passed, and returns a program's status. */
+static int told(void) {
+    printf("%u passed, %u failed\n", passed, failed);
+    return failed == 0 ? 0 : 1;
+}
+
+/* ---- numbers that are drawn */
+static uint64_t state = 0x9e3779b97f4a7c15u;
+
+static uint64_t draw(void) {
+    state ^= state >> 12;
+    state ^= state << 25;
+    state ^= state >> 27;
+    return state * 0x2545f4914f6cdd1du;
+}
+
+#endif

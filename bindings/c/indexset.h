@@ -1,0 +1,333 @@
+/* Ordered sets and maps of 64-bit numbers, with positions; maps whose keys may have several values; and maps
+ * that tell their changes.
+ *
+ * A handle leads to a collection on the heap, or to none. It starts as INDEXSET_HANDLE, which leads to
+ * none; indexset_set_new has it lead to an empty set, and indexset_set_free to none again; the handles of the
+ * other collections go the same way. Where a handle leads to none, a call that reads or removes finds an
+ * empty collection, and one that adds answers INDEXSET_NONE.
+ *
+ * Who owns what: the library owns what a handle leads to, and the caller owns the handle and every
+ * array and number that it passes. A handle is passed by its address. It is never copied, since two
+ * copies would lead to one collection, and its two fields are never written. A handle that goes out
+ * of use is freed first, or its memory is lost.
+ *
+ * Threads: a handle is for one thread, the one that made its collection, and is in one call at a time.
+ * Handles of several threads do not touch each other. No call may be made from a signal handler, nor
+ * from the forked child of a process with threads.
+ *
+ * Null: no pointer may be null, not even that of an array of no elements. Two pointers of one call
+ * must not lead to the same memory, except two that are only read.
+ *
+ * No call aborts. Memory comes from malloc and realloc; where they refuse, the call says so, and
+ * nothing has changed. They and free must be of one allocator, which aligns a block to each power of
+ * two up to 16 that divides its size.
+ */
+#ifndef INDEXSET_H
+#define INDEXSET_H
+
+#include <stdbool.h>
+#include <stddef.h>
+#include <stdint.h>
+
+#ifdef __cplusplus
+extern "C" {
+#endif
+
+/* What a call answers that can fail. */
+enum indexset_status {
+    INDEXSET_NO = 0,     /* there was nothing to do */
+    INDEXSET_YES = 1,    /* it was done */
+    INDEXSET_MEMORY = 2, /* memory was refused */
+    INDEXSET_NONE = 3,   /* the handle leads to no collection */
+    INDEXSET_HELD = 4,   /* the handle leads to a collection already */
+    INDEXSET_NUMBERS = 5, /* too few numbers are left */
+    INDEXSET_UNFIT = 6   /* what was given does not fit */
+};
+
+/* The handle of an ordered set of uint64_t. Both fields are the library's own. */
+typedef struct indexset_set {
+    void *at;
+    bool live;
+} indexset_set;
+
+/* What a handle starts as: `indexset_set set = INDEXSET_HANDLE;` */
+#define INDEXSET_HANDLE {0}
+
+/* Returns the version of the library: major * 65536 + minor * 256 + patch. */
+uint32_t indexset_version(void);
+
+/* Makes an empty set. INDEXSET_YES, or INDEXSET_MEMORY, or INDEXSET_HELD where the handle leads to a
+ * set; unless it is INDEXSET_YES, nothing changes. */
+uint32_t indexset_set_new(indexset_set *set);
+
+/* Makes a clone of a set under the handle `to`. INDEXSET_YES, or INDEXSET_MEMORY, or INDEXSET_NONE
+ * where `set` leads to none, or else INDEXSET_HELD where `to` leads to a set. `set` never changes, and
+ * `to` only where it is INDEXSET_YES. */
+uint32_t indexset_set_clone(indexset_set *set, indexset_set *to);
+
+/* Frees the set, and leaves the handle with none. Of a handle with none it does nothing. */
+void indexset_set_free(indexset_set *set);
+
+/* Removes all elements. It takes no memory. */
+void indexset_set_clear(indexset_set *set);
+
+/* Returns how many elements there are. */
+size_t indexset_set_len(indexset_set *set);
+
+/* Adds a key. INDEXSET_YES, or INDEXSET_NO where it is there, or INDEXSET_MEMORY, or INDEXSET_NONE;
+ * unless it is INDEXSET_YES, nothing changes. */
+uint32_t indexset_set_insert(indexset_set *set, uint64_t key);
+
+/* Removes a key. True, or false where it is not there, and then nothing changes. */
+bool indexset_set_remove(indexset_set *set, uint64_t key);
+
+/* Tells whether a key is there. */
+bool indexset_set_contains(indexset_set *set, uint64_t key);
+
+/* Returns how many elements are below a key. */
+size_t indexset_set_rank(indexset_set *set, uint64_t key);
+
+/* Writes the first element that is not below a key. True, or false where there is none, and then
+ * nothing is written. */
+bool indexset_set_lower_bound(indexset_set *set, uint64_t key, uint64_t *out);
+
+/* Writes the element at a position, counted from 0. True, or false where there is none, and then
+ * nothing is written. */
+bool indexset_set_at(indexset_set *set, size_t position, uint64_t *out);
+
+/* Writes the least or the greatest element. True, or false where the set is empty, and then nothing is
+ * written. */
+bool indexset_set_first(indexset_set *set, uint64_t *out);
+bool indexset_set_last(indexset_set *set, uint64_t *out);
+
+/* Removes the least or the greatest element and writes it. True, or false where the set is empty, and
+ * then nothing changes and nothing is written. */
+bool indexset_set_pop_first(indexset_set *set, uint64_t *out);
+bool indexset_set_pop_last(indexset_set *set, uint64_t *out);
+
+/* Writes the elements from `low` to `high`, both included, in order into an array of `places` places,
+ * as many as it has room for. Returns how many it wrote. */
+size_t indexset_set_range_by_key(indexset_set *set, uint64_t low, uint64_t high, uint64_t *out, size_t places);
+
+/* Writes the elements from a position on, in order into an array of `places` places, as many as it has
+ * room for. Returns how many it wrote. */
+size_t indexset_set_range_by_position(indexset_set *set, size_t from, uint64_t *out, size_t places);
+
+/* Adds `count` keys, first to last, and writes how many it took to `taken`. INDEXSET_YES where it took
+ * them all, or INDEXSET_MEMORY where memory was refused for the key after those, or INDEXSET_NONE. A
+ * key that is there counts as taken. */
+uint32_t indexset_set_insert_all(indexset_set *set, const uint64_t *keys, size_t count, size_t *taken);
+
+/* Writes the rank of each of `count` keys into an array of `places` places, as many as it has room for.
+ * Returns how many it wrote. */
+size_t indexset_set_ranks(indexset_set *set, const uint64_t *keys, size_t count, size_t *out, size_t places);
+
+/* Writes the element at each of `count` positions into an array of `places` places, as many as it has
+ * room for, and stops at the first position that has no element. Returns how many it wrote. */
+size_t indexset_set_at_all(indexset_set *set, const size_t *positions, size_t count, uint64_t *out, size_t places);
+
+/* The handle of an ordered map from uint64_t to uint64_t. Both fields are the library's own. */
+typedef struct indexset_map {
+    void *at;
+    bool live;
+} indexset_map;
+
+/* Makes an empty map. INDEXSET_YES, or INDEXSET_MEMORY, or INDEXSET_HELD where the handle leads to a
+ * map; unless it is INDEXSET_YES, nothing changes. */
+uint32_t indexset_map_new(indexset_map *map);
+
+/* Makes a clone of a map under the handle `to`. INDEXSET_YES, or INDEXSET_MEMORY, or INDEXSET_NONE
+ * where `map` leads to none, or else INDEXSET_HELD where `to` leads to a map. `map` never changes, and
+ * `to` only where it is INDEXSET_YES. */
+uint32_t indexset_map_clone(indexset_map *map, indexset_map *to);
+
+/* Frees the map, and leaves the handle with none. Of a handle with none it does nothing. */
+void indexset_map_free(indexset_map *map);
+
+/* Removes all pairs. It takes no memory. */
+void indexset_map_clear(indexset_map *map);
+
+/* Returns how many pairs there are. */
+size_t indexset_map_len(indexset_map *map);
+
+/* Makes a value that of a key. INDEXSET_YES where the key was not there; INDEXSET_NO where it was, and
+ * then the value before is written to `before`; or INDEXSET_MEMORY or INDEXSET_NONE, and then nothing
+ * changes. `before` is written for INDEXSET_NO alone. */
+uint32_t indexset_map_insert(indexset_map *map, uint64_t key, uint64_t value, uint64_t *before);
+
+/* Writes the value of a key. True, or false where the key is not there, and then nothing is written. */
+bool indexset_map_get(indexset_map *map, uint64_t key, uint64_t *out);
+
+/* Removes a key and writes its value. True, or false where the key is not there, and then nothing
+ * changes and nothing is written. */
+bool indexset_map_remove(indexset_map *map, uint64_t key, uint64_t *out);
+
+/* Tells whether a key is there. */
+bool indexset_map_contains(indexset_map *map, uint64_t key);
+
+/* Returns how many keys are below a key. */
+size_t indexset_map_rank(indexset_map *map, uint64_t key);
+
+/* Writes the pair at a position, counted from 0. True, or false where there is none, and then nothing
+ * is written. */
+bool indexset_map_at(indexset_map *map, size_t position, uint64_t *key, uint64_t *value);
+
+/* Writes the pair of the least or the greatest key. True, or false where the map is empty, and then
+ * nothing is written. */
+bool indexset_map_first(indexset_map *map, uint64_t *key, uint64_t *value);
+bool indexset_map_last(indexset_map *map, uint64_t *key, uint64_t *value);
+
+/* Removes the pair of the least or the greatest key and writes it. True, or false where the map is
+ * empty, and then nothing changes and nothing is written. */
+bool indexset_map_pop_first(indexset_map *map, uint64_t *key, uint64_t *value);
+bool indexset_map_pop_last(indexset_map *map, uint64_t *key, uint64_t *value);
+
+/* Writes the pairs of the keys from `low` to `high`, both included, in order into two arrays, as many as
+ * both have room for. Returns how many it wrote. */
+size_t indexset_map_range_by_key(indexset_map *map, uint64_t low, uint64_t high, uint64_t *keys, size_t key_places, uint64_t *values, size_t value_places);
+
+/* Writes the pairs from a position on, in order into two arrays, as many as both have room for. Returns
+ * how many it wrote. */
+size_t indexset_map_range_by_position(indexset_map *map, size_t from, uint64_t *keys, size_t key_places, uint64_t *values, size_t value_places);
+
+/* Makes each value that of its key, first to last, as many as there are both keys and values, and writes
+ * how many it took to `taken`. INDEXSET_YES where it took them all, or INDEXSET_MEMORY where memory was
+ * refused for the key after those, or INDEXSET_NONE. */
+uint32_t indexset_map_insert_all(indexset_map *map, const uint64_t *keys, size_t key_count, const uint64_t *values, size_t value_count, size_t *taken);
+
+/* Writes the value of each of `count` keys, or `absent` where the key is not there, into an array of
+ * `places` places, as many as it has room for. Returns how many it wrote. */
+size_t indexset_map_gets(indexset_map *map, const uint64_t *keys, size_t count, uint64_t absent, uint64_t *out, size_t places);
+
+/* The handle of an ordered map from uint64_t to uint64_t whose keys may have several values. The values
+ * of a key are distinct and stand in the order in which they came. Both fields are the library's own. */
+typedef struct indexset_multi {
+    void *at;
+    bool live;
+} indexset_multi;
+
+/* Makes an empty multimap. INDEXSET_YES, or INDEXSET_MEMORY, or INDEXSET_HELD where the handle leads to a
+ * multimap; unless it is INDEXSET_YES, nothing changes. */
+uint32_t indexset_multi_new(indexset_multi *multi);
+
+/* Frees the multimap, and leaves the handle with none. Of a handle with none it does nothing. */
+void indexset_multi_free(indexset_multi *multi);
+
+/* Removes all pairs. It takes no memory. */
+void indexset_multi_clear(indexset_multi *multi);
+
+/* Returns how many pairs there are. */
+size_t indexset_multi_len(indexset_multi *multi);
+
+/* Adds a value to those of a key, as the last. INDEXSET_YES, or INDEXSET_NO where the key has it, or
+ * INDEXSET_MEMORY, INDEXSET_NUMBERS or INDEXSET_NONE; unless it is INDEXSET_YES, nothing changes. Each
+ * pair that is added and each change of a node uses up a number of 64 bits; INDEXSET_NUMBERS says that
+ * too few are left. */
+uint32_t indexset_multi_insert(indexset_multi *multi, uint64_t key, uint64_t value);
+
+/* Removes a value of a key. INDEXSET_YES, or INDEXSET_NO where the key does not have it, or
+ * INDEXSET_MEMORY or INDEXSET_NUMBERS; unless it is INDEXSET_YES, nothing changes. */
+uint32_t indexset_multi_remove(indexset_multi *multi, uint64_t key, uint64_t value);
+
+/* Removes the first value of a key and writes it. INDEXSET_YES, or INDEXSET_NO where the key is not there,
+ * or INDEXSET_MEMORY or INDEXSET_NUMBERS; unless it is INDEXSET_YES, nothing changes and nothing is
+ * written. */
+uint32_t indexset_multi_remove_first(indexset_multi *multi, uint64_t key, uint64_t *out);
+
+/* Tells whether a key has a value. */
+bool indexset_multi_contains(indexset_multi *multi, uint64_t key, uint64_t value);
+
+/* Tells whether a key is there. */
+bool indexset_multi_contains_key(indexset_multi *multi, uint64_t key);
+
+/* Returns how many values a key has. */
+size_t indexset_multi_count(indexset_multi *multi, uint64_t key);
+
+/* Writes the values of a key in the order in which they came into an array of `places` places, as many as
+ * it has room for. Returns how many it wrote; indexset_multi_count says how many there are. */
+size_t indexset_multi_get(indexset_multi *multi, uint64_t key, uint64_t *out, size_t places);
+
+/* Writes the first pair, which is that of the least key and the first of its values, or the last pair,
+ * which is that of the greatest key and the last of its values. True, or false where the multimap is
+ * empty, and then nothing is written. */
+bool indexset_multi_first(indexset_multi *multi, uint64_t *key, uint64_t *value);
+bool indexset_multi_last(indexset_multi *multi, uint64_t *key, uint64_t *value);
+
+/* Writes the pairs of the keys from `low` to `high`, both included, in order into two arrays, as many as
+ * both have room for. Returns how many it wrote. */
+size_t indexset_multi_range(indexset_multi *multi, uint64_t low, uint64_t high, uint64_t *keys, size_t key_places, uint64_t *values, size_t value_places);
+
+/* What a change does. A node is a run of pairs in order; it is named by its last pair before the change. */
+enum indexset_kind {
+    INDEXSET_INSERT = 1, /* in the node, the pair is put at the index */
+    INDEXSET_REMOVE = 2, /* in the node, the pair at the index is removed */
+    INDEXSET_CREATE = 3, /* a node of one pair, which names it, is put in its place */
+    INDEXSET_DROP = 4,   /* the node is removed */
+    INDEXSET_SPLIT = 5,  /* the node becomes two: the pairs before the index, and the rest */
+    INDEXSET_MERGE = 6   /* the node and the one after it, whose last pair is the pair, become one */
+};
+
+/* A change of a logged map. What a kind has no use for is 0. */
+typedef struct indexset_event {
+    uint64_t number;
+    uint64_t node_key, node_value;
+    uint64_t key, value;
+    size_t index;
+    uint32_t kind;
+} indexset_event;
+
+/* A call of a logged map makes at most this many changes. */
+#define INDEXSET_CHANGES 3
+
+/* The handle of an ordered map from uint64_t to uint64_t that tells its changes, one number after another.
+ * Both fields are the library's own. */
+typedef struct indexset_log {
+    void *at;
+    bool live;
+} indexset_log;
+
+/* Makes an empty map, whose nodes hold at most `size` pairs and whose first change has the number `next`.
+ * INDEXSET_YES, or INDEXSET_MEMORY, or INDEXSET_HELD where the handle leads to a map, or INDEXSET_UNFIT
+ * where the size is below 2; unless it is INDEXSET_YES, nothing changes. */
+uint32_t indexset_log_new(indexset_log *log, size_t size, uint64_t next);
+
+/* Frees the map, and leaves the handle with none. Of a handle with none it does nothing. */
+void indexset_log_free(indexset_log *log);
+
+/* Returns how many pairs there are, how many nodes, and the number of the next change. */
+size_t indexset_log_len(indexset_log *log);
+size_t indexset_log_node_count(indexset_log *log);
+uint64_t indexset_log_next(indexset_log *log);
+
+/* Makes a value that of a key, and writes the changes and how many they are to `events` and `told`.
+ * INDEXSET_YES where the key was not there; INDEXSET_NO where it was, and then the value before is written
+ * to `before`; or INDEXSET_MEMORY, INDEXSET_NUMBERS, INDEXSET_NONE, or INDEXSET_UNFIT where `events` has
+ * fewer than INDEXSET_CHANGES places: then nothing changes, and 0 is written to `told` alone. */
+uint32_t indexset_log_insert(indexset_log *log, uint64_t key, uint64_t value, uint64_t *before, indexset_event *events, size_t places, size_t *told);
+
+/* Removes a key and writes its value, the changes and how many they are. INDEXSET_YES, or INDEXSET_NO
+ * where the key is not there, or INDEXSET_MEMORY, INDEXSET_NUMBERS, or INDEXSET_UNFIT where `events` has
+ * fewer than INDEXSET_CHANGES places; unless it is INDEXSET_YES, nothing changes, and 0 is written to
+ * `told` alone. */
+uint32_t indexset_log_remove(indexset_log *log, uint64_t key, uint64_t *out, indexset_event *events, size_t places, size_t *told);
+
+/* Writes the value of a key. True, or false where the key is not there, and then nothing is written. */
+bool indexset_log_get(indexset_log *log, uint64_t key, uint64_t *out);
+
+/* Tells whether a key is there. */
+bool indexset_log_contains(indexset_log *log, uint64_t key);
+
+/* Writes the pairs of the keys from `low` to `high`, both included, in order into two arrays, as many as
+ * both have room for. Returns how many it wrote. */
+size_t indexset_log_range(indexset_log *log, uint64_t low, uint64_t high, uint64_t *keys, size_t key_places, uint64_t *values, size_t value_places);
+
+/* Writes how many pairs each node has, in order into an array of `places` places, as many as it has room
+ * for. Returns how many it wrote. These, the pairs from 0 to UINT64_MAX and the number of the next change
+ * are a snapshot, from which a copy goes on. */
+size_t indexset_log_node_lengths(indexset_log *log, size_t *out, size_t places);
+
+#ifdef __cplusplus
+}
+#endif
+
+#endif

@@ -1,0 +1,25 @@
+"""Ordered sets and dictionaries with positions, over a proved library.
+
+>>> from indexset import SortedSet
+>>> numbers = SortedSet([30, 10, 20])
+>>> numbers[0], numbers.bisect_left(25), 20 in numbers
+(10, 2, True)
+
+The calls have the names and habits of `sortedcontainers`. Keys are of one kind a set: `int64` (the
+default), `uint64` or `float64`.
+"""
+from ._native import BACKEND, version
+from ._dict import SortedDict
+from ._log import Change, LoggedDict
+from ._multi import SortedMultiDict
+from ._set import SortedSet
+
+__all__ = [
+    "BACKEND",
+    "Change",
+    "LoggedDict",
+    "SortedDict",
+    "SortedMultiDict",
+    "SortedSet",
+    "version",
+]

@@ -1,0 +1,124 @@
+"""Tests of the dictionaries from numbers to numbers beside plain lists and dictionaries."""
+import copy
+import doctest
+import math
+import pickle
+import random
+import sys
+import unittest
+
+import indexset
+from indexset import LoggedDict, SortedMultiDict, _log, _multi
+
+
+class MultiDictionaries(unittest.TestCase):
+    def test_beside_lists(self):
+        rng = random.Random(1)
+        ours, wanted = SortedMultiDict(values="uint64"), {}
+        for step in range(5000):
+            key, value = rng.randrange(-60, 60), rng.randrange(8)
+            values = wanted.setdefault(key, [])
+            action = rng.randrange(10)
+            if action < 6:
+                self.assertEqual(ours.add(key, value), value not in values)
+                values += [value] * (value not in values)
+            elif action < 9:
+                self.assertEqual(ours.discard(key, value), value in values)
+                wanted[key] = [other for other in values if other != value]
+            elif values:
+                self.assertEqual(ours.pop(key), values.pop(0))
+            else:
+                self.assertRaises(KeyError, ours.pop, key)
+            self.assertEqual(ours.get(key), wanted[key])
+            self.assertEqual((ours.count(key), ours.has_key(key)), (len(wanted[key]), bool(wanted[key])))
+            self.assertEqual((key, value) in ours, value in wanted[key])
+            if step % 250 == 0:
+                pairs = [(key, value) for key in sorted(wanted) for value in wanted[key]]
+                self.assertEqual((list(ours), len(ours)), (pairs, len(pairs)))
+                self.assertEqual([ours.first(), ours.last()] if pairs else [], pairs[:1] + pairs[-1:])
+                inside = [pair for pair in pairs if -20 <= pair[0] <= 20]
+                self.assertEqual(list(ours.irange(-20, 20)), inside)
+
+    def test_object(self):
+        tags = SortedMultiDict([(2, 0.5), (1, -math.inf), (2, -3)], values="float64")
+        self.assertEqual(repr(tags), "SortedMultiDict([(1, -inf), (2, 0.5), (2, -3.0)], values='float64')")
+        self.assertEqual((tags[2], tags.kinds), ([0.5, -3.0], ("int64", "float64")))
+        self.assertEqual(pickle.loads(pickle.dumps(tags)), tags)
+        other = copy.copy(tags)
+        other.remove(2, 0.5)
+        self.assertNotEqual(other, tags)
+        self.assertRaises(KeyError, other.remove, 2, 0.5)
+        self.assertRaises(KeyError, other.__getitem__, 7)
+        self.assertRaises(OverflowError, other.add, 1 << 63, 0)
+        self.assertRaises(TypeError, other.add, "1", 0)
+        self.assertRaises(ValueError, SortedMultiDict, keys="text")
+        self.assertEqual(((2, "x") in other, 2 in other, other.discard("2", 1)), (False, False, False))
+        other.clear()
+        self.assertEqual((len(other), list(other)), (0, []))
+        self.assertRaises(IndexError, other.first)
+
+
+def made(nodes, change):
+    """Makes a change of nodes, which are lists of pairs."""
+    at = [node[-1][0] for node in nodes].index(change.node[0]) if change.kind != "create" else None
+    if change.kind == "create":
+        nodes.insert(sum(node[-1][0] < change.node[0] for node in nodes), [change.node])
+    elif change.kind == "insert":
+        nodes[at].insert(change.index, change.pair)
+    elif change.kind == "remove":
+        assert nodes[at].pop(change.index) == change.pair
+    elif change.kind == "drop":
+        del nodes[at]
+    elif change.kind == "split":
+        nodes[at : at + 1] = [nodes[at][: change.index], nodes[at][change.index :]]
+    else:
+        assert nodes[at + 1][-1] == change.pair
+        nodes[at : at + 2] = [nodes[at] + nodes[at + 1]]
+
+
+class LoggedDictionaries(unittest.TestCase):
+    def test_beside_nodes(self):
+        rng = random.Random(2)
+        nodes, numbers, wanted = [], [], {}
+
+        def tell(change):
+            numbers.append(change.number)
+            made(nodes, change)
+
+        ours = LoggedDict(tell, size=4, next=7)
+        for step in range(4000):
+            key = rng.randrange(-80, 80)
+            if rng.random() < (0.7 if step < 2000 else 0.4):
+                ours[key] = wanted[key] = step
+            elif key in wanted:
+                self.assertEqual(ours.pop(key), wanted.pop(key))
+            else:
+                self.assertRaises(KeyError, ours.__delitem__, key)
+            self.assertEqual((len(ours), ours.get(key), key in ours), (len(wanted), wanted.get(key), key in wanted))
+            if step % 100 == 0:
+                self.assertEqual(ours.nodes(), nodes)
+                self.assertEqual(list(ours.items()), sorted(wanted.items()))
+        self.assertEqual(numbers, list(range(7, ours.next)))
+        self.assertEqual(sum(nodes, []), sorted(wanted.items()))
+
+    def test_object(self):
+        ages = LoggedDict(entries={2: 20, 1: 10}, values="float64")
+        self.assertEqual(repr(ages), "LoggedDict({1: 10.0, 2: 20.0})")
+        self.assertEqual((ages, ages.next), ({1: 10, 2: 20}, 2))
+        self.assertRaises(OverflowError, ages.__setitem__, 1 << 63, 1)
+        self.assertRaises(KeyError, ages.__getitem__, "1")
+        self.assertRaises(ValueError, LoggedDict, size=1)
+        last = LoggedDict(next=(1 << 64) - 1)
+        self.assertRaises(OverflowError, last.__setitem__, 1, 1)
+        self.assertEqual((len(last), last.nodes()), (0, []))
+
+    def test_examples(self):
+        for module in (_log, _multi):
+            self.assertEqual(doctest.testmod(module).failed, 0)
+
+
+if __name__ == "__main__":
+    result = unittest.main(exit=False, verbosity=0).result
+    wrong = len(result.failures) + len(result.errors)
+    print(f"{indexset.BACKEND}: {result.testsRun - wrong} passed, {wrong} failed")
+    sys.exit(1 if wrong else 0)

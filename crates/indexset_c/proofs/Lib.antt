@@ -1,0 +1,5 @@
+pub mod Boxes
+mod LogLemmas
+mod MultiLemmas
+pub mod PairLemmas
+mod WrittenLemmas

@@ -1,0 +1,58 @@
+-- What is behind a handle, and what a call leaves in a caller's slice.
+use Rattle.std.specs.Prelude.{ℕ, List, [], ◌∷◌, ◌++◌, Option, take, drop, slice_get, slice_index_or}
+use Rattle.std.specs.Option.{option_map, option_map_or, unwrap_or}
+use Rattle.std.specs.Ordering.{nat_cmp}
+use Rattle.indexset_core.specs.declared.multipair.MultiPair.{MultiPair}
+use Rattle.indexset_core.specs.declared.pair.Pair.{Pair}
+use Rattle.indexset_core.specs.Nodes.{joined}
+use Rattle.indexset_core.specs.Pairs.{entry_of, pair_values, put_value, value_of}
+use Rattle.indexset_spine.specs.Cut.{Cut, items}
+use Rattle.indexset_map.specs.Contents.{Contents}
+use Rattle.indexset_log.specs.Tree.{Tree}
+use Rattle.indexset_multi.specs.Keys.{entries, pairs_of}
+use Rattle.indexset_multi.specs.Tree.{MultiTree}
+
+-- the elements in order: none where there is no set
+abbrev pub elements : Option (Cut ℕ) → List ℕ
+elements set = option_map_or items set []
+
+-- the slice where the first n of the answers went over its first n places
+abbrev pub written : {X : Type 0} → ℕ → List X → List X → List X
+written n answers before = take n answers ++ drop n before
+
+-- the element at a position, or 0 where there is none
+abbrev pub element_at : List ℕ → ℕ → ℕ
+element_at es i = slice_index_or es i 0
+
+-- the pairs in order: none where there is no map
+abbrev pub pairs : Option (Contents ℕ ℕ) → List (Pair ℕ ℕ)
+pairs map = option_map_or (λ m. m.pairs) map []
+
+-- the key and the value at a position, where there is one
+abbrev pub entry_at : List (Pair ℕ ℕ) → ℕ → Option (ℕ × ℕ)
+entry_at ps i = option_map entry_of (slice_get ps i)
+
+-- the pairs after each value was made that of its key, first to last
+unfoldable pub put_all : List (Pair ℕ ℕ) → List ℕ → List ℕ → List (Pair ℕ ℕ)
+put_all ps [] ws = ps
+put_all ps (k ∷ ks) [] = ps
+put_all ps (k ∷ ks) (w ∷ ws) = put_all (put_value nat_cmp ps k w) ks ws
+
+-- the value of a key, or w where it is not there
+abbrev pub value_or : List (Pair ℕ ℕ) → ℕ → ℕ → ℕ
+value_or ps w k = unwrap_or (value_of nat_cmp ps k) w
+
+-- the numbered pairs in order: none where there is no multimap
+abbrev pub numbered_pairs : Option (MultiTree ℕ ℕ) → List (MultiPair ℕ ℕ)
+numbered_pairs multi = option_map_or (λ m. joined m.nodes) multi []
+
+-- the values of a key, in the order in which they came
+abbrev pub values_of : List (MultiPair ℕ ℕ) → ℕ → List ℕ
+values_of l k = pair_values (entries (pairs_of nat_cmp l k))
+
+-- the nodes of a logged map, and its pairs in order: none where there is no map
+abbrev pub logged_nodes : Option (Tree (Pair ℕ ℕ)) → List (List (Pair ℕ ℕ))
+logged_nodes log = option_map_or (λ m. m.nodes) log []
+
+abbrev pub logged_pairs : Option (Tree (Pair ℕ ℕ)) → List (Pair ℕ ℕ)
+logged_pairs log = joined (logged_nodes log)

@@ -1,0 +1,21 @@
+-- Changes of a logged map and their records.
+use Rattle.std.specs.Prelude.{ℕ}
+use Rattle.indexset_core.specs.declared.pair.Pair.{Pair}
+use Rattle.indexset_core.specs.Pairs.{pair}
+use Rattle.indexset_log.specs.declared.change.ChangeEvent.{ChangeEvent}
+use Rattle.indexset_log.specs.declared.change.ChangeEvent.TheVariants.{InsertAt, RemoveAt, CreateNode, RemoveNode, SplitNode, MergeNodes}
+use Rattle.indexset_c.specs.declared.event.Event.{Event}
+use Rattle.indexset_c.specs.declared.event.TheConstants.{INSERT, REMOVE, CREATE, DROP, SPLIT, MERGE}
+
+-- a record of this kind
+abbrev pub record_with : ℕ → ℕ → Pair ℕ ℕ → Pair ℕ ℕ → ℕ → Event
+record_with number kind node p index = record { number = number; node_key = node.key; node_value = node.value; key = p.key; value = p.value; index = index; kind = kind }
+
+-- the record of a change
+abbrev pub record_of : ChangeEvent (Pair ℕ ℕ) → Event
+record_of (InsertAt id m v i) = record_with id.0 INSERT m v i
+record_of (RemoveAt id m v i) = record_with id.0 REMOVE m v i
+record_of (CreateNode id m) = record_with id.0 CREATE m (pair 0 0) 0
+record_of (RemoveNode id m) = record_with id.0 DROP m (pair 0 0) 0
+record_of (SplitNode id m k) = record_with id.0 SPLIT m (pair 0 0) k
+record_of (MergeNodes id m w) = record_with id.0 MERGE m w 0

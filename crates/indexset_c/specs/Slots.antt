@@ -1,0 +1,62 @@
+-- What the slots own: what a box of the collection owns, where there is one.
+use base.Fml.{Fml}
+use denote.RawPtr.{Ptr}
+use denote.RattleType.{RattleType}
+use denote.Builtin.{u64}
+use Rattle.std.specs.Prelude.{Option, true, vec_capacity}
+use Rattle.std.below.core.specs.declared.int.usize.TheConstants.{MAX}
+use Rattle.std.specs.Global.{Global}
+use Rattle.std.specs.contracts.alloc.Global as Heap
+use Rattle.std.specs.contracts.impls.GlobalAllocator.TheImpl.{ghosts as frees}
+use Rattle.std.specs.contracts.prelude.U64Clone.TheImpl.{ghosts as clone}
+use Rattle.std.specs.contracts.prelude.U64Ord.TheImpl.{ghosts as ord}
+use Rattle.std.specs.contracts.prelude.U64Eq.TheImpl.{ghosts as eq}
+use Rattle.std.specs.contracts.prelude.U64PartialEq.TheImpl.{ghosts as equal}
+use Rattle.std.specs.contracts.prelude.U64PartialOrd.TheImpl.{ghosts as partial}
+use Rattle.std.specs.contracts.vec.Vec as vec
+use Rattle.indexset_core.specs.contracts.multipair.MultiPair as multi_pair
+use Rattle.indexset_core.specs.contracts.pair.Pair as pair
+use Rattle.indexset_core.specs.declared.node.NodeLike.{Ghosts}
+use Rattle.indexset_handle.specs.Holds.{holds}
+use Rattle.indexset_set.specs.contracts.BTreeSet as Set
+use Rattle.indexset_map.specs.contracts.BTreeMap as Map
+use Rattle.indexset_log.specs.contracts.map.BTreeMap as Logged
+use Rattle.indexset_multi.specs.contracts.multimap.BTreeMultiMap as Multi
+
+abbrev pub set_row : RattleType
+set_row = Set.the_row u64 ord equal partial
+
+abbrev pub holds_set : Global → Ptr → Option set_row.Denot → Fml
+holds_set alloc = holds (frees.dealloc_token alloc) set_row
+
+abbrev pub map_row : RattleType
+map_row = Map.the_row u64 u64 ord eq equal partial
+
+abbrev pub holds_map : Global → Ptr → Option map_row.Denot → Fml
+holds_map alloc = holds (frees.dealloc_token alloc) map_row
+
+-- a node of items of a type
+abbrev pub node_row : RattleType → RattleType
+node_row X = vec.the_row X Heap.the_row frees
+
+-- what is known of such nodes
+abbrev pub nodes : (X : RattleType) → Ghosts (node_row X).Denot X.Denot
+nodes X = record { list = λ v. v.items; room = vec_capacity; most = MAX; allocates = true }
+
+abbrev pub pair_row : RattleType
+pair_row = pair.the_row u64 u64
+
+abbrev pub log_row : RattleType
+log_row = Logged.the_row u64 u64 (node_row pair_row) ord eq equal partial clone clone (nodes pair_row)
+
+abbrev pub holds_log : Global → Ptr → Option log_row.Denot → Fml
+holds_log alloc = holds (frees.dealloc_token alloc) log_row
+
+abbrev pub multi_pair_row : RattleType
+multi_pair_row = multi_pair.the_row u64 u64
+
+abbrev pub multi_row : RattleType
+multi_row = Multi.the_row u64 u64 (node_row multi_pair_row) ord eq equal partial clone equal clone (nodes multi_pair_row)
+
+abbrev pub holds_multi : Global → Ptr → Option multi_row.Denot → Fml
+holds_multi alloc = holds (frees.dealloc_token alloc) multi_row

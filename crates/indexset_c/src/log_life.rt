@@ -1,0 +1,75 @@
+//! Calls that make and free a logged map, and tell its length and its next number.
+ghost use Rattle.std.specs.Prelude.{◌≡◌, ◌≢◌, ◌<◌, ◌↔◌, [], Some, None, false, true, length, is_some};
+ghost use Rattle.std.specs.Option.{option_map_or};
+ghost use Rattle.indexset_c.specs.Elements.{logged_pairs};
+
+use crate::log_handle::LogHandle;
+use crate::status::{HELD, MEMORY, UNFIT, YES};
+use indexset_log::map::BTreeMap;
+use std::alloc::Global;
+
+/// Makes an empty map, whose nodes hold at most `size` pairs and whose first change has the number
+/// `next`. A handle that leads to a map is refused, and a size below 2.
+#[unsafe(no_mangle)]
+pub extern "C" fn indexset_log_new(
+    alloc: Global,
+    log: &mut LogHandle,
+    size: usize,
+    next: u64,
+) -> u32
+    ensures made { result ≡ YES → log.new.slot.value ≡ Some (record { nodes = []; size = size; next = next }) }
+    ensures refused { result ≢ YES → log.new.slot.value ≡ log.old.slot.value }
+    ensures held { result ≡ HELD ↔ (is_some log.old.slot.value ≡ true) }
+    ensures unfit { is_some log.old.slot.value ≡ false → (result ≡ UNFIT ↔ (size < 2)) }
+{
+    if let Some(held) = log.take(alloc) {
+        log.put(held);
+        return HELD;
+    }
+    if size < 2 {
+        return UNFIT;
+    }
+    match Box::new(alloc, BTreeMap::starting_at(alloc, size, next)) {
+        Ok(made) => {
+            log.put(made);
+            YES
+        }
+        Err(_) => MEMORY,
+    }
+}
+
+/// Frees a map, and leaves its handle with none.
+#[unsafe(no_mangle)]
+pub extern "C" fn indexset_log_free(alloc: Global, log: &mut LogHandle)
+    ensures { log.new.slot.value ≡ None }
+{
+    drop(log.take(alloc));
+}
+
+/// Returns how many pairs there are.
+#[unsafe(no_mangle)]
+pub extern "C" fn indexset_log_len(alloc: Global, log: &mut LogHandle) -> usize
+    ensures value { result ≡ length (logged_pairs log.old.slot.value) }
+    ensures same { log.new.slot.value ≡ log.old.slot.value }
+{
+    let Some(held) = log.take(alloc) else {
+        return 0;
+    };
+    let len = held.len();
+    log.put(held);
+    len
+}
+
+/// Returns the number of the next change.
+#[unsafe(no_mangle)]
+pub extern "C" fn indexset_log_next(alloc: Global, log: &mut LogHandle) -> u64
+    ensures value { result ≡ option_map_or (λ m. m.next) log.old.slot.value 0 }
+    ensures same { log.new.slot.value ≡ log.old.slot.value }
+{
+    let Some(held) = log.take(alloc) else {
+        return 0;
+    };
+    let next = held.events_issued();
+    log.put(held);
+    next
+}

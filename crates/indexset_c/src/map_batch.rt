@@ -1,0 +1,87 @@
+//! Calls of a map that take many keys at once.
+ghost use Rattle.std.specs.Prelude.{◌≡◌, ◌≢◌, ◌<◌, ◌≤◌, ◌↔◌, None, length, map, min, take};
+ghost use Rattle.indexset_c.specs.Elements.{pairs, put_all, value_or, written};
+
+use crate::map_handle::MapHandle;
+use crate::status::{MEMORY, NO, NONE, YES};
+use indexset_map::BTreeMap;
+use std::alloc::Global;
+
+// Makes each value that of its key, until memory is refused, and returns how many were taken.
+#[tactic(auto, unfolding(crate::specs::Elements::put_all))]
+fn put_each(map: &mut BTreeMap<u64, u64>, keys: &[u64], values: &[u64]) -> usize
+    ensures count { result ≤ min (length keys.now) (length values.now) }
+    ensures put { map.new.pairs ≡ put_all map.old.pairs (take result keys.now) (take result values.now) }
+{
+    let room = keys.len().min(values.len());
+    let mut count = 0;
+    while count < room {
+        if map.insert(keys[count], values[count]).is_err() {
+            break;
+        }
+        count += 1;
+    }
+    count
+}
+
+// Writes the value of each key or `absent`, as far as there is room, and returns how many those are.
+fn value_each(held: &BTreeMap<u64, u64>, keys: &[u64], absent: u64, out: &mut [u64]) -> usize
+    ensures count { result ≡ min (length keys.now) (length out.old) }
+    ensures written { out.new ≡ written result (map (value_or held.now.pairs absent) keys.now) out.old }
+{
+    let count = keys.len().min(out.len());
+    for i in 0..count {
+        out[i] = held.get(&keys[i]).copied().unwrap_or(absent);
+    }
+    count
+}
+
+/// Makes each value that of its key, first to last and as far as there are both. Writes how many were
+/// taken: all, or those before the one at which memory ran out.
+#[unsafe(no_mangle)]
+#[tactic(auto, unfolding(crate::specs::Elements::put_all))]
+pub extern "C" fn indexset_map_insert_all(
+    alloc: Global,
+    map: &mut MapHandle,
+    keys: &[u64],
+    values: &[u64],
+    taken: &mut usize,
+) -> u32
+    ensures put { pairs map.new.slot.value ≡ put_all (pairs map.old.slot.value) (take taken.new keys.now) (take taken.new values.now) }
+    ensures all { result ≡ YES → taken.new ≡ min (length keys.now) (length values.now) }
+    ensures some { result ≡ MEMORY → taken.new < min (length keys.now) (length values.now) }
+    ensures none { result ≡ NONE ↔ (map.old.slot.value ≡ None) }
+    ensures same { result ≡ NONE → map.new.slot.value ≡ map.old.slot.value }
+    ensures status { (result ≢ NO) × (result ≤ NONE) }
+{
+    let Some(mut held) = map.take(alloc) else {
+        *taken = 0;
+        return NONE;
+    };
+    *taken = put_each(&mut held, keys, values);
+    map.put(held);
+    if *taken == keys.len().min(values.len()) { YES } else { MEMORY }
+}
+
+/// Writes the value of each key, or `absent` where the key is not there, as far as there is room.
+/// Returns how many it wrote.
+#[unsafe(no_mangle)]
+pub extern "C" fn indexset_map_gets(
+    alloc: Global,
+    handle: &mut MapHandle,
+    keys: &[u64],
+    absent: u64,
+    out: &mut [u64],
+) -> usize
+    ensures count { handle.old.slot.value ≢ None → result ≡ min (length keys.now) (length out.old) }
+    ensures written { out.new ≡ written result (map (value_or (pairs handle.old.slot.value) absent) keys.now) out.old }
+    ensures none { handle.old.slot.value ≡ None → result ≡ 0 }
+    ensures same { handle.new.slot.value ≡ handle.old.slot.value }
+{
+    let Some(held) = handle.take(alloc) else {
+        return 0;
+    };
+    let count = value_each(&held, keys, absent, out);
+    handle.put(held);
+    count
+}

@@ -1,0 +1,116 @@
+//! Calls of a map that go by a key.
+ghost use Rattle.std.specs.Prelude.{◌≡◌, ◌≢◌, ◌≤◌, ◌↔◌, Some, None, true, false};
+ghost use Rattle.std.specs.Ordering.{nat_cmp};
+ghost use Rattle.indexset_core.specs.Pairs.{has_key, key_rank, put_value, value_of, without_key};
+ghost use Rattle.indexset_c.specs.Elements.{pairs};
+
+use crate::map_handle::MapHandle;
+use crate::set_positions::write;
+use crate::status::{MEMORY, NO, NONE, YES};
+use std::alloc::Global;
+
+/// Inserts a pair, or replaces the value of a present key and writes the old one.
+#[unsafe(no_mangle)]
+#[tactic(auto, using(crate::proofs::PairLemmas::none_key))]
+pub extern "C" fn indexset_map_insert(
+    alloc: Global,
+    map: &mut MapHandle,
+    key: u64,
+    value: u64,
+    before: &mut u64,
+) -> u32
+    ensures added { result ≡ YES → value_of nat_cmp (pairs map.old.slot.value) key ≡ None }
+    ensures replaced { result ≡ NO → value_of nat_cmp (pairs map.old.slot.value) key ≡ Some before.new }
+    ensures ok { result ≤ YES → pairs map.new.slot.value ≡ put_value nat_cmp (pairs map.old.slot.value) key value }
+    ensures unwritten { result ≢ NO → before.new ≡ before.old }
+    ensures same { MEMORY ≤ result → map.new.slot.value ≡ map.old.slot.value }
+    ensures none { result ≡ NONE ↔ (map.old.slot.value ≡ None) }
+    ensures no_memory { has_key nat_cmp (pairs map.old.slot.value) key ≡ true → result ≡ NO }
+    ensures status { result ≤ NONE }
+{
+    let Some(mut held) = map.take(alloc) else {
+        return NONE;
+    };
+    let status = match held.insert(key, value) {
+        Ok(None) => YES,
+        Ok(Some(old)) => {
+            *before = old;
+            NO
+        }
+        Err(_) => MEMORY,
+    };
+    map.put(held);
+    status
+}
+
+/// Writes the value of a key, where there is one.
+#[unsafe(no_mangle)]
+pub extern "C" fn indexset_map_get(
+    alloc: Global,
+    map: &mut MapHandle,
+    key: u64,
+    out: &mut u64,
+) -> bool
+    ensures found { result ≡ true → value_of nat_cmp (pairs map.old.slot.value) key ≡ Some out.new }
+    ensures absent { result ≡ false → value_of nat_cmp (pairs map.old.slot.value) key ≡ None }
+    ensures unwritten { result ≡ false → out.new ≡ out.old }
+    ensures same { map.new.slot.value ≡ map.old.slot.value }
+{
+    let Some(held) = map.take(alloc) else {
+        return false;
+    };
+    let found = held.get(&key).copied();
+    map.put(held);
+    write(found, out)
+}
+
+/// Removes a key and writes its value, where there is one.
+#[unsafe(no_mangle)]
+#[tactic(auto, using(crate::proofs::PairLemmas::absent_entry), unfolding(indexset_core::specs::Pairs::without_key))]
+pub extern "C" fn indexset_map_remove(
+    alloc: Global,
+    map: &mut MapHandle,
+    key: u64,
+    out: &mut u64,
+) -> bool
+    ensures found { result ≡ true → value_of nat_cmp (pairs map.old.slot.value) key ≡ Some out.new }
+    ensures absent { result ≡ false → value_of nat_cmp (pairs map.old.slot.value) key ≡ None }
+    ensures rest { pairs map.new.slot.value ≡ without_key nat_cmp (pairs map.old.slot.value) key }
+    ensures unwritten { result ≡ false → out.new ≡ out.old }
+    ensures same { result ≡ false → map.new.slot.value ≡ map.old.slot.value }
+{
+    let Some(mut held) = map.take(alloc) else {
+        return false;
+    };
+    let found = held.remove(&key);
+    map.put(held);
+    write(found, out)
+}
+
+/// Returns whether a key is present.
+#[unsafe(no_mangle)]
+pub extern "C" fn indexset_map_contains(alloc: Global, map: &mut MapHandle, key: u64) -> bool
+    ensures value { result ≡ has_key nat_cmp (pairs map.old.slot.value) key }
+    ensures same { map.new.slot.value ≡ map.old.slot.value }
+{
+    let Some(held) = map.take(alloc) else {
+        return false;
+    };
+    let found = held.contains_key(&key);
+    map.put(held);
+    found
+}
+
+/// Returns how many keys are below a key.
+#[unsafe(no_mangle)]
+pub extern "C" fn indexset_map_rank(alloc: Global, map: &mut MapHandle, key: u64) -> usize
+    ensures value { result ≡ key_rank nat_cmp (pairs map.old.slot.value) key }
+    ensures same { map.new.slot.value ≡ map.old.slot.value }
+{
+    let Some(held) = map.take(alloc) else {
+        return 0;
+    };
+    let below = held.rank(&key);
+    map.put(held);
+    below
+}

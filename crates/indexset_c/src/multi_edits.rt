@@ -1,0 +1,130 @@
+//! Calls that change a multimap.
+ghost use Rattle.std.specs.Prelude.{◌≡◌, ◌≢◌, ◌≤◌, ◌↔◌, ◌∷◌, ◌++◌, [], drop, length, ℕ, false, true, is_some, IfSome, IfErr, OnErr, OnOk, nat_eq, None, Some};
+ghost use Rattle.std.specs.Ordering.{is_eq, nat_cmp};
+ghost use Rattle.std.specs.Option.{option_map};
+ghost use Rattle.indexset_core.specs.MultiPairs.{by_number, numbered_pair};
+ghost use Rattle.indexset_core.specs.Nodes.{joined};
+ghost use Rattle.indexset_core.specs.Order.{put};
+ghost use Rattle.indexset_core.specs.declared.refusal.Refusal.TheVariants as refusals;
+ghost use Rattle.indexset_multi.specs.Keys.{equal_pair, first_pair, pairs_of, without_first, without_named};
+ghost use Rattle.indexset_multi.specs.Tree.{insertion_refusal, pair_removal_events};
+ghost use Rattle.indexset_log.specs.Tree.{refusal_for};
+ghost use Rattle.indexset_c.specs.Elements.{numbered_pairs, values_of};
+
+use crate::multi_handle::MultiHandle;
+use crate::multi_keys::has_pair;
+use crate::multi_slot::MultiMap;
+use crate::status::{MEMORY, NO, NONE, NUMBERS, YES, of_refusal};
+use indexset_core::refusal::Refusal;
+use std::alloc::Global;
+
+// Adds a value that a key does not have.
+fn insert_new(multi: &mut MultiMap, key: u64, value: u64) -> Result<(), Refusal>
+    requires { equal_pair nat_cmp nat_eq (joined multi.old.nodes) key value ≡ None }
+    ensures ok { OnOk result (joined multi.new.nodes ≡ put (by_number nat_cmp) (joined multi.old.nodes) (numbered_pair key value multi.old.pair_next)) }
+    ensures last { OnOk result (values_of (joined multi.new.nodes) key ≡ values_of (joined multi.old.nodes) key ++ value ∷ []) }
+    ensures others { OnOk result ((other : ℕ) → is_eq (nat_cmp other key) ≡ false → pairs_of nat_cmp (joined multi.new.nodes) other ≡ pairs_of nat_cmp (joined multi.old.nodes) other) }
+    ensures refusal { IfErr result (λ e. e ≡ insertion_refusal nat_cmp nat_eq multi.old key value) }
+    ensures same { OnErr result (multi.new ≡ multi.old) }
+{
+    match multi.insert(key, value) {
+        Ok(_) => Ok(()),
+        Err(refused) => Err(refused.cause),
+    }
+}
+
+/// Adds a value to those of a key, as the last. A value that the key has stays.
+#[unsafe(no_mangle)]
+pub extern "C" fn indexset_multi_insert(
+    alloc: Global,
+    multi: &mut MultiHandle,
+    key: u64,
+    value: u64,
+) -> u32
+    ensures there { result ≡ NO ↔ (is_some (equal_pair nat_cmp nat_eq (numbered_pairs multi.old.slot.value) key value) ≡ true) }
+    ensures ok { result ≡ YES → IfSome multi.old.slot.value (λ m. numbered_pairs multi.new.slot.value ≡ put (by_number nat_cmp) (joined m.nodes) (numbered_pair key value m.pair_next)) }
+    ensures last { result ≡ YES → values_of (numbered_pairs multi.new.slot.value) key ≡ values_of (numbered_pairs multi.old.slot.value) key ++ value ∷ [] }
+    ensures others { result ≡ YES → (other : ℕ) → is_eq (nat_cmp other key) ≡ false → pairs_of nat_cmp (numbered_pairs multi.new.slot.value) other ≡ pairs_of nat_cmp (numbered_pairs multi.old.slot.value) other }
+    ensures same { result ≢ YES → multi.new.slot.value ≡ multi.old.slot.value }
+    ensures none { result ≡ NONE ↔ (multi.old.slot.value ≡ None) }
+    ensures memory { result ≡ MEMORY → IfSome multi.old.slot.value (λ m. insertion_refusal nat_cmp nat_eq m key value ≡ refusals.Memory) }
+    ensures numbers { result ≡ NUMBERS → IfSome multi.old.slot.value (λ m. insertion_refusal nat_cmp nat_eq m key value ≡ refusals.Numbers) }
+    ensures status { result ≤ NUMBERS }
+{
+    let Some(mut held) = multi.take(alloc) else {
+        return NONE;
+    };
+    if has_pair(&held, key, value) {
+        multi.put(held);
+        return NO;
+    }
+    let status = match insert_new(&mut *held, key, value) {
+        Ok(()) => YES,
+        Err(cause) => of_refusal(cause),
+    };
+    multi.put(held);
+    status
+}
+
+/// Removes a value of a key.
+#[unsafe(no_mangle)]
+pub extern "C" fn indexset_multi_remove(
+    alloc: Global,
+    multi: &mut MultiHandle,
+    key: u64,
+    value: u64,
+) -> u32
+    ensures absent { result ≡ NO ↔ (equal_pair nat_cmp nat_eq (numbered_pairs multi.old.slot.value) key value ≡ None) }
+    ensures ok { result ≡ YES → numbered_pairs multi.new.slot.value ≡ without_named nat_cmp (numbered_pairs multi.old.slot.value) (equal_pair nat_cmp nat_eq (numbered_pairs multi.old.slot.value) key value) }
+    ensures gone { result ≡ YES → pairs_of nat_cmp (numbered_pairs multi.new.slot.value) key ≡ without_first (λ p. nat_eq p.value value) (pairs_of nat_cmp (numbered_pairs multi.old.slot.value) key) }
+    ensures others { result ≡ YES → (other : ℕ) → is_eq (nat_cmp other key) ≡ false → pairs_of nat_cmp (numbered_pairs multi.new.slot.value) other ≡ pairs_of nat_cmp (numbered_pairs multi.old.slot.value) other }
+    ensures same { result ≢ YES → multi.new.slot.value ≡ multi.old.slot.value }
+    ensures memory { result ≡ MEMORY → IfSome multi.old.slot.value (λ m. refusal_for m.next (length (pair_removal_events nat_cmp m.size m.nodes (equal_pair nat_cmp nat_eq (joined m.nodes) key value))) ≡ refusals.Memory) }
+    ensures numbers { result ≡ NUMBERS → IfSome multi.old.slot.value (λ m. refusal_for m.next (length (pair_removal_events nat_cmp m.size m.nodes (equal_pair nat_cmp nat_eq (joined m.nodes) key value))) ≡ refusals.Numbers) }
+    ensures status { result ≤ NUMBERS }
+{
+    let Some(mut held) = multi.take(alloc) else {
+        return NO;
+    };
+    let status = match held.remove(&key, &value) {
+        Ok(Some(_)) => YES,
+        Ok(None) => NO,
+        Err(cause) => of_refusal(cause),
+    };
+    multi.put(held);
+    status
+}
+
+/// Removes the first value of a key and writes it, where there is one.
+#[unsafe(no_mangle)]
+pub extern "C" fn indexset_multi_remove_first(
+    alloc: Global,
+    multi: &mut MultiHandle,
+    key: u64,
+    out: &mut u64,
+) -> u32
+    ensures found { result ≡ YES → option_map (λ p. p.value) (first_pair nat_cmp (numbered_pairs multi.old.slot.value) key) ≡ Some out.new }
+    ensures absent { result ≡ NO ↔ (first_pair nat_cmp (numbered_pairs multi.old.slot.value) key ≡ None) }
+    ensures ok { result ≡ YES → numbered_pairs multi.new.slot.value ≡ without_named nat_cmp (numbered_pairs multi.old.slot.value) (first_pair nat_cmp (numbered_pairs multi.old.slot.value) key) }
+    ensures gone { result ≡ YES → pairs_of nat_cmp (numbered_pairs multi.new.slot.value) key ≡ drop 1 (pairs_of nat_cmp (numbered_pairs multi.old.slot.value) key) }
+    ensures others { result ≡ YES → (other : ℕ) → is_eq (nat_cmp other key) ≡ false → pairs_of nat_cmp (numbered_pairs multi.new.slot.value) other ≡ pairs_of nat_cmp (numbered_pairs multi.old.slot.value) other }
+    ensures unwritten { result ≢ YES → out.new ≡ out.old }
+    ensures same { result ≢ YES → multi.new.slot.value ≡ multi.old.slot.value }
+    ensures memory { result ≡ MEMORY → IfSome multi.old.slot.value (λ m. refusal_for m.next (length (pair_removal_events nat_cmp m.size m.nodes (first_pair nat_cmp (joined m.nodes) key))) ≡ refusals.Memory) }
+    ensures numbers { result ≡ NUMBERS → IfSome multi.old.slot.value (λ m. refusal_for m.next (length (pair_removal_events nat_cmp m.size m.nodes (first_pair nat_cmp (joined m.nodes) key))) ≡ refusals.Numbers) }
+    ensures status { result ≤ NUMBERS }
+{
+    let Some(mut held) = multi.take(alloc) else {
+        return NO;
+    };
+    let status = match held.remove_some(&key) {
+        Ok(Some((_, value))) => {
+            *out = value;
+            YES
+        }
+        Ok(None) => NO,
+        Err(cause) => of_refusal(cause),
+    };
+    multi.put(held);
+    status
+}

@@ -1,0 +1,64 @@
+//! Calls that make, empty and free a multimap, and tell its length.
+ghost use Rattle.std.specs.Prelude.{◌≡◌, ◌≢◌, ◌↔◌, [], Some, None, true, length, is_some};
+ghost use Rattle.indexset_c.specs.Elements.{numbered_pairs};
+
+use crate::multi_handle::MultiHandle;
+use crate::status::{HELD, MEMORY, YES};
+use indexset_multi::multimap::BTreeMultiMap;
+use std::alloc::Global;
+
+/// Makes an empty multimap. A handle that leads to a multimap is refused.
+#[unsafe(no_mangle)]
+pub extern "C" fn indexset_multi_new(alloc: Global, multi: &mut MultiHandle) -> u32
+    ensures empty { result ≡ YES → numbered_pairs multi.new.slot.value ≡ [] }
+    ensures made { result ≡ YES → is_some multi.new.slot.value ≡ true }
+    ensures refused { result ≢ YES → multi.new.slot.value ≡ multi.old.slot.value }
+    ensures held { result ≡ HELD ↔ (is_some multi.old.slot.value ≡ true) }
+{
+    if let Some(held) = multi.take(alloc) {
+        multi.put(held);
+        return HELD;
+    }
+    match Box::new(alloc, BTreeMultiMap::new(alloc)) {
+        Ok(made) => {
+            multi.put(made);
+            YES
+        }
+        Err(_) => MEMORY,
+    }
+}
+
+/// Frees a multimap, and leaves its handle with none.
+#[unsafe(no_mangle)]
+pub extern "C" fn indexset_multi_free(alloc: Global, multi: &mut MultiHandle)
+    ensures { multi.new.slot.value ≡ None }
+{
+    drop(multi.take(alloc));
+}
+
+/// Removes all pairs.
+#[unsafe(no_mangle)]
+pub extern "C" fn indexset_multi_clear(alloc: Global, multi: &mut MultiHandle)
+    ensures empty { numbered_pairs multi.new.slot.value ≡ [] }
+    ensures there { is_some multi.new.slot.value ≡ is_some multi.old.slot.value }
+{
+    let Some(mut held) = multi.take(alloc) else {
+        return;
+    };
+    *held = BTreeMultiMap::new(alloc);
+    multi.put(held);
+}
+
+/// Returns how many pairs there are.
+#[unsafe(no_mangle)]
+pub extern "C" fn indexset_multi_len(alloc: Global, multi: &mut MultiHandle) -> usize
+    ensures value { result ≡ length (numbered_pairs multi.old.slot.value) }
+    ensures same { multi.new.slot.value ≡ multi.old.slot.value }
+{
+    let Some(held) = multi.take(alloc) else {
+        return 0;
+    };
+    let len = held.len();
+    multi.put(held);
+    len
+}

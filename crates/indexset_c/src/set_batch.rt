@@ -1,0 +1,80 @@
+//! Calls of a set that take many keys at once.
+ghost use Rattle.std.specs.Prelude.{◌≡◌, ◌≢◌, ◌<◌, ◌≤◌, ◌↔◌, None, length, map, min, slice_index_or, take};
+ghost use Rattle.std.specs.List.{AllWithin, fold};
+ghost use Rattle.std.specs.Ordering.{nat_cmp};
+ghost use Rattle.indexset_core.specs.Order.{keep, rank};
+ghost use Rattle.indexset_c.specs.Elements.{element_at, elements, written};
+
+use crate::set_each::{element_each, insert_each, rank_each};
+use crate::set_handle::SetHandle;
+use crate::status::{MEMORY, NO, NONE, YES};
+use std::alloc::Global;
+
+/// Adds each key, first to last. Writes how many were taken: all, or those before the one at which
+/// memory ran out.
+#[unsafe(no_mangle)]
+pub extern "C" fn indexset_set_insert_all(
+    alloc: Global,
+    set: &mut SetHandle,
+    keys: &[u64],
+    taken: &mut usize,
+) -> u32
+    ensures kept { elements set.new.slot.value ≡ fold (keep nat_cmp) (elements set.old.slot.value) (take taken.new keys.now) }
+    ensures all { result ≡ YES → taken.new ≡ length keys.now }
+    ensures some { result ≡ MEMORY → taken.new < length keys.now }
+    ensures none { result ≡ NONE ↔ (set.old.slot.value ≡ None) }
+    ensures same { result ≡ NONE → set.new.slot.value ≡ set.old.slot.value }
+    ensures status { (result ≢ NO) × (result ≤ NONE) }
+{
+    let Some(mut held) = set.take(alloc) else {
+        *taken = 0;
+        return NONE;
+    };
+    *taken = insert_each(&mut held, keys);
+    set.put(held);
+    if *taken == keys.len() { YES } else { MEMORY }
+}
+
+/// Writes the rank of each key, as far as there is room. Returns how many it wrote.
+#[unsafe(no_mangle)]
+pub extern "C" fn indexset_set_ranks(
+    alloc: Global,
+    set: &mut SetHandle,
+    keys: &[u64],
+    out: &mut [usize],
+) -> usize
+    ensures count { set.old.slot.value ≢ None → result ≡ min (length keys.now) (length out.old) }
+    ensures written { out.new ≡ written result (map (rank nat_cmp (elements set.old.slot.value)) keys.now) out.old }
+    ensures none { set.old.slot.value ≡ None → result ≡ 0 }
+    ensures same { set.new.slot.value ≡ set.old.slot.value }
+{
+    let Some(held) = set.take(alloc) else {
+        return 0;
+    };
+    let count = rank_each(&held, keys, out);
+    set.put(held);
+    count
+}
+
+/// Writes the element at each position, as far as there is room and up to the first position that has
+/// none. Returns how many it wrote.
+#[unsafe(no_mangle)]
+pub extern "C" fn indexset_set_at_all(
+    alloc: Global,
+    set: &mut SetHandle,
+    positions: &[usize],
+    out: &mut [u64],
+) -> usize
+    ensures room { result ≤ min (length positions.now) (length out.old) }
+    ensures there { AllWithin (λ i. i < length (elements set.old.slot.value)) positions.now 0 result }
+    ensures stop { result < min (length positions.now) (length out.old) → length (elements set.old.slot.value) ≤ slice_index_or positions.now result 0 }
+    ensures written { out.new ≡ written result (map (element_at (elements set.old.slot.value)) positions.now) out.old }
+    ensures same { set.new.slot.value ≡ set.old.slot.value }
+{
+    let Some(held) = set.take(alloc) else {
+        return 0;
+    };
+    let count = element_each(&held, positions, out);
+    set.put(held);
+    count
+}

@@ -1,0 +1,98 @@
+//! Calls of a set that go by a key.
+ghost use Rattle.std.specs.Prelude.{◌≡◌, ◌≢◌, ◌≤◌, ◌↔◌, Some, None, true, false};
+ghost use Rattle.std.specs.Ordering.{nat_cmp};
+ghost use Rattle.indexset_core.specs.Order.{has_equal, keep, lower_element, rank, without};
+ghost use Rattle.indexset_c.specs.Elements.{elements};
+
+use crate::set_handle::SetHandle;
+use crate::set_positions::write;
+use crate::status::{MEMORY, NO, NONE, YES};
+use std::alloc::Global;
+
+/// Inserts a key. A present one stays.
+#[unsafe(no_mangle)]
+pub extern "C" fn indexset_set_insert(alloc: Global, set: &mut SetHandle, key: u64) -> u32
+    ensures added { result ≡ YES → has_equal nat_cmp (elements set.old.slot.value) key ≡ false }
+    ensures there { result ≡ NO → has_equal nat_cmp (elements set.old.slot.value) key ≡ true }
+    ensures ok { result ≡ YES → elements set.new.slot.value ≡ keep nat_cmp (elements set.old.slot.value) key }
+    ensures same { result ≢ YES → set.new.slot.value ≡ set.old.slot.value }
+    ensures none { result ≡ NONE ↔ (set.old.slot.value ≡ None) }
+    ensures no_memory { has_equal nat_cmp (elements set.old.slot.value) key ≡ true → result ≡ NO }
+    ensures status { result ≤ NONE }
+{
+    let Some(mut held) = set.take(alloc) else {
+        return NONE;
+    };
+    let status = match held.insert(key) {
+        Ok(true) => YES,
+        Ok(false) => NO,
+        Err(_) => MEMORY,
+    };
+    set.put(held);
+    status
+}
+
+/// Removes a key, and returns whether it was present.
+#[unsafe(no_mangle)]
+#[tactic(auto, unfolding(indexset_core::specs::Order::without, indexset_set::specs::SetNodes::nodes_without))]
+pub extern "C" fn indexset_set_remove(alloc: Global, set: &mut SetHandle, key: u64) -> bool
+    ensures removed { result ≡ has_equal nat_cmp (elements set.old.slot.value) key }
+    ensures rest { elements set.new.slot.value ≡ without nat_cmp (elements set.old.slot.value) key }
+    ensures same { result ≡ false → set.new.slot.value ≡ set.old.slot.value }
+{
+    let Some(mut held) = set.take(alloc) else {
+        return false;
+    };
+    let removed = held.remove(&key);
+    set.put(held);
+    removed
+}
+
+/// Returns whether a key is present.
+#[unsafe(no_mangle)]
+pub extern "C" fn indexset_set_contains(alloc: Global, set: &mut SetHandle, key: u64) -> bool
+    ensures value { result ≡ has_equal nat_cmp (elements set.old.slot.value) key }
+    ensures same { set.new.slot.value ≡ set.old.slot.value }
+{
+    let Some(held) = set.take(alloc) else {
+        return false;
+    };
+    let found = held.contains(&key);
+    set.put(held);
+    found
+}
+
+/// Returns how many elements are below a key.
+#[unsafe(no_mangle)]
+pub extern "C" fn indexset_set_rank(alloc: Global, set: &mut SetHandle, key: u64) -> usize
+    ensures value { result ≡ rank nat_cmp (elements set.old.slot.value) key }
+    ensures same { set.new.slot.value ≡ set.old.slot.value }
+{
+    let Some(held) = set.take(alloc) else {
+        return 0;
+    };
+    let below = held.rank(&key);
+    set.put(held);
+    below
+}
+
+/// Writes the first element that is not below a key, where there is one.
+#[unsafe(no_mangle)]
+pub extern "C" fn indexset_set_lower_bound(
+    alloc: Global,
+    set: &mut SetHandle,
+    key: u64,
+    out: &mut u64,
+) -> bool
+    ensures found { result ≡ true → lower_element nat_cmp (elements set.old.slot.value) key ≡ Some out.new }
+    ensures absent { result ≡ false → lower_element nat_cmp (elements set.old.slot.value) key ≡ None }
+    ensures unwritten { result ≡ false → out.new ≡ out.old }
+    ensures same { set.new.slot.value ≡ set.old.slot.value }
+{
+    let Some(held) = set.take(alloc) else {
+        return false;
+    };
+    let found = held.lower_bound(&key).copied();
+    set.put(held);
+    write(found, out)
+}

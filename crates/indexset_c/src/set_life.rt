@@ -1,0 +1,98 @@
+//! Calls that make, empty, clone and free a set, and return its length.
+ghost use Rattle.std.specs.Prelude.{◌≡◌, ◌≢◌, ◌↔◌, [], Some, None, true, length, is_some};
+ghost use Rattle.indexset_c.specs.Elements.{elements};
+
+use crate::set_handle::SetHandle;
+use crate::status::{HELD, MEMORY, NONE, YES};
+use indexset_set::BTreeSet;
+use std::alloc::Global;
+
+/// Makes an empty set. Fails where the handle leads to a set.
+#[unsafe(no_mangle)]
+pub extern "C" fn indexset_set_new(alloc: Global, set: &mut SetHandle) -> u32
+    ensures empty { result ≡ YES → elements set.new.slot.value ≡ [] }
+    ensures made { result ≡ YES → is_some set.new.slot.value ≡ true }
+    ensures refused { result ≢ YES → set.new.slot.value ≡ set.old.slot.value }
+    ensures held { result ≡ HELD ↔ (is_some set.old.slot.value ≡ true) }
+{
+    if let Some(held) = set.take(alloc) {
+        set.put(held);
+        return HELD;
+    }
+    let Ok(made) = BTreeSet::new(alloc) else {
+        return MEMORY;
+    };
+    match Box::new(alloc, made) {
+        Ok(made) => {
+            set.put(made);
+            YES
+        }
+        Err(_) => MEMORY,
+    }
+}
+
+/// Makes a clone of a set, under a second handle. Fails where the handle leads to a set.
+#[unsafe(no_mangle)]
+pub extern "C" fn indexset_set_clone(alloc: Global, set: &mut SetHandle, to: &mut SetHandle) -> u32
+    ensures ok { result ≡ YES → to.new.slot.value ≡ set.old.slot.value }
+    ensures refused { result ≢ YES → to.new.slot.value ≡ to.old.slot.value }
+    ensures none { result ≡ NONE ↔ (set.old.slot.value ≡ None) }
+    ensures held { set.old.slot.value ≢ None → (result ≡ HELD ↔ (is_some to.old.slot.value ≡ true)) }
+    ensures same { set.new.slot.value ≡ set.old.slot.value }
+{
+    let Some(held) = set.take(alloc) else {
+        return NONE;
+    };
+    if let Some(other) = to.take(alloc) {
+        to.put(other);
+        set.put(held);
+        return HELD;
+    }
+    let cloned: Result<_, _> = BTreeSet::clone(&held);
+    set.put(held);
+    let Ok(cloned) = cloned else {
+        return MEMORY;
+    };
+    match Box::new(alloc, cloned) {
+        Ok(cloned) => {
+            to.put(cloned);
+            YES
+        }
+        Err(_) => MEMORY,
+    }
+}
+
+/// Frees a set, and leaves its handle with none.
+#[unsafe(no_mangle)]
+pub extern "C" fn indexset_set_free(alloc: Global, set: &mut SetHandle)
+    ensures { set.new.slot.value ≡ None }
+{
+    drop(set.take(alloc));
+}
+
+/// Removes all elements.
+#[unsafe(no_mangle)]
+pub extern "C" fn indexset_set_clear(alloc: Global, set: &mut SetHandle)
+    ensures empty { elements set.new.slot.value ≡ [] }
+    ensures there { is_some set.new.slot.value ≡ is_some set.old.slot.value }
+{
+    let Some(mut held) = set.take(alloc) else {
+        return;
+    };
+    held.clear();
+    set.put(held);
+}
+
+/// Returns how many elements there are.
+#[unsafe(no_mangle)]
+pub extern "C" fn indexset_set_len(alloc: Global, set: &mut SetHandle) -> usize
+    ensures value { result ≡ length (elements set.old.slot.value) }
+    ensures same { set.new.slot.value ≡ set.old.slot.value }
+{
+    let Some(held) = set.take(alloc) else {
+        return 0;
+    };
+    let len = held.len();
+    set.put(held);
+    len
+}

@@ -1,0 +1,108 @@
+//! Calls of a set that go by a position, and those at its two ends.
+ghost use Rattle.std.specs.Prelude.{◌≡◌, ◌-◌, Some, None, true, false, drop, length, slice_get, take};
+ghost use Rattle.indexset_c.specs.Elements.{elements};
+
+use crate::set_handle::SetHandle;
+use std::alloc::Global;
+
+// Writes an element where there is one, and returns whether there was.
+pub fn write(found: Option<u64>, out: &mut u64) -> bool
+    ensures found { result ≡ true → found ≡ Some out.new }
+    ensures absent { result ≡ false → found ≡ None }
+    ensures unwritten { result ≡ false → out.new ≡ out.old }
+{
+    match found {
+        Some(element) => {
+            *out = element;
+            true
+        }
+        None => false,
+    }
+}
+
+/// Writes the element at a position, counted from 0, where there is one.
+#[unsafe(no_mangle)]
+pub extern "C" fn indexset_set_at(
+    alloc: Global,
+    set: &mut SetHandle,
+    position: usize,
+    out: &mut u64,
+) -> bool
+    ensures found { result ≡ true → slice_get (elements set.old.slot.value) position ≡ Some out.new }
+    ensures absent { result ≡ false → slice_get (elements set.old.slot.value) position ≡ None }
+    ensures unwritten { result ≡ false → out.new ≡ out.old }
+    ensures same { set.new.slot.value ≡ set.old.slot.value }
+{
+    let Some(held) = set.take(alloc) else {
+        return false;
+    };
+    let found = held.get_index(position).copied();
+    set.put(held);
+    write(found, out)
+}
+
+/// Writes the least element, where there is one.
+#[unsafe(no_mangle)]
+pub extern "C" fn indexset_set_first(alloc: Global, set: &mut SetHandle, out: &mut u64) -> bool
+    ensures found { result ≡ true → slice_get (elements set.old.slot.value) 0 ≡ Some out.new }
+    ensures absent { result ≡ false → length (elements set.old.slot.value) ≡ 0 }
+    ensures unwritten { result ≡ false → out.new ≡ out.old }
+    ensures same { set.new.slot.value ≡ set.old.slot.value }
+{
+    let Some(held) = set.take(alloc) else {
+        return false;
+    };
+    let found = held.first().copied();
+    set.put(held);
+    write(found, out)
+}
+
+/// Writes the greatest element, where there is one.
+#[unsafe(no_mangle)]
+pub extern "C" fn indexset_set_last(alloc: Global, set: &mut SetHandle, out: &mut u64) -> bool
+    ensures found { result ≡ true → slice_get (elements set.old.slot.value) (length (elements set.old.slot.value) - 1) ≡ Some out.new }
+    ensures absent { result ≡ false → length (elements set.old.slot.value) ≡ 0 }
+    ensures unwritten { result ≡ false → out.new ≡ out.old }
+    ensures same { set.new.slot.value ≡ set.old.slot.value }
+{
+    let Some(held) = set.take(alloc) else {
+        return false;
+    };
+    let found = held.last().copied();
+    set.put(held);
+    write(found, out)
+}
+
+/// Removes the least element and writes it, where there is one.
+#[unsafe(no_mangle)]
+pub extern "C" fn indexset_set_pop_first(alloc: Global, set: &mut SetHandle, out: &mut u64) -> bool
+    ensures found { result ≡ true → slice_get (elements set.old.slot.value) 0 ≡ Some out.new }
+    ensures rest { elements set.new.slot.value ≡ drop 1 (elements set.old.slot.value) }
+    ensures absent { result ≡ false → length (elements set.old.slot.value) ≡ 0 }
+    ensures unwritten { result ≡ false → out.new ≡ out.old }
+    ensures same { result ≡ false → set.new.slot.value ≡ set.old.slot.value }
+{
+    let Some(mut held) = set.take(alloc) else {
+        return false;
+    };
+    let found = held.pop_first();
+    set.put(held);
+    write(found, out)
+}
+
+/// Removes the greatest element and writes it, where there is one.
+#[unsafe(no_mangle)]
+pub extern "C" fn indexset_set_pop_last(alloc: Global, set: &mut SetHandle, out: &mut u64) -> bool
+    ensures found { result ≡ true → slice_get (elements set.old.slot.value) (length (elements set.old.slot.value) - 1) ≡ Some out.new }
+    ensures rest { elements set.new.slot.value ≡ take (length (elements set.old.slot.value) - 1) (elements set.old.slot.value) }
+    ensures absent { result ≡ false → length (elements set.old.slot.value) ≡ 0 }
+    ensures unwritten { result ≡ false → out.new ≡ out.old }
+    ensures same { result ≡ false → set.new.slot.value ≡ set.old.slot.value }
+{
+    let Some(mut held) = set.take(alloc) else {
+        return false;
+    };
+    let found = held.pop_last();
+    set.put(held);
+    write(found, out)
+}

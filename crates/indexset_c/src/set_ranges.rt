@@ -1,0 +1,65 @@
+//! Calls of a set that write a part of it into a caller's slice.
+ghost use Rattle.std.specs.Prelude.{◌≡◌, ◌≤◌, ◌<◌, ◌++◌, drop, length, min, take};
+ghost use Rattle.std.specs.Ordering.{nat_cmp};
+ghost use Rattle.std.specs.declared.ops.Bound.TheVariants.{Included};
+ghost use Rattle.indexset_core.specs.Bounds.{in_range};
+ghost use Rattle.indexset_c.specs.Elements.{elements, written};
+
+use crate::set_each::write_each;
+use crate::set_handle::SetHandle;
+use std::alloc::Global;
+use std::ops::Bound;
+
+/// Writes the elements from `low` to `high`, both included, in order and as far as there is room.
+/// Returns how many it wrote.
+#[unsafe(no_mangle)]
+pub extern "C" fn indexset_set_range_by_key(
+    alloc: Global,
+    set: &mut SetHandle,
+    low: u64,
+    high: u64,
+    out: &mut [u64],
+) -> usize
+    ensures count { low ≤ high → result ≡ min (length (in_range nat_cmp (elements set.old.slot.value) (Included low) (Included high))) (length out.old) }
+    ensures written { low ≤ high → out.new ≡ written result (in_range nat_cmp (elements set.old.slot.value) (Included low) (Included high)) out.old }
+    ensures none { high < low → result ≡ 0 }
+    ensures unwritten { high < low → out.new ≡ out.old }
+    ensures same { set.new.slot.value ≡ set.old.slot.value }
+{
+    if high < low {
+        return 0;
+    }
+    let Some(held) = set.take(alloc) else {
+        return 0;
+    };
+    let count = write_each(
+        held.range((Bound::Included(&low), Bound::Included(&high))),
+        out,
+    );
+    set.put(held);
+    count
+}
+
+/// Writes the elements from a position on, in order and as far as there is room. Returns how many it
+/// wrote.
+#[unsafe(no_mangle)]
+pub extern "C" fn indexset_set_range_by_position(
+    alloc: Global,
+    set: &mut SetHandle,
+    from: usize,
+    out: &mut [u64],
+) -> usize
+    ensures count { result ≡ min (length (drop from (elements set.old.slot.value))) (length out.old) }
+    ensures written { out.new ≡ written result (drop from (elements set.old.slot.value)) out.old }
+    ensures same { set.new.slot.value ≡ set.old.slot.value }
+{
+    let Some(held) = set.take(alloc) else {
+        return 0;
+    };
+    let count = write_each(
+        held.range_idx((Bound::Included(from), Bound::Unbounded)),
+        out,
+    );
+    set.put(held);
+    count
+}

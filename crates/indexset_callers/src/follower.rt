@@ -1,0 +1,117 @@
+//! A map and a copy of it elsewhere, which gets the events of the map with losses, repeats and in any
+//! order.
+ghost use Rattle.std.specs.Prelude.{◌≡◌, ◌<◌, true, [], length, Some, IfOk, OnOk, OnErr};
+ghost use Rattle.std.specs.List.{All};
+ghost use Rattle.std.specs.Ordering.{nat_cmp};
+ghost use Rattle.indexset.specs.Words.{by_key, joined, replay, value_of, IsAt, IsNumberedFrom};
+
+use indexset::base::pair::Pair;
+use indexset::base::refusal::Refusal;
+use indexset::cdc::change::ChangeEvent;
+use indexset::cdc::laws;
+use indexset::concurrent::map::BTreeMap;
+use indexset::replica::Replica;
+use indexset::replica::laws::reached_in_one_pass;
+use std::alloc::Global;
+
+/// The balance of an account.
+pub type Balance = Pair<u64, u64>;
+
+/// Balances by account.
+pub type Balances = BTreeMap<u64, u64, Vec<Balance>>;
+
+/// A map with all of its events: replayed from nothing, they lead to its nodes.
+#[derive(Drop)]
+pub struct Primary {
+    map: Balances,
+    events: Vec<ChangeEvent<Balance>>,
+    ghost replayed: { replay (by_key nat_cmp) [] events.items ≡ Some map.nodes },
+    ghost numbered: { IsNumberedFrom 0 events.items },
+    ghost counted: { map.next ≡ length events.items },
+}
+
+impl Primary {
+    /// No account, and no event.
+    pub fn new(alloc: Global) -> Self
+        ensures { result.events.items ≡ [] }
+    {
+        let map = BTreeMap::with_maximum_node_size(alloc, 4);
+        let events = Vec::new(alloc);
+        Primary { map, events }
+    }
+
+    /// How many events there are.
+    pub fn issued(&self) -> usize
+        ensures { result ≡ length self.now.events.items }
+    {
+        self.events.len()
+    }
+
+    /// Sets the balance of an account.
+    pub fn set(&mut self, account: u64, balance: u64) -> Result<(), Refusal>
+        ensures held { OnOk result (value_of nat_cmp (joined self.new.map.nodes) account ≡ Some balance) }
+        ensures same { OnErr result (self.new.map ≡ self.old.map) }
+        ensures no_event { OnErr result (self.new.events.items ≡ self.old.events.items) }
+    {
+        set_and_keep(&mut self.map, &mut self.events, account, balance)
+    }
+
+    /// Delivers the events at these places to a copy, and returns whether it has then got all. Whatever
+    /// is returned, it holds what a beginning of the events leads to: it passes over each that is not the
+    /// next.
+    pub fn deliver(&self, copy: &mut Replica<Balance>, order: &[usize]) -> Result<bool, Refusal>
+        requires at { IsAt (by_key nat_cmp) 0 [] self.now.events.items copy.old.next copy.old }
+        requires inside { All (λ place. place < length self.now.events.items) order.now }
+        ensures beginning { IsAt (by_key nat_cmp) 0 [] self.now.events.items copy.new.next copy.new }
+        ensures all_came { IfOk result (λ all. all ≡ true → copy.new.nodes ≡ self.now.map.nodes) }
+    {
+        deliver_some(&self.map, self.events.as_slice(), copy, order)
+    }
+}
+
+/// Sets the balance of an account in a map, and appends the events of the call to all those before it.
+fn set_and_keep(
+    map: &mut Balances,
+    events: &mut Vec<ChangeEvent<Balance>>,
+    account: u64,
+    balance: u64,
+) -> Result<(), Refusal>
+    requires replayed { replay (by_key nat_cmp) [] events.old.items ≡ Some map.old.nodes }
+    requires numbered { IsNumberedFrom 0 events.old.items }
+    requires counted { map.old.next ≡ length events.old.items }
+    ensures replayed { replay (by_key nat_cmp) [] events.new.items ≡ Some map.new.nodes }
+    ensures numbered { IsNumberedFrom 0 events.new.items }
+    ensures counted { map.new.next ≡ length events.new.items }
+    ensures held { OnOk result (value_of nat_cmp (joined map.new.nodes) account ≡ Some balance) }
+    ensures same { OnErr result (map.new ≡ map.old) }
+    ensures no_event { OnErr result (events.new.items ≡ events.old.items) }
+{
+    events.reserve(3)?;
+    let (_, mut added) = map.insert_cdc(account, balance)?;
+    laws::replay_in_parts::<Balance>();
+    laws::numbered_by_place::<Balance>();
+    laws::numbered_in_parts::<Balance>();
+    let _appended = events.append(&mut added);
+    Ok(())
+}
+
+/// Delivers some events of a map to a copy, and returns whether it has then got all.
+fn deliver_some(
+    map: &Balances,
+    events: &[ChangeEvent<Balance>],
+    copy: &mut Replica<Balance>,
+    order: &[usize],
+) -> Result<bool, Refusal>
+    requires replayed { replay (by_key nat_cmp) [] events.now ≡ Some map.now.nodes }
+    requires numbered { IsNumberedFrom 0 events.now }
+    requires counted { map.now.next ≡ length events.now }
+    requires at { IsAt (by_key nat_cmp) 0 [] events.now copy.old.next copy.old }
+    requires inside { All (λ place. place < length events.now) order.now }
+    ensures beginning { IsAt (by_key nat_cmp) 0 [] events.now copy.new.next copy.new }
+    ensures all_came { IfOk result (λ all. all ≡ true → copy.new.nodes ≡ map.now.nodes) }
+{
+    let issued = map.events_issued();
+    reached_in_one_pass();
+    copy.follow(events, order)?;
+    Ok(copy.next() == issued)
+}

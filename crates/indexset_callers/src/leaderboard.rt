@@ -1,0 +1,54 @@
+//! A leaderboard: players by their scores, the best first, read page by page.
+ghost use Rattle.std.specs.Prelude.{◌≡◌, ◌<◌, ◌+◌, ◌*◌, ◌^◌, true, not, Some, IfOk, IfSome, OnOk, OnErr, take, drop, slice_get};
+ghost use Rattle.indexset.specs.Words.{has_equal, items, keep, rank};
+
+use indexset::BTreeSet;
+use indexset::base::refusal::Refused;
+use std::alloc::{AllocError, Global};
+use std::cmp::Reverse;
+use std::ops::Bound;
+
+/// A score and its player. A higher score comes first, and of equal scores the lower player.
+#[derive(Clone, Copy, Debug, PartialEq, Eq, PartialOrd, Ord)]
+pub struct Entry {
+    pub score: Reverse<u64>,
+    pub player: u64,
+}
+
+/// The entries, the best first.
+pub type Board = BTreeSet<Entry>;
+
+/// Adds an entry, and returns whether it is new.
+pub fn add(board: &mut Board, entry: Entry) -> Result<bool, Refused<Entry>>
+    ensures new { IfOk result (λ new. new ≡ not (has_equal ⟦<Entry as Ord>⟧.cmp (items board.old) entry)) }
+    ensures there { OnOk result (has_equal ⟦<Entry as Ord>⟧.cmp (items board.new) entry ≡ true) }
+    ensures contents { OnOk result (items board.new ≡ keep ⟦<Entry as Ord>⟧.cmp (items board.old) entry) }
+    ensures same { OnErr result (board.new ≡ board.old) }
+{
+    board.insert(entry)
+}
+
+/// The place of an entry, counted from 0, and so how many are better.
+pub fn place(board: &Board, entry: Entry) -> Option<usize>
+    ensures there { IfSome result (λ place. slice_get (items board.now) place ≡ Some entry) }
+    ensures better { IfSome result (λ place. place ≡ rank ⟦<Entry as Ord>⟧.cmp (items board.now) entry) }
+{
+    let place = board.rank(&entry);
+    let there = board.get_index(place) == Some(&entry);
+    there.then_some(place)
+}
+
+/// A page of `size` entries. The first page has the number 0.
+pub fn page(
+    alloc: Global,
+    board: &Board,
+    number: usize,
+    size: usize,
+) -> Result<Vec<Entry>, AllocError>
+    requires { number * size + size < 2 ^ 64 }
+    ensures { IfOk result (λ page. page.items ≡ take size (drop (number * size) (items board.now))) }
+{
+    let from = number * size;
+    let bounds = (Bound::Included(from), Bound::Excluded(from + size));
+    board.range_idx(bounds).copied().collect(alloc)
+}

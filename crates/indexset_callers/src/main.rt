@@ -1,0 +1,131 @@
+//! Programs in small, as a user of the library writes them: each module has the contract that its writer
+//! wants. The program prints what they return.
+#![tactic(auto)]
+
+mod follower;
+mod leaderboard;
+mod order_book;
+mod secondary_index;
+mod window;
+
+use anyhow::Result;
+use bytes::ByteStr;
+use follower::Primary;
+use indexset::base::pair::Pair;
+use indexset::replica::Replica;
+use indexset::{BTreeMap, BTreeSet};
+use leaderboard::Entry;
+use order_book::Book;
+use std::cmp::Reverse;
+
+fn main(rt: HostRuntime) -> Result<()> {
+    show_window(&rt)?;
+    show_order_book(&rt)?;
+    show_leaderboard(&rt)?;
+    show_index(&rt)?;
+    show_follower(&rt)
+}
+
+fn show_window(rt: &HostRuntime) -> Result<()> {
+    let mut window = BTreeMap::new(rt.alloc())?;
+    for (time, value) in [(100, 7), (130, 9), (160, 8), (190, 6)] {
+        window::push(&mut window, time, value)?;
+    }
+    println!(rt; "oldest: {:?}", window::oldest(&window))?;
+    println!(rt; "expired: {:?}", window::expire(&mut window, 130)?)?;
+    println!(rt; "left: {window:?}")?;
+    Ok(())
+}
+
+fn show_order_book(rt: &HostRuntime) -> Result<()> {
+    let bids = BTreeMap::new(rt.alloc())?;
+    let asks = BTreeMap::new(rt.alloc())?;
+    let mut book = Book { bids, asks };
+    for (price, quantity) in [(98, 5), (99, 2), (98, 4)] {
+        order_book::add(&mut book.bids, price, quantity)?;
+    }
+    order_book::add(&mut book.asks, 101, 3)?;
+    println!(rt; "best bid: {:?}", order_book::best_bid(&book))?;
+    println!(rt; "best ask: {:?}", order_book::best_ask(&book))?;
+    println!(rt;
+        "left at 99: {:?}",
+        order_book::reduce(&mut book.bids, 99, 2)
+    )?;
+    println!(rt;
+        "left at 98: {:?}",
+        order_book::reduce(&mut book.bids, 98, 1)
+    )?;
+    println!(rt;
+        "left at 97: {:?}",
+        order_book::reduce(&mut book.bids, 97, 1)
+    )?;
+    println!(rt; "bids: {:?}", book.bids)?;
+    Ok(())
+}
+
+fn show_leaderboard(rt: &HostRuntime) -> Result<()> {
+    let mut board = BTreeSet::new(rt.alloc())?;
+    for (score, player) in [(300, 1), (100, 2), (500, 3), (300, 4), (200, 5), (300, 1)] {
+        let new = leaderboard::add(&mut board, entry(score, player))?;
+        println!(rt; "{score} by player {player} is new: {new}")?;
+    }
+    println!(rt;
+        "place of player 5: {:?}",
+        leaderboard::place(&board, entry(200, 5))
+    )?;
+    println!(rt;
+        "place of player 6: {:?}",
+        leaderboard::place(&board, entry(200, 6))
+    )?;
+    for number in 0..3 {
+        println!(rt; "page {number}:")?;
+        let page = leaderboard::page(rt.alloc(), &board, number, 2)?;
+        for entry in page.as_slice() {
+            println!(rt; "  {} by player {}", entry.score.0, entry.player)?;
+        }
+    }
+    Ok(())
+}
+
+fn entry(score: u64, player: u64) -> Entry {
+    let score = Reverse(score);
+    Entry { score, player }
+}
+
+fn show_index(rt: &HostRuntime) -> Result<()> {
+    let mut index = secondary_index::Index::new(rt.alloc());
+    for (tag, document) in [("red", 7), ("blue", 3), ("red", 2), ("red", 7)] {
+        let new = secondary_index::add(&mut index, ByteStr::from_static(tag), document)?;
+        println!(rt; "{document} under {tag} is new: {new}")?;
+    }
+    let red = ByteStr::from_static("red");
+    println!(rt; "under red: {}", secondary_index::count(&index, &red))?;
+    println!(rt;
+        "removed: {}",
+        secondary_index::remove(&mut index, &red, 7)?
+    )?;
+    for (tag, document) in secondary_index::documents(&index, &red) {
+        println!(rt; "{document} under {tag}")?;
+    }
+    Ok(())
+}
+
+fn show_follower(rt: &HostRuntime) -> Result<()> {
+    let mut primary = Primary::new(rt.alloc());
+    for (account, balance) in [(5, 100), (2, 40), (5, 90), (8, 60)] {
+        primary.set(account, balance)?;
+    }
+    println!(rt; "events: {}", primary.issued())?;
+    if primary.issued() < 5 {
+        return Ok(());
+    }
+    let mut copy = Replica::new(rt.alloc(), 0);
+    let all = primary.deliver(&mut copy, &[1, 0, 0, 3, 1])?;
+    println!(rt; "the copy awaits {}, and has got all: {all}", copy.next())?;
+    let all = primary.deliver(&mut copy, &[3, 2, 3, 4])?;
+    println!(rt; "the copy awaits {}, and has got all: {all}", copy.next())?;
+    for Pair { key, value } in copy.iter() {
+        println!(rt; "account {key} has {value}")?;
+    }
+    Ok(())
+}

@@ -1,0 +1,107 @@
+-- A follower of lines that the first program wrote.
+use Rattle.std.proofs.Common.{Option, None, Some, ◌≡◌, inl, ℕ, zero, suc, ◌<◌, ◌^◌, cond, List, [], ◌∷◌, length, map, get_or, slice_get, take, is_some, refl, ap, sym, ◌∙◌, subst}
+use Rattle.std.proofs.lemmas.Option.{slice_get-get_or}
+use Rattle.std.specs.List.{All}
+use Rattle.std.specs.Option.{option_map_or}
+use Rattle.indexset_bench.specs.PairText.{event_text}
+use Rattle.indexset_bench.specs.Text.{no_stores, stores_of}
+use Rattle.indexset_log.proofs.CallerLemmas.{Each, all_each, each_all}
+use Rattle.indexset_replica.specs.Delivery.{IsSubsequence}
+use Rattle.indexset_follow.specs.Drawn.{HoldsFirst, IsDrawn}
+use Rattle.indexset_follow.specs.EventLine.{Event, event_of}
+use Rattle.indexset_follow.specs.Follow.{State, after_line, start_state, state, state_after}
+use Rattle.indexset_follow.specs.Told.{IsAmong, event_lines, events_of_lines, output_lines}
+use Rattle.indexset_follow.proofs.EventLines.{event_sound}
+use Rattle.indexset_follow.proofs.Output.{Known, events_in, output_known, output_tells}
+use Rattle.indexset_follow.proofs.Programs.{follower_begins, follower_ends, same_nodes}
+use Rattle.indexset_follow.proofs.Readings.{some_inj, none_some}
+
+-- ---- lists
+
+each_read : {X : Type 0} (Q : X → Type 0) (xs : List X) (p : ℕ) (y : X) → slice_get xs p ≡ Some y → Each Q xs → Q y
+each_read Q [] p y e h = none_some y e
+each_read Q (x ∷ xs) zero y e h = subst Q (some_inj x y e) h.0
+each_read Q (x ∷ xs) (suc p) y e h = each_read Q xs p y e h.1
+
+all_came : {X : Type 0} (xs : List X) → IsSubsequence xs xs
+all_came [] = tt
+all_came (x ∷ xs) = inl (refl, all_came xs)
+
+all_among : (ls : List (List ℕ)) → All (IsAmong ls) ls
+all_among ls k d lt = record { place = k; at = slice_get-get_or ls k d lt }
+
+-- ---- lines that tell events
+
+-- they are the texts of these events
+texts_told : (ls : List (List ℕ)) → event_lines ls ≡ map event_text (events_in ls)
+texts_told [] = refl
+texts_told (l ∷ ls) = at (event_of l) (λ e told. (event_sound l e told).0) (texts_told ls)
+  where
+    at : (o : Option Event) → ((e : Event) → o ≡ Some e → l ≡ event_text e) → event_lines ls ≡ map event_text (events_in ls)
+        → cond (is_some o) (l ∷ event_lines ls) (event_lines ls) ≡ map event_text (option_map_or (λ e. e ∷ events_in ls) o (events_in ls))
+    at None text rest = rest
+    at (Some e) text rest = λ i. text e refl i ∷ rest i
+
+-- the event of a line is one of them
+event_at : (ls : List (List ℕ)) (p : ℕ) (l : List ℕ) (e : Event) → slice_get ls p ≡ Some l → event_of l ≡ Some e → (q : ℕ) × (slice_get (events_in ls) q ≡ Some e)
+event_at [] p l e at told = none_some l at
+event_at (x ∷ ls) zero l e at told =
+    let own : event_of x ≡ Some e = ap event_of (some_inj x l at) ∙ told in
+    (0, ap (λ o. slice_get (option_map_or (λ f. f ∷ events_in ls) o (events_in ls)) 0) own)
+event_at (x ∷ ls) (suc p) l e at told = behind (event_of x) (event_at ls p l e at told)
+  where
+    behind : (o : Option Event) → (q : ℕ) × (slice_get (events_in ls) q ≡ Some e) → (q : ℕ) × (slice_get (option_map_or (λ f. f ∷ events_in ls) o (events_in ls)) q ≡ Some e)
+    behind None found = found
+    behind (Some f) found = (suc found.0, found.1)
+
+-- what holds of the lines that tell events holds of these alone
+each_told : (Q : List ℕ → Type 0) (ls : List (List ℕ)) → Each (λ l. (e : Event) → event_of l ≡ Some e → Q l) ls → Each Q (event_lines ls)
+each_told Q [] h = tt
+each_told Q (l ∷ ls) h = at (event_of l) h.0 (each_told Q ls h.1)
+  where
+    at : (o : Option Event) → ((e : Event) → o ≡ Some e → Q l) → Each Q (event_lines ls) → Each Q (cond (is_some o) (l ∷ event_lines ls) (event_lines ls))
+    at None own rest = rest
+    at (Some e) own rest = (own e refl, rest)
+
+-- other lines change nothing
+only_told : (r : State) (ls : List (List ℕ)) → Each Known ls → state_after r ls ≡ state_after r (event_lines ls)
+unfolding state_after
+only_told r [] h = refl
+only_told r (l ∷ ls) h = at (event_of l) (λ none. h.0 none r) (only_told r ls h.1) (only_told (after_line r l) ls h.1)
+  where
+    at : (o : Option Event) → (o ≡ None → after_line r l ≡ r) → state_after r ls ≡ state_after r (event_lines ls) → state_after (after_line r l) ls ≡ state_after (after_line r l) (event_lines ls)
+        → state_after (after_line r l) ls ≡ state_after r (cond (is_some o) (l ∷ event_lines ls) (event_lines ls))
+    at None still same made = ap (λ q. state_after q ls) (still refl) ∙ same
+    at (Some e) still same made = made
+
+-- ---- what is delivered
+
+module _ (lines : List (List ℕ)) (many : length lines < 2 ^ 64) (less : (stores_of no_stores lines).pairs.next < 2 ^ 64) where
+  pub output_texts : event_lines (output_lines lines) ≡ map event_text (events_of_lines lines)
+  output_texts = texts_told (output_lines lines) ∙ ap (map event_text) (output_tells lines many less)
+
+  module _ (delivered : List (List ℕ)) (among : All (IsAmong (output_lines lines)) delivered) where
+    one_drawn : (line : List ℕ) → IsAmong (output_lines lines) line → (e : Event) → event_of line ≡ Some e → IsDrawn (events_of_lines lines) line
+    one_drawn line a e told =
+        let found = event_at (output_lines lines) a.place line e a.at told in
+        record { place = found.0; event = e; at = subst (λ es. slice_get es found.0 ≡ Some e) (output_tells lines many less) found.1; text = (event_sound line e told).0 }
+
+    drawn : All (IsDrawn (events_of_lines lines)) (event_lines delivered)
+    drawn = each_all (IsDrawn (events_of_lines lines)) (event_lines delivered) (each_told (IsDrawn (events_of_lines lines)) delivered (all_each _ delivered (λ k d lt. one_drawn (get_or delivered k d) (among k d lt))))
+
+    told_alone : state_after start_state delivered ≡ state_after start_state (event_lines delivered)
+    told_alone = only_told start_state delivered (all_each Known delivered (λ k d lt. let a = among k d lt in each_read Known (output_lines lines) a.place (get_or delivered k d) a.at (output_known lines many less)))
+
+    pub delivered_begins : (k : ℕ) × HoldsFirst 0 [] (events_of_lines lines) k (state_after start_state delivered)
+    delivered_begins =
+        let held = follower_begins lines less (event_lines delivered) drawn in
+        (held.0, subst (HoldsFirst 0 [] (events_of_lines lines) held.0) (sym told_alone) held.1)
+
+    pub delivered_same : (n : ℕ) → (state_after start_state delivered).next ≡ (stores_of no_stores (take n lines)).pairs.next → (state_after start_state delivered).nodes ≡ (stores_of no_stores (take n lines)).pairs.nodes
+    delivered_same n same = ap (λ r. r.nodes) told_alone ∙ same_nodes lines less (event_lines delivered) drawn n (sym (ap (λ r. r.next) told_alone) ∙ same)
+
+    pub delivered_whole : IsSubsequence (event_lines (output_lines lines)) (event_lines delivered) → state_after start_state delivered ≡ state (stores_of no_stores lines).pairs.nodes (stores_of no_stores lines).pairs.next
+    delivered_whole came = told_alone ∙ follower_ends lines less (event_lines delivered) drawn (subst (λ ls. IsSubsequence ls (event_lines delivered)) output_texts came)
+
+  pub delivered_piped : state_after start_state (output_lines lines) ≡ state (stores_of no_stores lines).pairs.nodes (stores_of no_stores lines).pairs.next
+  delivered_piped = delivered_whole (output_lines lines) (all_among (output_lines lines)) (all_came (event_lines (output_lines lines)))

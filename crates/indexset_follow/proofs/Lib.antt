@@ -1,0 +1,14 @@
+pub mod Delivered
+pub mod Drawing
+pub mod EventLines
+pub mod Fits
+pub mod NodeLines
+pub mod Output
+pub mod Passing
+pub mod Programs
+pub mod Readings
+pub mod Lines
+pub mod Rows
+pub mod Runs
+pub mod Snapshots
+pub mod Taking

@@ -1,0 +1,119 @@
+-- A line gives the node of which it is the text, and no other.
+use Rattle.std.proofs.Common.{Option, None, Some, ◌≡◌, ◌≢◌, ℕ, ◌+◌, ◌<◌, Bool, true, false, cond, if◌then◌else◌, eqb, take, drop, get_or, List, [], ◌∷◌, ◌++◌, length, map, refl, sym, ap, subst, ◌∙◌, arith, append_assoc}
+use lib.Chars.{codes}
+use Rattle.std.specs.Prelude.{nat_lt}
+use Rattle.std.proofs.lemmas.Bool.{eqb-false, ltb-true, ne_eqb}
+use borrow.Author.Tests.{ltb-false}
+use Rattle.std.proofs.lemmas.List.Elements.{All-cons, All-from_get_or, All-head, All-nil, All-tail}
+use Rattle.std.proofs.lemmas.List.Splits.{join_with_byte-slice_split, length-slice_split, slice_split_first, slice_split_none}
+use Rattle.std.proofs.lemmas.List.Sums.{fails_before_first}
+use Rattle.std.proofs.lemmas.Slice.Eq.{bytes_eq-Decides}
+use Rattle.std.specs.List.{All, join_with_byte, position_or_len}
+use Rattle.std.specs.Option.{option_map}
+use Rattle.std.specs.Str.{bytes_eq}
+use Rattle.indexset_bench.specs.PairText.{node_text, pair_text}
+use Rattle.indexset_core.specs.declared.pair.Pair.{Pair}
+use Rattle.indexset_follow.specs.NodeLine.{NodeFits, node_line, node_of, pairs_of, words}
+use Rattle.indexset_follow.specs.Numbers.{PairFits, cut_at, pair_of}
+use Rattle.indexset_follow.proofs.Readings.{Lacks, cut_sound, cut_told, lacks_tested, map_some, none_some, pair_lacks, pair_sound, pair_told, some_inj, space_apart, then_some}
+
+-- ---- words
+
+-- the place of the first space, and the length where there is none
+abbrev spot : List ℕ → ℕ
+spot text = position_or_len (λ x. eqb x 32) text
+
+-- a text that is cut has its front as its first word
+pub cut_words : (text a b : List ℕ) → cut_at 32 text ≡ Some (a, b) → words text ≡ a ∷ words b
+cut_words text a b e = at (nat_lt (spot text) (length text)) refl e
+  where
+    at : (t : Bool) → nat_lt (spot text) (length text) ≡ t → option_map {U = List ℕ × List ℕ} (λ i. (take i text, drop (i + 1) text)) (cond t (Some (spot text)) None) ≡ Some (a, b) → words text ≡ a ∷ words b
+    at true is e =
+        slice_split_first (λ x. eqb x 32) text 0 (ltb-true (spot text) (length text) is)
+        ∙ ap (λ p. p.0 ∷ words p.1) (some_inj (take (spot text) text, drop (spot text + 1) text) (a, b) e)
+    at false is e = none_some (a, b) e
+
+lacking_words : (text : List ℕ) → Lacks 32 text → words text ≡ text ∷ []
+lacking_words text lacks = slice_split_none (λ x. eqb x 32) text (none text lacks)
+  where
+    none : (xs : List ℕ) → Lacks 32 xs → All (λ x. eqb x 32 ≡ false) xs
+    none [] lacks = All-nil (λ x. eqb x 32 ≡ false)
+    none (x ∷ xs) lacks = All-cons (λ y. eqb y 32 ≡ false) x xs (ne_eqb x 32 (All-head (λ y. y ≢ 32) x xs lacks)) (none xs (All-tail (λ y. y ≢ 32) x xs lacks))
+
+-- a text that is not cut is one word
+pub uncut_words : (text : List ℕ) → cut_at 32 text ≡ None → words text ≡ text ∷ []
+uncut_words text e = at (nat_lt (spot text) (length text)) refl e
+  where
+    at : (t : Bool) → nat_lt (spot text) (length text) ≡ t → option_map {U = List ℕ × List ℕ} (λ i. (take i text, drop (i + 1) text)) (cond t (Some (spot text)) None) ≡ None → words text ≡ text ∷ []
+    at true is e = none_some (take (spot text) text, drop (spot text + 1) text) (sym e)
+    at false is e = lacking_words text (All-from_get_or (λ x. x ≢ 32) text 0 (λ k inside space.
+        let before : k < spot text = omega (arith, inside, ltb-false (spot text) (length text) is) in
+        let other = fails_before_first (λ x. eqb x 32) text k 0 before in
+        eqb-false (get_or text k 0) 32 other space))
+
+-- ---- pairs
+
+pub pairs_first : (word : List ℕ) (rest : List (List ℕ)) (p : Pair ℕ ℕ) → pair_of word ≡ Some p → pairs_of (word ∷ rest) ≡ option_map (λ ps. p ∷ ps) (pairs_of rest)
+unfolding pairs_of
+pairs_first word rest p e = rw e refl
+
+pub pairs_none : (word : List ℕ) (rest : List (List ℕ)) → pair_of word ≡ None → pairs_of (word ∷ rest) ≡ None
+unfolding pairs_of
+pairs_none word rest e = rw e refl
+
+pub pairs_last : (word : List ℕ) (p : Pair ℕ ℕ) → pair_of word ≡ Some p → pairs_of (word ∷ []) ≡ Some (p ∷ [])
+unfolding pairs_of
+pairs_last word p e = rw e refl
+
+-- one more pair was read
+pub pairs_more : (ps : List (Pair ℕ ℕ)) (p : Pair ℕ ℕ) (o : Option (List (Pair ℕ ℕ))) → option_map (λ qs. ps ++ qs) (option_map (λ qs. p ∷ qs) o) ≡ option_map (λ qs. (ps ++ p ∷ []) ++ qs) o
+pairs_more ps p None = refl
+pairs_more ps p (Some qs) = ap Some (sym (append_assoc ps (p ∷ []) qs))
+
+pub all_pairs_told : (ps : List (Pair ℕ ℕ)) → All PairFits ps → pairs_of (map pair_text ps) ≡ Some ps
+unfolding pairs_of
+all_pairs_told [] fit = refl
+all_pairs_told (p ∷ ps) fit = rw (pair_told p (All-head PairFits p ps fit), all_pairs_told ps (All-tail PairFits p ps fit)) refl
+
+all_pairs_sound : (ws : List (List ℕ)) (ps : List (Pair ℕ ℕ)) → pairs_of ws ≡ Some ps → (ws ≡ map pair_text ps) × All PairFits ps
+unfolding pairs_of
+all_pairs_sound [] ps e = subst (λ qs. ([] ≡ map pair_text qs) × All PairFits qs) (some_inj [] ps e) (refl, All-nil PairFits)
+all_pairs_sound (w ∷ ws) ps e =
+    let first = then_some (pair_of w) (λ p. option_map (λ qs. p ∷ qs) (pairs_of ws)) ps e in
+    let more = map_some (pairs_of ws) (λ qs. first.0 ∷ qs) ps first.2 in
+    let read = pair_sound w first.0 first.1 in
+    let rest = all_pairs_sound ws more.0 more.1 in
+    subst (λ qs. (w ∷ ws ≡ map pair_text qs) × All PairFits qs) more.2 ((λ i. read.0 i ∷ rest.0 i), All-cons PairFits first.0 more.0 read.1 rest.1)
+
+-- ---- nodes
+
+-- the words of a node's text are those of its pairs
+node_words : (ps : List (Pair ℕ ℕ)) → 0 < length ps → All PairFits ps → words (node_text ps) ≡ map pair_text ps
+node_words [] some fit = absurd (omega arith)
+node_words (p ∷ []) some fit = lacking_words (pair_text p) (pair_lacks 32 space_apart p (All-head PairFits p [] fit))
+node_words (p ∷ q ∷ ps) some fit =
+    let lacks = pair_lacks 32 space_apart p (All-head PairFits p (q ∷ ps) fit) in
+    cut_words (pair_text p ++ 32 ∷ node_text (q ∷ ps)) (pair_text p) (node_text (q ∷ ps)) (cut_told 32 (pair_text p) (node_text (q ∷ ps)) lacks)
+    ∙ ap (λ ws. pair_text p ∷ ws) (node_words (q ∷ ps) (omega arith) (All-tail PairFits p (q ∷ ps) fit))
+
+pub node_told : (n : List (Pair ℕ ℕ)) → NodeFits n → node_of (node_line n) ≡ Some n
+node_told n fit =
+    let cut : cut_at 32 (node_line n) ≡ Some (codes "node", node_text n) = cut_told 32 (codes "node") (node_text n) (lacks_tested 32 (codes "node") refl) in
+    rw cut (ap pairs_of (node_words n fit.0 fit.1) ∙ all_pairs_told n fit.1)
+
+pub node_sound : (line : List ℕ) (n : List (Pair ℕ ℕ)) → node_of line ≡ Some n → (line ≡ node_line n) × NodeFits n
+node_sound line n e =
+    let cut = then_some (cut_at 32 line) (λ cut. if bytes_eq cut.0 (codes "node") then pairs_of (words cut.1) else None) n e in
+    let text = cut_sound 32 line cut.0.0 cut.0.1 cut.1 in
+    let read = at cut.0.0 cut.0.1 (bytes_eq cut.0.0 (codes "node")) refl cut.2 in
+    let some = length-slice_split (λ x. eqb x 32) cut.0.1 in
+    let rest = sym (join_with_byte-slice_split 32 cut.0.1) ∙ ap (join_with_byte 32) read.1 in
+    (text ∙ (λ i. read.0 i ++ 32 ∷ rest i), (omega (arith, some, ap length read.1, length_map n), read.2))
+  where
+    at : (word rest : List ℕ) (b : Bool) → bytes_eq word (codes "node") ≡ b → cond b (pairs_of (words rest)) None ≡ Some n → (word ≡ codes "node") × (words rest ≡ map pair_text n) × All PairFits n
+    at word rest true is e = let read = all_pairs_sound (words rest) n e in ((bytes_eq-Decides word (codes "node")).0 is, read.0, read.1)
+    at word rest false is e = none_some n e
+
+    length_map : (ps : List (Pair ℕ ℕ)) → length (map pair_text ps) ≡ length ps
+    length_map [] = refl
+    length_map (p ∷ ps) = omega (arith, length_map ps)

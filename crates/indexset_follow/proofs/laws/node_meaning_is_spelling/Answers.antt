@@ -1,0 +1,10 @@
+use Rattle.std.proofs.Common.{◌∙◌, ap}
+use Rattle.indexset_follow.specs.NodeLine.{node_of}
+use Rattle.indexset_follow.proofs.NodeLines.{node_sound, node_told}
+use Rattle.indexset_follow.proofs.laws.node_meaning_is_spelling.Goals as goal
+
+pub returns-clause-spelled : goal.returns-clause-spelled
+returns-clause-spelled c = λ line n fit. ((λ told. (node_sound line n told).0), (λ is. ap node_of is ∙ node_told n fit))
+
+pub returns-clause-fits : goal.returns-clause-fits
+returns-clause-fits c = λ line n told. (node_sound line n told).1

@@ -1,0 +1,5 @@
+use Rattle.indexset_follow.proofs.Snapshots.{snapshot_taken}
+use Rattle.indexset_follow.proofs.laws.snapshot_gives_the_follower.Goals as goal
+
+pub returns : goal.returns
+returns c = λ giver taker lawful small fit. snapshot_taken giver taker lawful small fit

@@ -1,0 +1,10 @@
+pub mod Drawn
+pub mod EventLine
+pub mod Follow
+pub mod NodeLine
+pub mod Numbers
+pub mod Passed
+pub mod Reply
+pub mod Request
+pub mod Run
+pub mod Told

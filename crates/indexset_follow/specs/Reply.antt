@@ -1,0 +1,22 @@
+-- How a reply is written.
+use Rattle.std.specs.Prelude.{ℕ, List, ◌++◌, codes}
+use Rattle.std.specs.Fmt.{decimal}
+use Rattle.indexset_bench.specs.PairText.{ended}
+use Rattle.indexset_follow.specs.declared.reply.Reply.{Reply}
+use Rattle.indexset_follow.specs.declared.reply.Reply.TheVariants.{Next, Had, Gap, Unfit, Start, Held, Item, Count, Nothing, Bad}
+
+abbrev pub reply_text : Reply → List ℕ
+reply_text (Next n) = codes "next " ++ decimal n
+reply_text (Had n) = codes "had " ++ decimal n
+reply_text (Gap n) = codes "gap " ++ decimal n
+reply_text (Unfit n) = codes "unfit " ++ decimal n
+reply_text (Start n) = codes "start " ++ decimal n
+reply_text Held = codes "held"
+reply_text (Item k v) = decimal k ++ codes ":" ++ decimal v
+reply_text (Count n) = decimal n
+reply_text Nothing = codes "none"
+reply_text Bad = codes "bad"
+
+-- a reply as a line
+abbrev pub reply_ended : Reply → List ℕ
+reply_ended reply = ended (reply_text reply)

@@ -1,0 +1,34 @@
+-- The events that the first program tells, and the lines of its output that tell them.
+use Rattle.std.specs.Prelude.{◌≡◌, ℕ, is_some, Some, List, [], ◌∷◌, ◌++◌, filter, slice_get}
+use Rattle.std.specs.Option.{option_map_or}
+use Rattle.indexset_bench.specs.Lines.{lines_of}
+use Rattle.indexset_bench.specs.PairCommand.{pair_meaning}
+use Rattle.indexset_bench.specs.Pairs.{told_events}
+use Rattle.indexset_bench.specs.Text.{Stores, no_stores, replies_of, stores_after}
+use Rattle.indexset_follow.specs.EventLine.{Event, event_of}
+
+-- the events that the reply to a line tells: those of its command to the map
+abbrev pub line_events : Stores → List ℕ → List Event
+line_events s line = option_map_or (told_events s.pairs) (pair_meaning line) []
+
+-- the events that the replies to the lines tell, one line after another
+unfoldable pub events_from : Stores → List (List ℕ) → List Event
+events_from s [] = []
+events_from s (line ∷ lines) = line_events s line ++ events_from (stores_after s line) lines
+
+-- the same, from nothing on
+abbrev pub events_of_lines : List (List ℕ) → List Event
+events_of_lines lines = events_from no_stores lines
+
+-- the lines that the first program writes when it reads these
+abbrev pub output_lines : List (List ℕ) → List (List ℕ)
+output_lines lines = lines_of (replies_of no_stores lines)
+
+-- those of the lines that tell events
+abbrev pub event_lines : List (List ℕ) → List (List ℕ)
+event_lines lines = filter (λ line. is_some (event_of line)) lines
+
+-- the line is one of these
+pub record IsAmong (lines : List (List ℕ)) (line : List ℕ) : Type 0 where
+  pub place : ℕ
+  pub at : slice_get lines place ≡ Some line

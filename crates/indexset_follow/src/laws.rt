@@ -1,0 +1,111 @@
+//! Laws of the definitions of lines and replies, whatever the code.
+
+ghost use Rattle.std.specs.Prelude.{◌≡◌, ◌↔◌, ◌<◌, ◌≤◌, ◌^◌, ℕ, List, [], length, map, drop, take, Some};
+ghost use Rattle.std.specs.List.{All};
+ghost use Rattle.std.specs.Ordering.{nat_cmp};
+ghost use Rattle.indexset_bench.specs.Lines.{lines_of};
+ghost use Rattle.indexset_bench.specs.PairText.{event_text};
+ghost use Rattle.indexset_bench.specs.Reply.{reply_text};
+ghost use Rattle.indexset_bench.specs.Text.{no_stores, stores_of};
+ghost use Rattle.indexset_bench.specs.declared.reply.Reply.{Reply};
+ghost use Rattle.indexset_core.specs.Nodes.{IsNodeList};
+ghost use Rattle.indexset_core.specs.Pairs.{by_key};
+ghost use Rattle.indexset_core.specs.declared.pair.Pair.{Pair};
+ghost use Rattle.indexset_follow.specs.Drawn.{HoldsFirst, IsDrawn, IsFeedOfPairs};
+ghost use Rattle.indexset_follow.specs.EventLine.{Event, EventFits, event_of};
+ghost use Rattle.indexset_follow.specs.Follow.{State, snapshot_text, start_state, state, state_after};
+ghost use Rattle.indexset_follow.specs.NodeLine.{NodeFits, node_line, node_of};
+ghost use Rattle.indexset_follow.specs.Passed.{IsPassedOver, ReplyFits};
+ghost use Rattle.indexset_follow.specs.Told.{IsAmong, event_lines, events_of_lines, output_lines};
+ghost use Rattle.indexset_log.specs.Replay.{replay, IsNumberedFrom};
+ghost use Rattle.indexset_replica.specs.Delivery.{IsSubsequence};
+
+/// A line spells the event of which it is the text, and no other line spells one.
+pub fn event_meaning_is_spelling()
+    ensures spelled { (line : List ℕ) (e : Event) → EventFits e
+        → (event_of line ≡ Some e) ↔ (line ≡ event_text e) }
+    ensures fits { (line : List ℕ) (e : Event) → event_of line ≡ Some e → EventFits e }
+{}
+
+/// The same of the line that gives a node, which has a pair at least.
+pub fn node_meaning_is_spelling()
+    ensures spelled { (line : List ℕ) (n : List (Pair ℕ ℕ)) → NodeFits n
+        → (node_of line ≡ Some n) ↔ (line ≡ node_line n) }
+    ensures fits { (line : List ℕ) (n : List (Pair ℕ ℕ)) → node_of line ≡ Some n → NodeFits n }
+{}
+
+/// Let the events be numbered without a gap and lead from some nodes on, and let a follower hold what the
+/// first j of them lead to. After any list of lines that are texts of these events, with losses, repeats
+/// and in any order, it holds what the first k lead to, for some k. Where the texts of the events from j
+/// on are among the lines in their order, k is all of them.
+pub fn deliveries_lead_to_a_beginning()
+    ensures beginning { (s j : ℕ) (ns : List (List (Pair ℕ ℕ))) (es : List Event) (r : State) (lines : List (List ℕ))
+        → IsFeedOfPairs s ns es → All EventFits es → HoldsFirst s ns es j r → All (IsDrawn es) lines
+        → (k : ℕ) × HoldsFirst s ns es k (state_after r lines) }
+    ensures whole { (s j : ℕ) (ns : List (List (Pair ℕ ℕ))) (es : List Event) (r : State) (lines : List (List ℕ))
+        → IsFeedOfPairs s ns es → All EventFits es → HoldsFirst s ns es j r → All (IsDrawn es) lines
+        → IsSubsequence (map event_text (drop j es)) lines
+        → HoldsFirst s ns es (length es) (state_after r lines) }
+    ensures none { (s : ℕ) (ns : List (List (Pair ℕ ℕ))) (es : List Event) → HoldsFirst s ns es 0 (state ns s) }
+{}
+
+/// The lines of a snapshot, sent to any follower, make it what the giver is: the nodes, and the awaited
+/// number. Where the giver holds what the first k events lead to, the other does.
+pub fn snapshot_gives_the_follower()
+    ensures { (giver taker : State) → IsNodeList (by_key nat_cmp) giver.nodes
+        → giver.next < 2 ^ 64 → All NodeFits giver.nodes
+        → state_after taker (lines_of (snapshot_text giver)) ≡ giver }
+{}
+
+/// A follower that passes over other lines writes nothing for a reply of the first program, and no
+/// such reply changes it.
+pub fn replies_are_passed_over()
+    ensures { (reply : Reply) → ReplyFits reply → IsPassedOver (reply_text reply) }
+{}
+
+/// The events that the first program writes, whatever lines it reads, are numbered from 0 without a
+/// gap. They lead from no nodes to the nodes that it holds after these lines, and the number that
+/// it gives next is how many they are. While that is a number of 64 bits, so are the numbers in the
+/// events. The events of the first n lines are the first of all.
+pub fn told_events_lead_to_the_nodes()
+    ensures numbered { (lines : List (List ℕ)) → IsNumberedFrom 0 (events_of_lines lines) }
+    ensures replayed { (lines : List (List ℕ))
+        → replay (by_key nat_cmp) [] (events_of_lines lines) ≡ Some (stores_of no_stores lines).pairs.nodes }
+    ensures count { (lines : List (List ℕ)) → (stores_of no_stores lines).pairs.next ≡ length (events_of_lines lines) }
+    ensures fits { (lines : List (List ℕ)) → (stores_of no_stores lines).pairs.next < 2 ^ 64
+        → All EventFits (events_of_lines lines) }
+    ensures first { (lines : List (List ℕ)) (n : ℕ)
+        → take (length (events_of_lines (take n lines))) (events_of_lines lines) ≡ events_of_lines (take n lines) }
+{}
+
+/// The lines of the first program's output that spell events are the texts of these, all of them in
+/// their order, while the lines that it reads are fewer than 2^64, and so are the events.
+pub fn output_tells_the_events()
+    ensures { (lines : List (List ℕ)) → length lines < 2 ^ 64 → (stores_of no_stores lines).pairs.next < 2 ^ 64
+        → event_lines (output_lines lines) ≡ map event_text (events_of_lines lines) }
+{}
+
+/// Both programs together. Let the first read fewer than 2^64 lines, and write fewer than 2^64
+/// events. A follower that starts from nothing is given any list of lines that the first wrote,
+/// with losses, repeats and in any order. It then holds what the first k events lead to, for some
+/// k: no other line changes it. Where it awaits the number that the first would give next after its
+/// first n lines, it holds the nodes that the first held then. Where all the lines that spell
+/// events came in their order, and so where all that the first wrote came as it was written, it
+/// holds the nodes of the first, and awaits its next number.
+pub fn programs_agree()
+    ensures beginning { (lines delivered : List (List ℕ)) → length lines < 2 ^ 64 → (stores_of no_stores lines).pairs.next < 2 ^ 64
+        → All (IsAmong (output_lines lines)) delivered
+        → (k : ℕ) × HoldsFirst 0 [] (events_of_lines lines) k (state_after start_state delivered) }
+    ensures same { (lines delivered : List (List ℕ)) → length lines < 2 ^ 64 → (stores_of no_stores lines).pairs.next < 2 ^ 64
+        → All (IsAmong (output_lines lines)) delivered
+        → (n : ℕ) → (state_after start_state delivered).next ≡ (stores_of no_stores (take n lines)).pairs.next
+        → (state_after start_state delivered).nodes ≡ (stores_of no_stores (take n lines)).pairs.nodes }
+    ensures whole { (lines delivered : List (List ℕ)) → length lines < 2 ^ 64 → (stores_of no_stores lines).pairs.next < 2 ^ 64
+        → All (IsAmong (output_lines lines)) delivered
+        → IsSubsequence (event_lines (output_lines lines)) (event_lines delivered)
+        → state_after start_state delivered
+        ≡ state (stores_of no_stores lines).pairs.nodes (stores_of no_stores lines).pairs.next }
+    ensures piped { (lines : List (List ℕ)) → length lines < 2 ^ 64 → (stores_of no_stores lines).pairs.next < 2 ^ 64
+        → state_after start_state (output_lines lines)
+        ≡ state (stores_of no_stores lines).pairs.nodes (stores_of no_stores lines).pairs.next }
+{}

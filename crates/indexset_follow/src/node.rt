@@ -1,0 +1,61 @@
+//! The node that a line gives.
+
+ghost use Rattle.std.specs.Prelude.{◌≡◌, [], ◌∷◌, ◌++◌, IfOk, OnOk, IfErr};
+ghost use Rattle.std.specs.Option.{option_map};
+ghost use Rattle.indexset_follow.specs.NodeLine.{node_of, pairs_of, words};
+
+use crate::numbers::{cut, read_pair};
+use indexset_bench::RunFault;
+use indexset_core::pair::Pair;
+use std::alloc::Global;
+
+/// A whole node.
+pub type Node = Vec<Pair<u64, u64>>;
+
+/// Returns the node that the line gives, if it gives one.
+pub fn read_node(alloc: Global, line: &[u8]) -> Result<Option<Node>, RunFault>
+    ensures node { IfOk result (λ node. option_map (λ n. n.items) node ≡ node_of line.now) }
+    ensures fault { IfErr result (λ fault. fault ≡ RunFault.Memory) }
+{
+    match cut(line, b' ') {
+        Some((word, text)) => {
+            if word == b"node".as_slice() {
+                read_pairs(alloc, text)
+            } else {
+                Ok(None)
+            }
+        }
+        None => Ok(None),
+    }
+}
+
+/// Returns the pairs of a text, where each of its words is one.
+fn read_pairs(alloc: Global, text: &[u8]) -> Result<Option<Node>, RunFault>
+    ensures pairs { IfOk result (λ node. option_map (λ n. n.items) node ≡ pairs_of (words text.now)) }
+    ensures fault { IfErr result (λ fault. fault ≡ RunFault.Memory) }
+{
+    let mut items = Vec::new(alloc);
+    let mut left = text;
+    while let Some((word, rest)) = cut(left, b' ') {
+        match read_pair(word) {
+            Some(item) => keep(&mut items, item)?,
+            None => return Ok(None),
+        }
+        left = rest;
+    }
+    match read_pair(left) {
+        Some(item) => {
+            keep(&mut items, item)?;
+            Ok(Some(items))
+        }
+        None => Ok(None),
+    }
+}
+
+/// Appends a pair.
+fn keep(items: &mut Node, item: Pair<u64, u64>) -> Result<(), RunFault>
+    ensures kept { OnOk result (items.new.items ≡ items.old.items ++ item ∷ []) }
+    ensures fault { IfErr result (λ fault. fault ≡ RunFault.Memory) }
+{
+    items.push(item).map_err(|_| RunFault::Memory)
+}

@@ -1,0 +1,97 @@
+//! The run over a reader and a writer.
+
+ghost use Rattle.std.specs.Prelude.{◌≡◌, ◌≢◌, [], Some, Err, OnOk, IfSome, OnSome};
+ghost use Rattle.std.specs.Io.KnownBytes.{Appends};
+ghost use Rattle.indexset_bench.specs.Lines.{HasNoEnd, IsLinePart};
+ghost use Rattle.indexset_follow.specs.Follow.{text_of};
+ghost use Rattle.indexset_follow.specs.Run.{AnswersAll, AnswersWholeLines};
+
+use crate::answer::answer_line;
+use crate::others::Others;
+use crate::write::Nodes;
+use indexset_bench::RunFault;
+use indexset_bench::line::{Part, is_at_end, next_line};
+use indexset_bench::write::flush;
+use std::alloc::Global;
+use std::io::{BufRead, Write};
+
+/// Writes the reply to each line of the reader to the writer, over a replica that starts without
+/// nodes and awaits event 0. The writer is flushed where the reader's buffer is used up, so that
+/// each reply is out before more is waited for.
+///
+/// A fault ends the run at once, and the first fault is returned. It is never `Numbers`. A line
+/// past the first 2^64 - 1 is a fault of the reader. After a failed write nothing is said of what
+/// was written.
+pub fn run<R: BufRead, W: Write>(
+    alloc: Global,
+    others: Others,
+    reader: &mut R,
+    writer: &mut W,
+) -> Result<(), RunFault>
+    // Of a reader whose bytes are known, all was read, and the replies to it were written.
+    ensures all_read { OnOk result (OnSome (R.remaining reader.old)
+        (R.remaining reader.new ≡ Some [])) }
+    ensures all_answered { OnOk result (IfSome (R.remaining reader.old) (λ input.
+        Appends (W.contents writer.old) (W.contents writer.new) (text_of others input))) }
+
+    // The same of any reader, for the bytes that it gave.
+    ensures given_answered { OnOk result (AnswersAll others
+        (R.remaining reader.old) (R.remaining reader.new)
+        (W.contents writer.old) (W.contents writer.new)) }
+
+    // The whole lines that the reader gave before it failed have their replies.
+    ensures read_failed { result ≡ Err RunFault.Read → AnswersWholeLines others HasNoEnd
+        (R.remaining reader.old) (R.remaining reader.new)
+        (W.contents writer.old) (W.contents writer.new) }
+
+    // The lines before the failed one have their replies; some or all of it was read.
+    ensures memory_refused { result ≡ Err RunFault.Memory → AnswersWholeLines others IsLinePart
+        (R.remaining reader.old) (R.remaining reader.new)
+        (W.contents writer.old) (W.contents writer.new) }
+    ensures no_numbers { result ≢ Err RunFault.Numbers }
+{
+    let answered = answer_lines(alloc, others, reader, writer);
+    let flushed = flush(writer);
+    answered.and(flushed)
+}
+
+/// Writes the reply to each line. The writer is flushed before each read that may wait, and is left
+/// to be flushed at the end.
+fn answer_lines<R: BufRead, W: Write>(
+    alloc: Global,
+    others: Others,
+    reader: &mut R,
+    writer: &mut W,
+) -> Result<(), RunFault>
+    ensures given_answered { OnOk result (AnswersAll others
+        (R.remaining reader.old) (R.remaining reader.new)
+        (W.contents writer.old) (W.contents writer.new)) }
+    ensures read_failed { result ≡ Err RunFault.Read → AnswersWholeLines others HasNoEnd
+        (R.remaining reader.old) (R.remaining reader.new)
+        (W.contents writer.old) (W.contents writer.new) }
+    ensures memory_refused { result ≡ Err RunFault.Memory → AnswersWholeLines others IsLinePart
+        (R.remaining reader.old) (R.remaining reader.new)
+        (W.contents writer.old) (W.contents writer.new) }
+    ensures no_numbers { result ≢ Err RunFault.Numbers }
+{
+    let mut nodes = Nodes::new(alloc, 0);
+    let mut line = Vec::new(alloc);
+    for _ in 0..u64::MAX {
+        match next_line(reader, writer, &mut line)? {
+            Part::Whole { is_used_up } => {
+                answer_line(alloc, others, writer, &mut nodes, &line)?;
+                if is_used_up {
+                    flush(writer)?;
+                }
+            }
+            Part::Last => return answer_line(alloc, others, writer, &mut nodes, &line),
+            Part::End => return Ok(()),
+        }
+    }
+    // No line may follow.
+    if is_at_end(reader)? {
+        Ok(())
+    } else {
+        Err(RunFault::Read)
+    }
+}

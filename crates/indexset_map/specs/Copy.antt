@@ -1,0 +1,24 @@
+-- A copy of a map: clones of its pairs, in the order in which their keys compare.
+use Rattle.std.specs.Prelude.{◌≡◌, List, [], ◌∷◌}
+use Rattle.std.specs.List.{AllZip, fold}
+use Rattle.std.specs.declared.cmp.Ordering.{Ordering}
+use Rattle.indexset_core.specs.declared.pair.Pair.{Pair}
+use Rattle.indexset_core.specs.Order.{IsAscending, keep}
+use Rattle.indexset_core.specs.Pairs.{by_key}
+use Rattle.indexset_spine.specs.Cut.{cut}
+use Rattle.indexset_set.specs.SetNodes.{nodes_kept_all}
+use Rattle.indexset_map.specs.Contents.{Contents, contents, with_pairs}
+
+module _ {K V : Type 0} (C : K → K → Type 0) (D : V → V → Type 0) where
+  -- a clone of the key with a clone of the value
+  abbrev pub IsPairClone : Pair K V → Pair K V → Type 0
+  IsPairClone p q = C p.key q.key × D p.value q.value
+
+  -- clones whose keys ascend stand in nodes as long as those of their sources; others are put in one by one, where no equal key is there
+  pub record IsMapCopy (cmp : K → K → Ordering) (m copy : Contents K V) : Type 0 where
+    pub clones : List (Pair K V)
+    pub cloned : AllZip IsPairClone m.pairs clones
+    pub in_place : IsAscending (by_key cmp) clones → copy ≡ with_pairs m clones
+    pub in_turn : (IsAscending (by_key cmp) clones → ⊥) → copy ≡ contents (cut (nodes_kept_all (by_key cmp) (cut ([] ∷ []) m.size) clones) m.size)
+    pub pairs : copy.pairs ≡ fold (keep (by_key cmp)) [] clones
+    pub size : copy.size ≡ m.size

@@ -1,0 +1,216 @@
+//! Walks that lend values to write, and the pairs that are kept.
+ghost use Rattle.std.specs.Prelude.{◌≤◌};
+
+use super::{put, shows, tens};
+use indexset_core::refusal::Refusal;
+use indexset_map::BTreeMap;
+use indexset_tests::sized::map_of;
+use std::alloc::Global;
+use std::ops::{Bound, Range};
+use std::test::Fail;
+
+// The keys from 1 up to the last at 0, put in from the least up, two to a node.
+fn zeros(alloc: Global, last: u64) -> Result<BTreeMap<u64, u64>, Refusal> {
+    let mut map = BTreeMap::with_maximum_node_size(alloc, 2)?;
+    for key in 1..=last {
+        put(&mut map, key, 0)?;
+    }
+    Ok(map)
+}
+
+// The keys from 0 up to, but not with, the end, each with itself, put in from the greatest down.
+fn selves(alloc: Global, size: usize, end: u64) -> Result<BTreeMap<u64, u64>, Refusal>
+    requires { 2 ≤ size }
+{
+    let mut map = BTreeMap::with_maximum_node_size(alloc, size)?;
+    for key in (0..end).rev() {
+        put(&mut map, key, key)?;
+    }
+    Ok(map)
+}
+
+// Whether a pair that a walk lends is this key with itself.
+fn is_self(pair: Option<(&u64, &mut u64)>, key: u64) -> bool {
+    pair.is_some_and(|pair| *pair.0 == key && *pair.1 == key)
+}
+
+// Whether a walk over positions lends these keys from the front, each with itself, and then none.
+fn lends(
+    map: &mut BTreeMap<u64, u64>,
+    range: (Bound<usize>, Bound<usize>),
+    keys: Range<u64>,
+) -> bool {
+    let mut walk = map.range_mut_idx(range);
+    for key in keys {
+        if !is_self(walk.next(), key) {
+            return false;
+        }
+    }
+    walk.next().is_none()
+}
+
+// Whether a walk over all lends the keys up to the end from the front, each with itself, and then none.
+fn lends_all(map: &mut BTreeMap<u64, u64>, end: u64) -> bool {
+    let mut walk = map.iter_mut();
+    for key in 0..end {
+        if !is_self(walk.next(), key) {
+            return false;
+        }
+    }
+    walk.next().is_none()
+}
+
+// The same from the back.
+fn lends_all_back(map: &mut BTreeMap<u64, u64>, end: u64) -> bool {
+    let mut walk = map.iter_mut();
+    for key in (0..end).rev() {
+        if !is_self(walk.next_back(), key) {
+            return false;
+        }
+    }
+    walk.next_back().is_none()
+}
+
+#[test]
+fn a_walk_dropped_half_way(rt: HostRuntime) -> Result<(), Fail> {
+    let mut map = zeros(rt.alloc(), 7)?;
+    let mut walk = map.iter_mut();
+    for (from_front, at, written) in [(true, 1, 1), (false, 7, 2)] {
+        let pair = if from_front {
+            walk.next()
+        } else {
+            walk.next_back()
+        };
+        let (key, value) = pair.ok_or("a pair")?;
+        assert!(rt; *key == at);
+        *value = written;
+    }
+    assert!(rt; map.values().copied().eq([1, 0, 0, 0, 0, 0, 2]));
+    Ok(())
+}
+
+#[test]
+fn ten_more_in_each(rt: HostRuntime) -> Result<(), Fail> {
+    let mut map = zeros(rt.alloc(), 4)?;
+    let cut = map.node_count() == 3;
+    let mut walk = map.iter_mut();
+    for _ in 0..4 {
+        if walk.has_next() {
+            let (_, value) = walk.next_pair();
+            *value = value.saturating_add(10);
+        }
+    }
+    let raised = map.values().copied().eq([10, 10, 10, 10]);
+    let mut values = map.values_mut();
+    for _ in 0..5 {
+        if let Some(value) = values.next_back() {
+            *value = value.saturating_add(1);
+        }
+    }
+    assert!(rt; cut && raised && map.values().copied().eq([11, 11, 11, 11]));
+    Ok(())
+}
+
+#[test]
+fn each_place_once_from_both_ends(rt: HostRuntime) -> Result<(), Fail> {
+    let mut map = tens(rt.alloc(), 2, 3)?;
+    let mut walk = map.iter_mut();
+    let rows = [
+        (true, Some(0), true),
+        (false, Some(2), true),
+        (true, Some(1), false),
+        (true, None, false),
+        (false, None, false),
+    ];
+    for (from_front, key, has_next) in rows {
+        let pair = if from_front {
+            walk.next()
+        } else {
+            walk.next_back()
+        };
+        assert!(rt; pair.map(|pair| *pair.0) == key && walk.has_next() == has_next);
+    }
+    let mut values = map.values_mut();
+    let rows = [
+        (true, Some(0)),
+        (false, Some(20)),
+        (false, Some(10)),
+        (false, None),
+        (true, None),
+    ];
+    for (from_front, expected) in rows {
+        let value = if from_front {
+            values.next()
+        } else {
+            values.next_back()
+        };
+        assert!(rt; value.map(|value| *value) == expected);
+    }
+    Ok(())
+}
+
+#[test]
+fn many_nodes_both_ways(rt: HostRuntime) -> Result<(), Fail> {
+    let mut map = selves(rt.alloc(), 1024, 10240)?;
+    assert!(rt; lends_all(&mut map, 10240) && lends_all_back(&mut map, 10240));
+    Ok(())
+}
+
+// Adds 100 to the balances from B on and below Cheryl.
+fn raise(balances: &mut BTreeMap<&'static str, u64>) {
+    let mut walk = balances.range_mut((Bound::Included(&"B"), Bound::Excluded(&"Cheryl")));
+    for _ in 0..4 {
+        if walk.has_next() {
+            let (_, balance) = walk.next_pair();
+            *balance = balance.saturating_add(100);
+        }
+    }
+}
+
+#[test]
+fn balances_over_a_range_of_names(rt: HostRuntime) -> Result<(), Fail> {
+    for size in [2, 1024] {
+        let names = [("Alice", 0u64), ("Bob", 0), ("Carol", 0), ("Cheryl", 0)];
+        let mut balances = map_of(rt.alloc(), size, &names)?;
+        raise(&mut balances);
+        assert!(rt; balances.values().copied().eq([0, 100, 100, 0]));
+    }
+    Ok(())
+}
+
+#[test]
+fn positions_to_write(rt: HostRuntime) -> Result<(), Fail> {
+    let ranges = [
+        (Bound::Unbounded, Bound::Unbounded, 0, 10),
+        (Bound::Included(1), Bound::Excluded(2), 1, 2),
+        (Bound::Included(3), Bound::Excluded(10), 3, 10),
+        (Bound::Included(0), Bound::Excluded(4), 0, 4),
+        (Bound::Included(5), Bound::Included(6), 5, 7),
+        (Bound::Included(0), Bound::Included(7), 0, 8),
+        (Bound::Included(7), Bound::Included(3), 0, 0),
+        (Bound::Excluded(usize::MAX), Bound::Unbounded, 0, 0),
+    ];
+    let mut small = selves(rt.alloc(), 2, 10)?;
+    let mut large = selves(rt.alloc(), 1024, 10)?;
+    for (start, end, first, past) in ranges {
+        let both = lends(&mut small, (start, end), first..past)
+            && lends(&mut large, (start, end), first..past);
+        assert!(rt; both);
+    }
+    Ok(())
+}
+
+#[test]
+fn even_keys_are_kept(rt: HostRuntime) -> Result<(), Fail> {
+    for size in [2, 1024] {
+        let mut map = tens(rt.alloc(), size, 8)?;
+        map.retain(|key: &u64, _value: &mut u64| -> bool { *key % 2 == 0 });
+        let even = shows(map.iter(), &[(0, 0), (2, 20), (4, 40), (6, 60)]);
+        map.retain(|key: &u64, value: &mut u64| -> bool {
+            *value = *key;
+            *key < 3
+        });
+        assert!(rt; even && shows(map.iter(), &[(0, 0), (2, 2)]));
+    }
+    Ok(())
+}

@@ -1,0 +1,74 @@
+//! Worked examples of look-ups by borrowed text, in a logged map and in a replica of its pairs.
+use bytes::ByteStr;
+use indexset_core::pair::Pair;
+use indexset_core::probe::Counting;
+use indexset_log::map::BTreeMap;
+use indexset_replica::Replica;
+use indexset_text::{ByStr, OnKey};
+use std::test::Fail;
+
+type Named = Pair<ByteStr, u64>;
+
+// Names that are sought, and their values.
+const ROWS: [(&str, Option<u64>); 7] = [
+    ("", None),
+    ("apples", Some(5)),
+    ("pear", None),
+    ("pears", Some(3)),
+    ("pearse", None),
+    ("plums", Some(7)),
+    ("quinces", None),
+];
+
+fn named(name: &'static str, value: u64) -> Named {
+    Pair {
+        key: ByteStr::from_static(name),
+        value,
+    }
+}
+
+// The value of a name in a map, and how many comparisons its look-up makes.
+fn value_in(map: &BTreeMap<ByteStr, u64, Vec<Named>>, name: &str) -> (Option<u64>, u64) {
+    // Tells that the names ascend.
+    let _nodes = map.node_count();
+    let mut probe = Counting::new(OnKey::new(ByStr::new(name)));
+    let value = map.get_by(&mut probe).map(|pair| pair.value);
+    (value, probe.asked())
+}
+
+// The same in a replica.
+fn value_of(replica: &Replica<Named>, name: &str) -> (Option<u64>, u64) {
+    // Tells that the names ascend.
+    let _nodes = replica.nodes();
+    let mut probe = Counting::new(OnKey::new(ByStr::new(name)));
+    let value = replica.get_by(&mut probe).map(|pair| pair.value);
+    (value, probe.asked())
+}
+
+#[test]
+fn names_in_a_logged_map(rt: HostRuntime) -> Result<(), Fail> {
+    let mut map = BTreeMap::with_maximum_node_size(rt.alloc(), 2);
+    for (name, value) in [("plums", 7), ("apples", 5), ("pears", 3)] {
+        map.insert(ByteStr::from_static(name), value)?;
+    }
+    assert_eq!(rt; map.node_count(), 2);
+    for (name, value) in ROWS {
+        let (found, asked) = value_in(&map, name);
+        // Two nodes, nodes of two, and the name that is found: 2 + 2 + 1.
+        assert!(rt; found == value && asked <= 5, "of {name}: {asked}");
+    }
+    Ok(())
+}
+
+#[test]
+fn names_in_a_replica(rt: HostRuntime) -> Result<(), Fail> {
+    let mut replica = Replica::new(rt.alloc(), 0);
+    replica.attach(vec![in rt.alloc(); named("plums", 7)]?)?;
+    replica.attach(vec![in rt.alloc(); named("apples", 5), named("pears", 3)]?)?;
+    for (name, value) in ROWS {
+        let (found, asked) = value_of(&replica, name);
+        // Two nodes, nodes of two, and the name that is found: 2 + 2 + 1.
+        assert!(rt; found == value && asked <= 5, "of {name}: {asked}");
+    }
+    Ok(())
+}

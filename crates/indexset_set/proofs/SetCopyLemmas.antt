@@ -1,0 +1,105 @@
+-- Whether the clones of ascending elements ascend, and the sets that they make.
+use Rattle.std.proofs.Common.{◌≡◌, ℕ, ◌+◌, ◌-◌, ◌<◌, List, [], ◌∷◌, ◌++◌, length, get_or, Ordering, Some, Result, Ok, Err, slice_get, refl, sym, ap, ◌∙◌, subst, arith, length-append, append_assoc, true, false}
+use Rattle.std.specs.declared.cmp.Ordering.TheVariants.{Less, Equal}
+use Rattle.std.specs.Cmp.{IsTotalOrder}
+use Rattle.std.specs.List.{AllZip, fold}
+use Rattle.std.specs.Ordering.{is_lt}
+use Rattle.std.specs.Result.{IfOk}
+use Rattle.std.proofs.lemmas.Bool.{false≢true}
+use Rattle.std.proofs.lemmas.Cmp.{alike_right}
+use Rattle.std.proofs.lemmas.List.{append-nil, get_or-append-add}
+use Rattle.std.proofs.lemmas.List.Elements.{AllZip-get_or, length_all_zip}
+use Rattle.std.proofs.lemmas.Option.{slice_get-get_or}
+use Rattle.std.proofs.Math.Seq.{get_or-append_seam}
+use Rattle.indexset_core.specs.Nodes.{joined}
+use Rattle.indexset_core.specs.Order.{IsAscending, keep}
+use Rattle.indexset_core.proofs.CallerLemmas.{less_from}
+use Rattle.indexset_spine.specs.Cut.{Cut, cut, items}
+use Rattle.indexset_set.specs.SetCopy.{IsSetCopy}
+use Rattle.indexset_set.specs.SetNodes.{nodes_kept_all}
+use Rattle.indexset_set.proofs.SetAppendLemmas.{appended_ascending}
+use Rattle.indexset_set.proofs.SetCloneLemmas.{keep_behind}
+
+module _ {T : Type 0} (cmp : T → T → Ordering) where
+  -- the items up to the last of those seen ascend, and the others follow
+  pub record AscendsTo (all : List T) (last : T) (rest : List T) : Type 0 where
+    pub front : List T
+    pub parts : all ≡ front ++ last ∷ rest
+    pub up : IsAscending cmp (front ++ last ∷ [])
+
+  pub one_ascends : (x : T) → IsAscending cmp (x ∷ [])
+  one_ascends x i j d lt inside = absurd (omega (arith, lt, inside))
+
+  pub ascends_first : (all rest : List T) (x : T) → all ≡ x ∷ rest → AscendsTo all x rest
+  ascends_first all rest x first = record { front = []; parts = first; up = one_ascends x }
+
+  module _ (all rest rest' : List T) (x y : T) (far : AscendsTo all x rest) (first : rest ≡ y ∷ rest') where
+    split : all ≡ (far.front ++ x ∷ []) ++ y ∷ rest'
+    split = far.parts ∙ ap (λ r. far.front ++ x ∷ r) first ∙ sym (append_assoc far.front (x ∷ []) (y ∷ rest'))
+
+    long : length (far.front ++ x ∷ []) ≡ length far.front + 1
+    long = length-append far.front (x ∷ [])
+
+    last_is : slice_get (far.front ++ x ∷ []) (length (far.front ++ x ∷ []) - 1) ≡ Some x
+    last_is =
+        let at : length (far.front ++ x ∷ []) - 1 ≡ length far.front = omega (arith, long) in
+        rw at (slice_get-get_or (far.front ++ x ∷ []) (length far.front) x (omega (arith, long)) ∙ ap (λ z. Some z) (get_or-append_seam far.front x [] x))
+
+    pub ascends_next : IsTotalOrder cmp → is_lt (cmp x y) ≡ true → AscendsTo all y rest'
+    ascends_next o less = record {
+      front = far.front ++ x ∷ [];
+      parts = split;
+      up = appended_ascending cmp (far.front ++ x ∷ []) (y ∷ []) x y last_is refl o far.up (one_ascends y) (less_from _ less);
+    }
+
+    pub descends : is_lt (cmp x y) ≡ false → IsAscending cmp all → ⊥
+    descends not_less up =
+        let ups : IsAscending cmp (far.front ++ x ∷ y ∷ rest') = subst (IsAscending cmp) (far.parts ∙ ap (λ r. far.front ++ x ∷ r) first) up in
+        let at_x : get_or (far.front ++ x ∷ y ∷ rest') (length far.front) x ≡ x = get_or-append_seam far.front x (y ∷ rest') x in
+        let at_y : get_or (far.front ++ x ∷ y ∷ rest') (length far.front + 1) x ≡ y = get_or-append-add far.front (x ∷ y ∷ rest') 1 x in
+        let less : cmp x y ≡ Less = rw (at_x, at_y) at (ups (length far.front) (length far.front + 1) x (omega arith) (omega (arith, length-append far.front (x ∷ y ∷ rest')))) in
+        false≢true (sym not_less ∙ ap is_lt less)
+
+  pub ascends_all : (all rest : List T) (x : T) → AscendsTo all x rest → rest ≡ [] → IsAscending cmp all
+  ascends_all all rest x far none = subst (IsAscending cmp) (sym (far.parts ∙ ap (λ r. far.front ++ x ∷ r) none)) far.up
+
+  -- ascending elements put in one by one stay as they are
+  pub kept_all_behind : (l xs : List T) → IsAscending cmp (l ++ xs) → fold (keep cmp) l xs ≡ l ++ xs
+  kept_all_behind l [] up = sym (append-nil l)
+  kept_all_behind l (x ∷ xs) up =
+      let split : (l ++ x ∷ []) ++ xs ≡ l ++ x ∷ xs = append_assoc l (x ∷ []) xs in
+      ap (λ m. fold (keep cmp) m xs) (keep_behind cmp l x xs up) ∙ kept_all_behind (l ++ x ∷ []) xs (subst (IsAscending cmp) (sym split) up) ∙ split
+
+  -- where clones equal their sources, they ascend as these do
+  pub clones_ascend : IsTotalOrder cmp → (C : T → T → Type 0) → ((x y : T) → C x y → cmp x y ≡ Equal) → (xs ys : List T) → AllZip C xs ys → IsAscending cmp xs → IsAscending cmp ys
+  clones_ascend o C equal xs ys cloned up i j d lt inside =
+      let long : length xs ≡ length ys = length_all_zip C xs ys cloned in
+      let low : cmp (get_or xs i d) (get_or ys i d) ≡ Equal = equal _ _ (AllZip-get_or C xs ys i d d cloned (omega (arith, long))) in
+      let high : cmp (get_or xs j d) (get_or ys j d) ≡ Equal = equal _ _ (AllZip-get_or C xs ys j d d cloned (omega (arith, long))) in
+      sym (o.congr (get_or xs i d) (get_or ys i d) (get_or ys j d) low)
+      ∙ sym (alike_right o (get_or xs j d) (get_or ys j d) (get_or xs i d) high)
+      ∙ up i j d lt (omega (arith, long))
+
+-- a copy whose clones are those of the nodes
+module _ {T : Type 0} (cmp : T → T → Ordering) (C : T → T → Type 0) (s : Cut T) (clones : List (List T)) (cloned : AllZip (AllZip C) s.nodes clones) where
+  pub copy_in_place : (copy : Cut T) → copy.nodes ≡ clones → copy.size ≡ s.size → IsAscending cmp (joined clones) → IsSetCopy cmp C s copy
+  copy_in_place copy nodes size up = record {
+    clones = clones;
+    cloned = cloned;
+    in_place = λ _. nodes;
+    in_turn = λ other. absurd (other up);
+    elements = ap joined nodes ∙ sym (kept_all_behind cmp [] (joined clones) up);
+    size = size;
+  }
+
+  pub copy_in_turn : {E : Type 0} (r : Result (Cut T) E) → (IsAscending cmp (joined clones) → ⊥) → IfOk r (λ copy. items copy ≡ fold (keep cmp) [] (joined clones))
+      → IfOk r (λ copy. copy.nodes ≡ nodes_kept_all cmp (cut ([] ∷ []) s.size) (joined clones)) → IfOk r (λ copy. copy.size ≡ s.size) → IfOk r (λ copy. IsSetCopy cmp C s copy)
+  copy_in_turn (Ok copy) other elements nodes size = record {
+    clones = clones;
+    cloned = cloned;
+    in_place = λ up. absurd (other up);
+    in_turn = λ _. nodes;
+    elements = elements;
+    size = size;
+  }
+  copy_in_turn (Err e) other elements nodes size = tt

@@ -1,0 +1,17 @@
+-- A copy of a set: clones of its elements, in the order in which they compare.
+use Rattle.std.specs.Prelude.{◌≡◌, List, [], ◌∷◌}
+use Rattle.std.specs.List.{AllZip, fold}
+use Rattle.std.specs.declared.cmp.Ordering.{Ordering}
+use Rattle.indexset_core.specs.Nodes.{joined}
+use Rattle.indexset_core.specs.Order.{IsAscending, keep}
+use Rattle.indexset_spine.specs.Cut.{Cut, cut, items}
+use Rattle.indexset_set.specs.SetNodes.{nodes_kept_all}
+
+-- clones that ascend stand in nodes as long as those of their sources; others are put in one by one, where no equal one is there
+pub record IsSetCopy {T : Type 0} (cmp : T → T → Ordering) (C : T → T → Type 0) (s copy : Cut T) : Type 0 where
+  pub clones : List (List T)
+  pub cloned : AllZip (AllZip C) s.nodes clones
+  pub in_place : IsAscending cmp (joined clones) → copy.nodes ≡ clones
+  pub in_turn : (IsAscending cmp (joined clones) → ⊥) → copy.nodes ≡ nodes_kept_all cmp (cut ([] ∷ []) s.size) (joined clones)
+  pub elements : items copy ≡ fold (keep cmp) [] (joined clones)
+  pub size : copy.size ≡ s.size

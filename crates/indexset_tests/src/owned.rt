@@ -1,0 +1,100 @@
+//! Keys that own a block, and what is made of them.
+ghost use Rattle.std.proofs.Common.{rules};
+ghost use Rattle.std.specs.Prelude.{IfOk, ◌≡◌, nat_eq};
+ghost use Rattle.std.specs.Cmp.{partial_order_from_own_ties};
+ghost use Rattle.std.specs.Cmp.Rules.{comparing};
+ghost use Rattle.std.specs.Ordering.{nat_cmp, as_partial_cmp};
+
+use indexset_core::refusal::Refusal;
+use std::alloc::{AllocError, Global};
+use std::cmp::Ordering;
+use std::marker::Model;
+
+/// A number in a block of its own, so that a clone of it asks for memory.
+#[derive(Drop)]
+pub struct Owned {
+    block: Box<u64>,
+}
+
+impl Model for Owned {
+    ghost use Rattle.std.specs.Prelude.{ℕ};
+
+    ghost Value = { ℕ };
+
+    ghost view = { λ s. s.block.value };
+}
+
+impl Owned {
+    /// The number in a new block.
+    pub fn new(alloc: Global, number: u64) -> Result<Self, AllocError>
+        ensures { IfOk result (λ s. s ≡ number) }
+    {
+        let block = Box::new(alloc, number)?;
+        Ok(Owned { block })
+    }
+
+    /// The number.
+    pub fn number(&self) -> u64
+        ensures { result ≡ self.now }
+    {
+        *self.block
+    }
+}
+
+impl Clone for Owned {
+    ghost use Rattle.std.specs.Prelude.{◌≡◌};
+
+    ghost is_clone = { λ s r. r ≡ s };
+
+    fn clone(&self) -> Result<Self, AllocError> {
+        Owned::new(*Box::allocator(&self.block), self.number())
+    }
+}
+
+impl PartialEq for Owned {
+    ghost eq = { nat_eq };
+
+    ghost laws = { Prim.search (comparing, rules) };
+
+    fn eq(&self, other: &Self) -> bool {
+        self.number() == other.number()
+    }
+}
+
+impl Eq for Owned {
+    ghost laws = { Prim.search (comparing, rules) };
+}
+
+impl PartialOrd for Owned {
+    ghost partial_cmp = { as_partial_cmp nat_cmp };
+
+    ghost laws = { partial_order_from_own_ties (Prim.search (comparing, rules)) (Prim.search (comparing, rules)) };
+
+    fn partial_cmp(&self, other: &Self) -> Option<Ordering> {
+        Some(self.cmp(other))
+    }
+}
+
+impl Ord for Owned {
+    ghost cmp = { nat_cmp };
+
+    ghost total = { Prim.search (comparing, rules) };
+
+    ghost matches_partial_cmp = { Prim.search (comparing, rules) };
+
+    ghost matches_eq = { Prim.search (comparing, rules) };
+
+    fn cmp(&self, other: &Self) -> Ordering {
+        self.number().cmp(&other.number())
+    }
+}
+
+/// The numbers, each in a block of its own, in a list with no room to spare.
+pub fn owned_node(alloc: Global, numbers: &[u64]) -> Result<Vec<Owned>, Refusal> {
+    let mut node = Vec::with_capacity(alloc, numbers.len())?;
+    for number in numbers {
+        let item = Owned::new(alloc, *number)?;
+        node.push(item).map_err(|_| Refusal::Memory)?;
+    }
+    Ok(node)
+}

@@ -1,0 +1,67 @@
+//! Texts by name, and a copy of them kept elsewhere: a logged map from texts to texts.
+ghost use Rattle.std.specs.Prelude.{◌≡◌, false, Some, OnOk};
+ghost use Rattle.std.specs.Option.{option_copied};
+ghost use Rattle.std.specs.Ordering.{nat_cmp};
+ghost use Rattle.std.specs.Cmp.Lexicographic.{slice_cmp};
+ghost use Rattle.indexset.specs.Words.{has_key, joined, value_of};
+
+use crate::copies::apply_all;
+use bytes::ByteStr;
+use indexset::base::pair::Pair;
+use indexset::base::refusal::Refusal;
+use indexset::concurrent::map::BTreeMap;
+use indexset::replica::Replica;
+use indexset::text::{ByStr, OnKey};
+
+/// The text of a name.
+pub type Named = Pair<ByteStr, ByteStr>;
+
+/// Texts by name. The map, its events and its copies share the bytes of names and texts.
+pub type Names = BTreeMap<ByteStr, ByteStr, Vec<Named>>;
+
+/// Sets the text of a name, in a map and in a copy with the same nodes: both then have the same nodes
+/// again, and the copy holds the text.
+pub fn set_text(
+    names: &mut Names,
+    copy: &mut Replica<Named>,
+    name: ByteStr,
+    text: ByteStr,
+) -> Result<(), Refusal>
+    requires { copy.old.nodes ≡ names.old.nodes }
+    ensures same { OnOk result (copy.new.nodes ≡ names.new.nodes) }
+    ensures held { OnOk result (value_of (slice_cmp nat_cmp) (joined copy.new.nodes) name ≡ Some text) }
+{
+    let (_, events) = names.insert_cdc(name, text)?;
+    apply_all(copy, events.as_slice())
+}
+
+/// Removes a name from a map and from a copy with the same nodes: both then have the same nodes again,
+/// and the copy does not hold the name.
+pub fn forget(names: &mut Names, copy: &mut Replica<Named>, name: &ByteStr) -> Result<(), Refusal>
+    requires { copy.old.nodes ≡ names.old.nodes }
+    ensures same { OnOk result (copy.new.nodes ≡ names.new.nodes) }
+    ensures gone { OnOk result (has_key (slice_cmp nat_cmp) (joined copy.new.nodes) name.now ≡ false) }
+{
+    let (_, events) = names.remove_cdc(name)?;
+    apply_all(copy, events.as_slice())
+}
+
+/// The text of a name, which is looked up as it is: no key is made of it.
+pub fn text_of<'a>(names: &'a Names, name: &str) -> Option<&'a ByteStr>
+    ensures { option_copied result ≡ value_of (slice_cmp nat_cmp) (joined names.now.nodes) name.now }
+{
+    // Tells that the names ascend.
+    let _nodes = names.node_count();
+    let pair = names.get_by(&mut OnKey::new(ByStr::new(name)))?;
+    Some(&pair.value)
+}
+
+/// The text that a copy has of a name, in the same way.
+pub fn copied_text_of<'a>(copy: &'a Replica<Named>, name: &str) -> Option<&'a ByteStr>
+    ensures { option_copied result ≡ value_of (slice_cmp nat_cmp) (joined copy.now.nodes) name.now }
+{
+    // Tells that the names ascend.
+    let _nodes = copy.nodes();
+    let pair = copy.get_by(&mut OnKey::new(ByStr::new(name)))?;
+    Some(&pair.value)
+}

@@ -1,0 +1,44 @@
+//! Commands to a map by name, carried out in turn.
+ghost use Rattle.std.specs.Prelude.{◌≡◌, ◌+◌, ◌*◌, ◌≤◌, length, take, Some};
+ghost use Rattle.std.specs.List.{fold};
+ghost use Rattle.std.specs.Ordering.{nat_cmp};
+ghost use Rattle.std.specs.String.{string_cmp};
+ghost use Rattle.std.specs.Cmp.Lexicographic.{slice_cmp};
+ghost use Rattle.indexset.specs.Words.{by_key, joined, replay, IsNumberedFrom};
+ghost use Rattle.indexset_bench.specs.LoggedMap.{logged_map_after};
+
+use crate::stock::Stock;
+use crate::strings::Counts;
+use bytes::ByteStr;
+use indexset_bench::logged::map::LoggedMapCommand;
+use indexset_bench::logged_run::{LogRun, run_logged};
+use std::alloc::Global;
+
+/// Carries out commands on a stock. The events lead from the nodes before the run to those after
+/// it, and the stock holds what the commands with a reply make of it.
+pub fn run_stock(
+    alloc: Global,
+    stock: &mut Stock,
+    commands: Vec<LoggedMapCommand<ByteStr, u64>>,
+) -> LogRun<Stock>
+    ensures replay { replay (by_key (slice_cmp nat_cmp)) stock.old.nodes result.events.items ≡ Some stock.new.nodes }
+    ensures numbered { IsNumberedFrom stock.old.next result.events.items }
+    ensures contents { joined stock.new.nodes ≡ fold (logged_map_after (slice_cmp nat_cmp)) (joined stock.old.nodes) (take (length result.replies.items) commands.items) }
+{
+    run_logged(alloc, stock, commands)
+}
+
+/// Carries out commands on a map by `String`. It holds what the commands with a reply make of it,
+/// and the events are numbered in turn.
+pub fn run_counts(
+    alloc: Global,
+    counts: &mut Counts,
+    commands: Vec<LoggedMapCommand<String, u64>>,
+) -> LogRun<Counts>
+    ensures contents { joined counts.new.nodes ≡ fold (logged_map_after string_cmp) (joined counts.old.nodes) (take (length result.replies.items) commands.items) }
+    ensures numbered { IsNumberedFrom counts.old.next result.events.items }
+    ensures next { counts.new.next ≡ counts.old.next + length result.events.items }
+    ensures few { length result.events.items ≤ 3 * length result.replies.items }
+{
+    run_logged(alloc, counts, commands)
+}

@@ -1,0 +1,59 @@
+//! Maps whose keys are `String`s. Their clones are other values of the same bytes, so the contracts say
+//! what the map holds and which numbers the events have, and of the items of events that they are clones.
+ghost use Rattle.std.specs.Prelude.{◌≡◌, ◌+◌, ◌≤◌, length, false, Some, IfOk, OnOk, OnErr, string_bytes};
+ghost use Rattle.std.specs.List.{AllZip};
+ghost use Rattle.std.specs.String.{string_cmp};
+ghost use Rattle.indexset.specs.Words.{by_key, has_key, joined, numbered_from, pair, put, put_events, unassigned, value_of, without_key, IsClonedStep, IsEventClone, IsNumberedFrom};
+
+use indexset::base::pair::Pair;
+use indexset::base::refusal::{Refusal, Refused};
+use indexset::cdc::change::ChangeEvent;
+use indexset::concurrent::map::BTreeMap;
+use indexset::replica::Replica;
+
+/// How many there are of each name.
+pub type Count = Pair<String, u64>;
+
+/// Counts by name.
+pub type Counts = BTreeMap<String, u64, Vec<Count>>;
+
+/// Sets the count of a name, and returns the events, at most three. They are numbered in turn, and are
+/// those of the change with clones of its names.
+pub fn set_count(
+    counts: &mut Counts,
+    name: String,
+    count: u64,
+) -> Result<Vec<ChangeEvent<Count>>, Refused<(String, u64)>>
+    ensures contents { OnOk result (joined counts.new.nodes ≡ put (by_key string_cmp) (joined counts.old.nodes) (pair name count)) }
+    ensures held { OnOk result (value_of string_cmp (joined counts.new.nodes) name ≡ Some count) }
+    ensures numbered { IfOk result (λ events. IsNumberedFrom counts.old.next events.items) }
+    ensures few { IfOk result (λ events. length events.items ≤ 3) }
+    ensures told { IfOk result (λ events. AllZip (IsEventClone (λ p q. (string_bytes q.key ≡ string_bytes p.key) × (q.value ≡ p.value)))
+        (numbered_from counts.old.next (put_events (by_key string_cmp) counts.old.size counts.old.nodes (pair name count))) events.items) }
+    ensures same { OnErr result (counts.new ≡ counts.old) }
+{
+    let (_, events) = counts.insert_cdc(name, count)?;
+    Ok(events)
+}
+
+/// Removes a name, and returns the events, at most three, numbered in turn.
+pub fn forget(counts: &mut Counts, name: &String) -> Result<Vec<ChangeEvent<Count>>, Refusal>
+    ensures contents { OnOk result (joined counts.new.nodes ≡ without_key string_cmp (joined counts.old.nodes) name.now) }
+    ensures gone { OnOk result (has_key string_cmp (joined counts.new.nodes) name.now ≡ false) }
+    ensures numbered { IfOk result (λ events. IsNumberedFrom counts.old.next events.items) }
+    ensures few { IfOk result (λ events. length events.items ≤ 3) }
+    ensures same { OnErr result (counts.new ≡ counts.old) }
+{
+    let (_, events) = counts.remove_cdc(name)?;
+    Ok(events)
+}
+
+/// Applies an event to a copy: its nodes are then those that the event leads to, with a clone for an
+/// item that it inserts, and it awaits the next event.
+pub fn follow(copy: &mut Replica<Count>, event: &ChangeEvent<Count>) -> Result<(), Refusal>
+    ensures nodes { OnOk result (IsClonedStep (by_key string_cmp) (λ p q. (string_bytes q.key ≡ string_bytes p.key) × (q.value ≡ p.value)) copy.old.nodes (unassigned event.now) copy.new.nodes) }
+    ensures next { OnOk result (copy.new.next ≡ copy.old.next + 1) }
+    ensures same { OnErr result (copy.new ≡ copy.old) }
+{
+    copy.apply(event)
+}

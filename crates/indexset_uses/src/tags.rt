@@ -1,0 +1,57 @@
+//! An index from tags to the names of documents: a logged map in which a tag has many names.
+ghost use Rattle.std.specs.Prelude.{◌≡◌, ℕ, List, nat_eq, false, true, is_some, Some, IfOk, OnOk, OnErr};
+ghost use Rattle.std.specs.Ordering.{is_eq, nat_cmp};
+ghost use Rattle.std.specs.Cmp.Lexicographic.{pointwise, slice_cmp};
+ghost use Rattle.indexset.specs.Words.{by_number, entries, equal_pair, joined, pairs_of, replay, without_first};
+
+use bytes::ByteStr;
+use indexset::base::multipair::MultiPair;
+use indexset::base::refusal::{Refusal, Refused};
+use indexset::cdc::change::ChangeEvent;
+use indexset::concurrent::multimap::BTreeMultiMap;
+use indexset::concurrent::multimap::range::Range;
+
+/// A document under a tag.
+pub type Tagged = MultiPair<ByteStr, ByteStr>;
+
+/// Names of documents by tag.
+pub type Tags = BTreeMultiMap<ByteStr, ByteStr, Vec<Tagged>>;
+
+/// Inserts a document under a tag, where it is absent, and returns the events. The tag then has it,
+/// and other tags have what they had.
+pub fn add(
+    tags: &mut Tags,
+    tag: ByteStr,
+    document: ByteStr,
+) -> Result<Vec<ChangeEvent<Tagged>>, Refused<(ByteStr, ByteStr)>>
+    ensures there { OnOk result (is_some (equal_pair (slice_cmp nat_cmp) (pointwise nat_eq) (joined tags.new.nodes) tag document) ≡ true) }
+    ensures others { OnOk result ((other : List ℕ) → is_eq (slice_cmp nat_cmp other tag) ≡ false → pairs_of (slice_cmp nat_cmp) (joined tags.new.nodes) other ≡ pairs_of (slice_cmp nat_cmp) (joined tags.old.nodes) other) }
+    ensures replay { IfOk result (λ events. replay (by_number (slice_cmp nat_cmp)) tags.old.nodes events.items ≡ Some tags.new.nodes) }
+    ensures same { OnErr result (tags.new ≡ tags.old) }
+{
+    let (_, events) = tags.insert_cdc(tag, document)?;
+    Ok(events)
+}
+
+/// Removes the first of a tag's documents with this name, where there is one, and returns the events.
+/// The tag has its other documents, and other tags have what they had.
+pub fn remove(
+    tags: &mut Tags,
+    tag: &ByteStr,
+    document: &ByteStr,
+) -> Result<Vec<ChangeEvent<Tagged>>, Refusal>
+    ensures gone { OnOk result (pairs_of (slice_cmp nat_cmp) (joined tags.new.nodes) tag.now ≡ without_first (λ pair. pointwise nat_eq pair.value document.now) (pairs_of (slice_cmp nat_cmp) (joined tags.old.nodes) tag.now)) }
+    ensures others { OnOk result ((other : List ℕ) → is_eq (slice_cmp nat_cmp other tag.now) ≡ false → pairs_of (slice_cmp nat_cmp) (joined tags.new.nodes) other ≡ pairs_of (slice_cmp nat_cmp) (joined tags.old.nodes) other) }
+    ensures replay { IfOk result (λ events. replay (by_number (slice_cmp nat_cmp)) tags.old.nodes events.items ≡ Some tags.new.nodes) }
+    ensures same { OnErr result (tags.new ≡ tags.old) }
+{
+    let (_, events) = tags.remove_cdc(tag, document)?;
+    Ok(events)
+}
+
+/// Returns the documents of a tag, in the order of their numbers.
+pub fn documents<'a>(tags: &'a Tags, tag: &ByteStr) -> Range<'a, ByteStr, ByteStr, Vec<Tagged>>
+    ensures { result ≡ entries (pairs_of (slice_cmp nat_cmp) (joined tags.now.nodes) tag.now) }
+{
+    tags.get(tag)
+}

@@ -1,0 +1,187 @@
+"""What the examples share: the two programs, the lines between them, and what is compared."""
+
+import collections
+import pathlib
+import shutil
+import socket
+import subprocess
+import sys
+
+CRATES = pathlib.Path(__file__).resolve().parent.parent / "crates"
+WORDS = (b"create", b"drop", b"insert", b"remove", b"split", b"merge")
+FOLLOWER_KILLED, RELAY_KILLED, NO_FAULT = b"follower killed", b"relay killed", b"no fault"
+
+
+class Lines:
+    """A program that answers each line of its input by one line, and some by more."""
+
+    def __init__(self, program, *arguments):
+        self.program = program
+        self.process = subprocess.Popen([program, *arguments], stdin=subprocess.PIPE, stdout=subprocess.PIPE)
+
+    def send(self, lines):
+        self.process.stdin.write(b"".join(line + b"\n" for line in lines))
+        self.process.stdin.flush()
+
+    def line(self):
+        line = self.process.stdout.readline()
+        if not line:
+            raise EOFError("the program ended")
+        return line.rstrip(b"\n")
+
+    def until(self, is_last):
+        """The lines up to the first that is the last."""
+        lines = [self.line()]
+        while not is_last(lines[-1]):
+            lines.append(self.line())
+        return lines
+
+    def each(self, lines):
+        """The answer of one line to each of the lines, which are sent in parts that pipes can hold."""
+        answers = []
+        for at in range(0, len(lines), 1000):
+            part = lines[at : at + 1000]
+            self.send(part)
+            answers += [self.line() for _ in part]
+        return answers
+
+    def nodes(self):
+        """The nodes of a follower, and the number that it awaits."""
+        self.send([b"nodes"])
+        *nodes, last = self.until(lambda line: line.startswith(b"next "))
+        return nodes, int(last[5:])
+
+    def snapshot(self):
+        """The lines that make another follower the same."""
+        self.send([b"snapshot", b"len"])
+        return self.until(bytes.isdigit)[:-1]
+
+    def kill(self):
+        """Ends the program at once."""
+        self.process.kill()
+        self.process.communicate()
+
+    def end(self):
+        """Ends the program's input, and waits for its end."""
+        self.process.communicate()
+
+
+def built(name):
+    """The program of a crate, which `rt ci` and `rt run` leave in its folder."""
+    program = CRATES / name / "out" / name
+    newest = max(source.stat().st_mtime for source in CRATES.glob("*/src/**/*.rt"))
+    if not program.exists() or program.stat().st_mtime < newest:
+        sys.exit(f"{program} is not there, or older than the sources: `rt run` in {CRATES / name} builds it")
+    return program
+
+
+def commands(count, chance):
+    """Puts and cuts."""
+    lines = []
+    for _ in range(count):
+        key = chance.randrange(2000)
+        lines.append(b"put %d %d" % (key, chance.randrange(100)) if chance.random() < 0.6 else b"cut %d" % key)
+    return lines
+
+
+def is_event(line):
+    """Whether a line of the first program is an event."""
+    words = line.split(b" ", 2)
+    return len(words) == 3 and words[1] in WORDS
+
+
+def number(event):
+    return int(event.split(b" ", 1)[0])
+
+
+def spoiled(events, chance, counts):
+    """The events with some lost, some doubled and some swapped, which are counted."""
+    lines = []
+    for event in events:
+        times = chance.choices([0, 1, 2], [2, 95, 3])[0]
+        lines += [event] * times
+        counts[b"lost"] += times == 0
+        counts[b"doubled"] += times == 2
+    for at in range(len(lines) - 1):
+        if chance.random() < 0.02:
+            lines[at], lines[at + 1] = lines[at + 1], lines[at]
+            counts[b"swapped"] += 1
+    return lines
+
+
+def faults(kinds, steps, chance):
+    """Steps at which faults come: two of each kind, no two at once."""
+    return dict(zip(chance.sample(steps, 2 * len(kinds)), 2 * kinds))
+
+
+def first_missing(answers, counts):
+    """The number from which on events are to be sent again, after these answers, or None. It counts the answers."""
+    missing = None
+    for answer in answers:
+        word, awaited = answer.split(b" ")
+        counts[word] += 1
+        if word == b"gap":
+            missing = int(awaited)
+        elif missing is not None and int(awaited) > missing:
+            missing = None
+    return missing
+
+
+def installed(*programs):
+    """Ends where a program is missing, and names the Debian package that has it."""
+    for program in programs:
+        if shutil.which(program) is None:
+            sys.exit(f"{program} is not there: Debian's package {program} has it")
+
+
+def free_port():
+    """A port of loopback that nothing listens on."""
+    with socket.socket() as found:
+        found.bind(("127.0.0.1", 0))
+        return found.getsockname()[1]
+
+
+class Results:
+    """What was compared, and what came on the way to it."""
+
+    def __init__(self):
+        self.passed = self.failed = 0
+        self.counts = collections.Counter()
+
+    def show_counts(self):
+        print(", ".join(f"{word.decode()} {count}" for word, count in sorted(self.counts.items())))
+
+    def check(self, name, is_right):
+        print(f"{'ok' if is_right else 'WRONG'}: {name}")
+        self.passed += is_right
+        self.failed += not is_right
+
+    def end(self):
+        print(f"{self.passed} passed, {self.failed} failed")
+        sys.exit(1 if self.failed else 0)
+
+
+def restarted(follower, giver, results):
+    """A follower in place of one that is killed: the first from nothing, the second from the giver's snapshot."""
+    follower.kill()
+    started = Lines(follower.program)
+    if results.counts[FOLLOWER_KILLED] == 2:
+        snapshot = giver.snapshot()
+        answers = started.each(snapshot)
+        results.check(f"a snapshot of {len(snapshot) - 1} nodes is held", set(answers[1:]) == {b"held"})
+    return started
+
+
+class Primary(Lines):
+    """The first program. Each batch ends by `len`, whose answer is 0, since nothing is put into the set."""
+
+    def batch(self, lines):
+        """The events that the lines tell."""
+        self.send(lines + [b"len"])
+        return [line for line in self.until(lambda line: line == b"0") if is_event(line)]
+
+    def map_nodes(self):
+        """The nodes of the map."""
+        self.send([b"nodes", b"len"])
+        nodes = self.until(lambda line: line == b"0")[:-1]
+        return [] if nodes == [b"empty"] else nodes

@@ -1,0 +1,103 @@
+#!/usr/bin/env python3
+"""A map and its followers over a pipe and a file, with no server.
+
+1. All that the first program writes is piped into a follower that is started for that, which takes each
+   event in turn and ends with the nodes of the map.
+2. The event lines are kept in a file. A follower gets them with losses, repeats and swaps, and asks for
+   what is missing by its `gap`; half way it is killed, and another goes on from a snapshot that a third
+   gives. All end with the nodes of the map.
+
+Run it once the programs are built. Give a seed as the argument, if not 1. The last line is 'N passed, M failed'.
+"""
+
+import pathlib
+import random
+import subprocess
+import sys
+import tempfile
+import time
+
+sys.path.insert(0, str(pathlib.Path(__file__).resolve().parent.parent))
+from followers import Lines, Primary, Results, built, commands, first_missing, number, spoiled
+
+COMMANDS = 20_000
+BATCH = 200
+
+
+def piped(program, follower, given):
+    """The answers of a follower whose input is all that the first program writes."""
+    with tempfile.TemporaryFile() as commands_in:
+        commands_in.write(given)
+        commands_in.seek(0)
+        first = subprocess.Popen([program], stdin=commands_in, stdout=subprocess.PIPE)
+        second = subprocess.Popen([follower, "--pass-others"], stdin=first.stdout, stdout=subprocess.PIPE)
+        first.stdout.close()
+        answers = second.stdout.read().splitlines()
+        first.wait()
+    return answers if second.wait() == 0 else []
+
+
+def deliver(follower, lines, events, counts):
+    """Sends lines, and the events from there on where one is missing, which are read out of the file."""
+    missing = first_missing(follower.each(lines), counts)
+    if missing is not None:
+        counts[b"asked"] += 1
+        follower.each(events[missing : max(number(line) for line in lines) + 1])
+
+
+def followed(follower, events, nodes, chance, results):
+    """A follower over the file of the events, half way from a snapshot."""
+    counts, third, late = results.counts, Lines(follower), Lines(follower)
+    half = len(events) // 2
+    for at in range(0, half, BATCH):
+        deliver(late, spoiled(events[at : min(at + BATCH, half)], chance, counts), events, counts)
+        third.each(events[at : min(at + BATCH, half)])
+    late.kill()
+    snapshot, late = third.snapshot(), Lines(follower)
+    answers = late.each(snapshot)
+    is_held = answers == [b"next %d" % half] + [b"held"] * (len(snapshot) - 1)
+    results.check(f"a snapshot of {len(snapshot) - 1} nodes at event {half} is held", is_held)
+    results.check("its taker has the nodes of its giver", late.nodes() == third.nodes())
+    for at in range(half, len(events), BATCH):
+        deliver(late, spoiled(events[at : at + BATCH], chance, counts), events, counts)
+    awaited = late.nodes()[1]
+    if awaited < len(events):
+        late.each(events[awaited:])
+    is_same = late.nodes() == (nodes, len(events))
+    results.check("after losses, repeats, swaps and a kill it has the nodes of the map", is_same)
+    results.check("no event was unfit", b"unfit" not in counts)
+    results.show_counts()
+    third.end()
+    late.end()
+
+
+def main():
+    program, follower = built("indexset_program"), built("indexset_follower")
+    chance, results = random.Random(int(sys.argv[1]) if len(sys.argv) > 1 else 1), Results()
+    lines = commands(COMMANDS, chance)
+    primary = Primary(program)
+    with tempfile.TemporaryFile() as kept:
+        for at in range(0, COMMANDS, BATCH):
+            kept.write(b"".join(event + b"\n" for event in primary.batch(lines[at : at + BATCH])))
+        kept.seek(0)
+        events = kept.read().splitlines()
+    nodes = primary.map_nodes()
+    primary.end()
+    is_whole = [number(event) for event in events] == list(range(len(events)))
+    results.check(f"{COMMANDS} commands told {len(events)} events, numbered from 0 on", is_whole)
+
+    start = time.perf_counter()
+    answers = piped(program, follower, b"".join(line + b"\n" for line in lines))
+    took = time.perf_counter() - start
+    results.check("each event is taken over the pipe", answers == [b"next %d" % (at + 1) for at in range(len(events))])
+    start = time.perf_counter()
+    whole = subprocess.run([follower], input=b"\n".join(events + [b"nodes"]), capture_output=True).stdout.splitlines()
+    took_alone = time.perf_counter() - start
+    results.check("the events lead to the nodes of the map", whole[len(events) :] == nodes + [b"next %d" % len(events)])
+    print(f"events a second: {len(events) / took:.0f} over the pipe, {len(events) / took_alone:.0f} into the follower alone")
+    followed(follower, events, nodes, chance, results)
+    results.end()
+
+
+if __name__ == "__main__":
+    main()

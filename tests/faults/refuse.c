@@ -1,0 +1,113 @@
+/* Loaded before a program, it has the Nth of the program's requests fail: for memory as though none were
+   left, for a read or a write with EIO. The environment says which: REFUSE_MEMORY, REFUSE_READ or
+   REFUSE_WRITE is N, from 1; REFUSE_ON=1 has all later ones fail too; SHORT_READ is the most bytes that
+   one read gives. At the end it writes one line to the descriptor REFUSE_REPORT: how many requests for
+   memory, reads and writes there were, how many of all failed, and how many blocks were not freed. */
+#define _GNU_SOURCE
+#include <dlfcn.h>
+#include <errno.h>
+#include <stdio.h>
+#include <stdlib.h>
+#include <unistd.h>
+
+struct requests {
+    const char *name;
+    long refused, made;
+};
+
+static struct requests memory = {"REFUSE_MEMORY", 0, 0};
+static struct requests reads = {"REFUSE_READ", 0, 0};
+static struct requests writes = {"REFUSE_WRITE", 0, 0};
+static long on, short_read, report = -1, failed, blocks;
+
+static void *(*next_malloc)(size_t);
+static void *(*next_realloc)(void *, size_t);
+static void (*next_free)(void *);
+static ssize_t (*next_read)(int, void *, size_t);
+static ssize_t (*next_write)(int, const void *, size_t);
+
+static long number(const char *name) {
+    const char *text = getenv(name);
+    return text ? atol(text) : 0;
+}
+
+__attribute__((constructor)) static void begin(void) {
+    next_malloc = dlsym(RTLD_NEXT, "malloc");
+    next_realloc = dlsym(RTLD_NEXT, "realloc");
+    next_free = dlsym(RTLD_NEXT, "free");
+    next_read = dlsym(RTLD_NEXT, "read");
+    next_write = dlsym(RTLD_NEXT, "write");
+    on = number("REFUSE_ON");
+    short_read = number("SHORT_READ");
+    memory.refused = number(memory.name);
+    reads.refused = number(reads.name);
+    writes.refused = number(writes.name);
+    report = number("REFUSE_REPORT");
+    memory.made = blocks = 0;
+}
+
+__attribute__((destructor)) static void end(void) {
+    char line[128];
+    int length = snprintf(line, sizeof line, "%ld %ld %ld %ld %ld\n", memory.made, reads.made,
+                          writes.made, failed, blocks);
+    if (report > 0 && next_write(report, line, length) != length) {
+        _exit(99);
+    }
+}
+
+/* Counts a request, and tells whether it fails. */
+static int fails(struct requests *all) {
+    all->made++;
+    int is_refused = all->refused && (all->made == all->refused || (on && all->made > all->refused));
+    failed += is_refused;
+    return is_refused;
+}
+
+void *malloc(size_t size) {
+    if (!next_malloc) {
+        next_malloc = dlsym(RTLD_NEXT, "malloc");
+    }
+    if (fails(&memory)) {
+        errno = ENOMEM;
+        return NULL;
+    }
+    void *block = next_malloc(size);
+    blocks += block != NULL;
+    return block;
+}
+
+void *realloc(void *old, size_t size) {
+    if (fails(&memory)) {
+        errno = ENOMEM;
+        return NULL;
+    }
+    void *block = next_realloc(old, size);
+    blocks += old == NULL && block != NULL;
+    return block;
+}
+
+void free(void *block) {
+    blocks -= block != NULL;
+    if (next_free) {
+        next_free(block);
+    }
+}
+
+ssize_t read(int descriptor, void *buffer, size_t length) {
+    if (fails(&reads)) {
+        errno = EIO;
+        return -1;
+    }
+    if (short_read && length > (size_t)short_read) {
+        length = short_read;
+    }
+    return next_read(descriptor, buffer, length);
+}
+
+ssize_t write(int descriptor, const void *buffer, size_t length) {
+    if (descriptor == STDOUT_FILENO && fails(&writes)) {
+        errno = EIO;
+        return -1;
+    }
+    return next_write(descriptor, buffer, length);
+}
