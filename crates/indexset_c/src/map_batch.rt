@@ -60,7 +60,11 @@ pub extern "C" fn indexset_map_insert_all(
     };
     *taken = put_each(&mut held, keys, values);
     map.put(held);
-    if *taken == keys.len().min(values.len()) { YES } else { MEMORY }
+    if *taken == keys.len().min(values.len()) {
+        YES
+    } else {
+        MEMORY
+    }
 }
 
 /// Writes the value of each key, or `absent` where the key is not there, as far as there is room.
