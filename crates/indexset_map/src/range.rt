@@ -4,7 +4,8 @@ ghost use Rattle.std.specs.List.{count_by};
 ghost use Rattle.std.specs.Map.Iter.{ShowsInOrder, ShowsInReverse};
 ghost use Rattle.std.specs.Range.Bound.{bound_map};
 ghost use Rattle.indexset_core.specs.Bounds.{are_ordered, in_positions, is_before, is_up_to_end};
-ghost use Rattle.indexset_core.specs.Pairs.{pair_shown, pairs_within};
+ghost use Rattle.indexset_core.specs.Order.{IsAscending};
+ghost use Rattle.indexset_core.specs.Pairs.{by_key, pair_shown, pairs_within};
 
 use super::BTreeMap;
 use super::iter::IterMap;
@@ -25,6 +26,7 @@ impl<K: Ord, V> BTreeMap<K, V> {
     pub fn range(&self, range: (Bound<&K>, Bound<&K>)) -> RangeMap<'_, K, V>
         requires { IsTrue (are_ordered K.cmp (bound_map (λ k. k.now) range.0) (bound_map (λ k. k.now) range.1)) }
         ensures rest { result ≡ pairs_within K.cmp self.now.pairs (bound_map (λ k. k.now) range.entry.0) (bound_map (λ k. k.now) range.entry.1) }
+        ensures ascending { IsAscending (by_key K.cmp) result }
         ensures runs { ShowsInOrder (pair_shown {K = K} {V = V}) }
         ensures runs_back { ShowsInReverse (pair_shown {K = K} {V = V}) }
     {
@@ -40,6 +42,7 @@ impl<K: Ord, V> BTreeMap<K, V> {
     /// ```
     pub fn range_idx(&self, range: (Bound<usize>, Bound<usize>)) -> RangeMap<'_, K, V>
         ensures rest { result ≡ in_positions self.now.pairs range.0 range.1 }
+        ensures ascending { IsAscending (by_key K.cmp) result }
         ensures runs { ShowsInOrder (pair_shown {K = K} {V = V}) }
         ensures runs_back { ShowsInReverse (pair_shown {K = K} {V = V}) }
     {

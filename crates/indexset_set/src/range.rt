@@ -4,6 +4,7 @@ ghost use Rattle.std.specs.List.{count_by};
 ghost use Rattle.std.specs.Map.Iter.{ShowsInOrder, ShowsInReverse, deref};
 ghost use Rattle.std.specs.Range.Bound.{bound_map, start_index, end_index};
 ghost use Rattle.indexset_core.specs.Bounds.{IfBounded, are_ordered, in_positions, in_range, is_before, is_up_to_end};
+ghost use Rattle.indexset_core.specs.Order.{IsAscending};
 ghost use Rattle.indexset_spine.specs.Cut.{items};
 ghost use Rattle.indexset_set.specs.SetProbes.{FindsInOrder};
 
@@ -26,6 +27,7 @@ impl<T: Ord> BTreeSet<T> {
     pub fn range(&self, range: (Bound<&T>, Bound<&T>)) -> Range<'_, T>
         requires { IsTrue (are_ordered T.cmp (bound_map (λ v. v.now) range.0) (bound_map (λ v. v.now) range.1)) }
         ensures rest { result ≡ in_range T.cmp (items self.now) (bound_map (λ v. v.now) range.entry.0) (bound_map (λ v. v.now) range.entry.1) }
+        ensures ascending { IsAscending T.cmp result }
         ensures runs { ShowsInOrder (deref {X = T}) }
         ensures runs_back { ShowsInReverse (deref {X = T}) }
     {
@@ -43,6 +45,7 @@ impl<T: Ord> BTreeSet<T> {
     /// ```
     pub fn range_idx(&self, range: (Bound<usize>, Bound<usize>)) -> Range<'_, T>
         ensures rest { result ≡ in_positions (items self.now) range.0 range.1 }
+        ensures ascending { IsAscending T.cmp result }
         ensures runs { ShowsInOrder (deref {X = T}) }
         ensures runs_back { ShowsInReverse (deref {X = T}) }
     {

@@ -1,5 +1,5 @@
-use Rattle.std.proofs.Common.{◌≡◌, ◌∙◌}
-use Rattle.indexset_spine.specs.Cut.{items, position_of}
+use Rattle.std.proofs.Common.{◌∙◌}
+use Rattle.indexset_spine.specs.Cut.{items}
 use Rattle.indexset_core.proofs.CallerLemmas.{probed_before, probed_up_to, range_order, range_is}
 use Rattle.indexset_set.proofs.BTreeSet.range.Goals as goal
 
