@@ -10,6 +10,7 @@ ghost use Rattle.indexset_core.specs.Pairs.{by_key, pair_shown, pairs_within};
 use super::BTreeMap;
 use super::iter::IterMap;
 use indexset_core::probe::ByKey;
+use indexset_set::Bounds;
 use std::ops::Bound;
 
 /// The remaining pairs of a part of a map, from both ends.
@@ -20,17 +21,19 @@ impl<K: Ord, V> BTreeMap<K, V> {
     /// end, nor at it where both are excluded, which `bounds_are_ordered` of the core tests.
     ///
     /// ```
-    /// // The pairs of the keys from 10 on that are below 20.
-    /// let teens = map.range((Bound::Included(&10), Bound::Excluded(&20)));
+    /// // The pairs of the keys from 10 on that are below 20, and all from 20 on.
+    /// let teens = map.range(10..20);
+    /// let rest = map.range((Bound::Included(&20), Bound::Unbounded));
     /// ```
-    pub fn range(&self, range: (Bound<&K>, Bound<&K>)) -> RangeMap<'_, K, V>
-        requires { IsTrue (are_ordered K.cmp (bound_map (λ k. k.now) range.0) (bound_map (λ k. k.now) range.1)) }
-        ensures rest { result ≡ pairs_within K.cmp self.now.pairs (bound_map (λ k. k.now) range.entry.0) (bound_map (λ k. k.now) range.entry.1) }
+    pub fn range<R: Bounds<K> + Drop>(&self, range: R) -> RangeMap<'_, K, V>
+        requires { IsTrue (are_ordered K.cmp (R.start range) (R.end range)) }
+        ensures rest { result ≡ pairs_within K.cmp self.now.pairs (R.start range) (R.end range) }
         ensures ascending { IsAscending (by_key K.cmp) result }
         ensures runs { ShowsInOrder (pair_shown {K = K} {V = V}) }
         ensures runs_back { ShowsInReverse (pair_shown {K = K} {V = V}) }
     {
-        IterMap::of(self.set.range_by_key(range))
+        let bounds = (range.start_bound(), range.end_bound());
+        IterMap::of(self.set.range_by_key(bounds))
     }
 
     /// Returns the pairs at the positions that satisfy both bounds, in order. There is none where

@@ -3,7 +3,7 @@ use Rattle.std.specs.List.{between}
 use Rattle.indexset_map.specs.Contents.{Contents}
 use Rattle.indexset_map.specs.Walk.{walk_back, walk_front}
 use Rattle.indexset_map.proofs.SpanLemmas.{key_walk, span_filter}
-use Rattle.indexset_map.proofs.BTreeMap.range_mut.Goals as goal
+use Rattle.indexset_map.proofs.BTreeMap.within_mut.Goals as goal
 
 pub returns-clause-span : goal.returns-clause-span
 returns-clause-span g c =
