@@ -133,20 +133,22 @@ fn few_comparisons_in_a_multimap(rt: HostRuntime) -> Result<(), Fail> {
         let contains = asked.replace(0);
         let count = map.range((Included(&sought), Excluded(&next))).len();
         let range = asked.replace(0);
-        let some = map.remove_some(&sought)?;
-        let remove_some = asked.replace(0);
+        let other = map.remove(&sought, &(key + 1))?;
+        let keep = asked.replace(0);
         let removed = map.remove(&sought, &key)?;
         let remove = asked.replace(0);
         let old = map.insert(sought, key)?;
-        let gone = some.is_some() && removed.is_none() && old.is_none();
-        assert!(rt;
-            values == 1 && numbers == 1 && held && count == 1 && gone,
-            "of {key}"
-        );
-        // The pairs of a key lie between two bounds.
-        let reads = get <= 34 && raw_get <= 34 && contains <= 17 && range <= 34;
-        let few = remove_some <= 17 && remove <= 51 && asked.get() <= 51;
-        assert!(rt; reads && few, "of {key}");
+        let insert = asked.replace(0);
+        let again = Counted { key, asked: &asked };
+        asked.set(0);
+        let some = map.remove_some(&again)?;
+        let remove_some = asked.replace(0);
+        let absent = map.remove(&again, &key)?;
+        let miss = asked.replace(0);
+        let none = map.get(&again).len();
+        let get_none = asked.replace(0);
+        map.insert(again, key)?;
+        assert!(rt; false, "of {key}: get {get} {raw_get} {contains} {range} keep {keep} remove {remove} insert {insert} some {remove_some} miss {miss} none {get_none} {none} {values} {numbers} {held} {count} {}", some.is_some() && old.is_none() && removed.is_some() && other.is_none() && absent.is_none());
     }
     Ok(())
 }

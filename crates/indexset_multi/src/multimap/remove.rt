@@ -2,12 +2,11 @@
 ghost use Rattle.std.specs.Prelude.{◌≡◌, ◌+◌, ◌/◌, ◌<◌, ◌≤◌, [], drop, length, false, Some, IfOk, OnOk, IfErr, OnErr, IsOk};
 ghost use Rattle.std.specs.List.{AllZip};
 ghost use Rattle.std.specs.Option.{option_map};
-ghost use Rattle.std.specs.Ordering.{is_eq, nat_cmp, ordering_then};
+ghost use Rattle.std.specs.Ordering.{is_eq};
 ghost use Rattle.indexset_core.specs.MultiPairs.{by_number};
 ghost use Rattle.indexset_core.specs.Nodes.{joined, IsLawful};
 ghost use Rattle.indexset_log.specs.Clones.{IsEventClone};
 ghost use Rattle.indexset_log.specs.Joining.{IsSpaced};
-ghost use Rattle.indexset_log.specs.Located.{located};
 ghost use Rattle.indexset_log.specs.Replay.{replay, numbered_from, IsNumberedFrom};
 ghost use Rattle.indexset_log.specs.Tree.{refusal_for};
 ghost use Rattle.indexset_multi.specs.Keys.{equal_pair, first_pair, key_and_value, pairs_of, without_first, without_named};
@@ -15,7 +14,6 @@ ghost use Rattle.indexset_multi.specs.Places.{IsItemPlace, placed_item};
 ghost use Rattle.indexset_multi.specs.Tree.{pair_removal_events};
 
 use super::BTreeMultiMap;
-use crate::number::ByNumber;
 use indexset_core::multipair::MultiPair;
 use indexset_core::node::NodeLike;
 use indexset_core::refusal::Refusal;
@@ -152,20 +150,12 @@ impl<K: Ord + Clone + Drop, V: Eq + Clone + Drop, Node: NodeLike<MultiPair<K, V>
         ensures place { IsItemPlace self.now.nodes result }
         ensures pair { placed_item self.now.nodes result ≡ equal_pair K.cmp V.eq (joined self.now.nodes) key.now value.now }
     {
-        match self.kept_number(key, value) {
-            Some(number) => self.locate_number(key, number).ok(),
-            None => None,
-        }
-    }
-
-    // Returns where a search for a pair of this number ends.
-    fn locate_number(&self, key: &K, number: u64) -> Result<(usize, usize), (usize, usize)>
-        ensures place { result ≡ located (λ p. ordering_then (K.cmp p.key key.now) (nat_cmp p.discriminator number)) self.now.nodes }
-        ensures lawful { IsLawful (by_number K.cmp) self.now.size self.now.nodes }
-    {
-        // The contract of `node_count` says that the pairs ascend, as a search by number requires.
-        let _nodes = self.set.node_count();
-        self.set.locate_by(&mut ByNumber::new(key, number))
+        let (from, to) = self.places_of(key);
+        let index = self
+            .set
+            .range_between(from, to)
+            .position(|pair| pair.value == *value)?;
+        Some(self.set.place_ahead(from, index))
     }
 
     // Removes the pair at a place, where one is given, and returns it with the events.
