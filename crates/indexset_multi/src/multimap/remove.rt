@@ -1,5 +1,5 @@
 //! Calls that remove pairs.
-ghost use Rattle.std.specs.Prelude.{◌≡◌, ◌+◌, ◌/◌, ◌<◌, ◌≤◌, [], drop, length, false, Some, IfOk, OnOk, IfErr, OnErr, IsOk};
+ghost use Rattle.std.specs.Prelude.{◌≡◌, ◌+◌, ◌/◌, ◌<◌, ◌≤◌, [], drop, length, false, find, slice_get, None, Some, MatchOption, IfOk, OnOk, IfErr, OnErr, IsOk};
 ghost use Rattle.std.specs.List.{AllZip};
 ghost use Rattle.std.specs.Option.{option_map};
 ghost use Rattle.std.specs.Ordering.{is_eq};
@@ -18,6 +18,7 @@ use indexset_core::multipair::MultiPair;
 use indexset_core::node::NodeLike;
 use indexset_core::refusal::Refusal;
 use indexset_log::change::ChangeEvent;
+use indexset_log::set::range::Range;
 
 impl<K: Ord + Clone + Drop, V: Eq + Clone + Drop, Node: NodeLike<MultiPair<K, V>>> BTreeMultiMap<
     K,
@@ -151,10 +152,7 @@ impl<K: Ord + Clone + Drop, V: Eq + Clone + Drop, Node: NodeLike<MultiPair<K, V>
         ensures pair { placed_item self.now.nodes result ≡ equal_pair K.cmp V.eq (joined self.now.nodes) key.now value.now }
     {
         let (from, to) = self.places_of(key);
-        let index = self
-            .set
-            .range_between(from, to)
-            .position(|pair| pair.value == *value)?;
+        let index = index_of(self.set.range_between(from, to), value)?;
         Some(self.set.place_ahead(from, index))
     }
 
@@ -226,4 +224,24 @@ impl<K: Ord + Clone + Drop, V: Eq + Clone + Drop, Node: NodeLike<MultiPair<K, V>
             None => Ok(None),
         }
     }
+}
+
+// Returns how many pairs stand before the first with an equal value.
+fn index_of<K: Ord + Clone + Drop, V: Eq + Clone + Drop, Node: NodeLike<MultiPair<K, V>>>(
+    pairs: Range<'_, MultiPair<K, V>, Node>,
+    value: &V,
+) -> Option<usize>
+    ensures { MatchOption result (find (λ p. V.eq p.value value.now) pairs.entry ≡ None) (λ i. (i < length pairs.entry) × (slice_get pairs.entry i ≡ find (λ p. V.eq p.value value.now) pairs.entry)) }
+{
+    // The number of pairs fits.
+    let _len = pairs.len();
+    let mut rest = pairs;
+    let mut index = 0;
+    while let Some(pair) = rest.next() {
+        if pair.value == *value {
+            return Some(index);
+        }
+        index += 1;
+    }
+    None
 }

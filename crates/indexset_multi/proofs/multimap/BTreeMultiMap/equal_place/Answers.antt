@@ -1,1 +1,22 @@
+use Rattle.std.proofs.Common.{◌≡◌, find, slice_get, ap, sym, ◌∙◌}
+use Rattle.indexset_core.specs.Nodes.{joined}
+use Rattle.indexset_core.proofs.CallerLemmas.{get_in_node}
+use Rattle.indexset_log.specs.Places.{items_before}
+use Rattle.indexset_multi.proofs.Runs.{slice_between}
 use Rattle.indexset_multi.proofs.multimap.BTreeMultiMap.equal_place.Goals as goal
+
+pub returns-clause-pair : goal.returns-clause-pair
+returns-clause-pair g c =
+    let ns = c.args.self.now.nodes in
+    let from = items_before ns c.places_of.result.0 in
+    let to = items_before ns c.places_of.result.1 in
+    let same : c.self.inside.set.nodes ≡ ns = ap (λ m. m.nodes) c.self.view_is in
+    let part = rw same at c.range_between.ensures.rest in
+    let index = rw part at c.in_ok-index.ensures in
+    let node = rw same at c.place_ahead.ensures.node in
+    let offset = rw same at c.place_ahead.ensures.offset in
+    let place = rw same at c.place_ahead.ensures.before in
+    sym (get_in_node ns c.place_ahead.result.0 c.place_ahead.result.1 node offset)
+    ∙ (ap (λ i. slice_get (joined ns) i) place
+    ∙ (sym (slice_between from to (joined ns) c.in_ok-index.index index.0)
+    ∙ (index.1 ∙ ap (λ l. find (λ p. g.V.PartialEq.eq p.value c.args.value.now) l) c.places_of.ensures.pairs)))
