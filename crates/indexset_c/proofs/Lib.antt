@@ -2,4 +2,6 @@ pub mod Boxes
 mod LogLemmas
 mod MultiLemmas
 pub mod PairLemmas
+mod TextBoxes
+pub mod TextLemmas
 mod WrittenLemmas
