@@ -389,8 +389,14 @@ bool indexset_text_map_last(indexset_text_map *map, void *key, size_t places, si
 bool indexset_text_map_lower_bound(indexset_text_map *map, const void *from, size_t from_len, void *key, size_t places, size_t *len, uint64_t *value);
 
 /* Writes the values of the pairs from a position on, in the order of their keys, into an array of `places`
- * places, as many as it has room for. Returns how many it wrote; indexset_text_map_at tells their keys. */
+ * places, as many as it has room for. Returns how many it wrote. */
 size_t indexset_text_map_range_by_position(indexset_text_map *map, size_t from, uint64_t *values, size_t places);
+
+/* Writes how many bytes each key from a position on has, in order into an array of `length_places` places,
+ * as many as it has room for, and the bytes of those keys, one key behind another, into an array of
+ * `byte_places` places, as many as it has room for: what has no room is cut, also within a key. Returns how
+ * many lengths it wrote. */
+size_t indexset_text_map_keys_by_position(indexset_text_map *map, size_t from, void *bytes, size_t byte_places, size_t *lengths, size_t length_places);
 
 #ifdef __cplusplus
 }

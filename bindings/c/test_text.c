@@ -103,6 +103,7 @@ static void test_life(void) {
     CHECK(!indexset_text_map_first(&map, out, 8, &len, &value) && !indexset_text_map_last(&map, out, 8, &len, &value));
     CHECK(!indexset_text_map_lower_bound(&map, none, 0, out, 8, &len, &value));
     CHECK(indexset_text_map_range_by_position(&map, 0, &value, 1) == 0);
+    CHECK(indexset_text_map_keys_by_position(&map, 0, out, 8, &len, 1) == 0);
     CHECK(indexset_text_map_insert(&map, apple, 5, 1, &value) == INDEXSET_NONE);
     CHECK(indexset_text_map_clone(&map, &other) == INDEXSET_NONE && !other.live);
     CHECK(memcmp(out, "#######", 8) == 0 && len == 55 && value == 66);
@@ -183,6 +184,23 @@ static void step_range(indexset_text_map *map) {
     CHECK(values[wanted] == 77 && values[7] == 77);
 }
 
+/* The keys of a part, one behind another, also where they are cut. */
+static void step_keys(indexset_text_map *map) {
+    uint8_t bytes[41], wanted[5 * LONGEST];
+    size_t lengths[6] = {55, 55, 55, 55, 55, 55}, places = draw() % 41, end = 0;
+    size_t from = (size_t)(draw() % (count + 2)), rest = from < count ? count - from : 0, many = rest < 5 ? rest : 5;
+    memset(bytes, 0x77, sizeof bytes);
+    CHECK(indexset_text_map_keys_by_position(map, from, bytes, places, lengths, 5) == many);
+    for (size_t i = 0; i < many; i++) {
+        CHECK(lengths[i] == model[from + i].len);
+        memcpy(wanted + end, model[from + i].bytes, model[from + i].len);
+        end += model[from + i].len;
+    }
+    size_t told = end < places ? end : places;
+    CHECK(lengths[many] == 55 && memcmp(bytes, wanted, told) == 0);
+    for (size_t i = told; i < sizeof bytes; i++) CHECK(bytes[i] == 0x77);
+}
+
 static void test_random(unsigned long refuse, unsigned steps) {
     indexset_text_map map = INDEXSET_HANDLE, cloned = INDEXSET_HANDLE;
     count = 0;
@@ -194,6 +212,7 @@ static void test_random(unsigned long refuse, unsigned steps) {
         step_read(&map, draw_key());
         step_pair(&map, draw_key());
         step_range(&map);
+        step_keys(&map);
         if (i % 64 == 0) {
             CHECK(same_as_model(&map));
             uint32_t status = indexset_text_map_clone(&map, &cloned);

@@ -141,6 +141,7 @@ except ImportError:
             ("text_map_last", truth, [handle, places, count, counts, keys]),
             ("text_map_lower_bound", truth, [handle, text, count, places, count, counts, keys]),
             ("text_map_range_by_position", count, [handle, count, keys, count]),
+            ("text_map_keys_by_position", count, [handle, count, places, count, counts, count]),
             ("multi_new", status, [handle]),
             ("multi_free", None, [handle]),
             ("multi_clear", None, [handle]),

@@ -2,6 +2,7 @@
 from __future__ import annotations
 
 from array import array
+from itertools import accumulate
 from typing import Any, Iterable
 
 from . import _native as native
@@ -16,6 +17,7 @@ _remove = _lib.indexset_text_map_remove
 _contains = _lib.indexset_text_map_contains
 _rank = _lib.indexset_text_map_rank
 _at = _lib.indexset_text_map_at
+_keys = _lib.indexset_text_map_keys_by_position
 
 
 class TextDict(SortedDict):
@@ -24,7 +26,7 @@ class TextDict(SortedDict):
     Keys of the kind `str` are kept as their bytes in UTF-8; the order of those is the order of code points,
     which is Python's own order of texts. Keys of the kind `bytes` stand in the order of their bytes. Other
     types are refused with TypeError, and a text with a lone surrogate with ValueError. A call on one key
-    compares a number of keys that grows as log n; a walk over keys makes a call of the library for each.
+    compares a number of keys that grows as log n.
 
     >>> ages = SortedDict({"Zoe": 5, "Émile": 7}, keys="str"); ages["Ann"] = 3; ages
     SortedDict({'Ann': 3, 'Zoe': 5, 'Émile': 7}, keys='str')
@@ -102,10 +104,9 @@ class TextDict(SortedDict):
         key = self._key_at(position_of(index, len(self), "dictionary"))
         return self._decode(key), self._objects[self._value[0]]
 
-    def _key_at(self, position: int) -> Any:
-        """The bytes of the key at a position, or None where there is none; its value's place is written."""
-        if not _at(self._handle, position, self._room, self._size, self._long, self._value):
-            return None
+    def _key_at(self, position: int) -> bytes:
+        """The bytes of the key at a position, which has one; the place of its value is written too."""
+        _at(self._handle, position, self._room, self._size, self._long, self._value)
         size = self._long[0]
         if size > self._size:
             self._room, self._size = native.room(size), size
@@ -116,8 +117,24 @@ class TextDict(SortedDict):
 
     def _numbers(self, first: int, size: int) -> Any:
         """The keys' bytes at `size` positions, or as many as there are."""
-        keys = map(self._key_at, range(first, first + size))
-        return [key for key in keys if key is not None]
+        keys: list[bytes] = []
+        while len(keys) < size:
+            more = self._some_keys(first + len(keys), size - len(keys))
+            if not more:
+                break
+            keys += more
+        return keys
+
+    def _some_keys(self, first: int, size: int) -> list[bytes]:
+        """The bytes of keys from a position on, `size` at most: those that one call writes whole."""
+        places = 32 * size
+        room, lengths = native.room(places), array("Q", bytes(8 * size))
+        count = _keys(self._handle, first, room, places, native.positions(lengths), size)
+        ends = list(accumulate(lengths[:count]))
+        if ends and ends[0] > places:
+            return [self._key_at(first)]
+        written = native.read(room, min(ends[-1], places)) if ends else b""
+        return [written[end - length : end] for length, end in zip(lengths, ends) if end <= places]
 
     def _places_at(self, first: int, size: int) -> array[int]:
         places = array("Q", bytes(8 * size))

@@ -4,4 +4,5 @@ mod MultiLemmas
 pub mod PairLemmas
 mod TextBoxes
 pub mod TextLemmas
+mod TextWrittenLemmas
 mod WrittenLemmas

@@ -29,14 +29,14 @@ not_below_mono Greater Greater h = omega arith
 pub parted_from : {T : Type 0} (answer : T → Ordering) (xs : List T) → IsParted answer xs → IsParted (λ x. not_below (answer x)) xs
 parted_from answer xs h i j d le lt = not_below_mono _ _ (h i j d le lt)
 
-equal_from_here : (o : Ordering) → is_eq (not_below o) ≡ not (is_lt o)
-equal_from_here Less = refl
-equal_from_here Equal = refl
-equal_from_here Greater = refl
+equal_where_not_less : (o : Ordering) → is_eq (not_below o) ≡ not (is_lt o)
+equal_where_not_less Less = refl
+equal_where_not_less Equal = refl
+equal_where_not_less Greater = refl
 
 -- and finds it
 pub find_from : {T : Type 0} (answer : T → Ordering) (xs : List T) → find (λ x. is_eq (not_below (answer x))) xs ≡ find (λ x. not (is_lt (answer x))) xs
-find_from answer xs = λ k. find (λ x. equal_from_here (answer x) k) xs
+find_from answer xs = λ k. find (λ x. equal_where_not_less (answer x) k) xs
 
 -- where no item fails the test, each is counted
 counted : {T : Type 0} (p : T → Bool) (xs : List T) → find (λ x. not (p x)) xs ≡ None → length xs ≡ count_by p xs

@@ -4,7 +4,7 @@ use denote.RawPtr.{Ptr}
 use denote.RattleType.{RattleType}
 use denote.Builtin.{u64}
 use mir.Syntax.{impl, tnil, dnil}
-use Rattle.std.specs.Prelude.{ℕ, List, [], ◌++◌, Option, drop, length, slice_get, take}
+use Rattle.std.specs.Prelude.{ℕ, List, [], ◌++◌, Option, drop, length, map, slice_get, take}
 use Rattle.std.specs.Option.{option_map, option_map_or}
 use Rattle.std.specs.declared.cmp.Ordering.{Ordering}
 use Rattle.std.specs.declared.cmp.Ordering.TheVariants.{Less, Equal, Greater}
@@ -17,6 +17,7 @@ use Rattle.bytes.specs.contracts.shared.impls.BytesEq.TheImpl.{ghosts as eq}
 use Rattle.bytes.specs.contracts.shared.impls.BytesPartialEq.TheImpl.{ghosts as equal}
 use Rattle.bytes.specs.contracts.shared.impls.BytesPartialOrd.TheImpl.{ghosts as partial}
 use Rattle.indexset_core.specs.declared.pair.Pair.{Pair}
+use Rattle.indexset_core.specs.Pairs.{pair_keys}
 use Rattle.indexset_handle.specs.Holds.{holds}
 use Rattle.indexset_map.specs.Contents.{Contents}
 use Rattle.indexset_map.specs.contracts.BTreeMap as Map
@@ -38,6 +39,10 @@ key_at ps i = option_map_or (λ p. p.key) (slice_get ps i) []
 -- the value at a position, where there is one
 abbrev pub value_at : List (Pair (List ℕ) ℕ) → ℕ → Option ℕ
 value_at ps i = option_map (λ p. p.value) (slice_get ps i)
+
+-- how many bytes each key has
+abbrev pub key_lengths : List (Pair (List ℕ) ℕ) → List ℕ
+key_lengths ps = map length (pair_keys ps)
 
 -- the slice where the bytes went over its first places, as far as there is room
 abbrev pub written_over : List ℕ → List ℕ → List ℕ

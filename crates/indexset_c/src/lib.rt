@@ -42,6 +42,7 @@ mod text_keys;
 mod text_life;
 mod text_positions;
 mod text_probe;
+mod text_ranges;
 mod text_slot;
 
 /// This library's version: the major number times 65536, the minor one times 256, and the patch.

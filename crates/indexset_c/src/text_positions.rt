@@ -1,20 +1,17 @@
 //! Calls of a map from byte strings that go by a position, and those at its two ends.
-ghost use Rattle.std.specs.Prelude.{◌≡◌, ◌-◌, Some, None, true, false, drop, length, min};
+ghost use Rattle.std.specs.Prelude.{◌≡◌, ◌-◌, Some, None, true, false, length};
 ghost use Rattle.std.specs.Cmp.Lexicographic.{slice_cmp};
 ghost use Rattle.std.specs.Ordering.{nat_cmp};
-ghost use Rattle.indexset_core.specs.Pairs.{key_rank, pair_values};
-ghost use Rattle.indexset_c.specs.Elements.{written};
+ghost use Rattle.indexset_core.specs.Pairs.{key_rank};
 ghost use Rattle.indexset_c.specs.Text.{key_at, text_pairs, value_at, written_over};
 
 use crate::text_handle::TextHandle;
 use crate::text_keys::indexset_text_map_rank;
 use crate::text_life::indexset_text_map_len;
-use crate::text_slot::TextRange;
 use std::alloc::Global;
-use std::ops::Bound;
 
-// Writes bytes into the first places, as far as there is room.
-fn write_bytes(bytes: &[u8], out: &mut [u8])
+/// Writes bytes into the first places, as far as there is room.
+pub fn write_bytes(bytes: &[u8], out: &mut [u8])
     ensures { out.new ≡ written_over bytes.now out.old }
 {
     let count = bytes.len().min(out.len());
@@ -118,43 +115,4 @@ pub extern "C" fn indexset_text_map_last(
 {
     let count = indexset_text_map_len(alloc, map);
     indexset_text_map_at(alloc, map, count.saturating_sub(1), key, len, value)
-}
-
-// Writes the values that an iterator gives, as far as there is room, and returns how many it wrote.
-fn write_values(mut walk: TextRange<'_>, values: &mut [u64]) -> usize
-    ensures count { result ≡ min (length walk.entry) (length values.old) }
-    ensures values { values.new ≡ written result (pair_values walk.entry) values.old }
-{
-    let room = values.len();
-    let mut count = 0;
-    while count < room {
-        let Some((_key, value)) = walk.next() else {
-            break;
-        };
-        values[count] = *value;
-        count += 1;
-    }
-    count
-}
-
-/// Writes the values of the pairs from a position on, in order and as far as there is room. Returns how
-/// many it wrote.
-#[unsafe(no_mangle)]
-pub extern "C" fn indexset_text_map_range_by_position(
-    alloc: Global,
-    map: &mut TextHandle,
-    from: usize,
-    values: &mut [u64],
-) -> usize
-    ensures count { result ≡ min (length (drop from (text_pairs map.old.slot.value))) (length values.old) }
-    ensures values { values.new ≡ written result (pair_values (drop from (text_pairs map.old.slot.value))) values.old }
-    ensures same { map.new.slot.value ≡ map.old.slot.value }
-{
-    let Some(held) = map.take(alloc) else {
-        return 0;
-    };
-    let walk = held.range_idx((Bound::Included(from), Bound::Unbounded));
-    let count = write_values(walk, values);
-    map.put(held);
-    count
 }

@@ -1,7 +1,7 @@
 use Rattle.std.proofs.Common.{◌≡◌, ◌≤◌, length, drop}
 use Rattle.indexset_core.specs.Pairs.{pair_values}
 use Rattle.indexset_c.specs.Elements.{written}
-use Rattle.indexset_c.proofs.text_positions.write_values.Given as goal
+use Rattle.indexset_c.proofs.text_ranges.write_values.Given as goal
 
 -- the first places have what was walked, and the walk goes on behind it
 abbrev pub invariant-loop-count : goal.invariant-loop-count
