@@ -1,8 +1,8 @@
-//! The search for a node, by the nodes' last items.
-ghost use Rattle.std.specs.Prelude.{◌≡◌, ◌+◌, ◌≤◌, length, map};
+//! The search for a node, by the nodes' last items, and for the end of a run of items.
+ghost use Rattle.std.specs.Prelude.{◌≡◌, ◌+◌, ◌-◌, ◌*◌, ◌/◌, ◌<◌, ◌≤◌, length, map, min, take, if◌then◌else◌};
 ghost use Rattle.std.specs.List.{All};
 ghost use Rattle.indexset_core.specs.Digits.{digits};
-ghost use Rattle.indexset_core.specs.Parted.{IsParted};
+ghost use Rattle.indexset_core.specs.Parted.{IsParted, not_greater_count};
 ghost use Rattle.indexset_core.specs.Nodes.{joined, node_lengths, node_for};
 
 use indexset_core::node::NodeLike;
@@ -36,4 +36,76 @@ pub fn node_by<T: Ord + Drop, Node: NodeLike<T>, P: Probe<T>>(
         }
     }
     low
+}
+
+/// Returns how many items are not found Greater, where the first `from` are not: by steps from there
+/// that double, and a binary search once one was too long.
+pub(crate) fn run_end<T, P: Probe<T>>(items: &[T], from: usize, probe: &mut P) -> usize
+    requires parted { IsParted (P.answer probe.old) items.now }
+    requires from { from ≤ not_greater_count (P.answer probe.old) items.now }
+    ensures count { result ≡ not_greater_count (P.answer probe.old) items.now }
+    ensures fixed { P.answer probe.new ≡ P.answer probe.old }
+    ensures few { P.asked probe.new ≤ P.asked probe.old + (2 * digits (result - from) + 1) }
+    ensures unasked { from ≡ length items.now → P.asked probe.new ≡ P.asked probe.old }
+{
+    let mut low = from;
+    let mut high = items.len();
+    while low < high {
+        let at = next_step(from, low, high, high == items.len());
+        if probe.place(&items[at]).is_gt() {
+            high = at;
+        } else {
+            low = at + 1;
+        }
+    }
+    low
+}
+
+/// Returns the last node whose first item is not found Greater, where that of the node given is not:
+/// by steps from there that double, and a binary search once one was too long.
+pub(crate) fn last_started<T: Ord + Drop, Node: NodeLike<T>, P: Probe<T>>(
+    nodes: &[Node],
+    node: usize,
+    probe: &mut P,
+) -> usize
+    requires node { node < length nodes.now }
+    requires filled { All (λ n. 1 ≤ n) (node_lengths (map Node.list nodes.now)) }
+    requires parted { IsParted (P.answer probe.old) (joined (map Node.list nodes.now)) }
+    requires started { length (joined (take node (map Node.list nodes.now))) < not_greater_count (P.answer probe.old) (joined (map Node.list nodes.now)) }
+    ensures node { result < length nodes.now }
+    ensures order { node ≤ result }
+    ensures started { length (joined (take result (map Node.list nodes.now))) < not_greater_count (P.answer probe.old) (joined (map Node.list nodes.now)) }
+    ensures ended { not_greater_count (P.answer probe.old) (joined (map Node.list nodes.now)) ≤ length (joined (take (result + 1) (map Node.list nodes.now))) }
+    ensures fixed { P.answer probe.new ≡ P.answer probe.old }
+    ensures few { P.asked probe.new ≤ P.asked probe.old + (2 * digits (result - node) + 1) }
+{
+    let from = node + 1;
+    let mut low = from;
+    let mut high = nodes.len();
+    while low < high {
+        let at = next_step(from, low, high, high == nodes.len());
+        let Some(first) = nodes[at].min() else {
+            unreachable!()
+        };
+        if probe.place(first).is_gt() {
+            high = at;
+        } else {
+            low = at + 1;
+        }
+    }
+    low - 1
+}
+
+// Returns where a search between two indices compares next: as far ahead as it has
+// come, or in the middle.
+fn next_step(from: usize, low: usize, high: usize, ahead: bool) -> usize
+    requires order { from ≤ low }
+    requires some { low < high }
+    ensures { result ≡ low + (if ahead then min (low - from) (high - low - 1) else (high - low) / 2) }
+{
+    if ahead {
+        low + (low - from).min(high - low - 1)
+    } else {
+        low + (high - low) / 2
+    }
 }

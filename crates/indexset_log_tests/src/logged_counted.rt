@@ -133,20 +133,66 @@ fn few_comparisons_in_a_multimap(rt: HostRuntime) -> Result<(), Fail> {
         let contains = asked.replace(0);
         let count = map.range((Included(&sought), Excluded(&next))).len();
         let range = asked.replace(0);
-        let some = map.remove_some(&sought)?;
-        let remove_some = asked.replace(0);
+        let other = map.remove(&sought, &(key + 1))?;
+        let keep = asked.replace(0);
         let removed = map.remove(&sought, &key)?;
         let remove = asked.replace(0);
+        let absent = map.get(&sought).len();
+        let miss = asked.replace(0);
         let old = map.insert(sought, key)?;
-        let gone = some.is_some() && removed.is_none() && old.is_none();
+        let insert = asked.get();
+        let gone = other.is_none() && removed.is_some() && old.is_none();
         assert!(rt;
-            values == 1 && numbers == 1 && held && count == 1 && gone,
+            values == 1 && numbers == 1 && held && count == 1 && absent == 0 && gone,
             "of {key}"
         );
-        // The pairs of a key lie between two bounds.
-        let reads = get <= 34 && raw_get <= 34 && contains <= 17 && range <= 34;
-        let few = remove_some <= 17 && remove <= 51 && asked.get() <= 51;
-        assert!(rt; reads && few, "of {key}");
+        let reads = get <= 17 && raw_get <= 17 && contains <= 17 && range <= 34;
+        let few = keep <= 17 && remove <= 17 && miss <= 17 && insert <= 34;
+        assert!(rt; reads && few, "of {key}: {get} {raw_get} {keep} {remove}");
+    }
+    Ok(())
+}
+
+#[test]
+fn few_comparisons_for_a_first_pair(rt: HostRuntime) -> Result<(), Fail> {
+    let asked = Cell::new(0);
+    let mut map = many_numbered(rt.alloc(), &asked)?;
+    for key in [0, 5119, 10239] {
+        let sought = Counted { key, asked: &asked };
+        asked.set(0);
+        let some = map.remove_some(&sought)?;
+        let remove = asked.replace(0);
+        assert!(rt; some.is_some() && remove <= 17, "of {key}: {remove}");
+    }
+    Ok(())
+}
+
+// The same pairs, and of the key 5119 so many in all.
+fn with_more(alloc: Global, asked: &Cell<u64>, count: u64) -> Result<MultiMap<'_>, Refusal> {
+    let mut map = many_numbered(alloc, asked)?;
+    for value in 10240..10239 + count {
+        map.insert(Counted { key: 5119, asked }, value)?;
+    }
+    Ok(map)
+}
+
+#[test]
+fn comparisons_by_pairs_of_a_key(rt: HostRuntime) -> Result<(), Fail> {
+    for (count, most) in [(2, 20), (10, 25), (600, 60)] {
+        let asked = Cell::new(0);
+        let map = with_more(rt.alloc(), &asked, count)?;
+        asked.set(0);
+        let found = map
+            .get(&Counted {
+                key: 5119,
+                asked: &asked,
+            })
+            .len();
+        let get = asked.get();
+        assert!(rt;
+            found == count as usize && get <= most,
+            "of {count}: {found} {get}"
+        );
     }
     Ok(())
 }

@@ -1,14 +1,16 @@
 -- What a search for a key says of the pairs of a map.
-use Rattle.std.proofs.Common.{◌≡◌, ℕ, ◌<◌, Bool, true, false, if◌then◌else◌, length, List, [], ◌∷◌, arith, Ordering, Some, refl, ap, sym, ◌∙◌}
+use Rattle.std.proofs.Common.{◌≡◌, ℕ, ◌<◌, Bool, true, false, if◌then◌else◌, length, List, [], ◌∷◌, arith, Ordering, Some, slice_get, refl, ap, sym, ◌∙◌}
 use Rattle.std.specs.Cmp.{IsTotalOrder, on_total}
-use Rattle.std.specs.List.{position, remove}
-use Rattle.std.specs.Ordering.{is_eq}
+use Rattle.std.specs.List.{AllWithin, position, remove}
+use Rattle.std.specs.Option.{option_map}
+use Rattle.std.specs.Ordering.{is_eq, is_lt}
+use Rattle.std.specs.declared.cmp.Ordering.TheVariants.{Less}
 use Rattle.indexset_core.specs.declared.pair.Pair.{Pair}
 use Rattle.indexset_core.specs.Nodes.{node_lengths}
 use Rattle.indexset_spine.specs.Cut.{Cut, IsCut, items, with_inserted}
 use Rattle.indexset_core.specs.Order.{IsAscending, has_equal, keep, put}
-use Rattle.indexset_core.specs.Pairs.{pair, by_key, has_key, key_rank, put_value, without_key}
-use Rattle.indexset_core.proofs.CallerLemmas.{found_rank, found_without, parted_by_key, key_there, key_found, key_inside, key_written, absent_without, without-pair}
+use Rattle.indexset_core.specs.Pairs.{pair, by_key, has_key, key_rank, put_value, value_of, without_key}
+use Rattle.indexset_core.proofs.CallerLemmas.{Parts, count_parts, front-is_lt, less_from, pairs_total, rank-slice_get, slice_get-rank_equal, found_rank, found_without, parted_by_key, key_there, key_found, key_inside, key_written, absent_without, without-pair}
 use Rattle.indexset_map.specs.Contents.{Contents, contents, with_entry, with_written, without_at, without_entry}
 use Rattle.indexset_spine.specs.Lengths.{lengths_with, lengths_without}
 use Rattle.indexset_map.proofs.ContentsLemmas.{put_new, put_there}
@@ -24,6 +26,19 @@ module _ {K V : Type 0} (cmp : K → K → Ordering) (l : List (Pair K V)) (k : 
 pub key_taken : {K V : Type 0} (cmp : K → K → Ordering) (l : List (Pair K V)) (k : K) → IsTotalOrder cmp → IsAscending (by_key cmp) l → (i : ℕ) → position (λ p. is_eq (cmp p.key k)) l ≡ Some i → remove l i ≡ without_key cmp l k
 key_taken {V = V} cmp [] k o up i h = let lt = key_inside {V = V} cmp [] k i h in absurd (omega (arith, lt))
 key_taken {V = V} cmp (p ∷ l) k o up i h = key_removed cmp (p ∷ l) k o up i h p.value (on_total (λ (q : Pair _ V). q.key) o)
+
+module _ {K V : Type 0} (cmp : K → K → Ordering) (o : IsTotalOrder cmp) (l : List (Pair K V)) (up : IsAscending (by_key cmp) l) where
+  -- the keys at the places before a key's rank are below it
+  pub key_before : (k : K) (i : ℕ) → i ≡ key_rank cmp l k → AllWithin (λ p. cmp p.key k ≡ Less) l 0 i
+  key_before k i place n d low high =
+      let parts : Parts (λ p. is_lt (cmp p.key k)) l (key_rank cmp l k) = count_parts is_lt front-is_lt (λ p. cmp p.key k) l (parted_by_key cmp o l up k) in
+      less_from _ (parts.before n d low (rw (← place) high))
+
+  -- a pair of the list is found by its key
+  pub value_held : (i : ℕ) (p : Pair K V) → slice_get l i ≡ Some p → has_equal (by_key cmp) l p ≡ true → value_of cmp l p.key ≡ Some p.value
+  value_held i p is has =
+      let total = pairs_total cmp o in
+      ap (option_map (λ q. q.value)) (sym (slice_get-rank_equal (by_key cmp) total l up p has) ∙ (ap (slice_get l) (rank-slice_get (by_key cmp) total l up i p is) ∙ is))
 
 get_or_inside : {X : Type 0} (l : List X) (i : ℕ) → i < length l → X
 get_or_inside [] i lt = absurd (omega arith)

@@ -75,6 +75,13 @@ module _ {K V : Type 0} (cmp : K → K → Ordering) where
         let here : i ≡ position_or_len (λ p. not (is_before cmp start p.key)) l = omega (arith, inside, there, f, len, clip) in
         here ∙ ap (λ (r : Pair K V → Bool). position_or_len r l) (λ k p. not_before cmp o start p.key k)
 
+    -- the first key past a bound
+    pub first_past : (end : Bound K) (i to n : ℕ) → to ≡ count_by (λ p. is_up_to_end cmp end p.key) l → n ≡ length l → i ≡ min to n → i ≡ position_or_len (λ p. not (is_up_to_end cmp end p.key)) l
+    first_past end i to n t len clip =
+        let inside = (up_to_parts end).inside in
+        let there : position_or_len (λ p. not (is_up_to_end cmp end p.key)) l ≡ count_by (λ p. is_up_to_end cmp end p.key) l = first_passing (λ p. is_up_to_end cmp end p.key) l _ (up_to_parts end) in
+        omega (arith, inside, there, t, len, clip)
+
     -- the keys between two bounds are one span
     key_span : (start end : Bound K) → IsSpan (λ p. is_within cmp start end p.key) l (min (count_by (λ p. is_before cmp start p.key) l) (count_by (λ p. is_up_to_end cmp end p.key) l)) (count_by (λ p. is_up_to_end cmp end p.key) l)
     key_span start end =

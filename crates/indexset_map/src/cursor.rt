@@ -1,9 +1,9 @@
 //! A cursor that stands at a position of a map, or at its end place.
-ghost use Rattle.std.specs.Prelude.{◌≡◌, ◌-◌, ◌==◌, None, slice_get, if◌then◌else◌};
+ghost use Rattle.std.specs.Prelude.{◌≡◌, ◌-◌, ◌==◌, None, not, slice_get, if◌then◌else◌};
 ghost use Rattle.std.specs.List.{position_or_len};
 ghost use Rattle.std.specs.Option.{option_copied, option_map};
 ghost use Rattle.std.specs.Range.Bound.{bound_map};
-ghost use Rattle.indexset_core.specs.Bounds.{is_from_start};
+ghost use Rattle.indexset_core.specs.Bounds.{is_from_start, is_up_to_end};
 ghost use Rattle.indexset_core.specs.Pairs.{entry_of};
 ghost use Rattle.indexset_set.specs.SetCursor.{item_at, one_back, one_on, standing_at};
 
@@ -52,6 +52,24 @@ impl<K: Ord, V> BTreeMap<K, V> {
         CursorMap {
             cursor: self.set.cursor_at(i),
         }
+    }
+
+    /// Returns a cursor at the first pair whose key is past the bound, as the end of a range, or at
+    /// the end place where there is none: above an included key, and at or above an excluded one.
+    ///
+    /// ```
+    /// // Of a map with the keys 1 and 3.
+    /// assert_eq!(rt; map.upper_bound(Bound::Included(&1)).key(), Some(&3));
+    /// ```
+    pub fn upper_bound(&self, bound: Bound<&K>) -> CursorMap<'_, K, V>
+        ensures pairs { result.list ≡ self.now.pairs }
+        ensures position { result.position ≡ position_or_len (λ p. not (is_up_to_end K.cmp (bound_map (λ k. k.now) bound.entry) p.key)) self.now.pairs }
+    {
+        // A map says here that its keys ascend.
+        let _len = self.len();
+        let i = self.end_position(bound);
+        let cursor = self.set.cursor_at(i);
+        CursorMap { cursor }
     }
 }
 

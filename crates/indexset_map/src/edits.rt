@@ -1,6 +1,7 @@
 //! Insertion and removal of pairs, and `retain`.
 ghost use Rattle.std.specs.Prelude.{◌≡◌, ◌-◌, ◌<◌, ◌++◌, true, false, Some, None, IfOk, OnOk, IfErr, OnErr, IsOk, MatchOption, length, map, take, drop, slice_get};
 ghost use Rattle.std.specs.Option.{option_map, option_to_list};
+ghost use Rattle.std.specs.Ordering.{is_eq};
 ghost use Rattle.std.specs.List.Retain.{RetainsInTurn};
 ghost use Rattle.indexset_core.specs.Pairs.{CalledOnPair, entry_of, has_key, pair_of, value_of};
 ghost use Rattle.indexset_map.specs.Contents.{no_pairs, with_entry, without_at, without_entry};
@@ -18,6 +19,7 @@ impl<K: Ord + Drop, V: Drop> BTreeMap<K, V> {
         ensures old { IfOk result (λ o. o ≡ value_of K.cmp self.old.pairs key) }
         ensures ok { OnOk result (self.new ≡ with_entry K.cmp self.old key value) }
         ensures there { OnOk result (value_of K.cmp self.new.pairs key ≡ Some value) }
+        ensures others { OnOk result ((other : K) → is_eq (K.cmp other key) ≡ false → value_of K.cmp self.new.pairs other ≡ value_of K.cmp self.old.pairs other) }
         ensures no_memory { has_key K.cmp self.old.pairs key ≡ true → IsOk result }
         ensures given_back { IfErr result (λ e. (e.value ≡ (key, value)) × (e.cause ≡ Refusal.Memory)) }
         ensures unchanged { OnErr result (self.new ≡ self.old) }
@@ -38,6 +40,7 @@ impl<K: Ord + Drop, V: Drop> BTreeMap<K, V> {
         ensures rest { self.new ≡ without_entry K.cmp self.old key.now }
         ensures gone { has_key K.cmp self.new.pairs key.now ≡ false }
         ensures no_value { value_of K.cmp self.new.pairs key.now ≡ None }
+        ensures others { (other : K) → is_eq (K.cmp other key.now) ≡ false → value_of K.cmp self.new.pairs other ≡ value_of K.cmp self.old.pairs other }
     {
         match self.locate(key) {
             Ok(i) => Some(self.pop_index(i)),
@@ -52,6 +55,7 @@ impl<K: Ord + Drop, V: Drop> BTreeMap<K, V> {
         ensures rest { self.new ≡ without_entry K.cmp self.old key.now }
         ensures gone { has_key K.cmp self.new.pairs key.now ≡ false }
         ensures no_value { value_of K.cmp self.new.pairs key.now ≡ None }
+        ensures others { (other : K) → is_eq (K.cmp other key.now) ≡ false → value_of K.cmp self.new.pairs other ≡ value_of K.cmp self.old.pairs other }
     {
         let (_, value) = self.remove_entry(key)?;
         Some(value)

@@ -4,11 +4,13 @@ ghost use Rattle.std.specs.List.{count_by};
 ghost use Rattle.std.specs.Map.Iter.{ShowsInOrder, ShowsInReverse};
 ghost use Rattle.std.specs.Range.Bound.{bound_map};
 ghost use Rattle.indexset_core.specs.Bounds.{are_ordered, in_positions, is_before, is_up_to_end};
-ghost use Rattle.indexset_core.specs.Pairs.{pair_shown, pairs_within};
+ghost use Rattle.indexset_core.specs.Order.{IsAscending};
+ghost use Rattle.indexset_core.specs.Pairs.{by_key, pair_shown, pairs_within};
 
 use super::BTreeMap;
 use super::iter::IterMap;
 use indexset_core::probe::ByKey;
+use indexset_set::Bounds;
 use std::ops::Bound;
 
 /// The remaining pairs of a part of a map, from both ends.
@@ -19,16 +21,19 @@ impl<K: Ord, V> BTreeMap<K, V> {
     /// end, nor at it where both are excluded, which `bounds_are_ordered` of the core tests.
     ///
     /// ```
-    /// // The pairs of the keys from 10 on that are below 20.
-    /// let teens = map.range((Bound::Included(&10), Bound::Excluded(&20)));
+    /// // The pairs of the keys from 10 on that are below 20, and all from 20 on.
+    /// let teens = map.range(10..20);
+    /// let rest = map.range((Bound::Included(&20), Bound::Unbounded));
     /// ```
-    pub fn range(&self, range: (Bound<&K>, Bound<&K>)) -> RangeMap<'_, K, V>
-        requires { IsTrue (are_ordered K.cmp (bound_map (λ k. k.now) range.0) (bound_map (λ k. k.now) range.1)) }
-        ensures rest { result ≡ pairs_within K.cmp self.now.pairs (bound_map (λ k. k.now) range.entry.0) (bound_map (λ k. k.now) range.entry.1) }
+    pub fn range<R: Bounds<K> + Drop>(&self, range: R) -> RangeMap<'_, K, V>
+        requires { IsTrue (are_ordered K.cmp (R.start range) (R.end range)) }
+        ensures rest { result ≡ pairs_within K.cmp self.now.pairs (R.start range) (R.end range) }
+        ensures ascending { IsAscending (by_key K.cmp) result }
         ensures runs { ShowsInOrder (pair_shown {K = K} {V = V}) }
         ensures runs_back { ShowsInReverse (pair_shown {K = K} {V = V}) }
     {
-        IterMap::of(self.set.range_by_key(range))
+        let bounds = (range.start_bound(), range.end_bound());
+        IterMap::of(self.set.range_by_key(bounds))
     }
 
     /// Returns the pairs at the positions that satisfy both bounds, in order. There is none where
@@ -40,6 +45,7 @@ impl<K: Ord, V> BTreeMap<K, V> {
     /// ```
     pub fn range_idx(&self, range: (Bound<usize>, Bound<usize>)) -> RangeMap<'_, K, V>
         ensures rest { result ≡ in_positions self.now.pairs range.0 range.1 }
+        ensures ascending { IsAscending (by_key K.cmp) result }
         ensures runs { ShowsInOrder (pair_shown {K = K} {V = V}) }
         ensures runs_back { ShowsInReverse (pair_shown {K = K} {V = V}) }
     {

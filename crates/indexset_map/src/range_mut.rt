@@ -6,6 +6,7 @@ ghost use Rattle.indexset_core.specs.Pairs.{pairs_within};
 
 use super::BTreeMap;
 use super::iter_mut::IterMut;
+use indexset_set::Bounds;
 use indexset_set::range::{end_position, first_position};
 use std::ops::Bound;
 
@@ -27,17 +28,28 @@ impl<K: Ord, V> BTreeMap<K, V> {
     ///     *balance = balance.saturating_add(100);
     /// }
     /// ```
-    pub fn range_mut(&mut self, range: (Bound<&K>, Bound<&K>)) -> RangeMut<'_, K, V>
-        requires { IsTrue (are_ordered K.cmp (bound_map (λ k. k.now) range.0) (bound_map (λ k. k.now) range.1)) }
+    pub fn range_mut<R: Bounds<K> + Drop>(&mut self, range: R) -> RangeMut<'_, K, V>
+        requires { IsTrue (are_ordered K.cmp (R.start range) (R.end range)) }
         ensures same_map { (walk_map result).ghost_name ≡ self.entry.ghost_name }
         ensures unchanged { (walk_map result).now ≡ self.old }
-        ensures rest { walk_rest result ≡ pairs_within K.cmp self.old.pairs (bound_map (λ k. k.now) range.entry.0) (bound_map (λ k. k.now) range.entry.1) }
-        ensures span { IsSpan (λ p. is_within K.cmp (bound_map (λ k. k.now) range.entry.0) (bound_map (λ k. k.now) range.entry.1) p.key) self.old.pairs (walk_front result) (walk_back result) }
+        ensures rest { walk_rest result ≡ pairs_within K.cmp self.old.pairs (R.start range) (R.end range) }
+        ensures span { IsSpan (λ p. is_within K.cmp (R.start range) (R.end range) p.key) self.old.pairs (walk_front result) (walk_back result) }
+    {
+        self.within_mut(range.start_bound(), range.end_bound())
+    }
+
+    // Does the same of two bounds.
+    fn within_mut(&mut self, start: Bound<&K>, end: Bound<&K>) -> RangeMut<'_, K, V>
+        requires { IsTrue (are_ordered K.cmp (bound_map (λ k. k.now) start) (bound_map (λ k. k.now) end)) }
+        ensures same_map { (walk_map result).ghost_name ≡ self.entry.ghost_name }
+        ensures unchanged { (walk_map result).now ≡ self.old }
+        ensures rest { walk_rest result ≡ pairs_within K.cmp self.old.pairs (bound_map (λ k. k.now) start.entry) (bound_map (λ k. k.now) end.entry) }
+        ensures span { IsSpan (λ p. is_within K.cmp (bound_map (λ k. k.now) start.entry) (bound_map (λ k. k.now) end.entry) p.key) self.old.pairs (walk_front result) (walk_back result) }
     {
         // A map says here that its keys ascend, so the two positions cut out the range.
         let _len = self.len();
-        let from = self.start_position(range.0);
-        let to = self.end_position(range.1);
+        let from = self.start_position(start);
+        let to = self.end_position(end);
         self.range_mut_idx((Bound::Included(from), Bound::Excluded(to)))
     }
 

@@ -53,9 +53,6 @@ module _ {K : Type 0} (cmp : K → K → Ordering) (o : IsTotalOrder cmp) where
   places_total : IsTotalOrder by_place
   places_total = then_total (on_total (λ (a : K × ℕ). a.0) o) (on_total (λ (a : K × ℕ). a.1) nat_cmp_total)
 
-  not_less : (a b : K × ℕ) → by_place a b ≡ Less → is_lt (by_place b a) ≡ false
-  not_less a b h = rw (places_total.antisymm b a) (rw h refl)
-
   pub one_ordered : (k : K) → is_le (cmp k k) ≡ true
   one_ordered k = rw (tied_itself o k) refl
 
@@ -100,12 +97,9 @@ module _ {K V : Type 0} (cmp : K → K → Ordering) (o : IsTotalOrder cmp) wher
       ] refl h
 
   module _ (l : List (MultiPair K V)) (up : IsAscending (by_number cmp) l) where
-    -- probes by a key, and by a key and a number, find the pairs in order
+    -- a probe by a key finds the pairs in order
     pub parted_keys : (k : K) → IsParted (λ p. cmp p.key k) l
     parted_keys k = searchable_from_sorted o (λ (p : MultiPair K V). p.key) l k (λ j d low high. key_not_less (get_or l j d) (get_or l (j + 1) d) (up j (j + 1) d (omega arith) high))
-
-    pub parted_numbers : (k : K) (n : ℕ) → IsParted (answer_to cmp k n) l
-    parted_numbers k n = searchable_from_sorted (places_total cmp o) place_of l (k, n) (λ j d low high. not_less cmp o (place_of (get_or l j d)) (place_of (get_or l (j + 1) d)) (up j (j + 1) d (omega arith) high))
 
     -- a pair that is there is found by its key, or one equal to it, and its number
     found_by_number : (k : K) (i : ℕ) (x : MultiPair K V) → slice_get l i ≡ Some x → cmp x.key k ≡ Equal → find (λ p. is_eq (answer_to cmp k x.discriminator p)) l ≡ Some x

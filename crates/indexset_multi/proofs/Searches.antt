@@ -12,7 +12,7 @@ use Rattle.indexset_core.proofs.CallerLemmas.{is_some-find}
 use Rattle.indexset_log.specs.Located.{located}
 use Rattle.indexset_log.proofs.CallerLemmas.{end_found, end_node, end_offset, gap_found, lawful_ascends, lawful_filled}
 use Rattle.indexset_multi.specs.Places.{IsItemPlace, placed_item}
-use Rattle.indexset_multi.proofs.Numbers.{answer_to, parted_keys, parted_numbers}
+use Rattle.indexset_multi.proofs.Numbers.{parted_keys}
 
 module _ {T : Type 0} (cmp : T → T → Ordering) (size : ℕ) (ns : List (List T)) (law : IsLawful cmp size ns) (answer : T → Ordering) (parted : IsParted answer (joined ns)) (r : Result (ℕ × ℕ) (ℕ × ℕ)) (e : r ≡ located answer ns) where
   -- it stands at an item where it has found one
@@ -40,10 +40,7 @@ module _ {T : Type 0} (cmp : T → T → Ordering) (size : ℕ) (ns : List (List
     told (Ok p) place = sym (some_read (node_at ns p.0) p.1 place.1)
     told (Err p) place = refl
 
--- probes by a key, and by a key and a number, find the pairs of lawful nodes in order
+-- a probe by a key finds the pairs of lawful nodes in order
 module _ {K V : Type 0} (cmp : K → K → Ordering) (o : IsTotalOrder cmp) (size : ℕ) (ns : List (List (MultiPair K V))) (law : IsLawful (by_number cmp) size ns) (k : K) where
   pub lawful_keys : IsParted (λ p. cmp p.key k) (joined ns)
   lawful_keys = parted_keys cmp o (joined ns) (lawful_ascends (by_number cmp) size ns law) k
-
-  pub lawful_numbers : (n : ℕ) → IsParted (answer_to cmp k n) (joined ns)
-  lawful_numbers n = parted_numbers cmp o (joined ns) (lawful_ascends (by_number cmp) size ns law) k n

@@ -1,4 +1,4 @@
--- From nodes whose items are equal, one by one, an event leads to such nodes.
+-- From nodes whose items a relation of equal items relates, one by one, an event leads to such nodes.
 use Rattle.std.proofs.Common.{◌≡◌, ◌==◌, ◌&&◌, ℕ, zero, suc, ◌+◌, ◌-◌, Bool, true, false, not, if◌then◌else◌, List, [], ◌∷◌, ◌++◌, length, get_or, slice_get, take, drop, insert, remove, nat_lt, ltb, leb, Option, Some, None, Ordering, cond, option_and_then, refl, ap, sym, ◌∙◌, subst}
 use Rattle.std.specs.Cmp.{IsTotalOrder}
 use Rattle.std.specs.List.{AllZip, list_all, position, position_or_len, splice}
@@ -6,7 +6,7 @@ use Rattle.std.specs.Option.{option_map, option_map_or}
 use Rattle.std.specs.Ordering.{is_eq, is_lt}
 use Rattle.std.specs.declared.cmp.Ordering.TheVariants.{Equal}
 use Rattle.std.proofs.lemmas.Bool.{false≢true}
-use Rattle.std.proofs.lemmas.Cmp.{alike_right, tied_back, tied_itself}
+use Rattle.std.proofs.lemmas.Cmp.{alike_right}
 use Rattle.std.proofs.lemmas.List.Elements.{length_all_zip}
 use Rattle.indexset_core.specs.Nodes.{joined, node_at}
 use Rattle.indexset_log.specs.Joining.{with_joined}
@@ -15,7 +15,7 @@ use Rattle.indexset_log.specs.Replay.{edit, has_name, node_named, reaches, step_
 use Rattle.indexset_log.specs.declared.change.ChangeEventUnassigned.{ChangeEventUnassigned}
 use Rattle.indexset_log.specs.declared.change.ChangeEventUnassigned.TheVariants.{InsertAt, RemoveAt, CreateNode, RemoveNode, SplitNode, MergeNodes}
 use Rattle.indexset_log.proofs.CallerLemmas.{zip_on}
-use Rattle.indexset_replica.specs.Replica.{AddsClone}
+use Rattle.indexset_replica.specs.Replica.{AddsClone, IsEqualClone}
 
 -- ---- lists and options, place by place
 
@@ -74,7 +74,7 @@ module _ {X : Type 0} (R : X → X → Type 0) where
   if_alike true false e x y r = absurd (false≢true (sym e))
   if_alike false true e x y r = absurd (false≢true e)
 
-zip_weaker : {X : Type 0} {R S : X → X → Type 0} (xs ys : List X) → AllZip R xs ys → ((x y : X) → R x y → S x y) → AllZip S xs ys
+pub zip_weaker : {X : Type 0} {R S : X → X → Type 0} (xs ys : List X) → AllZip R xs ys → ((x y : X) → R x y → S x y) → AllZip S xs ys
 zip_weaker [] [] h f = tt
 zip_weaker [] (y ∷ ys) h f = absurd h
 zip_weaker (x ∷ xs) [] h f = absurd h
@@ -95,10 +95,7 @@ module _ {X : Type 0} (t u : X → Bool) where
 
 -- ---- nodes
 
-module _ {T : Type 0} (cmp : T → T → Ordering) (o : IsTotalOrder cmp) where
-  abbrev E : T → T → Type 0
-  E x y = cmp x y ≡ Equal
-
+module _ {T : Type 0} (cmp : T → T → Ordering) (o : IsTotalOrder cmp) (E : T → T → Type 0) (equal : (x y : T) → E x y → cmp x y ≡ Equal) where
   abbrev N : List T → List T → Type 0
   N = AllZip E
 
@@ -106,7 +103,7 @@ module _ {T : Type 0} (cmp : T → T → Ordering) (o : IsTotalOrder cmp) where
   NN = AllZip N
 
   answer_alike : (x y a b : T) → E x y → E a b → cmp x a ≡ cmp y b
-  answer_alike x y a b e f = o.congr x y a e ∙ alike_right o a b y f
+  answer_alike x y a b e f = o.congr x y a (equal x y e) ∙ alike_right o a b y (equal a b f)
 
   last_alike : (n m : List T) (d e : T) → N n m → E d e → E (last_of n d) (last_of m e)
   last_alike [] [] d e h r = r
@@ -196,7 +193,7 @@ module _ {T : Type 0} (cmp : T → T → Ordering) (o : IsTotalOrder cmp) where
         let pair = zip_on E (node_at ns p) (node_at ns (p + 1)) (node_at ms p) (node_at ms (p + 1)) (node_alike p) (node_alike (p + 1)) in
         if_alike NN (q == p + 1) (q == p + 1) refl (with_joined ns p) (with_joined ms p) (zip_splice N p (p + 2) ns ms ((node_at ns p ++ node_at ns (p + 1)) ∷ []) ((node_at ms p ++ node_at ms (p + 1)) ∷ []) h (pair, tt))
 
-  -- f is e, with equal items in the place of its items
+  -- f is e, with related items in the place of its items
   abbrev pub IsEventAlike : ChangeEventUnassigned T → ChangeEventUnassigned T → Type 0
   IsEventAlike (InsertAt m v i) f = (n : T) × (w : T) × (f ≡ InsertAt n w i) × E m n × E v w
   IsEventAlike (RemoveAt m v i) f = (n : T) × (w : T) × (f ≡ RemoveAt n w i) × E m n × E v w
@@ -246,21 +243,24 @@ module _ {T : Type 0} (cmp : T → T → Ordering) (o : IsTotalOrder cmp) where
       kept (Some x) None k = absurd k
       kept (Some x) (Some y) k = if_alike NN (are_nodes cmp x) (are_nodes cmp y) (nodes_alike x y k) x y k
 
-  pub nodes_itself : (ns : List (List T)) → NN ns ns
-  nodes_itself ns = zip_itself N (zip_itself E (tied_itself o)) ns
+  -- an event whose item is replaced by an equal clone
+  module _ (C : T → T → Type 0) (on : (x y z : T) → E x y → IsEqualClone cmp C y z → E x z) where
+    pub adds_alike : (e f g : ChangeEventUnassigned T) → IsEventAlike e f → AddsClone cmp C f g → IsEventAlike e g
+    adds_alike (InsertAt m v i) f g s a = let t = subst (λ q. AddsClone cmp C q g) s.2 a in (s.0, t.0, t.2, s.3, on v s.1 t.0 s.4 t.1)
+    adds_alike (CreateNode m) f g s a = let t = subst (λ q. AddsClone cmp C q g) s.1 a in (t.0, t.2, on m s.0 t.0 s.2 t.1)
+    adds_alike (RemoveAt m v i) f g s a = (s.0, s.1, subst (λ q. AddsClone cmp C q g) s.2 a, s.3, s.4)
+    adds_alike (RemoveNode m) f g s a = (s.0, subst (λ q. AddsClone cmp C q g) s.1 a, s.2)
+    adds_alike (SplitNode m k) f g s a = (s.0, subst (λ q. AddsClone cmp C q g) s.1 a, s.2)
+    adds_alike (MergeNodes m w) f g s a = (s.0, s.1, subst (λ q. AddsClone cmp C q g) s.2 a, s.3, s.4)
 
-  pub event_itself : (e : ChangeEventUnassigned T) → IsEventAlike e e
-  event_itself (InsertAt m v i) = (m, v, refl, tied_itself o m, tied_itself o v)
-  event_itself (RemoveAt m v i) = (m, v, refl, tied_itself o m, tied_itself o v)
-  event_itself (CreateNode m) = (m, refl, tied_itself o m)
-  event_itself (RemoveNode m) = (m, refl, tied_itself o m)
-  event_itself (SplitNode m k) = (m, refl, tied_itself o m)
-  event_itself (MergeNodes m w) = (m, w, refl, tied_itself o m, tied_itself o w)
+  module _ (itself : (x : T) → E x x) where
+    pub nodes_itself : (ns : List (List T)) → NN ns ns
+    nodes_itself ns = zip_itself N (zip_itself E itself) ns
 
-  pub adds_alike : (C : T → T → Type 0) (e f : ChangeEventUnassigned T) → AddsClone cmp C e f → IsEventAlike e f
-  adds_alike C (InsertAt m v i) f a = (m, a.0, a.2, tied_itself o m, tied_back o a.0 v a.1.1)
-  adds_alike C (CreateNode m) f a = (a.0, a.2, tied_back o a.0 m a.1.1)
-  adds_alike C (RemoveAt m v i) f a = subst (IsEventAlike (RemoveAt m v i)) (sym a) (event_itself (RemoveAt m v i))
-  adds_alike C (RemoveNode m) f a = subst (IsEventAlike (RemoveNode m)) (sym a) (event_itself (RemoveNode m))
-  adds_alike C (SplitNode m k) f a = subst (IsEventAlike (SplitNode m k)) (sym a) (event_itself (SplitNode m k))
-  adds_alike C (MergeNodes m w) f a = subst (IsEventAlike (MergeNodes m w)) (sym a) (event_itself (MergeNodes m w))
+    pub event_itself : (e : ChangeEventUnassigned T) → IsEventAlike e e
+    event_itself (InsertAt m v i) = (m, v, refl, itself m, itself v)
+    event_itself (RemoveAt m v i) = (m, v, refl, itself m, itself v)
+    event_itself (CreateNode m) = (m, refl, itself m)
+    event_itself (RemoveNode m) = (m, refl, itself m)
+    event_itself (SplitNode m k) = (m, refl, itself m)
+    event_itself (MergeNodes m w) = (m, w, refl, itself m, itself w)

@@ -16,7 +16,7 @@ use Rattle.indexset_replica.specs.Delivery.{IsAt, IsDelivered, IsFeed, IsReached
 -- ---- subsequences
 
 module _ {A : Type 0} where
-  subsequence_more : (xs ys : List A) (y : A) → IsSubsequence xs ys → IsSubsequence xs (y ∷ ys)
+  pub subsequence_more : (xs ys : List A) (y : A) → IsSubsequence xs ys → IsSubsequence xs (y ∷ ys)
   subsequence_more [] ys y s = tt
   subsequence_more (x ∷ xs) ys y s = inr s
 

@@ -1,8 +1,11 @@
 pub mod Alike
 pub mod AlikeDeliveries
 pub mod CallerLemmas
+pub mod Beginnings
 pub mod Clones
+pub mod Copies
 pub mod Deliveries
+pub mod EqualClones
 pub mod ReplayedClones
 pub mod ReplicaAttach
 pub mod ReplicaEdits

@@ -1,14 +1,13 @@
 -- What a replica makes of events that are delivered with losses, repeats and in any order.
 use Rattle.std.specs.Prelude.{◌≡◌, ◌≢◌, ℕ, ◌+◌, ◌-◌, ◌≤◌, ◌==◌, ◌⊎◌, ⊤, zero, suc, true, is_some, if◌then◌else◌, Option, Some, None, unwrap_or, IsSomeAnd, slice_get, List, [], ◌∷◌, length, take}
 use Rattle.std.below.core.specs.declared.int.u64.TheConstants.{MAX}
-use Rattle.std.specs.List.{AllZip}
 use Rattle.std.specs.Option.{option_map, option_and_then}
 use Rattle.std.specs.declared.cmp.Ordering.{Ordering}
-use Rattle.std.specs.declared.cmp.Ordering.TheVariants.{Equal}
 use Rattle.indexset_core.specs.declared.refusal.Refusal.{Refusal}
 use Rattle.indexset_core.specs.declared.refusal.Refusal.TheVariants.{Memory}
 use Rattle.indexset_log.specs.Replay.{event_number, replay, step, unassigned, IsNumberedFrom}
 use Rattle.indexset_log.specs.declared.change.ChangeEvent.{ChangeEvent}
+use Rattle.indexset_replica.specs.Copies.{AreCopies}
 use Rattle.indexset_replica.specs.Replica.{IsClonedStep, ReplicaState, apply_refusal}
 
 -- the items xs are among the ys, in their order
@@ -81,10 +80,28 @@ module _ {T : Type 0} (cmp : T → T → Ordering) where
     pub nodes : replay cmp ns (take j es) ≡ Some r.nodes
     pub next : r.next ≡ s + j
 
-  -- the replica q holds what r holds, with equal items in the place of its items, and awaits the same event
-  pub record IsAlike (r q : ReplicaState T) : Type 0 where
-    pub nodes : AllZip (AllZip (λ x y. cmp x y ≡ Equal)) r.nodes q.nodes
-    pub next : q.next ≡ r.next
+  -- the replica holds what a beginning of the events leads to, and awaits the event after it
+  abbrev pub IsBeginning : ℕ → List (List T) → List (ChangeEvent T) → ReplicaState T → Type 0
+  IsBeginning s ns es r = IsAt s ns es (r.next - s) r
+
+  -- the replica holds what all events lead to, and awaits the event after them
+  pub record HoldsAll (s : ℕ) (ns : List (List T)) (es : List (ChangeEvent T)) (r : ReplicaState T) : Type 0 where
+    pub nodes : replay cmp ns es ≡ Some r.nodes
+    pub next : r.next ≡ s + length es
+
+  module _ (C : T → T → Type 0) where
+    -- the replica q holds copies of what r holds, and awaits the same event
+    pub record IsAlike (r q : ReplicaState T) : Type 0 where
+      pub nodes : AreCopies cmp C r.nodes q.nodes
+      pub next : q.next ≡ r.next
+
+    -- the replica holds copies of what a beginning of the events leads to, and awaits the event after it
+    abbrev pub CopiesBeginning : ℕ → List (List T) → List (ChangeEvent T) → ReplicaState T → Type 0
+    CopiesBeginning s ns es q = (r : ReplicaState T) × IsBeginning s ns es r × IsAlike r q
+
+    -- the replica holds copies of what all events lead to, and awaits the event after them
+    abbrev pub CopiesAll : ℕ → List (List T) → List (ChangeEvent T) → ReplicaState T → Type 0
+    CopiesAll s ns es q = (r : ReplicaState T) × HoldsAll s ns es r × IsAlike r q
 
   -- the replica holds what the longest beginning leads to whose events came in turn, from event j on
   abbrev pub IsDelivered : ℕ → List (List T) → List (ChangeEvent T) → ℕ → List ℕ → ReplicaState T → Type 0

@@ -1,9 +1,9 @@
 //! Events that are delivered with losses, repeats and in any order.
-ghost use Rattle.std.specs.Prelude.{◌≡◌, ◌<◌, ◌≤◌, ℕ, List, Some, IfErr, OnOk, OnErr, length, take};
+ghost use Rattle.std.specs.Prelude.{◌≡◌, ◌<◌, ◌≤◌, ◌+◌, ◌-◌, ℕ, List, Some, IfErr, OnOk, OnErr, length, take};
 ghost use Rattle.std.specs.List.{All};
-ghost use Rattle.indexset_replica.specs.Delivery.{failure, followed, HasStopped, IsAlike, IsAt, IsDelivered, IsDelivery, IsFeed, IsFollowed, IsStopped};
+ghost use Rattle.indexset_replica.specs.Delivery.{failure, followed, numbers_from, CopiesAll, CopiesBeginning, HasStopped, HoldsAll, IsAlike, IsAt, IsBeginning, IsDelivered, IsDelivery, IsFeed, IsFollowed, IsStopped, IsSubsequence};
 ghost use Rattle.indexset_replica.specs.Replica.{ReplicaState};
-ghost use Rattle.indexset_log.specs.Replay.{event_number};
+ghost use Rattle.indexset_log.specs.Replay.{event_number, replay};
 
 use crate::Replica;
 use indexset_core::refusal::Refusal;
@@ -18,8 +18,10 @@ impl<T: Ord + Clone + Drop> Replica<T> {
     /// Where the events are numbered without a gap, lead from some nodes to others, and the replica holds
     /// what the first j of them lead to, it then holds what the first m lead to, and awaits event m: m is
     /// the greatest number for which j, j + 1, .. m - 1 are among the places in this order. A call then
-    /// fails for memory alone, and the same holds of a beginning of the places. What it holds are the
-    /// items themselves where clones are identical to their sources, and else items equal to them.
+    /// fails for memory alone, and the same holds of a beginning of the places. In particular it holds
+    /// what a beginning leads to whatever the places are, and what all events lead to where the places are
+    /// all of them in order, or where it awaits the event after the last. What it holds are the items
+    /// themselves where clones are identical to their sources, and else copies of them.
     pub fn follow(&mut self, events: &[ChangeEvent<T>], order: &[usize]) -> Result<(), Refusal>
         requires inside { All (λ p. p < length events.now) order.now }
         ensures cloned { OnOk result (IsFollowed T.cmp T.is_clone events.now self.old order.now self.new) }
@@ -29,13 +31,30 @@ impl<T: Ord + Clone + Drop> Replica<T> {
         ensures delivery { ((x y : T) → T.is_clone x y → y ≡ x) → (s j : ℕ) (ns : List (List T)) → IsFeed T.cmp s ns events.now → IsAt T.cmp s ns events.now j self.old
             → OnOk result (IsDelivered T.cmp s ns events.now j order.now self.new) }
         ensures alike { (s j : ℕ) (ns : List (List T)) → IsFeed T.cmp s ns events.now → IsAt T.cmp s ns events.now j self.old
-            → OnOk result ((r : ReplicaState T) × IsDelivered T.cmp s ns events.now j order.now r × IsAlike T.cmp r self.new) }
+            → OnOk result ((r : ReplicaState T) × IsDelivered T.cmp s ns events.now j order.now r × IsAlike T.cmp T.is_clone r self.new) }
         ensures memory_alone { (s j : ℕ) (ns : List (List T)) → IsFeed T.cmp s ns events.now → IsAt T.cmp s ns events.now j self.old
             → IfErr result (λ e. e ≡ Refusal.Memory) }
         ensures partly { ((x y : T) → T.is_clone x y → y ≡ x) → (s j : ℕ) (ns : List (List T)) → IsFeed T.cmp s ns events.now → IsAt T.cmp s ns events.now j self.old
             → OnErr result ((k : ℕ) × (k ≤ length order.now) × IsDelivered T.cmp s ns events.now j (take k order.now) self.new) }
         ensures partly_alike { (s j : ℕ) (ns : List (List T)) → IsFeed T.cmp s ns events.now → IsAt T.cmp s ns events.now j self.old
-            → OnErr result ((k : ℕ) × (r : ReplicaState T) × (k ≤ length order.now) × IsDelivered T.cmp s ns events.now j (take k order.now) r × IsAlike T.cmp r self.new) }
+            → OnErr result ((k : ℕ) × (r : ReplicaState T) × (k ≤ length order.now) × IsDelivered T.cmp s ns events.now j (take k order.now) r × IsAlike T.cmp T.is_clone r self.new) }
+
+        // From a beginning of a feed it goes on to a beginning.
+        ensures onwards { self.old.next ≤ self.new.next }
+        ensures beginning { ((x y : T) → T.is_clone x y → y ≡ x) → (s : ℕ) (ns : List (List T)) → IsFeed T.cmp s ns events.now
+            → IsBeginning T.cmp s ns events.now self.old → IsBeginning T.cmp s ns events.now self.new }
+        ensures all_came { ((x y : T) → T.is_clone x y → y ≡ x) → (s : ℕ) (ns : List (List T)) → IsFeed T.cmp s ns events.now → IsBeginning T.cmp s ns events.now self.old
+            → IsSubsequence (numbers_from (self.old.next - s) (length events.now - (self.old.next - s))) order.now → OnOk result (HoldsAll T.cmp s ns events.now self.new) }
+        ensures all_held { ((x y : T) → T.is_clone x y → y ≡ x) → (s : ℕ) (ns : List (List T)) → IsFeed T.cmp s ns events.now → IsBeginning T.cmp s ns events.now self.old
+            → self.new.next ≡ s + length events.now → replay T.cmp ns events.now ≡ Some self.new.nodes }
+
+        // At every type, of copies.
+        ensures copied_beginning { (s : ℕ) (ns : List (List T)) → IsFeed T.cmp s ns events.now
+            → CopiesBeginning T.cmp T.is_clone s ns events.now self.old → CopiesBeginning T.cmp T.is_clone s ns events.now self.new }
+        ensures copied_all { (s : ℕ) (ns : List (List T)) → IsFeed T.cmp s ns events.now → CopiesBeginning T.cmp T.is_clone s ns events.now self.old
+            → IsSubsequence (numbers_from (self.old.next - s) (length events.now - (self.old.next - s))) order.now → OnOk result (CopiesAll T.cmp T.is_clone s ns events.now self.new) }
+        ensures copied_held { (s : ℕ) (ns : List (List T)) → IsFeed T.cmp s ns events.now → CopiesBeginning T.cmp T.is_clone s ns events.now self.old
+            → self.new.next ≡ s + length events.now → CopiesAll T.cmp T.is_clone s ns events.now self.new }
     {
         for place in order {
             self.deliver(&events[*place])?;

@@ -1,14 +1,17 @@
 //! What the definitions of a replica say, whatever the code.
 
-ghost use Rattle.std.specs.Prelude.{◌≡◌, ◌≢◌, ◌↔◌, ℕ, List, None, Some, true, is_some};
+ghost use Rattle.std.specs.Prelude.{◌≡◌, ◌≢◌, ◌↔◌, ◌-◌, ℕ, List, None, Some, map, true, is_some};
 ghost use Rattle.indexset_core.specs.Nodes.{IsNodeList};
 ghost use Rattle.std.specs.List.{AllZip, fold};
 ghost use Rattle.std.specs.declared.cmp.Ordering.TheVariants.{Equal};
-ghost use Rattle.indexset_replica.specs.Delivery.{awaited, IsReached};
-ghost use Rattle.indexset_replica.specs.Replica.{apply_refusal};
+ghost use Rattle.indexset_replica.specs.Copies.{AreClonesEqual, AreCopies, LeadsToCopies};
+ghost use Rattle.indexset_replica.specs.Delivery.{awaited, numbers_from, IsReached, IsSubsequence};
+ghost use Rattle.indexset_replica.specs.Replica.{apply_refusal, IsClonedStep};
 ghost use Rattle.indexset_log.specs.Clones.{IsEventClone};
-ghost use Rattle.indexset_log.specs.Replay.{event_number, replay, step};
+ghost use Rattle.indexset_log.specs.Replay.{event_number, replay, step, unassigned};
 ghost use Rattle.indexset_log.specs.declared.change.ChangeEvent.{ChangeEvent};
+
+pub mod clones;
 
 /// Memory aside, an event is refused exactly where its number is not the next, or is `u64::MAX`, or
 /// where it is no step from these nodes.
@@ -26,9 +29,39 @@ pub fn reached_in_one_pass()
 {}
 
 /// Where clones equal their sources, events that are clones lead where the events lead, item by item up
-/// to equal items, and so do they from nodes whose items are equal.
+/// to equal items, and so do they from nodes whose items are equal. From copies they lead to copies.
 pub fn replay_of_clones<T: Ord + Clone>()
-    ensures { ((x y : T) → T.is_clone x y → T.cmp x y ≡ Equal) → (ns ms after : List (List T)) (es fs : List (ChangeEvent T))
+    ensures equal { ((x y : T) → T.is_clone x y → T.cmp x y ≡ Equal) → (ns ms after : List (List T)) (es fs : List (ChangeEvent T))
         → AllZip (AllZip (λ x y. T.cmp x y ≡ Equal)) ns ms → AllZip (IsEventClone T.is_clone) es fs → replay T.cmp ns es ≡ Some after
         → (r : List (List T)) × (replay T.cmp ms fs ≡ Some r) × AllZip (AllZip (λ x y. T.cmp x y ≡ Equal)) after r }
+    ensures copies { AreClonesEqual T.cmp T.is_clone → (ns ms after : List (List T)) (es fs : List (ChangeEvent T))
+        → AreCopies T.cmp T.is_clone ns ms → AllZip (IsEventClone T.is_clone) es fs → replay T.cmp ns es ≡ Some after
+        → LeadsToCopies T.cmp T.is_clone ms fs after }
+{}
+
+/// A replica that holds copies of a tree's nodes holds copies of them after it applied a clone of the
+/// tree's event.
+pub fn step_of_clones<T: Ord + Clone>()
+    ensures { AreClonesEqual T.cmp T.is_clone → (ns ms after new : List (List T)) (e f : ChangeEvent T)
+        → AreCopies T.cmp T.is_clone ns ms → IsEventClone T.is_clone e f → step T.cmp ns e ≡ Some after
+        → IsClonedStep T.cmp T.is_clone ms (unassigned f) new → AreCopies T.cmp T.is_clone after new }
+{}
+
+/// Nodes are copies of themselves, copies of copies are copies, and the items of copies equal those of
+/// their sources.
+pub fn copies_are_equal<T: Ord + Clone>()
+    ensures itself { (ns : List (List T)) → AreCopies T.cmp T.is_clone ns ns }
+    ensures again { (ns ms ks : List (List T)) → AreCopies T.cmp T.is_clone ns ms → AreCopies T.cmp T.is_clone ms ks → AreCopies T.cmp T.is_clone ns ks }
+    ensures equal { (ns ms : List (List T)) → AreCopies T.cmp T.is_clone ns ms → AllZip (AllZip (λ x y. T.cmp x y ≡ Equal)) ns ms }
+{}
+
+/// What a clone has of its source, as its text, copies have of theirs.
+pub fn copies_keep<T: Ord + Clone, U>()
+    ensures { (f : T → U) → ((x y : T) → T.is_clone x y → f y ≡ f x) → (ns ms : List (List T))
+        → AreCopies T.cmp T.is_clone ns ms → map (map f) ms ≡ map (map f) ns }
+{}
+
+/// The list of all places has each of them in turn, from any one on.
+pub fn all_places_in_turn()
+    ensures { (j n : ℕ) → IsSubsequence (numbers_from j (n - j)) (numbers_from 0 n) }
 {}

@@ -1,4 +1,5 @@
 -- What crates above this one may cite of its proofs.
 pub use Rattle.indexset_set.proofs.SetBulkLemmas.{below_all, drop_not_below, not_below_all, take_below}
+pub use Rattle.indexset_set.proofs.SetCopyLemmas.{adjacent_tells}
 pub use Rattle.indexset_set.proofs.SetProbeLemmas.{in_order}
 pub use Rattle.indexset_set.proofs.SetValueLemmas.{items-with_value_at, size-with_value_at}

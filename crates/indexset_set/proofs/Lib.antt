@@ -12,5 +12,6 @@ pub mod SetNodeLemmas
 pub mod SetPairLemmas
 pub mod SetProbeLemmas
 pub mod SetRangeLemmas
+pub mod SetUpperLemmas
 pub mod SetValueLemmas
 pub mod SetWalkLemmas

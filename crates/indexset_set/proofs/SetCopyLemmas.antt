@@ -1,8 +1,8 @@
 -- Whether the clones of ascending elements ascend, and the sets that they make.
-use Rattle.std.proofs.Common.{◌≡◌, ℕ, ◌+◌, ◌-◌, ◌<◌, List, [], ◌∷◌, ◌++◌, length, get_or, Ordering, Some, Result, Ok, Err, slice_get, refl, sym, ap, ◌∙◌, subst, arith, length-append, append_assoc, true, false}
+use Rattle.std.proofs.Common.{◌≡◌, ℕ, zero, suc, ◌+◌, ◌-◌, ◌<◌, Bool, List, [], ◌∷◌, ◌++◌, length, get_or, Ordering, Some, Result, Ok, Err, slice_get, refl, sym, ap, ◌∙◌, subst, arith, length-append, append_assoc, true, false}
 use Rattle.std.specs.declared.cmp.Ordering.TheVariants.{Less, Equal}
 use Rattle.std.specs.Cmp.{IsTotalOrder}
-use Rattle.std.specs.List.{AllZip, fold}
+use Rattle.std.specs.List.{AllAdjacentBelow, AllZip, IsAllAdjacentAnswer, fold}
 use Rattle.std.specs.Ordering.{is_lt}
 use Rattle.std.specs.Result.{IfOk}
 use Rattle.std.proofs.lemmas.Bool.{false≢true}
@@ -62,6 +62,22 @@ module _ {T : Type 0} (cmp : T → T → Ordering) where
 
   pub ascends_all : (all rest : List T) (x : T) → AscendsTo all x rest → rest ≡ [] → IsAscending cmp all
   ascends_all all rest x far none = subst (IsAscending cmp) (sym (far.parts ∙ ap (λ r. far.front ++ x ∷ r) none)) far.up
+
+  -- a list ascends where each item is below the next
+  module _ (o : IsTotalOrder cmp) (l : List T) (next : AllAdjacentBelow (λ x y. true ≡ is_lt (cmp x y)) l (length l)) where
+    far_below : (n i : ℕ) (d : T) → i + n + 1 < length l → cmp (get_or l i d) (get_or l (i + n + 1) d) ≡ Less
+    far_below zero i d inside = let same : i + 0 + 1 ≡ i + 1 = omega arith in rw same (less_from _ (sym (next i d (omega arith))))
+    far_below (suc n) i d inside =
+        let same : i + suc n + 1 ≡ i + n + 1 + 1 = omega arith in
+        rw same (o.trans _ _ _ (far_below n i d (omega arith)) (less_from _ (sym (next (i + n + 1) d (omega arith)))))
+
+    next_ascends : IsAscending cmp l
+    next_ascends i j d lt inside = let far : i + (j - i - 1) + 1 ≡ j = omega arith in rw far at (far_below (j - i - 1) i d (omega arith))
+
+  pub adjacent_tells : IsTotalOrder cmp → (l : List T) (r : Bool) → IsAllAdjacentAnswer (λ x y b. b ≡ is_lt (cmp x y)) l r → (r ≡ true → IsAscending cmp l) × (r ≡ false → IsAscending cmp l → ⊥)
+  adjacent_tells o l true next = (λ _. next_ascends o l next, λ e. absurd (false≢true (sym e)))
+  adjacent_tells o [] false (k, inside, other) = absurd (omega arith)
+  adjacent_tells o (x ∷ l) false (k, inside, other) = (λ e. absurd (false≢true e), λ _ up. false≢true (other x ∙ ap is_lt (up k (k + 1) x (omega arith) inside)))
 
   -- ascending elements put in one by one stay as they are
   pub kept_all_behind : (l xs : List T) → IsAscending cmp (l ++ xs) → fold (keep cmp) l xs ≡ l ++ xs

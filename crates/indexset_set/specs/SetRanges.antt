@@ -1,8 +1,12 @@
--- What the cut of a set answers, said of its elements in order.
-use Rattle.std.specs.Prelude.{List, not, filter}
+-- What bounds find in a set, said of its elements in order.
+use Rattle.std.specs.Prelude.{List, Option, filter, find, not}
 use Rattle.std.specs.declared.cmp.Ordering.{Ordering}
-use Rattle.std.specs.Ordering.{is_lt}
+use Rattle.std.specs.Ordering.{is_gt, is_lt}
 
 -- the elements not below v
 abbrev pub not_below : {T : Type 0} → (T → T → Ordering) → List T → T → List T
 not_below cmp l v = filter (λ x. not (is_lt (cmp x v))) l
+
+-- the first element above v, where there is one
+abbrev pub upper_element : {T : Type 0} → (T → T → Ordering) → List T → T → Option T
+upper_element cmp l v = find (λ x. is_gt (cmp x v)) l

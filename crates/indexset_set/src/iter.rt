@@ -3,6 +3,7 @@ ghost use Rattle.std.specs.Prelude.{◌≡◌, length, List, IfSome, Some};
 ghost use Rattle.std.specs.Iterator.{UpTo, at_most};
 ghost use Rattle.std.specs.Iterator.SizeHint.{IsWithinCount};
 ghost use Rattle.std.specs.Map.Iter.{TakesFirst, TakesLast, ShowsInOrder, ShowsInReverse, GivesInOrder, GivesInReverse, deref};
+ghost use Rattle.indexset_core.specs.Order.{IsAscending};
 ghost use Rattle.indexset_spine.specs.Cut.{items};
 
 mod traits;
@@ -31,6 +32,7 @@ impl<'a, T: Ord> Iter<'a, T> {
     /// Returns all elements, in order.
     pub fn new(set: &'a BTreeSet<T>) -> Self
         ensures rest { result ≡ items set.now }
+        ensures ascending { IsAscending T.cmp result }
         ensures runs { ShowsInOrder (deref {X = T}) }
         ensures runs_back { ShowsInReverse (deref {X = T}) }
     {
@@ -89,6 +91,7 @@ impl<T: Ord> BTreeSet<T> {
     /// Returns the elements, in order.
     pub fn iter(&self) -> Iter<'_, T>
         ensures rest { result ≡ items self.now }
+        ensures ascending { IsAscending T.cmp result }
         ensures runs { ShowsInOrder (deref {X = T}) }
         ensures runs_back { ShowsInReverse (deref {X = T}) }
     {

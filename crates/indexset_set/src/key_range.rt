@@ -3,7 +3,8 @@ ghost use Rattle.std.specs.Prelude.{◌≡◌, IsTrue};
 ghost use Rattle.std.specs.Map.Iter.{ShowsInOrder, ShowsInReverse, deref};
 ghost use Rattle.std.specs.Range.Bound.{bound_map};
 ghost use Rattle.indexset_core.specs.Bounds.{are_ordered};
-ghost use Rattle.indexset_core.specs.Pairs.{pairs_within};
+ghost use Rattle.indexset_core.specs.Order.{IsAscending};
+ghost use Rattle.indexset_core.specs.Pairs.{by_key, pairs_within};
 ghost use Rattle.indexset_core.specs.declared.pair.Pair.{Pair};
 ghost use Rattle.indexset_spine.specs.Cut.{items};
 
@@ -21,6 +22,7 @@ impl<K: Ord, V> BTreeSet<Pair<K, V>> {
     pub fn range_by_key(&self, range: (Bound<&K>, Bound<&K>)) -> Range<'_, Pair<K, V>>
         requires { IsTrue (are_ordered K.cmp (bound_map (λ k. k.now) range.0) (bound_map (λ k. k.now) range.1)) }
         ensures rest { result ≡ pairs_within K.cmp (items self.now) (bound_map (λ k. k.now) range.entry.0) (bound_map (λ k. k.now) range.entry.1) }
+        ensures ascending { IsAscending (by_key K.cmp) result }
         ensures runs { ShowsInOrder (deref {X = Pair K V}) }
         ensures runs_back { ShowsInReverse (deref {X = Pair K V}) }
     {

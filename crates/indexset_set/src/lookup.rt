@@ -1,19 +1,23 @@
 //! Look-ups by value: whether an equal element is present, where, and what comes next.
-ghost use Rattle.std.specs.Prelude.{◌≡◌, ◌+◌, ◌≤◌, IsTrue, IfOk, IfErr, None, Some, find, length, position};
+ghost use Rattle.std.specs.Prelude.{◌≡◌, ◌+◌, ◌<◌, ◌≤◌, true, IsTrue, IfOk, IfErr, IfSome, None, Some, find, length, position, slice_get};
 ghost use Rattle.std.specs.Bool.{OnTrue, OnFalse};
+ghost use Rattle.std.specs.declared.cmp.Ordering.TheVariants.{Less};
+ghost use Rattle.std.specs.List.{AllWithin};
 ghost use Rattle.std.specs.Option.{option_copied};
 ghost use Rattle.std.specs.Ordering.{is_eq};
 ghost use Rattle.indexset_spine.specs.Cut.{items, IsSpot, IsItemSpot, position_of};
 ghost use Rattle.indexset_core.specs.Digits.{digits};
-ghost use Rattle.indexset_core.specs.Order.{IsAscending, IsFoundAt, IsGapFor, has_equal, rank, equal_element, lower_element};
+ghost use Rattle.indexset_core.specs.Order.{IsAscending, IsFoundAt, IsGapFor, has_equal, index_of, rank, equal_element, lower_element};
 ghost use Rattle.indexset_core.specs.Parted.{less_count};
 ghost use Rattle.indexset_set.specs.SetNodes.{spot_of};
 ghost use Rattle.indexset_set.specs.SetProbes.{FindsInOrder};
+ghost use Rattle.indexset_set.specs.SetRanges.{upper_element};
 
 use super::BTreeSet;
 use indexset_core::probe::{ByItem, Probe};
 use indexset_spine::spine::Spine;
 use indexset_spine::spot::Spot;
+use std::ops::Bound;
 
 // Returns where the element equal to the value is, or where the value would go.
 #[inline(always)]
@@ -78,9 +82,33 @@ impl<T: Ord> BTreeSet<T> {
     /// Returns how many elements are below the value, by two binary searches and a sum over the
     /// index.
     pub fn rank(&self, value: &T) -> usize
-        ensures { result ≡ rank T.cmp (items self.now) value.now }
+        ensures value { result ≡ rank T.cmp (items self.now) value.now }
+        ensures there { has_equal T.cmp (items self.now) value.now ≡ true → slice_get (items self.now) result ≡ equal_element T.cmp (items self.now) value.now }
+        ensures inside { has_equal T.cmp (items self.now) value.now ≡ true → result < length (items self.now) }
+        ensures before { AllWithin (λ x. T.cmp x value.now ≡ Less) (items self.now) 0 result }
     {
         self.spine.position(&locate(&self.spine, value))
+    }
+
+    /// Returns the position of the element equal to the value, or `None`, by two binary searches
+    /// and a sum over the index. (Not in the Rust crate.)
+    ///
+    /// ```
+    /// // Of a set of 10, 20 and 30.
+    /// assert_eq!(rt; set.index_of(&20), Some(1));
+    /// assert_eq!(rt; set.index_of(&25), None);
+    /// ```
+    pub fn index_of(&self, value: &T) -> Option<usize>
+        ensures value { result ≡ index_of T.cmp (items self.now) value.now }
+        ensures there { IfSome result (λ i. slice_get (items self.now) i ≡ equal_element T.cmp (items self.now) value.now) }
+        ensures inside { IfSome result (λ i. i < length (items self.now)) }
+    {
+        let spot = locate(&self.spine, value);
+        if spot.found {
+            Some(self.spine.position(&spot))
+        } else {
+            None
+        }
     }
 
     /// Returns the first element that is not below the value, or `None` where there is none.
@@ -88,6 +116,20 @@ impl<T: Ord> BTreeSet<T> {
         ensures { option_copied result ≡ lower_element T.cmp (items self.now) value.now }
     {
         self.spine.item_from(&locate(&self.spine, value))
+    }
+
+    /// Returns the first element that is above the value, or `None` where there is none, by two
+    /// binary searches. (Not in the Rust crate.)
+    ///
+    /// ```
+    /// // Of a set of 10, 20 and 30.
+    /// assert_eq!(rt; set.upper_bound(&20), Some(&30));
+    /// ```
+    pub fn upper_bound(&self, value: &T) -> Option<&T>
+        ensures { option_copied result ≡ upper_element T.cmp (items self.now) value.now }
+    {
+        let spot = self.spine.start_of(Bound::Excluded(ByItem::new(value)));
+        self.spine.item_from(&spot)
     }
 
     /// Returns the first element that the probe finds Equal, or `None` where there is none. It

@@ -1,5 +1,5 @@
 //! Calls that make a set.
-ghost use Rattle.std.specs.Prelude.{◌≡◌, ◌≤◌, false, IsTrue, List, [], ◌∷◌, IfOk, IfErr, fold};
+ghost use Rattle.std.specs.Prelude.{◌≡◌, ◌≤◌, false, IsTrue, List, [], ◌∷◌, IfOk, IfErr, OnOk, fold};
 ghost use Rattle.std.specs.declared.cmp.Ordering.TheVariants.{Equal};
 ghost use Rattle.std.specs.List.{AllZip};
 ghost use Rattle.std.specs.Iterator.{IsFiniteIterable};
@@ -11,7 +11,7 @@ ghost use Rattle.indexset_set.specs.SetNodes.{nodes_kept_all};
 
 use super::BTreeSet;
 use indexset_core::constants::DEFAULT_INNER_SIZE;
-use indexset_core::refusal::Refusal;
+use indexset_core::refusal::{Refusal, Refused};
 use indexset_spine::spine::Spine;
 use std::alloc::Global;
 
@@ -94,6 +94,33 @@ impl<T: Ord + Drop> BTreeSet<T> {
         Self::from_iter(alloc, values)
     }
 
+    /// Returns the set of values that ascend strictly, in the nodes that `from` makes of them, by two
+    /// comparisons a value and no search. Where they do not ascend, fails with `Unsorted` and hands
+    /// them back. Fails with `Memory`, and then drops the values and hands back none. (Not in the
+    /// Rust crate.)
+    pub fn from_sorted(alloc: Global, values: Vec<T>) -> Result<Self, Refused<Vec<T>>>
+        ensures elements { IfOk result (λ s. items s ≡ values.items) }
+        ensures nodes { IfOk result (λ s. s.nodes ≡ nodes_kept_all T.cmp (cut ([] ∷ []) DEFAULT_INNER_SIZE) values.items) }
+        ensures size { IfOk result (λ s. s.size ≡ DEFAULT_INNER_SIZE) }
+        ensures ascending { OnOk result (IsAscending T.cmp values.items) }
+        ensures unsorted { IfErr result (λ e. (IsAscending T.cmp values.items → ⊥) → (e.value ≡ values) × (e.cause ≡ Refusal.Unsorted)) }
+        ensures memory { IfErr result (λ e. IsAscending T.cmp values.items → (e.value.items ≡ []) × (e.cause ≡ Refusal.Memory)) }
+    {
+        if !is_sorted(values.as_slice()) {
+            return Err(Refused {
+                value: values,
+                cause: Refusal::Unsorted,
+            });
+        }
+        match Self::from(alloc, values) {
+            Ok(set) => Ok(set),
+            Err(cause) => Err(Refused {
+                value: Vec::new(alloc),
+                cause,
+            }),
+        }
+    }
+
     /// Returns clones of the elements in nodes as long as these, by one comparison an element, where
     /// the clones ascend, as those equal to their sources do. Else it inserts each clone in turn, as
     /// `from_iter` does. Fails with `Memory`, and then drops the clones. Unlike `Clone::clone`, it
@@ -113,6 +140,14 @@ impl<T: Ord + Drop> BTreeSet<T> {
         }
         Self::kept_in(*self.spine.allocator(), self.maximum_node_size(), spine)
     }
+}
+
+// Returns whether each value is below the next.
+fn is_sorted<T: Ord>(values: &[T]) -> bool
+    ensures ascending { IsTrue result → IsAscending T.cmp values.now }
+    ensures other { result ≡ false → IsAscending T.cmp values.now → ⊥ }
+{
+    values.is_sorted_by(|value, next| value.cmp(next).is_lt())
 }
 
 // Returns whether each item is below the next.

@@ -1,7 +1,9 @@
 //! Look-ups and removals by position.
-ghost use Rattle.std.specs.Prelude.{◌≡◌, ◌-◌, ◌<◌, ◌↔◌, ◌++◌, [], Some, IsSome, IfSome, MatchOption, length, take, drop, remove, slice_get};
+ghost use Rattle.std.specs.Prelude.{◌≡◌, ◌-◌, ◌<◌, ◌↔◌, ◌++◌, [], true, false, Some, IsSome, IfSome, MatchOption, length, take, drop, remove, slice_get};
 ghost use Rattle.std.specs.Option.{option_copied, option_to_list};
-ghost use Rattle.indexset_core.specs.Order.{above, below};
+ghost use Rattle.std.specs.List.{All};
+ghost use Rattle.std.specs.Ordering.{is_gt, is_lt};
+ghost use Rattle.indexset_core.specs.Order.{above, below, has_equal};
 ghost use Rattle.indexset_spine.specs.Cut.{items};
 ghost use Rattle.indexset_set.specs.SetNodes.{IsWithoutAt};
 
@@ -22,6 +24,8 @@ impl<T: Ord> BTreeSet<T> {
         ensures element { option_copied result ≡ slice_get (items self.now) 0 }
         ensures variant { IsSome result ↔ (0 < length (items self.now)) }
         ensures least { IfSome result (λ least. below T.cmp (items self.now) least.now ≡ []) }
+        ensures held { IfSome result (λ least. has_equal T.cmp (items self.now) least.now ≡ true) }
+        ensures all_from { IfSome result (λ least. All (λ x. is_lt (T.cmp x least.now) ≡ false) (items self.now)) }
     {
         self.spine.iter().next()
     }
@@ -31,6 +35,8 @@ impl<T: Ord> BTreeSet<T> {
         ensures element { option_copied result ≡ slice_get (items self.now) (length (items self.now) - 1) }
         ensures variant { IsSome result ↔ (0 < length (items self.now)) }
         ensures greatest { IfSome result (λ greatest. above T.cmp (items self.now) greatest.now ≡ []) }
+        ensures held { IfSome result (λ greatest. has_equal T.cmp (items self.now) greatest.now ≡ true) }
+        ensures all_up_to { IfSome result (λ greatest. All (λ x. is_gt (T.cmp x greatest.now) ≡ false) (items self.now)) }
     {
         self.spine.iter().next_back()
     }

@@ -4,10 +4,12 @@ ghost use Rattle.std.specs.List.{count_by};
 ghost use Rattle.std.specs.Map.Iter.{ShowsInOrder, ShowsInReverse, deref};
 ghost use Rattle.std.specs.Range.Bound.{bound_map, start_index, end_index};
 ghost use Rattle.indexset_core.specs.Bounds.{IfBounded, are_ordered, in_positions, in_range, is_before, is_up_to_end};
+ghost use Rattle.indexset_core.specs.Order.{IsAscending};
 ghost use Rattle.indexset_spine.specs.Cut.{items};
 ghost use Rattle.indexset_set.specs.SetProbes.{FindsInOrder};
 
 use super::BTreeSet;
+use super::bounds::Bounds;
 use super::iter::Iter;
 use indexset_core::probe::{ByItem, Probe};
 use std::ops::Bound;
@@ -20,17 +22,30 @@ impl<T: Ord> BTreeSet<T> {
     /// nor at it where both are excluded, which `bounds_are_ordered` of the core tests.
     ///
     /// ```
-    /// // The elements from 10 on that are below 20.
-    /// let teens = set.range((Bound::Included(&10), Bound::Excluded(&20)));
+    /// // The elements from 10 on that are below 20, and all from 20 on.
+    /// let teens = set.range(10..20);
+    /// let rest = set.range((Bound::Included(&20), Bound::Unbounded));
     /// ```
-    pub fn range(&self, range: (Bound<&T>, Bound<&T>)) -> Range<'_, T>
-        requires { IsTrue (are_ordered T.cmp (bound_map (λ v. v.now) range.0) (bound_map (λ v. v.now) range.1)) }
-        ensures rest { result ≡ in_range T.cmp (items self.now) (bound_map (λ v. v.now) range.entry.0) (bound_map (λ v. v.now) range.entry.1) }
+    pub fn range<R: Bounds<T> + Drop>(&self, range: R) -> Range<'_, T>
+        requires { IsTrue (are_ordered T.cmp (R.start range) (R.end range)) }
+        ensures rest { result ≡ in_range T.cmp (items self.now) (R.start range) (R.end range) }
+        ensures ascending { IsAscending T.cmp result }
         ensures runs { ShowsInOrder (deref {X = T}) }
         ensures runs_back { ShowsInReverse (deref {X = T}) }
     {
-        let from = self.spine.start_of(range.0.map(ByItem::new));
-        let to = self.spine.end_of(range.1.map(ByItem::new));
+        self.within(range.start_bound(), range.end_bound())
+    }
+
+    // Does the same of two bounds.
+    fn within(&self, start: Bound<&T>, end: Bound<&T>) -> Range<'_, T>
+        requires { IsTrue (are_ordered T.cmp (bound_map (λ v. v.now) start) (bound_map (λ v. v.now) end)) }
+        ensures rest { result ≡ in_range T.cmp (items self.now) (bound_map (λ v. v.now) start.entry) (bound_map (λ v. v.now) end.entry) }
+        ensures ascending { IsAscending T.cmp result }
+        ensures runs { ShowsInOrder (deref {X = T}) }
+        ensures runs_back { ShowsInReverse (deref {X = T}) }
+    {
+        let from = self.spine.start_of(start.map(ByItem::new));
+        let to = self.spine.end_of(end.map(ByItem::new));
         Iter::of(self.spine.iter_from_to(&from, &to))
     }
 
@@ -43,6 +58,7 @@ impl<T: Ord> BTreeSet<T> {
     /// ```
     pub fn range_idx(&self, range: (Bound<usize>, Bound<usize>)) -> Range<'_, T>
         ensures rest { result ≡ in_positions (items self.now) range.0 range.1 }
+        ensures ascending { IsAscending T.cmp result }
         ensures runs { ShowsInOrder (deref {X = T}) }
         ensures runs_back { ShowsInReverse (deref {X = T}) }
     {

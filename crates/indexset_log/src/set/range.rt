@@ -1,19 +1,22 @@
 //! The items between two bounds, or between two places.
-ghost use Rattle.std.specs.Prelude.{◌≡◌, ◌≤◌, IfSome, IsTrue, Some, length, List};
+ghost use Rattle.std.specs.Prelude.{◌≡◌, ◌+◌, ◌-◌, ◌*◌, ◌<◌, ◌≤◌, IfSome, IsTrue, Some, length, List};
 ghost use Rattle.std.specs.Iterator.{UpTo, at_most};
 ghost use Rattle.std.specs.Iterator.SizeHint.{IsWithinCount};
 ghost use Rattle.std.specs.List.{between, count_by};
 ghost use Rattle.std.specs.Map.Iter.{TakesFirst, TakesLast, ShowsInOrder, ShowsInReverse, deref};
 ghost use Rattle.std.specs.Range.Bound.{bound_map};
 ghost use Rattle.indexset_core.specs.Bounds.{IfBounded, are_ordered, in_range, is_before, is_up_to_end};
-ghost use Rattle.indexset_core.specs.Nodes.{joined};
-ghost use Rattle.indexset_core.specs.Parted.{IsParted, less_count};
+ghost use Rattle.indexset_core.specs.Digits.{digits};
+ghost use Rattle.indexset_core.specs.Nodes.{joined, node_at};
+ghost use Rattle.indexset_core.specs.Parted.{IsParted, less_count, not_greater_count};
 ghost use Rattle.indexset_log.specs.Places.{IsPlace, items_before};
 
 use super::BTreeSet;
 use super::iter::Iter;
+use crate::locate::{last_started, node_by, run_end};
 use indexset_core::node::NodeLike;
 use indexset_core::probe::{ByItem, Past, Probe};
+use indexset_core::search::first_not_less_near;
 use std::iter::FusedIterator;
 use std::marker::Model;
 use std::ops::Bound;
@@ -146,6 +149,74 @@ impl<T: Ord + Clone + Drop, Node: NodeLike<T>> BTreeSet<T, Node> {
             Bound::Excluded(mut probe) => self.place_by(&mut probe),
             Bound::Unbounded => self.last_place(),
         }
+    }
+
+    /// Returns the places before and after the items that the comparator finds Equal, which must find
+    /// the items in order: two binary searches for the first, and from there steps that double, so
+    /// that `n` such items cost few comparisons more than one. Where there is none, both places are
+    /// where one would go. (Not in the Rust crate.)
+    pub fn places_by<P: Probe<T>>(&self, probe: &mut P) -> ((usize, usize), (usize, usize))
+        requires { IsParted (P.answer probe.old) (joined self.now.nodes) }
+        ensures from { IsPlace self.now.nodes result.0 }
+        ensures to { IsPlace self.now.nodes result.1 }
+        ensures before { items_before self.now.nodes result.0 ≡ less_count (P.answer probe.old) (joined self.now.nodes) }
+        ensures past { items_before self.now.nodes result.1 ≡ not_greater_count (P.answer probe.old) (joined self.now.nodes) }
+        ensures fixed { P.answer probe.new ≡ P.answer probe.old }
+        ensures few { P.asked probe.new ≤ P.asked probe.old + (digits (length self.now.nodes) + digits self.now.size + 1 + 8 * digits (items_before self.now.nodes result.1 - items_before self.now.nodes result.0 - 1)) }
+    {
+        if self.nodes.is_empty() {
+            return ((0, 0), (0, 0));
+        }
+        let node = node_by(self.nodes.as_slice(), probe);
+        let (offset, found) = first_not_less_near(self.nodes[node].iter().as_slice(), probe);
+        let from = (node, offset);
+        if found {
+            (from, self.end_from(node, offset, probe))
+        } else {
+            (from, from)
+        }
+    }
+
+    // Returns the place after the items that are not found Greater, where the one at a place is not.
+    fn end_from<P: Probe<T>>(&self, node: usize, offset: usize, probe: &mut P) -> (usize, usize)
+        requires parted { IsParted (P.answer probe.old) (joined self.now.nodes) }
+        requires node { node < length self.now.nodes }
+        requires offset { offset < length (node_at self.now.nodes node) }
+        requires started { items_before self.now.nodes (node, offset) < not_greater_count (P.answer probe.old) (joined self.now.nodes) }
+        ensures place { IsPlace self.now.nodes result }
+        ensures before { items_before self.now.nodes result ≡ not_greater_count (P.answer probe.old) (joined self.now.nodes) }
+        ensures fixed { P.answer probe.new ≡ P.answer probe.old }
+        ensures few { P.asked probe.new ≤ P.asked probe.old + (1 + 8 * digits (items_before self.now.nodes result - items_before self.now.nodes (node, offset) - 1)) }
+    {
+        let items = self.nodes[node].iter().as_slice();
+        let end = run_end(items, offset + 1, probe);
+        if end < items.len() {
+            return (node, end);
+        }
+        let last = last_started(self.nodes.as_slice(), node, probe);
+        if last == node {
+            return (node, end);
+        }
+        (last, run_end(self.nodes[last].iter().as_slice(), 1, probe))
+    }
+
+    /// Returns the place of the item that stands so many items after a place, by the lengths of the
+    /// nodes between: it makes no comparison. There must be such an item. (Not in the Rust crate.)
+    pub fn place_ahead(&self, place: (usize, usize), count: usize) -> (usize, usize)
+        requires place { IsPlace self.now.nodes place }
+        requires within { items_before self.now.nodes place + count < length (joined self.now.nodes) }
+        ensures node { result.0 < length self.now.nodes }
+        ensures offset { result.1 < length (node_at self.now.nodes result.0) }
+        ensures before { items_before self.now.nodes result ≡ items_before self.now.nodes place + count }
+    {
+        let (mut node, mut offset) = place;
+        let mut left = count;
+        while left >= self.nodes[node].len() - offset {
+            left -= self.nodes[node].len() - offset;
+            node += 1;
+            offset = 0;
+        }
+        (node, offset + left)
     }
 
     // Returns the place before the first item that the probe does not place below what it seeks.

@@ -1,12 +1,14 @@
 //! The pairs of a key, or between two bounds on keys.
-ghost use Rattle.std.specs.Prelude.{◌≡◌, IsTrue, length, IfSome, Some};
+ghost use Rattle.std.specs.Prelude.{◌≡◌, ◌≤◌, IsTrue, length, IfSome, Some};
 ghost use Rattle.std.specs.Iterator.{UpTo, at_most};
 ghost use Rattle.std.specs.Iterator.SizeHint.{IsWithinCount};
+ghost use Rattle.std.specs.List.{between};
 ghost use Rattle.std.specs.Map.Iter.{TakesFirst, TakesLast, ShowsInOrder, ShowsInReverse, deref};
 ghost use Rattle.std.specs.Range.Bound.{bound_map};
 ghost use Rattle.indexset_core.specs.Bounds.{are_ordered};
 ghost use Rattle.indexset_core.specs.Nodes.{joined};
 ghost use Rattle.indexset_core.specs.Pairs.{pair_shown};
+ghost use Rattle.indexset_log.specs.Places.{IsPlace, items_before};
 ghost use Rattle.indexset_multi.specs.Keys.{entries, number_shown, pairs_between, pairs_of};
 
 use super::BTreeMultiMap;
@@ -206,7 +208,20 @@ impl<K: Ord + Clone + Drop, V: Eq + Clone + Drop, Node: NodeLike<MultiPair<K, V>
         ensures rest { result ≡ pairs_of K.cmp (joined self.now.nodes) key.now }
         ensures runs { ShowsInOrder (deref {X = MultiPair K V}) }
     {
-        self.pairs_between((Bound::Included(key), Bound::Included(key)))
+        let (from, to) = self.places_of(key);
+        self.set.range_between(from, to)
+    }
+
+    // Returns the places before and after the pairs of a key.
+    pub(super) fn places_of(&self, key: &K) -> ((usize, usize), (usize, usize))
+        ensures from { IsPlace self.now.nodes result.0 }
+        ensures to { IsPlace self.now.nodes result.1 }
+        ensures order { items_before self.now.nodes result.0 ≤ items_before self.now.nodes result.1 }
+        ensures pairs { between (items_before self.now.nodes result.0) (items_before self.now.nodes result.1) (joined self.now.nodes) ≡ pairs_of K.cmp (joined self.now.nodes) key.now }
+    {
+        // The contract of `node_count` says that the pairs ascend, as a search by key requires.
+        let _nodes = self.set.node_count();
+        self.set.places_by(&mut ByKey::new(key))
     }
 
     // Returns the pairs whose keys satisfy both bounds.

@@ -1,13 +1,12 @@
 //! Calls that remove pairs.
-ghost use Rattle.std.specs.Prelude.{◌≡◌, ◌+◌, ◌/◌, ◌<◌, ◌≤◌, [], drop, length, false, Some, IfOk, OnOk, IfErr, OnErr, IsOk};
+ghost use Rattle.std.specs.Prelude.{◌≡◌, ◌+◌, ◌/◌, ◌<◌, ◌≤◌, [], drop, length, false, find, slice_get, None, Some, MatchOption, IfOk, OnOk, IfErr, OnErr, IsOk};
 ghost use Rattle.std.specs.List.{AllZip};
 ghost use Rattle.std.specs.Option.{option_map};
-ghost use Rattle.std.specs.Ordering.{is_eq, nat_cmp, ordering_then};
+ghost use Rattle.std.specs.Ordering.{is_eq};
 ghost use Rattle.indexset_core.specs.MultiPairs.{by_number};
 ghost use Rattle.indexset_core.specs.Nodes.{joined, IsLawful};
 ghost use Rattle.indexset_log.specs.Clones.{IsEventClone};
 ghost use Rattle.indexset_log.specs.Joining.{IsSpaced};
-ghost use Rattle.indexset_log.specs.Located.{located};
 ghost use Rattle.indexset_log.specs.Replay.{replay, numbered_from, IsNumberedFrom};
 ghost use Rattle.indexset_log.specs.Tree.{refusal_for};
 ghost use Rattle.indexset_multi.specs.Keys.{equal_pair, first_pair, key_and_value, pairs_of, without_first, without_named};
@@ -15,11 +14,11 @@ ghost use Rattle.indexset_multi.specs.Places.{IsItemPlace, placed_item};
 ghost use Rattle.indexset_multi.specs.Tree.{pair_removal_events};
 
 use super::BTreeMultiMap;
-use crate::number::ByNumber;
 use indexset_core::multipair::MultiPair;
 use indexset_core::node::NodeLike;
 use indexset_core::refusal::Refusal;
 use indexset_log::change::ChangeEvent;
+use indexset_log::set::range::Range;
 
 impl<K: Ord + Clone + Drop, V: Eq + Clone + Drop, Node: NodeLike<MultiPair<K, V>>> BTreeMultiMap<
     K,
@@ -152,20 +151,9 @@ impl<K: Ord + Clone + Drop, V: Eq + Clone + Drop, Node: NodeLike<MultiPair<K, V>
         ensures place { IsItemPlace self.now.nodes result }
         ensures pair { placed_item self.now.nodes result ≡ equal_pair K.cmp V.eq (joined self.now.nodes) key.now value.now }
     {
-        match self.kept_number(key, value) {
-            Some(number) => self.locate_number(key, number).ok(),
-            None => None,
-        }
-    }
-
-    // Returns where a search for a pair of this number ends.
-    fn locate_number(&self, key: &K, number: u64) -> Result<(usize, usize), (usize, usize)>
-        ensures place { result ≡ located (λ p. ordering_then (K.cmp p.key key.now) (nat_cmp p.discriminator number)) self.now.nodes }
-        ensures lawful { IsLawful (by_number K.cmp) self.now.size self.now.nodes }
-    {
-        // The contract of `node_count` says that the pairs ascend, as a search by number requires.
-        let _nodes = self.set.node_count();
-        self.set.locate_by(&mut ByNumber::new(key, number))
+        let (from, to) = self.places_of(key);
+        let index = index_of(self.set.range_between(from, to), value)?;
+        Some(self.set.place_ahead(from, index))
     }
 
     // Removes the pair at a place, where one is given, and returns it with the events.
@@ -236,4 +224,24 @@ impl<K: Ord + Clone + Drop, V: Eq + Clone + Drop, Node: NodeLike<MultiPair<K, V>
             None => Ok(None),
         }
     }
+}
+
+// Returns how many pairs stand before the first with an equal value.
+fn index_of<K: Ord + Clone + Drop, V: Eq + Clone + Drop, Node: NodeLike<MultiPair<K, V>>>(
+    pairs: Range<'_, MultiPair<K, V>, Node>,
+    value: &V,
+) -> Option<usize>
+    ensures { MatchOption result (find (λ p. V.eq p.value value.now) pairs.entry ≡ None) (λ i. (i < length pairs.entry) × (slice_get pairs.entry i ≡ find (λ p. V.eq p.value value.now) pairs.entry)) }
+{
+    // The number of pairs fits.
+    let _len = pairs.len();
+    let mut rest = pairs;
+    let mut index = 0;
+    while let Some(pair) = rest.next() {
+        if pair.value == *value {
+            return Some(index);
+        }
+        index += 1;
+    }
+    None
 }

@@ -14,5 +14,5 @@ loop-i-preserved c =
     record {
       long = length-set c.loop-i.out i c.rank.result ∙ c.loop-i.invariant.long;
       done = ap (λ l. slice_set l i c.rank.result) c.loop-i.invariant.done ∙ written_more (map f keys) c.args.out.now i c.rank.result
-          (answer_at f keys i 0 (omega (arith, least, test)) ∙ ap Some (sym c.rank.ensures)) (omega (arith, least, test));
+          (answer_at f keys i 0 (omega (arith, least, test)) ∙ ap Some (sym c.rank.ensures.value)) (omega (arith, least, test));
     }

@@ -5,7 +5,7 @@ use Rattle.indexset_core.proofs.CallerLemmas.{key_pair, key_no_pair, key_absent}
 use Rattle.indexset_core.specs.Pairs.{value_of}
 use Rattle.indexset_map.specs.Contents.{with_entry, with_written}
 use Rattle.indexset_map.proofs.KeyLemmas.{put_found}
-use Rattle.indexset_map.proofs.ThereLemmas.{value_there}
+use Rattle.indexset_map.proofs.ThereLemmas.{value_beside, value_there}
 use Rattle.indexset_map.proofs.BTreeMap.insert.Goals as goal
 
 pub put-requires : goal.put-requires
@@ -37,3 +37,11 @@ returns-in-Ok-clause-there g c =
 pub returns-in_ok-put-in-Err-clause-there : goal.returns-in_ok-put-in-Err-clause-there
 returns-in_ok-put-in-Err-clause-there g c =
     ap (λ m. value_of g.K.Ord.cmp m.pairs c.args.key) (c.in_ok-put-in-Err.ensures {u = tt}).ok ∙ value_there g.K.Ord.cmp g.met.K.Ord.total c.args.self.now.pairs c.args.key c.args.value
+
+pub returns-in-Ok-clause-others : goal.returns-in-Ok-clause-others
+returns-in-Ok-clause-others g c = λ other apart.
+    ap (λ m. value_of g.K.Ord.cmp m.pairs other) (returns-in-Ok-clause-ok g c) ∙ value_beside g.K.Ord.cmp g.met.K.Ord.total c.args.key other apart c.args.self.now.pairs c.args.value
+
+pub returns-in_ok-put-in-Err-clause-others : goal.returns-in_ok-put-in-Err-clause-others
+returns-in_ok-put-in-Err-clause-others g c = λ other apart.
+    ap (λ m. value_of g.K.Ord.cmp m.pairs other) (c.in_ok-put-in-Err.ensures {u = tt}).ok ∙ value_beside g.K.Ord.cmp g.met.K.Ord.total c.args.key other apart c.args.self.now.pairs c.args.value

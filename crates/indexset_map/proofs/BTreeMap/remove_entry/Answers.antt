@@ -3,6 +3,7 @@ use Rattle.std.specs.Option.{option_map}
 use Rattle.indexset_core.specs.Pairs.{entry_of, has_key, value_of}
 use Rattle.indexset_core.proofs.CallerLemmas.{key_absent, key_gone, key_no_pair, key_pair, no_value}
 use Rattle.indexset_map.proofs.KeyLemmas.{without_found, without_absent}
+use Rattle.indexset_map.proofs.ThereLemmas.{without_beside}
 use Rattle.indexset_map.proofs.BTreeMap.remove_entry.Goals as goal
 
 pub returns-in-Ok-clause-value : goal.returns-in-Ok-clause-value
@@ -34,3 +35,7 @@ returns-in-Ok-clause-no_value g c =
 
 pub returns-in-Err-clause-no_value : goal.returns-in-Err-clause-no_value
 returns-in-Err-clause-no_value g c = no_value g.K.Ord.cmp _ c.args.key.now (key_absent g.K.Ord.cmp _ _ (c.in-Err.ensures {u = tt}).absent)
+
+pub returns-in-Ok-clause-others : goal.returns-in-Ok-clause-others
+returns-in-Ok-clause-others g c = λ other apart.
+    ap (λ m. value_of g.K.Ord.cmp m.pairs other) (returns-in-Ok-clause-rest g c) ∙ without_beside g.K.Ord.cmp g.met.K.Ord.total c.args.key.now other apart c.args.self.now.pairs

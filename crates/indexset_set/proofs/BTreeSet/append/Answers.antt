@@ -6,7 +6,7 @@ use Rattle.indexset_core.specs.Order.{put}
 use Rattle.indexset_core.proofs.CallerLemmas.{on_err}
 use Rattle.indexset_spine.specs.Cut.{cut, items}
 use Rattle.indexset_spine.specs.Edits.{TakesSome}
-use Rattle.indexset_spine.proofs.CallerLemmas.{takes_first, takes_more, takes_none}
+use Rattle.indexset_spine.proofs.CallerLemmas.{takes_first, takes_more}
 use Rattle.indexset_set.specs.SetNodes.{nodes_put}
 use Rattle.indexset_set.proofs.SetAppendLemmas.{nodes_all, puts_some}
 use Rattle.indexset_set.proofs.SetBulkLemmas.{moved_all, moves_some}

@@ -1,28 +1,22 @@
-use Rattle.std.proofs.Common.{◌∙◌, sym}
-use Rattle.indexset_core.specs.MultiPairs.{by_number}
+use Rattle.std.proofs.Common.{◌≡◌, find, slice_get, ap, sym, ◌∙◌}
 use Rattle.indexset_core.specs.Nodes.{joined}
-use Rattle.indexset_log.proofs.CallerLemmas.{lawful_ascends}
-use Rattle.indexset_multi.proofs.Numbers.{answer_to, kept_found}
-use Rattle.indexset_multi.proofs.Searches.{lawful_numbers, ok_item, ok_place}
+use Rattle.indexset_core.proofs.CallerLemmas.{get_in_node}
+use Rattle.indexset_log.specs.Places.{items_before}
+use Rattle.indexset_multi.proofs.Runs.{slice_between}
 use Rattle.indexset_multi.proofs.multimap.BTreeMultiMap.equal_place.Goals as goal
 
-pub returns-in-Some-clause-place : goal.returns-in-Some-clause-place
-returns-in-Some-clause-place g c =
-    let cmp = g.K.Ord.cmp in
-    let m = c.args.self.now in
-    let k = c.args.key.now in
-    let n = c.in-Some.number in
-    let law = c.locate_number.ensures.lawful in
-    rw c.ok.ensures.value (ok_place (by_number cmp) m.size m.nodes law (answer_to cmp k n) (lawful_numbers cmp g.met.K.Ord.total m.size m.nodes law k n) c.locate_number.result c.locate_number.ensures.place)
-
-pub returns-in-Some-clause-pair : goal.returns-in-Some-clause-pair
-returns-in-Some-clause-pair g c =
-    let cmp = g.K.Ord.cmp in
-    let m = c.args.self.now in
-    let k = c.args.key.now in
-    let n = c.in-Some.number in
-    let law = c.locate_number.ensures.lawful in
-    let up = lawful_ascends (by_number cmp) m.size m.nodes law in
-    rw c.ok.ensures.value (
-    ok_item (by_number cmp) m.size m.nodes law (answer_to cmp k n) (lawful_numbers cmp g.met.K.Ord.total m.size m.nodes law k n) c.locate_number.result c.locate_number.ensures.place
-    ∙ kept_found cmp g.met.K.Ord.total g.V.PartialEq.eq (joined m.nodes) up k c.args.value.now n (sym c.kept_number.ensures ∙ c.in-Some.is))
+pub returns-clause-pair : goal.returns-clause-pair
+returns-clause-pair g c =
+    let ns = c.args.self.now.nodes in
+    let from = items_before ns c.places_of.result.0 in
+    let to = items_before ns c.places_of.result.1 in
+    let same : c.self.inside.set.nodes ≡ ns = ap (λ m. m.nodes) c.self.view_is in
+    let part = rw same at c.range_between.ensures.rest in
+    let index = rw part at c.in_ok-index.ensures in
+    let node = rw same at c.place_ahead.ensures.node in
+    let offset = rw same at c.place_ahead.ensures.offset in
+    let place = rw same at c.place_ahead.ensures.before in
+    sym (get_in_node ns c.place_ahead.result.0 c.place_ahead.result.1 node offset)
+    ∙ (ap (λ i. slice_get (joined ns) i) place
+    ∙ (sym (slice_between from to (joined ns) c.in_ok-index.index index.0)
+    ∙ (index.1 ∙ ap (λ l. find (λ p. g.V.PartialEq.eq p.value c.args.value.now) l) c.places_of.ensures.pairs)))

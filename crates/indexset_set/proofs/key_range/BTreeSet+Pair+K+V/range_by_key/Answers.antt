@@ -1,5 +1,5 @@
-use Rattle.std.proofs.Common.{◌≡◌, ◌∙◌}
-use Rattle.indexset_spine.specs.Cut.{items, position_of}
+use Rattle.std.proofs.Common.{◌∙◌}
+use Rattle.indexset_spine.specs.Cut.{items}
 use Rattle.indexset_core.proofs.CallerLemmas.{key_range_is, key_range_order, probed_before, probed_up_to}
 use Rattle.indexset_set.proofs.key_range.BTreeSet+Pair+K+V.range_by_key.Goals as goal
 

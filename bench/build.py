@@ -1,0 +1,93 @@
+"""Builds what can be built here of the programs of the benchmark; each takes the same words.
+
+A program that lacks something is named and left out. The Rust crate is built where INDEXSET_RS leads to a
+folder with its sources and a Cargo.toml.
+"""
+import os
+import pathlib
+import re
+import shutil
+import subprocess
+
+HERE = pathlib.Path(__file__).resolve().parent
+TOP, OUT = HERE.parent, HERE / "out"
+CRATES = ["core", "spine", "set", "map", "log", "multi", "replica", "bench"]
+
+
+def ran(*words, folder=None):
+    """Whether a command ended well; what it says is shown where it did not."""
+    done = subprocess.run(words, cwd=folder, stdout=subprocess.PIPE, stderr=subprocess.STDOUT, text=True)
+    if done.returncode:
+        print(done.stdout[-2000:])
+    return done.returncode == 0
+
+
+def ours():
+    """The benchmark is no crate of the gate, which reads every file named .rt: its sources are named .rt.in.
+    They and the crates that they measure are laid side by side in out/, where `rt` proves what changed since
+    the last run, and builds it."""
+    if not shutil.which("rt"):
+        return "needs `rt`"
+    for crate in CRATES:
+        for part in ("src", "specs", "proofs"):
+            lay(TOP / f"crates/indexset_{crate}/{part}", OUT / f"crates/indexset_{crate}/{part}")
+    lay(HERE / "ours/src", OUT / "crates/indexset_speed/src")
+    for source in (OUT / "crates/indexset_speed/src").glob("*.rt.in"):
+        source.rename(source.with_suffix(""))
+    wanted = rf"^indexset_({'|'.join(CRATES)}):.*\n"
+    lines = re.findall(rf"(?m)({wanted})", (TOP / "crates.txt").read_text())
+    uses = "indexset_speed: indexset_core indexset_set indexset_map indexset_log indexset_replica indexset_bench\n"
+    (OUT / "crates.txt").write_text("".join(it[0] for it in lines) + uses)
+    shutil.copy(TOP / "HANDLES", OUT)
+    crate = OUT / "crates/indexset_speed"
+    return crate / "out/indexset_speed" if ran("rt", "run", folder=crate) else "did not build"
+
+
+def lay(source, to):
+    """A copy of a folder, with the times of its files, in place of what was there."""
+    shutil.rmtree(to, ignore_errors=True)
+    if source.is_dir():
+        shutil.copytree(source, to)
+
+
+def std():
+    if not shutil.which("rustc"):
+        return "needs `rustc`"
+    made = OUT / "std"
+    return made if ran("rustc", "-O", "--edition", "2021", "-o", str(made), str(HERE / "rust.rs")) else "did not build"
+
+
+def crate():
+    source = os.environ.get("INDEXSET_RS")
+    if not source or not shutil.which("cargo"):
+        return "needs `cargo`, and INDEXSET_RS, the folder of the crate's sources"
+    project = OUT / "rust"
+    (project / "src").mkdir(parents=True, exist_ok=True)
+    shutil.copy(HERE / "rust.rs", project / "src/main.rs")
+    (project / "Cargo.toml").write_text(
+        '[package]\nname = "indexset_rs"\nversion = "0.0.0"\nedition = "2021"\n\n'
+        "[features]\nof_the_crate = []\n\n[workspace]\n\n"
+        f'[dependencies]\nindexset = {{ path = "{pathlib.Path(source).resolve()}", default-features = false }}\n'
+    )
+    is_built = ran("cargo", "build", "--release", "--offline", "--features", "of_the_crate", folder=project)
+    return project / "target/release/indexset_rs" if is_built else "did not build"
+
+
+def pb_ds():
+    if not shutil.which("g++"):
+        return "needs `g++`"
+    made = OUT / "pb_ds"
+    return made if ran("g++", "-O2", "-std=c++17", "-o", str(made), str(HERE / "pb_ds.cpp")) else "did not build"
+
+
+def built():
+    """The programs by name, ours first."""
+    OUT.mkdir(exist_ok=True)
+    found = {}
+    for name, build in (("ours", ours), ("Rust crate", crate), ("std", std), ("pb_ds", pb_ds)):
+        made = build()
+        if isinstance(made, str):
+            print(f"{name} is left out: {made}")
+        else:
+            found[name] = made
+    return found

@@ -1,0 +1,56 @@
+"""Draws docs/speed.svg: times by number of keys, a panel a row, a line a library."""
+import math
+
+PANELS = [
+    "insert",
+    "insert, ascending",
+    "contains",
+    "element at a position",
+    "rank",
+    "range of 100",
+    "pop_first",
+    "pop_last",
+    "remove",
+    "append, all above",
+    "equality",
+    "iterate",
+]
+COLOURS = ["#1f4e9c", "#c2571a", "#3f8f3f", "#8a3f8f"]
+WIDTH, HEIGHT, LEFT, TOP, COLUMNS = 300, 200, 52, 30, 3
+
+
+def panel(what, lines, x0, y0):
+    """`lines`: of each library its points, (keys, nanoseconds)."""
+    keys = [k for points in lines for k, _ in points]
+    times = [t for points in lines for _, t in points]
+    low_k, high_k = math.log10(min(keys)), math.log10(max(keys))
+    low, high = math.floor(math.log10(min(times))), math.ceil(math.log10(max(times)))
+    high = max(high, low + 1)
+    x = lambda k: x0 + LEFT + (math.log10(k) - low_k) / max(high_k - low_k, 1) * (WIDTH - LEFT - 16)
+    y = lambda t: y0 + HEIGHT - 28 - (math.log10(t) - low) / (high - low) * (HEIGHT - TOP - 36)
+    out = [f'<text x="{x0 + LEFT}" y="{y0 + 18}" font-weight="bold">{what}</text>']
+    for power in range(low, high + 1):
+        at = y(10**power)
+        out.append(f'<line x1="{x0 + LEFT}" x2="{x0 + WIDTH - 16}" y1="{at:.1f}" y2="{at:.1f}" stroke="#ddd"/>')
+        out.append(f'<text x="{x0 + LEFT - 4}" y="{at + 4:.1f}" text-anchor="end">{10**power:g} ns</text>')
+    for k in sorted(set(keys)):
+        out.append(f'<text x="{x(k):.1f}" y="{y0 + HEIGHT - 10}" text-anchor="middle">1e{round(math.log10(k))}</text>')
+    for points, colour in zip(lines, COLOURS):
+        path = " ".join(f"{x(k):.1f},{y(t):.1f}" for k, t in points)
+        out.append(f'<polyline points="{path}" fill="none" stroke="{colour}" stroke-width="2"/>')
+        out += [f'<circle cx="{x(k):.1f}" cy="{y(t):.1f}" r="2.5" fill="{colour}"/>' for k, t in points]
+    return out
+
+
+def plot(names, keys, figures):
+    """The picture of `figures[name][keys][row]`, in nanoseconds."""
+    points = lambda name, what: [(k, figures[name][k][what]) for k in keys if figures[name][k].get(what, 0) > 0]
+    shown = [what for what in PANELS if any(points(name, what) for name in names)]
+    width, height = WIDTH * COLUMNS, HEIGHT * -(-len(shown) // COLUMNS) + 30
+    out = [f'<svg xmlns="http://www.w3.org/2000/svg" width="{width}" height="{height}" font-family="sans-serif" font-size="11">']
+    out.append(f'<rect width="{width}" height="{height}" fill="white"/>')
+    for at, what in enumerate(shown):
+        out += panel(what, [points(name, what) for name in names], at % COLUMNS * WIDTH, at // COLUMNS * HEIGHT + 24)
+    for at, (name, colour) in enumerate(zip(names, COLOURS)):
+        out.append(f'<text x="{20 + 160 * at}" y="16" fill="{colour}" font-weight="bold">{name}</text>')
+    return "\n".join([*out, "</svg>"]) + "\n"

@@ -1,0 +1,212 @@
+//! Times the calls of a set and a map of u64 in Rust: of std, or of the crate `indexset` where the
+//! feature says so. One line a row: its name, a tab, nanoseconds an operation.
+//!
+//! `rows KEYS` prints the rows; `hold KEYS COPIES ascending|mixed` makes that many sets, prints a line,
+//! and waits for one, so that its memory can be read.
+
+#[cfg(feature = "of_the_crate")]
+use indexset::{BTreeMap, BTreeSet};
+#[cfg(not(feature = "of_the_crate"))]
+use std::collections::{BTreeMap, BTreeSet};
+
+use std::hint::black_box;
+use std::io::BufRead;
+use std::time::Instant;
+
+/// The i-th of distinct keys in no order.
+fn key(i: u64) -> u64 {
+    let i = i.wrapping_add(1).wrapping_mul(0x9e37_79b9_7f4a_7c15);
+    let i = (i ^ (i >> 30)).wrapping_mul(0xbf58_476d_1ce4_e5b9);
+    let i = (i ^ (i >> 27)).wrapping_mul(0x94d0_49bb_1331_11eb);
+    i ^ (i >> 31)
+}
+
+fn row(name: &str, since: Instant, operations: u64) {
+    let nanoseconds = since.elapsed().as_nanos() as f64;
+    println!("{name}\t{:.1}", nanoseconds / operations.max(1) as f64);
+}
+
+fn every_second(first: u64, keys: u64) -> BTreeSet<u64> {
+    (0..keys / 2).map(|i| 2 * i + first).collect()
+}
+
+fn measure_look_ups(set: &BTreeSet<u64>, sought: &[u64], absent: &[u64], keys: u64) {
+    let start = Instant::now();
+    let found = sought.iter().filter(|key| set.contains(key)).count();
+    row("contains", start, keys);
+    let start = Instant::now();
+    let missed = absent.iter().filter(|key| set.contains(key)).count();
+    row("contains, absent", start, keys);
+    black_box((found, missed));
+}
+
+#[cfg(feature = "of_the_crate")]
+fn measure_positions(set: &BTreeSet<u64>, sought: &[u64], positions: &[u64], keys: u64) {
+    let start = Instant::now();
+    let sum = positions.iter().filter_map(|at| set.get_index(*at as usize)).fold(0u64, |sum, key| sum.wrapping_add(*key));
+    row("element at a position", start, keys);
+    let start = Instant::now();
+    let ranks = sought.iter().fold(0usize, |sum, key| sum.wrapping_add(set.rank(key)));
+    row("rank", start, keys);
+    black_box((sum, ranks));
+}
+
+#[cfg(not(feature = "of_the_crate"))]
+fn measure_positions(_set: &BTreeSet<u64>, _sought: &[u64], _positions: &[u64], _keys: u64) {}
+
+fn both_ends(set: &BTreeSet<u64>) -> u64 {
+    let mut sum = 0u64;
+    let mut walk = set.iter();
+    while let Some(first) = walk.next() {
+        let last = walk.next_back().unwrap_or(&0);
+        sum = sum.wrapping_add(*first).wrapping_add(*last);
+    }
+    sum
+}
+
+fn ranges(set: &BTreeSet<u64>, keys: u64, times: u64) -> u64 {
+    let width = u64::MAX / keys.max(1) * 100.min(keys.max(1));
+    let mut sum = 0u64;
+    for i in 0..times {
+        let start = key(i);
+        for element in set.range(start..=start.saturating_add(width)) {
+            sum = sum.wrapping_add(*element);
+        }
+    }
+    sum
+}
+
+fn measure_walks(set: &mut BTreeSet<u64>, keys: u64) {
+    let start = Instant::now();
+    black_box(set.iter().fold(0u64, |sum, key| sum.wrapping_add(*key)));
+    row("iterate", start, keys);
+    let start = Instant::now();
+    black_box(both_ends(set));
+    row("iterate from both ends", start, keys);
+    let times = keys.min(100_000);
+    let start = Instant::now();
+    black_box(ranges(set, keys, times));
+    row("range of 100", start, times);
+    let start = Instant::now();
+    let mut upper = set.split_off(&(u64::MAX / 2));
+    row("split in the middle", start, 1);
+    let start = Instant::now();
+    black_box(set.union(&upper).fold(0u64, |sum, key| sum.wrapping_add(*key)));
+    row("union of two halves", start, keys);
+    let start = Instant::now();
+    set.append(&mut upper);
+    row("append, all above", start, keys / 2);
+}
+
+fn measure_set(mixed: &[u64], sought: &[u64], absent: &[u64], positions: &[u64], keys: u64) {
+    let start = Instant::now();
+    let mut set = BTreeSet::new();
+    for key in mixed {
+        set.insert(*key);
+    }
+    row("insert", start, keys);
+    measure_look_ups(&set, sought, absent, keys);
+    measure_positions(&set, sought, positions, keys);
+    measure_walks(&mut set, keys);
+    let start = Instant::now();
+    let removed = sought.iter().filter(|key| set.remove(*key)).count();
+    row("remove", start, keys);
+    black_box(removed);
+}
+
+fn measure_whole(mixed: &[u64], keys: u64) {
+    let start = Instant::now();
+    let mut set = BTreeSet::new();
+    for key in 0..keys {
+        set.insert(key);
+    }
+    row("insert, ascending", start, keys);
+    let start = Instant::now();
+    let mut copy = set.clone();
+    row("clone", start, keys);
+    let start = Instant::now();
+    black_box(set == copy);
+    row("equality", start, keys);
+    let start = Instant::now();
+    while let Some(last) = set.pop_last() {
+        black_box(last);
+    }
+    row("pop_last", start, keys);
+    let start = Instant::now();
+    while let Some(first) = copy.pop_first() {
+        black_box(first);
+    }
+    row("pop_first", start, keys);
+    let (mut even, mut odd) = (every_second(0, keys), every_second(1, keys));
+    let start = Instant::now();
+    even.append(&mut odd);
+    row("append, every second", start, keys / 2);
+    black_box(even.len());
+    let values: Vec<u64> = (0..keys).collect();
+    let start = Instant::now();
+    let made: BTreeSet<u64> = values.into_iter().collect();
+    row("from, ascending", start, keys);
+    black_box(made.len());
+    let values = mixed.to_vec();
+    let start = Instant::now();
+    let made: BTreeSet<u64> = values.into_iter().collect();
+    row("from", start, keys);
+    black_box(made.len());
+}
+
+fn measure_map(mixed: &[u64], sought: &[u64], keys: u64) {
+    let start = Instant::now();
+    let mut map = BTreeMap::new();
+    for key in mixed {
+        map.insert(*key, *key);
+    }
+    row("map, insert", start, keys);
+    let start = Instant::now();
+    black_box(sought.iter().filter_map(|key| map.get(key)).fold(0u64, |sum, value| sum.wrapping_add(*value)));
+    row("map, get", start, keys);
+    let start = Instant::now();
+    for key in sought {
+        if let Some(value) = map.get_mut(key) {
+            *value = value.wrapping_add(1);
+        }
+    }
+    row("map, get_mut", start, keys);
+    let start = Instant::now();
+    black_box(map.iter().fold(0u64, |sum, (key, value)| sum.wrapping_add(*key).wrapping_add(*value)));
+    row("map, iterate", start, keys);
+}
+
+fn measure(keys: u64) {
+    let mixed: Vec<u64> = (0..keys).map(key).collect();
+    let sought: Vec<u64> = (0..keys).map(|i| key(i * 7919 % keys.max(1))).collect();
+    let absent: Vec<u64> = (keys..2 * keys).map(key).collect();
+    let positions: Vec<u64> = (0..keys).map(|i| key(i) % keys.max(1)).collect();
+    measure_set(&mixed, &sought, &absent, &positions, keys);
+    measure_whole(&mixed, keys);
+    measure_map(&mixed, &sought, keys);
+}
+
+fn hold(keys: u64, copies: u64, is_mixed: bool) {
+    let one = || -> BTreeSet<u64> {
+        let mut set = BTreeSet::new();
+        for i in 0..keys {
+            set.insert(if is_mixed { key(i) } else { i });
+        }
+        set
+    };
+    let sets: Vec<BTreeSet<u64>> = (0..copies).map(|_| one()).collect();
+    println!("held");
+    let mut line = String::new();
+    let _ = std::io::stdin().lock().read_line(&mut line);
+    black_box(sets.len());
+}
+
+fn main() {
+    let words: Vec<String> = std::env::args().collect();
+    let number = |at: usize| words.get(at).and_then(|word| word.parse().ok()).unwrap_or(0);
+    match words.get(1).map(String::as_str) {
+        Some("rows") => measure(number(2)),
+        Some("hold") => hold(number(2), number(3), words.get(4).is_some_and(|word| word == "mixed")),
+        _ => println!("usage: rows KEYS | hold KEYS COPIES ascending|mixed"),
+    }
+}

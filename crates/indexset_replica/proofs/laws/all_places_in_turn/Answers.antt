@@ -1,0 +1,5 @@
+use Rattle.indexset_replica.proofs.Beginnings.{all_places}
+use Rattle.indexset_replica.proofs.laws.all_places_in_turn.Goals as goal
+
+pub returns : goal.returns
+returns c = all_places

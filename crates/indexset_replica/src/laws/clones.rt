@@ -1,0 +1,52 @@
+//! Types whose clones equal their sources by the order, as the law [`super::replay_of_clones`] and the
+//! calls that cite it ask.
+
+ghost use Rattle.std.specs.Prelude.{◌≡◌};
+ghost use Rattle.indexset_core.specs.MultiPairs.{by_number};
+ghost use Rattle.indexset_core.specs.Pairs.{by_key};
+ghost use Rattle.indexset_core.specs.declared.multipair.MultiPair.{MultiPair};
+ghost use Rattle.indexset_core.specs.declared.pair.Pair.{Pair};
+ghost use Rattle.indexset_replica.specs.Copies.{AreClonesEqual};
+
+/// Texts.
+pub fn texts()
+    ensures string { AreClonesEqual ⟦<String as Ord>⟧.cmp ⟦<String as Clone>⟧.is_clone }
+    ensures str { AreClonesEqual ⟦<&'static str as Ord>⟧.cmp ⟦<&'static str as Clone>⟧.is_clone }
+{}
+
+/// Numbers of 64 bits, characters and truth values.
+pub fn numbers()
+    ensures u64 { AreClonesEqual ⟦<u64 as Ord>⟧.cmp ⟦<u64 as Clone>⟧.is_clone }
+    ensures i64 { AreClonesEqual ⟦<i64 as Ord>⟧.cmp ⟦<i64 as Clone>⟧.is_clone }
+    ensures char { AreClonesEqual ⟦<char as Ord>⟧.cmp ⟦<char as Clone>⟧.is_clone }
+    ensures bool { AreClonesEqual ⟦<bool as Ord>⟧.cmp ⟦<bool as Clone>⟧.is_clone }
+{}
+
+/// Types whose clones are identical to their sources, as all numbers, `bytes::ByteStr` and
+/// `bytes::Bytes`.
+pub fn identical<T: Ord + Clone>()
+    ensures { ((x y : T) → T.is_clone x y → y ≡ x) → AreClonesEqual T.cmp T.is_clone }
+{}
+
+/// Lists, options and boxes of such a type.
+pub fn holders<T: Ord + Clone>()
+    ensures vec { AreClonesEqual T.cmp T.is_clone → AreClonesEqual ⟦<Vec<T> as Ord>⟧.cmp ⟦<Vec<T> as Clone>⟧.is_clone }
+    ensures option { AreClonesEqual T.cmp T.is_clone → AreClonesEqual ⟦<Option<T> as Ord>⟧.cmp ⟦<Option<T> as Clone>⟧.is_clone }
+    ensures boxed { AreClonesEqual T.cmp T.is_clone → AreClonesEqual ⟦<Box<T> as Ord>⟧.cmp ⟦<Box<T> as Clone>⟧.is_clone }
+{}
+
+/// Tuples of such types.
+pub fn tuples<A: Ord + Clone, B: Ord + Clone, C: Ord + Clone>()
+    ensures two { AreClonesEqual A.cmp A.is_clone → AreClonesEqual B.cmp B.is_clone
+        → AreClonesEqual ⟦<(A, B) as Ord>⟧.cmp ⟦<(A, B) as Clone>⟧.is_clone }
+    ensures three { AreClonesEqual A.cmp A.is_clone → AreClonesEqual B.cmp B.is_clone → AreClonesEqual C.cmp C.is_clone
+        → AreClonesEqual ⟦<(A, B, C) as Ord>⟧.cmp ⟦<(A, B, C) as Clone>⟧.is_clone }
+{}
+
+/// Pairs whose keys are of such a type, whatever their values are.
+pub fn pairs<K: Ord + Clone, V: Clone>()
+    ensures pair { AreClonesEqual K.cmp K.is_clone
+        → AreClonesEqual {T = Pair K V} (by_key K.cmp) (λ p q. K.is_clone p.key q.key × V.is_clone p.value q.value) }
+    ensures numbered { AreClonesEqual K.cmp K.is_clone
+        → AreClonesEqual {T = MultiPair K V} (by_number K.cmp) (λ p q. K.is_clone p.key q.key × (V.is_clone p.value q.value × (q.discriminator ≡ p.discriminator))) }
+{}

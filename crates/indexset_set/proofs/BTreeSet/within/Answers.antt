@@ -1,0 +1,18 @@
+use Rattle.std.proofs.Common.{◌∙◌}
+use Rattle.indexset_spine.specs.Cut.{items}
+use Rattle.indexset_core.proofs.CallerLemmas.{probed_before, probed_up_to, range_order, range_is}
+use Rattle.indexset_set.proofs.BTreeSet.within.Goals as goal
+
+pub iter_from_to-requires-clause-order : goal.iter_from_to-requires-clause-order
+iter_from_to-requires-clause-order g c =
+    let l = items c.self.inside.spine in
+    range_order g.T.Ord.cmp g.met.T.Ord.total l c.self.invariant _ _ c.requires _ _
+    (c.start_of-from.ensures.position ∙ probed_before g.T.Ord.cmp (λ v. v.now) (λ x. x) l c.args.start _ c.map.ensures)
+    (c.end_of-to.ensures.position ∙ probed_up_to g.T.Ord.cmp (λ v. v.now) (λ x. x) l c.args.end _ c.map-2.ensures)
+
+pub returns-clause-rest : goal.returns-clause-rest
+returns-clause-rest g c =
+    let l = items c.self.inside.spine in
+    rw (← c.self.view_is) (c.of.ensures ∙ c.iter_from_to.ensures.rest ∙ range_is g.T.Ord.cmp g.met.T.Ord.total l c.self.invariant _ _ c.requires _ _
+    (c.start_of-from.ensures.position ∙ probed_before g.T.Ord.cmp (λ v. v.now) (λ x. x) l c.args.start _ c.map.ensures)
+    (c.end_of-to.ensures.position ∙ probed_up_to g.T.Ord.cmp (λ v. v.now) (λ x. x) l c.args.end _ c.map-2.ensures))

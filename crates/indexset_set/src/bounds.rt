@@ -1,0 +1,194 @@
+//! What a range of a set or a map is given by: two bounds, or one of Rust's ranges.
+ghost use Rattle.std.specs.Prelude.{◌≡◌};
+ghost use Rattle.std.specs.Range.{range_inclusive_end, range_inclusive_start};
+ghost use Rattle.std.specs.Range.Bound.{bound_map};
+ghost use Rattle.std.specs.declared.ops.Bound.{Bound};
+ghost use Rattle.std.specs.declared.ops.Bound.TheVariants.{Excluded, Included, Unbounded};
+
+use std::ops::{Bound, Range, RangeFrom, RangeFull, RangeInclusive, RangeTo, RangeToInclusive};
+
+/// A start and an end, as `range` of a set or a map takes them: `(Bound<&T>, Bound<&T>)`, or
+/// `a..b`, `a..=b`, `a..`, `..b`, `..=b` and `..`, of values or of references to them. It stands for
+/// `RangeBounds`, and has one impl alone for pairs, so that `(Unbounded, Unbounded)` needs no type
+/// annotation. An `a..=b` that was iterated to its end still includes both.
+pub trait Bounds<T> {
+    /// The bound at the start.
+    ghost start: { Self → Bound T };
+
+    /// The bound at the end.
+    ghost end: { Self → Bound T };
+
+    fn start_bound(&self) -> Bound<&T>
+        ensures { bound_map (λ x. x.now) result ≡ start self.now };
+
+    fn end_bound(&self) -> Bound<&T>
+        ensures { bound_map (λ x. x.now) result ≡ end self.now };
+}
+
+impl<'a, T> Bounds<T> for (Bound<&'a T>, Bound<&'a T>) {
+    ghost start = { λ s. bound_map (λ x. x.now) s.0 };
+
+    ghost end = { λ s. bound_map (λ x. x.now) s.1 };
+
+    fn start_bound(&self) -> Bound<&T> {
+        self.0
+    }
+
+    fn end_bound(&self) -> Bound<&T> {
+        self.1
+    }
+}
+
+impl<T> Bounds<T> for RangeFull {
+    ghost start = { λ _. Unbounded };
+
+    ghost end = { λ _. Unbounded };
+
+    fn start_bound(&self) -> Bound<&T> {
+        Bound::Unbounded
+    }
+
+    fn end_bound(&self) -> Bound<&T> {
+        Bound::Unbounded
+    }
+}
+
+impl<T> Bounds<T> for Range<T> {
+    ghost start = { λ s. Included s.start };
+
+    ghost end = { λ s. Excluded s.end };
+
+    fn start_bound(&self) -> Bound<&T> {
+        Bound::Included(&self.start)
+    }
+
+    fn end_bound(&self) -> Bound<&T> {
+        Bound::Excluded(&self.end)
+    }
+}
+
+impl<T> Bounds<T> for RangeInclusive<T> {
+    ghost start = { λ s. Included (range_inclusive_start s) };
+
+    ghost end = { λ s. Included (range_inclusive_end s) };
+
+    fn start_bound(&self) -> Bound<&T> {
+        Bound::Included(self.start())
+    }
+
+    fn end_bound(&self) -> Bound<&T> {
+        Bound::Included(self.end())
+    }
+}
+
+impl<T> Bounds<T> for RangeFrom<T> {
+    ghost start = { λ s. Included s.start };
+
+    ghost end = { λ _. Unbounded };
+
+    fn start_bound(&self) -> Bound<&T> {
+        Bound::Included(&self.start)
+    }
+
+    fn end_bound(&self) -> Bound<&T> {
+        Bound::Unbounded
+    }
+}
+
+impl<T> Bounds<T> for RangeTo<T> {
+    ghost start = { λ _. Unbounded };
+
+    ghost end = { λ s. Excluded s.end };
+
+    fn start_bound(&self) -> Bound<&T> {
+        Bound::Unbounded
+    }
+
+    fn end_bound(&self) -> Bound<&T> {
+        Bound::Excluded(&self.end)
+    }
+}
+
+impl<T> Bounds<T> for RangeToInclusive<T> {
+    ghost start = { λ _. Unbounded };
+
+    ghost end = { λ s. Included s.end };
+
+    fn start_bound(&self) -> Bound<&T> {
+        Bound::Unbounded
+    }
+
+    fn end_bound(&self) -> Bound<&T> {
+        Bound::Included(&self.end)
+    }
+}
+
+impl<'a, T> Bounds<T> for Range<&'a T> {
+    ghost start = { λ s. Included s.start.now };
+
+    ghost end = { λ s. Excluded s.end.now };
+
+    fn start_bound(&self) -> Bound<&T> {
+        Bound::Included(self.start)
+    }
+
+    fn end_bound(&self) -> Bound<&T> {
+        Bound::Excluded(self.end)
+    }
+}
+
+impl<'a, T> Bounds<T> for RangeInclusive<&'a T> {
+    ghost start = { λ s. Included (range_inclusive_start s).now };
+
+    ghost end = { λ s. Included (range_inclusive_end s).now };
+
+    fn start_bound(&self) -> Bound<&T> {
+        Bound::Included(self.start())
+    }
+
+    fn end_bound(&self) -> Bound<&T> {
+        Bound::Included(self.end())
+    }
+}
+
+impl<'a, T> Bounds<T> for RangeFrom<&'a T> {
+    ghost start = { λ s. Included s.start.now };
+
+    ghost end = { λ _. Unbounded };
+
+    fn start_bound(&self) -> Bound<&T> {
+        Bound::Included(self.start)
+    }
+
+    fn end_bound(&self) -> Bound<&T> {
+        Bound::Unbounded
+    }
+}
+
+impl<'a, T> Bounds<T> for RangeTo<&'a T> {
+    ghost start = { λ _. Unbounded };
+
+    ghost end = { λ s. Excluded s.end.now };
+
+    fn start_bound(&self) -> Bound<&T> {
+        Bound::Unbounded
+    }
+
+    fn end_bound(&self) -> Bound<&T> {
+        Bound::Excluded(self.end)
+    }
+}
+
+impl<'a, T> Bounds<T> for RangeToInclusive<&'a T> {
+    ghost start = { λ _. Unbounded };
+
+    ghost end = { λ s. Included s.end.now };
+
+    fn start_bound(&self) -> Bound<&T> {
+        Bound::Unbounded
+    }
+
+    fn end_bound(&self) -> Bound<&T> {
+        Bound::Included(self.end)
+    }
+}
