@@ -20,5 +20,5 @@ pub returns-clause-position : goal.returns-clause-position
 returns-clause-position c =
     let same = ap (λ (t : List ℕ × ℕ). t.0) c.new.ensures in
     subst (λ k. Some c.rank.result ≡ position (λ p. is_eq (slice_cmp nat_cmp p.key k)) c.args.map.now.pairs) same
-    (ap Some c.rank.ensures ∙ sym (stored_position (slice_cmp nat_cmp) nat_list_cmp_total c.args.map.now.pairs c.len-len.ensures.ascending c.new.result.0
+    (ap Some c.rank.ensures.value ∙ sym (stored_position (slice_cmp nat_cmp) nat_list_cmp_total c.args.map.now.pairs c.len-len.ensures.ascending c.new.result.0
     (pair c.in_ok-stored.stored.now c.in_ok-stored.field-0-1.now) (pair_read _ _ _ (c.in_ok-stored.ensures {u = tt}).pair)))

@@ -18,7 +18,7 @@ pub returns-in-Some : goal.returns-in-Some
 returns-in-Some c =
     let l = c.args.map.now.pairs in let k = c.new.result.0 in
     let first = pair c.in-Some.stored.now c.in-Some.field-0-1.now in
-    c.rank.ensures ∙ first_rank (slice_cmp nat_cmp) nat_list_cmp_total l c.len-len.ensures.ascending k first
+    c.rank.ensures.value ∙ first_rank (slice_cmp nat_cmp) nat_list_cmp_total l c.len-len.ensures.ascending k first
     (sym (find_from (λ p. slice_cmp nat_cmp p.key k) l) ∙ pair_read _ _ _ (c.in-Some.ensures {u = tt}).pair)
     ∙ ap (λ (t : List ℕ × ℕ). key_rank (slice_cmp nat_cmp) l t.0) c.new.ensures
 
