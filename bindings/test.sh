@@ -23,12 +23,14 @@ cp -r python/indexset python/test_*.py python/out
 export INDEXSET_LIBRARY="$PWD/c/out/libindexset.so" PYTHONDONTWRITEBYTECODE=1
 try env INDEXSET_BACKEND=ctypes python3 python/out/test_indexset.py
 try env INDEXSET_BACKEND=ctypes python3 python/out/test_numbers.py
+try env INDEXSET_BACKEND=ctypes python3 python/out/test_text.py
 
 can_build='import cffi, os, sysconfig; assert os.path.exists(sysconfig.get_path("include") + "/Python.h")'
 if python3 -c "$can_build" 2>/dev/null; then
     try python3 -W ignore python/build_cffi.py python/out
     try python3 python/out/test_indexset.py
     try python3 python/out/test_numbers.py
+    try python3 python/out/test_text.py
 fi
 
 echo "$passed passed, $failed failed"

@@ -1,5 +1,5 @@
-/* Ordered sets and maps of 64-bit numbers, with positions; maps whose keys may have several values; and maps
- * that tell their changes.
+/* Ordered sets and maps of 64-bit numbers, with positions; maps whose keys may have several values; maps
+ * that tell their changes; and maps from byte strings to 64-bit numbers.
  *
  * A handle leads to a collection on the heap, or to none. It starts as INDEXSET_HANDLE, which leads to
  * none; indexset_set_new has it lead to an empty set, and indexset_set_free to none again; the handles of the
@@ -325,6 +325,78 @@ size_t indexset_log_range(indexset_log *log, uint64_t low, uint64_t high, uint64
  * for. Returns how many it wrote. These, the pairs from 0 to UINT64_MAX and the number of the next change
  * are a snapshot, from which a copy goes on. */
 size_t indexset_log_node_lengths(indexset_log *log, size_t *out, size_t places);
+
+/* The handle of an ordered map from byte strings to uint64_t. Both fields are the library's own.
+ *
+ * A key is an array of `key_len` bytes: text in UTF-8 or any other bytes, zeros too. Keys stand in the order
+ * of memcmp, and a key before those that it begins; of text in UTF-8 that is the order of its code points. A
+ * key that is passed is only read and belongs to the caller; the map keeps a copy of its own, which no call
+ * leads to. A key that is read is copied into an array of the caller's. */
+typedef struct indexset_text_map {
+    void *at;
+    bool live;
+} indexset_text_map;
+
+/* Makes an empty map. INDEXSET_YES, or INDEXSET_MEMORY, or INDEXSET_HELD where the handle leads to a
+ * map; unless it is INDEXSET_YES, nothing changes. */
+uint32_t indexset_text_map_new(indexset_text_map *map);
+
+/* Makes a clone of a map under the handle `to`; the two share the bytes of the keys, and do not see each
+ * other's changes. INDEXSET_YES, or INDEXSET_MEMORY, or INDEXSET_NONE where `map` leads to none, or else
+ * INDEXSET_HELD where `to` leads to a map. `map` never changes, and `to` only where it is INDEXSET_YES. Both
+ * are for one thread. */
+uint32_t indexset_text_map_clone(indexset_text_map *map, indexset_text_map *to);
+
+/* Frees the map, and leaves the handle with none. Of a handle with none it does nothing. */
+void indexset_text_map_free(indexset_text_map *map);
+
+/* Removes all pairs. It takes no memory. */
+void indexset_text_map_clear(indexset_text_map *map);
+
+/* Returns how many pairs there are. */
+size_t indexset_text_map_len(indexset_text_map *map);
+
+/* Makes a value that of a key. INDEXSET_YES where the key was not there; INDEXSET_NO where it was, and
+ * then the value before is written to `before`, and no memory is taken; or INDEXSET_MEMORY or INDEXSET_NONE,
+ * and then nothing changes. `before` is written for INDEXSET_NO alone. */
+uint32_t indexset_text_map_insert(indexset_text_map *map, const void *key, size_t key_len, uint64_t value, uint64_t *before);
+
+/* Removes a key and writes its value. True, or false where the key is not there, and then nothing
+ * changes and nothing is written. */
+bool indexset_text_map_remove(indexset_text_map *map, const void *key, size_t key_len, uint64_t *out);
+
+/* Tells whether a key is there. */
+bool indexset_text_map_contains(indexset_text_map *map, const void *key, size_t key_len);
+
+/* Writes the value of a key. True, or false where the key is not there, and then nothing is written. */
+bool indexset_text_map_get(indexset_text_map *map, const void *key, size_t key_len, uint64_t *out);
+
+/* Returns how many keys are below a key. */
+size_t indexset_text_map_rank(indexset_text_map *map, const void *key, size_t key_len);
+
+/* Writes the pair at a position, counted from 0: its key's bytes into an array of `places` places, as many
+ * as it has room for; how many bytes the key has to `len`, which may be more; and its value. True, or false
+ * where there is none, and then nothing is written. */
+bool indexset_text_map_at(indexset_text_map *map, size_t position, void *key, size_t places, size_t *len, uint64_t *value);
+
+/* Writes the pair of the least or the greatest key in the same way. True, or false where the map is empty,
+ * and then nothing is written. */
+bool indexset_text_map_first(indexset_text_map *map, void *key, size_t places, size_t *len, uint64_t *value);
+bool indexset_text_map_last(indexset_text_map *map, void *key, size_t places, size_t *len, uint64_t *value);
+
+/* Writes the pair of the first key that is not below `from`, which has `from_len` bytes, in the same way.
+ * True, or false where there is none, and then nothing is written. */
+bool indexset_text_map_lower_bound(indexset_text_map *map, const void *from, size_t from_len, void *key, size_t places, size_t *len, uint64_t *value);
+
+/* Writes the values of the pairs from a position on, in the order of their keys, into an array of `places`
+ * places, as many as it has room for. Returns how many it wrote. */
+size_t indexset_text_map_range_by_position(indexset_text_map *map, size_t from, uint64_t *values, size_t places);
+
+/* Writes how many bytes each key from a position on has, in order into an array of `length_places` places,
+ * as many as it has room for, and the bytes of those keys, one key behind another, into an array of
+ * `byte_places` places, as many as it has room for: what has no room is cut, also within a key. Returns how
+ * many lengths it wrote. */
+size_t indexset_text_map_keys_by_position(indexset_text_map *map, size_t from, void *bytes, size_t byte_places, size_t *lengths, size_t length_places);
 
 #ifdef __cplusplus
 }

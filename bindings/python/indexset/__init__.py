@@ -6,13 +6,14 @@
 (10, 2, True)
 
 The calls have the names and habits of `sortedcontainers`. Keys are of one kind a set: `int64` (the
-default), `uint64` or `float64`.
+default), `uint64` or `float64`, and those of a `SortedDict` also `str` or `bytes`.
 """
 from ._native import BACKEND, version
 from ._dict import SortedDict
 from ._log import Change, LoggedDict
 from ._multi import SortedMultiDict
 from ._set import SortedSet
+from ._text import TextDict
 
 __all__ = [
     "BACKEND",
@@ -21,5 +22,6 @@ __all__ = [
     "SortedDict",
     "SortedMultiDict",
     "SortedSet",
+    "TextDict",
     "version",
 ]

@@ -6,23 +6,24 @@ from collections.abc import ItemsView, KeysView, Mapping, MutableMapping, Sequen
 from typing import Any, Iterable, Iterator, Union
 
 from . import _native as native
-from ._keys import ALL, Key, encode_all
+from ._keys import ALL, KINDS, TEXTS, Key, encode_all
 from ._ordered import Ordered, position_of
 
 _lib = native.lib
-_insert = _lib.indexset_map_insert
-_get = _lib.indexset_map_get
-_remove = _lib.indexset_map_remove
 _at = _lib.indexset_map_at
 
 _NONE_GIVEN = object()
 
+# The class of the dictionaries whose keys are of a kind, where that is not SortedDict itself.
+CLASSES: dict[str, type] = {}
+
 
 class SortedDict(Ordered, MutableMapping):
-    """A dictionary from numbers to any objects, in the order of its keys, with the calls of
+    """A dictionary from numbers or texts to any objects, in the order of its keys, with the calls of
     `sortedcontainers.SortedDict`.
 
-    `keys` names the kind of its keys, as for `SortedSet`; they are refused as there. With n keys a call
+    `keys` names the kind of its keys, as for `SortedSet`; they are refused as there. With the kind `str`
+    or `bytes` keys are texts or byte strings, as `TextDict` says. With n keys a call
     on one key or one position takes a time that grows as log n. A dictionary stays on the thread that
     made it, and is not changed while it is iterated over.
 
@@ -30,6 +31,8 @@ class SortedDict(Ordered, MutableMapping):
     SortedDict({10: 'a', 20: 'b', 30: 'c'})
     >>> ages.peekitem(0), ages.bisect_left(25), ages.popitem(), list(ages.irange(15))
     ((10, 'a'), 2, (30, 'c'), [20])
+    >>> SortedDict({"pear": 2, "apple": 1}, keys="str")
+    SortedDict({'apple': 1, 'pear': 2}, keys='str')
     """
 
     __slots__ = ("_objects", "_unused", "_key", "_value")
@@ -39,14 +42,24 @@ class SortedDict(Ordered, MutableMapping):
     _length = staticmethod(_lib.indexset_map_len)
     _has = staticmethod(_lib.indexset_map_contains)
     _rank = staticmethod(_lib.indexset_map_rank)
+    _insert = staticmethod(_lib.indexset_map_insert)
+    _get = staticmethod(_lib.indexset_map_get)
+    _remove = staticmethod(_lib.indexset_map_remove)
+    _clear = staticmethod(_lib.indexset_map_clear)
+    _collection = "map"
+
+    def __new__(cls, entries: Any = (), *, keys: str = "int64") -> SortedDict:
+        if keys not in KINDS and keys not in TEXTS:
+            raise ValueError(f"keys is one of {', '.join([*KINDS, *TEXTS])}, not {keys!r}")
+        return super().__new__(CLASSES.get(keys, cls) if cls is SortedDict else cls)
 
     def __init__(
         self,
-        entries: Union[Mapping[Key, Any], Iterable[tuple[Key, Any]]] = (),
+        entries: Union[Mapping[Any, Any], Iterable[tuple[Any, Any]]] = (),
         *,
         keys: str = "int64",
     ) -> None:
-        super().__init__(native.handle("map"), keys)
+        super().__init__(native.handle(self._collection), keys)
         # The library's map leads from a key to its object's place in this list.
         self._objects: list[Any] = []
         self._unused: list[int] = []
@@ -57,7 +70,7 @@ class SortedDict(Ordered, MutableMapping):
 
     def __getitem__(self, key: Any) -> Any:
         number = self._number(key)
-        if number is None or not _get(self._handle, number, self._value):
+        if number is None or not self._get(self._handle, number, self._value):
             raise KeyError(key)
         return self._objects[self._value[0]]
 
@@ -69,7 +82,7 @@ class SortedDict(Ordered, MutableMapping):
         """
         number = self._encode(key)
         place = self._keep(value)
-        status = _insert(self._handle, number, place, self._value)
+        status = self._insert(self._handle, number, place, self._value)
         if status == native.NO:
             self._let_go(self._value[0])
         elif status == native.MEMORY:
@@ -86,7 +99,7 @@ class SortedDict(Ordered, MutableMapping):
         ('a', None)
         """
         number = self._number(key)
-        if number is not None and _remove(self._handle, number, self._value):
+        if number is not None and self._remove(self._handle, number, self._value):
             return self._let_go(self._value[0])
         if default is _NONE_GIVEN:
             raise KeyError(key)
@@ -182,7 +195,7 @@ class SortedDict(Ordered, MutableMapping):
 
     def clear(self) -> None:
         """Removes all keys."""
-        _lib.indexset_map_clear(self._handle)
+        self._clear(self._handle)
         self._objects.clear()
         self._unused.clear()
 
@@ -201,9 +214,13 @@ class SortedDict(Ordered, MutableMapping):
             del keys[count:], places[count:]
         return keys, places
 
+    def _places_at(self, first: int, size: int) -> array[int]:
+        """The objects' places at `size` positions, or as many as there are."""
+        return self._pairs(first, size)[1]
+
     def _objects_at(self, first: int, past: int, step: int = 512) -> Iterator[Any]:
         for start in range(first, past, step):
-            for place in self._pairs(start, min(step, past - start))[1]:
+            for place in self._places_at(start, min(step, past - start)):
                 yield self._objects[place]
 
     def keys(self) -> SortedKeysView:

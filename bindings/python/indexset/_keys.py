@@ -1,4 +1,4 @@
-"""Keys as numbers of 64 bits that keep their order."""
+"""Keys as numbers of 64 bits, or as bytes, that keep their order."""
 from __future__ import annotations
 
 import struct
@@ -71,7 +71,41 @@ class Double:
         return _DOUBLE.unpack(_BITS.pack(bits))[0]
 
 
+class Text:
+    """Texts, as their bytes in UTF-8, whose order is that of their code points. A lone surrogate is
+    refused."""
+
+    name = "str"
+
+    @staticmethod
+    def encode(key: Any) -> bytes:
+        if not isinstance(key, str):
+            raise TypeError(f"a str is needed, not {type(key).__name__}")
+        return key.encode()
+
+    @staticmethod
+    def decode(key: bytes) -> str:
+        return key.decode()
+
+
+class Bytes:
+    """Byte strings."""
+
+    name = "bytes"
+
+    @staticmethod
+    def encode(key: Any) -> bytes:
+        if not isinstance(key, bytes):
+            raise TypeError(f"bytes are needed, not {type(key).__name__}")
+        return bytes(key)
+
+    @staticmethod
+    def decode(key: bytes) -> bytes:
+        return key
+
+
 KINDS: dict[str, Any] = {kind.name: kind for kind in (Signed, Unsigned, Double)}
+TEXTS: dict[str, Any] = {kind.name: kind for kind in (Text, Bytes)}
 
 
 def encode_all(kind: Any, keys: Iterable[Any]) -> array[int]:

@@ -48,6 +48,14 @@ try:
         """The same, as positions."""
         return ffi.from_buffer("size_t[]", items)
 
+    def room(size: int) -> Any:
+        """Places for bytes."""
+        return ffi.new("uint8_t[]", size)
+
+    def read(places: Any, size: int) -> bytes:
+        """The first bytes in such places."""
+        return ffi.buffer(places, size)[:]
+
 except ImportError:
     import ctypes
 
@@ -76,6 +84,7 @@ except ImportError:
         handle, truth, status = ctypes.POINTER(_Handle), ctypes.c_bool, ctypes.c_uint32
         key, count = ctypes.c_uint64, ctypes.c_size_t
         keys, counts, changes = ctypes.POINTER(key), ctypes.POINTER(count), ctypes.POINTER(_Event)
+        text, places = ctypes.c_char_p, ctypes.POINTER(ctypes.c_uint8)
         for name, result, words in [
             ("version", status, []),
             ("set_new", status, [handle]),
@@ -117,6 +126,22 @@ except ImportError:
             ("map_range_by_position", count, [handle, count, keys, count, keys, count]),
             ("map_insert_all", status, [handle, keys, count, keys, count, counts]),
             ("map_gets", count, [handle, keys, count, key, keys, count]),
+            ("text_map_new", status, [handle]),
+            ("text_map_clone", status, [handle, handle]),
+            ("text_map_free", None, [handle]),
+            ("text_map_clear", None, [handle]),
+            ("text_map_len", count, [handle]),
+            ("text_map_insert", status, [handle, text, count, key, keys]),
+            ("text_map_remove", truth, [handle, text, count, keys]),
+            ("text_map_contains", truth, [handle, text, count]),
+            ("text_map_get", truth, [handle, text, count, keys]),
+            ("text_map_rank", count, [handle, text, count]),
+            ("text_map_at", truth, [handle, count, places, count, counts, keys]),
+            ("text_map_first", truth, [handle, places, count, counts, keys]),
+            ("text_map_last", truth, [handle, places, count, counts, keys]),
+            ("text_map_lower_bound", truth, [handle, text, count, places, count, counts, keys]),
+            ("text_map_range_by_position", count, [handle, count, keys, count]),
+            ("text_map_keys_by_position", count, [handle, count, places, count, counts, count]),
             ("multi_new", status, [handle]),
             ("multi_free", None, [handle]),
             ("multi_clear", None, [handle]),
@@ -172,6 +197,14 @@ except ImportError:
     def positions(items: array[int]) -> Any:
         """The same, as positions."""
         return (ctypes.c_size_t * len(items)).from_buffer(items)
+
+    def room(size: int) -> Any:
+        """Places for bytes."""
+        return (ctypes.c_uint8 * size)()
+
+    def read(places: Any, size: int) -> bytes:
+        """The first bytes in such places."""
+        return ctypes.string_at(places, size)
 
 
 def version() -> tuple[int, int, int]:

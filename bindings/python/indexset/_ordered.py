@@ -15,6 +15,7 @@ class Ordered:
 
     __slots__ = ("_handle", "_kind", "_encode", "_decode", "__weakref__")
 
+    _kinds = KINDS
     _new: Any
     _free: Any
     _length: Any
@@ -23,9 +24,9 @@ class Ordered:
 
     def __init__(self, handle: Any, keys: str) -> None:
         self._handle: Any = None
-        if keys not in KINDS:
-            raise ValueError(f"keys is one of {', '.join(KINDS)}, not {keys!r}")
-        self._kind = KINDS[keys]
+        if keys not in self._kinds:
+            raise ValueError(f"keys is one of {', '.join(self._kinds)}, not {keys!r}")
+        self._kind = self._kinds[keys]
         self._encode, self._decode = self._kind.encode, self._kind.decode
         if self._new(handle) != native.YES:
             raise MemoryError

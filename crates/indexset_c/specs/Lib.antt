@@ -1,3 +1,4 @@
 pub mod Elements
 pub mod Events
 pub mod Slots
+pub mod Text

@@ -35,6 +35,15 @@ mod set_positions;
 mod set_ranges;
 mod set_slot;
 pub mod status;
+mod text_edits;
+mod text_find;
+mod text_handle;
+mod text_keys;
+mod text_life;
+mod text_positions;
+mod text_probe;
+mod text_ranges;
+mod text_slot;
 
 /// This library's version: the major number times 65536, the minor one times 256, and the patch.
 pub const VERSION: u32 = 256;

@@ -1,0 +1,158 @@
+"""Tests of dictionaries with texts and byte strings as keys beside plain dictionaries and sorted lists."""
+import copy
+import doctest
+import pickle
+import random
+import sys
+import unittest
+import weakref
+from bisect import bisect_left, bisect_right
+
+import indexset
+from indexset import SortedDict, SortedSet, TextDict, _text
+
+# One to four bytes each in UTF-8, in the order of their code points. By the halves that UTF-16 makes of it,
+# the last but one would come after the last.
+LETTERS = "\0aé\u20ac\uffff\U00010000"
+
+
+def drawn(kind, rng):
+    """A short key: many begin alike, and some are the beginning of others."""
+    size = rng.randrange(5) if rng.random() < 0.98 else 100
+    if kind == "str":
+        return "".join(rng.choices(LETTERS, k=size))
+    return bytes(rng.choices([0, 97, 127, 128, 255], k=size))
+
+
+class Random(unittest.TestCase):
+    def run_kind(self, kind):
+        rng = random.Random(kind)
+        ours, peer = SortedDict(keys=kind), {}
+        for step in range(5000):
+            key = drawn(kind, rng)
+            action = rng.randrange(10)
+            if action < 5:
+                ours[key] = peer[key] = object()
+            elif action < 7:
+                self.assertIs(ours.pop(key, None), peer.pop(key, None))
+            elif action == 7 and peer:
+                at = rng.randrange(-len(peer), len(peer))
+                wanted = sorted(peer)[at]
+                self.assertEqual(ours.peekitem(at), (wanted, peer[wanted]))
+                self.assertEqual(ours.popitem(at), (wanted, peer.pop(wanted)))
+            elif action == 8:
+                self.assertIs(ours.setdefault(key, step), peer.setdefault(key, step))
+            else:
+                self.assertIs(ours.get(key), peer.get(key))
+                self.assertEqual(key in ours, key in peer)
+            self.assertEqual(len(ours), len(peer))
+            if step % 50 == 0:
+                keys = [drawn(kind, rng) for _ in range(6)]
+                self.assertEqual(ours.get_all(keys, step), [peer.get(key, step) for key in keys])
+                entries = [(key, object()) for key in keys + keys[:2]]
+                ours.update(entries)
+                peer.update(entries)
+            if step % 250 == 0:
+                self.compare(ours, sorted(peer.items()), drawn(kind, rng), drawn(kind, rng))
+
+    def compare(self, ours, wanted, low, high):
+        keys = [key for key, _ in wanted]
+        self.assertEqual(list(ours.items()), wanted)
+        self.assertEqual(list(ours), keys)
+        self.assertEqual(list(ours.values()), [value for _, value in wanted])
+        self.assertEqual(list(reversed(ours.keys())), keys[::-1])
+        self.assertEqual(ours.items()[3:40:2], wanted[3:40:2])
+        self.assertEqual(list(ours.islice(2, 30, True)), keys[2:30][::-1])
+        self.assertEqual(list(ours.irange(low, high)), [key for key in keys if low <= key <= high])
+        self.assertEqual((ours.bisect_left(low), ours.bisect_right(low)), (bisect_left(keys, low), bisect_right(keys, low)))
+        if keys:
+            self.assertEqual(ours.index(keys[len(keys) // 2]), len(keys) // 2)
+        self.assertEqual(ours, dict(wanted))
+
+    def test_str(self):
+        self.run_kind("str")
+
+    def test_bytes(self):
+        self.run_kind("bytes")
+
+    def test_many(self):
+        names = [f"name {number}" for number in range(3000)]
+        ours = SortedDict(zip(names, range(3000)), keys="str")
+        self.assertEqual(list(ours), sorted(names))
+        self.assertEqual(list(ours.values()), [int(name[5:]) for name in sorted(names)])
+
+
+class Calls(unittest.TestCase):
+    def test_refused(self):
+        cases = [
+            ("str", b"a", TypeError),
+            ("str", 1, TypeError),
+            ("str", None, TypeError),
+            ("str", "\ud800", ValueError),
+            ("bytes", "a", TypeError),
+            ("bytes", 2.0, TypeError),
+        ]
+        for kind, key, error in cases:
+            ages = SortedDict(keys=kind)
+            first = ages._decode(b"a")
+            ages[first] = 1
+            for call in (
+                lambda k: ages.__setitem__(k, 2),
+                ages.bisect_left,
+                ages.bisect_right,
+                lambda k: ages.get_all([first, k]),
+                lambda k: ages.update([(first, 3), (k, 2)]),
+            ):
+                self.assertRaises(error, call, key)
+            self.assertEqual(list(ages.items()), [(first, 1)])
+            self.assertNotIn(key, ages)
+            self.assertRaises(KeyError, ages.__getitem__, key)
+            self.assertRaises(KeyError, ages.__delitem__, key)
+            self.assertRaises(ValueError, ages.index, key)
+        self.assertRaises(ValueError, SortedDict, keys="text")
+        self.assertRaises(ValueError, SortedSet, keys="str")
+        self.assertRaises(ValueError, TextDict, keys="int64")
+
+    def test_object(self):
+        ages = SortedDict([("b", 2), ("a", 1)], keys="str")
+        self.assertIsInstance(ages, TextDict)
+        self.assertEqual((repr(ages), ages.kind), ("SortedDict({'a': 1, 'b': 2}, keys='str')", "str"))
+        self.assertEqual(eval(repr(ages)), ages)
+        back = pickle.loads(pickle.dumps(ages))
+        self.assertEqual((back, back.kind), ({"a": 1, "b": 2}, "str"))
+        other = copy.copy(ages) | {"": 0}
+        self.assertEqual((list(ages), list(other)), (["a", "b"], ["", "a", "b"]))
+        self.assertEqual((other.keys()[-1], other.values()[0], other.keys() & {"b", "c"}), ("b", 0, {"b"}))
+        del other[""]
+        self.assertRaises(KeyError, other.__delitem__, "")
+        other.clear()
+        self.assertEqual((len(other), list(other), other.get_all(["a"])), (0, [], [None]))
+        self.assertRaises(KeyError, other.popitem)
+        self.assertRaises(IndexError, other.peekitem)
+        self.assertRaises(TypeError, hash, other)
+
+    def test_long_keys(self):
+        keys = [b"k" * size for size in (0, 63, 64, 65, 1000, 100000)]
+        sizes = SortedDict(((key, len(key)) for key in reversed(keys)), keys="bytes")
+        self.assertEqual(list(sizes.items()), [(key, len(key)) for key in keys])
+
+    def test_objects_are_let_go(self):
+        class Thing:
+            pass
+
+        thing = Thing()
+        seen = weakref.ref(thing)
+        ages = SortedDict({"a": thing}, keys="str")
+        del thing
+        ages["a"] = None
+        self.assertIsNone(seen())
+
+    def test_examples(self):
+        self.assertEqual(doctest.testmod(_text).failed, 0)
+
+
+if __name__ == "__main__":
+    result = unittest.main(exit=False, verbosity=0).result
+    wrong = len(result.failures) + len(result.errors)
+    print(f"{indexset.BACKEND}: {result.testsRun - wrong} passed, {wrong} failed")
+    sys.exit(1 if wrong else 0)

@@ -1,0 +1,42 @@
+//! Where a map from byte strings has a key, or would have it.
+ghost use Rattle.std.specs.Prelude.{◌≡◌};
+ghost use Rattle.std.specs.List.{position};
+ghost use Rattle.std.specs.Cmp.Lexicographic.{slice_cmp};
+ghost use Rattle.std.specs.Ordering.{is_eq, nat_cmp};
+ghost use Rattle.indexset_core.specs.Order.{IsAscending};
+ghost use Rattle.indexset_core.specs.Pairs.{by_key, key_rank, value_of};
+
+use crate::text_probe::{ByBytes, FromBytes};
+use crate::text_slot::TextMap;
+
+/// Returns the position of a key, or `None` where it is not there.
+pub fn position_of(map: &TextMap, key: &[u8]) -> Option<usize>
+    ensures position { result ≡ position (λ p. is_eq (slice_cmp nat_cmp p.key key.now)) map.now.pairs }
+    ensures ascending { IsAscending (by_key (slice_cmp nat_cmp)) map.now.pairs }
+{
+    // Tells that the keys ascend.
+    let _len = map.len();
+    let (stored, _) = map.get_key_value_by(&mut ByBytes::new(key))?;
+    Some(map.rank(stored))
+}
+
+/// Returns how many keys are below a key.
+pub fn rank_of(map: &TextMap, key: &[u8]) -> usize
+    ensures { result ≡ key_rank (slice_cmp nat_cmp) map.now.pairs key.now }
+{
+    // Tells that the keys ascend.
+    let len = map.len();
+    match map.get_key_value_by(&mut FromBytes::new(key)) {
+        Some((stored, _)) => map.rank(stored),
+        None => len,
+    }
+}
+
+/// Returns the value of a key, or `None` where it is not there.
+pub fn get(map: &TextMap, key: &[u8]) -> Option<u64>
+    ensures { result ≡ value_of (slice_cmp nat_cmp) map.now.pairs key.now }
+{
+    // Tells that the keys ascend.
+    let _len = map.len();
+    map.get_by(&mut ByBytes::new(key)).copied()
+}

@@ -1,0 +1,125 @@
+//! Calls of a map from byte strings that go by a key.
+ghost use Rattle.std.specs.Prelude.{◌≡◌, ◌≢◌, ◌≤◌, ◌↔◌, Some, None, true, false};
+ghost use Rattle.std.specs.Cmp.Lexicographic.{slice_cmp};
+ghost use Rattle.std.specs.Ordering.{nat_cmp};
+ghost use Rattle.indexset_core.specs.Pairs.{has_key, key_rank, put_value, value_of, without_key};
+ghost use Rattle.indexset_c.specs.Text.{text_pairs};
+
+use crate::set_positions::write;
+use crate::status::{MEMORY, NO, NONE, YES};
+use crate::text_edits::{put, take};
+use crate::text_find::{get, rank_of};
+use crate::text_handle::TextHandle;
+use std::alloc::Global;
+
+/// Inserts a pair, or replaces the value of a present key and writes the old one. The bytes of a new key
+/// are copied.
+#[unsafe(no_mangle)]
+#[tactic(auto, using(crate::proofs::TextLemmas::no_value_no_key))]
+pub extern "C" fn indexset_text_map_insert(
+    alloc: Global,
+    map: &mut TextHandle,
+    key: &[u8],
+    value: u64,
+    before: &mut u64,
+) -> u32
+    ensures added { result ≡ YES → value_of (slice_cmp nat_cmp) (text_pairs map.old.slot.value) key.now ≡ None }
+    ensures replaced { result ≡ NO → value_of (slice_cmp nat_cmp) (text_pairs map.old.slot.value) key.now ≡ Some before.new }
+    ensures ok { result ≤ YES → text_pairs map.new.slot.value ≡ put_value (slice_cmp nat_cmp) (text_pairs map.old.slot.value) key.now value }
+    ensures unwritten { result ≢ NO → before.new ≡ before.old }
+    ensures same { MEMORY ≤ result → map.new.slot.value ≡ map.old.slot.value }
+    ensures none { result ≡ NONE ↔ (map.old.slot.value ≡ None) }
+    ensures no_memory { has_key (slice_cmp nat_cmp) (text_pairs map.old.slot.value) key.now ≡ true → result ≡ NO }
+    ensures status { result ≤ NONE }
+{
+    let Some(mut held) = map.take(alloc) else {
+        return NONE;
+    };
+    let status = match put(alloc, &mut held, key, value) {
+        Ok(None) => YES,
+        Ok(Some(old)) => {
+            *before = old;
+            NO
+        }
+        Err(_) => MEMORY,
+    };
+    map.put(held);
+    status
+}
+
+/// Writes the value of a key, where there is one.
+#[unsafe(no_mangle)]
+pub extern "C" fn indexset_text_map_get(
+    alloc: Global,
+    map: &mut TextHandle,
+    key: &[u8],
+    out: &mut u64,
+) -> bool
+    ensures found { result ≡ true → value_of (slice_cmp nat_cmp) (text_pairs map.old.slot.value) key.now ≡ Some out.new }
+    ensures absent { result ≡ false → value_of (slice_cmp nat_cmp) (text_pairs map.old.slot.value) key.now ≡ None }
+    ensures unwritten { result ≡ false → out.new ≡ out.old }
+    ensures same { map.new.slot.value ≡ map.old.slot.value }
+{
+    let Some(held) = map.take(alloc) else {
+        return false;
+    };
+    let found = get(&held, key);
+    map.put(held);
+    write(found, out)
+}
+
+/// Removes a key and writes its value, where there is one.
+#[unsafe(no_mangle)]
+#[tactic(auto, unfolding(indexset_core::specs::Pairs::without_key))]
+pub extern "C" fn indexset_text_map_remove(
+    alloc: Global,
+    map: &mut TextHandle,
+    key: &[u8],
+    out: &mut u64,
+) -> bool
+    ensures found { result ≡ true → value_of (slice_cmp nat_cmp) (text_pairs map.old.slot.value) key.now ≡ Some out.new }
+    ensures absent { result ≡ false → value_of (slice_cmp nat_cmp) (text_pairs map.old.slot.value) key.now ≡ None }
+    ensures rest { text_pairs map.new.slot.value ≡ without_key (slice_cmp nat_cmp) (text_pairs map.old.slot.value) key.now }
+    ensures unwritten { result ≡ false → out.new ≡ out.old }
+    ensures same { result ≡ false → map.new.slot.value ≡ map.old.slot.value }
+{
+    let Some(mut held) = map.take(alloc) else {
+        return false;
+    };
+    let found = take(&mut held, key);
+    map.put(held);
+    write(found, out)
+}
+
+/// Returns whether a key is present.
+#[unsafe(no_mangle)]
+#[tactic(auto, using(crate::proofs::TextLemmas::value_there))]
+pub extern "C" fn indexset_text_map_contains(
+    alloc: Global,
+    map: &mut TextHandle,
+    key: &[u8],
+) -> bool
+    ensures value { result ≡ has_key (slice_cmp nat_cmp) (text_pairs map.old.slot.value) key.now }
+    ensures same { map.new.slot.value ≡ map.old.slot.value }
+{
+    let Some(held) = map.take(alloc) else {
+        return false;
+    };
+    let found = get(&held, key).is_some();
+    map.put(held);
+    found
+}
+
+/// Returns how many keys are below a key.
+#[unsafe(no_mangle)]
+pub extern "C" fn indexset_text_map_rank(alloc: Global, map: &mut TextHandle, key: &[u8]) -> usize
+    ensures value { result ≡ key_rank (slice_cmp nat_cmp) (text_pairs map.old.slot.value) key.now }
+    ensures same { map.new.slot.value ≡ map.old.slot.value }
+{
+    let Some(held) = map.take(alloc) else {
+        return 0;
+    };
+    let below = rank_of(&held, key);
+    map.put(held);
+    below
+}

@@ -1,0 +1,102 @@
+//! Calls that make, empty, clone and free a map from byte strings, and return its length.
+ghost use Rattle.std.specs.Prelude.{◌≡◌, ◌≢◌, ◌↔◌, [], Some, None, true, length, is_some};
+ghost use Rattle.indexset_c.specs.Text.{text_pairs};
+
+use crate::status::{HELD, MEMORY, NONE, YES};
+use crate::text_handle::TextHandle;
+use indexset_map::BTreeMap;
+use std::alloc::Global;
+
+/// Makes an empty map. Fails where the handle leads to a map.
+#[unsafe(no_mangle)]
+pub extern "C" fn indexset_text_map_new(alloc: Global, map: &mut TextHandle) -> u32
+    ensures empty { result ≡ YES → text_pairs map.new.slot.value ≡ [] }
+    ensures made { result ≡ YES → is_some map.new.slot.value ≡ true }
+    ensures refused { result ≢ YES → map.new.slot.value ≡ map.old.slot.value }
+    ensures held { result ≡ HELD ↔ (is_some map.old.slot.value ≡ true) }
+{
+    if let Some(held) = map.take(alloc) {
+        map.put(held);
+        return HELD;
+    }
+    let Ok(made) = BTreeMap::new(alloc) else {
+        return MEMORY;
+    };
+    match Box::new(alloc, made) {
+        Ok(made) => {
+            map.put(made);
+            YES
+        }
+        Err(_) => MEMORY,
+    }
+}
+
+/// Makes a clone of a map, under a second handle. Fails where the handle leads to a map.
+#[unsafe(no_mangle)]
+pub extern "C" fn indexset_text_map_clone(
+    alloc: Global,
+    map: &mut TextHandle,
+    to: &mut TextHandle,
+) -> u32
+    ensures ok { result ≡ YES → to.new.slot.value ≡ map.old.slot.value }
+    ensures refused { result ≢ YES → to.new.slot.value ≡ to.old.slot.value }
+    ensures none { result ≡ NONE ↔ (map.old.slot.value ≡ None) }
+    ensures held { map.old.slot.value ≢ None → (result ≡ HELD ↔ (is_some to.old.slot.value ≡ true)) }
+    ensures same { map.new.slot.value ≡ map.old.slot.value }
+{
+    let Some(held) = map.take(alloc) else {
+        return NONE;
+    };
+    if let Some(other) = to.take(alloc) {
+        to.put(other);
+        map.put(held);
+        return HELD;
+    }
+    let cloned: Result<_, _> = BTreeMap::clone(&held);
+    map.put(held);
+    let Ok(cloned) = cloned else {
+        return MEMORY;
+    };
+    match Box::new(alloc, cloned) {
+        Ok(cloned) => {
+            to.put(cloned);
+            YES
+        }
+        Err(_) => MEMORY,
+    }
+}
+
+/// Frees a map, and leaves its handle with none.
+#[unsafe(no_mangle)]
+pub extern "C" fn indexset_text_map_free(alloc: Global, map: &mut TextHandle)
+    ensures { map.new.slot.value ≡ None }
+{
+    drop(map.take(alloc));
+}
+
+/// Removes all pairs.
+#[unsafe(no_mangle)]
+pub extern "C" fn indexset_text_map_clear(alloc: Global, map: &mut TextHandle)
+    ensures empty { text_pairs map.new.slot.value ≡ [] }
+    ensures there { is_some map.new.slot.value ≡ is_some map.old.slot.value }
+{
+    let Some(mut held) = map.take(alloc) else {
+        return;
+    };
+    held.clear();
+    map.put(held);
+}
+
+/// Returns how many pairs there are.
+#[unsafe(no_mangle)]
+pub extern "C" fn indexset_text_map_len(alloc: Global, map: &mut TextHandle) -> usize
+    ensures value { result ≡ length (text_pairs map.old.slot.value) }
+    ensures same { map.new.slot.value ≡ map.old.slot.value }
+{
+    let Some(held) = map.take(alloc) else {
+        return 0;
+    };
+    let len = held.len();
+    map.put(held);
+    len
+}

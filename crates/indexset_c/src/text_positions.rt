@@ -1,0 +1,118 @@
+//! Calls of a map from byte strings that go by a position, and those at its two ends.
+ghost use Rattle.std.specs.Prelude.{◌≡◌, ◌-◌, Some, None, true, false, length};
+ghost use Rattle.std.specs.Cmp.Lexicographic.{slice_cmp};
+ghost use Rattle.std.specs.Ordering.{nat_cmp};
+ghost use Rattle.indexset_core.specs.Pairs.{key_rank};
+ghost use Rattle.indexset_c.specs.Text.{key_at, text_pairs, value_at, written_over};
+
+use crate::text_handle::TextHandle;
+use crate::text_keys::indexset_text_map_rank;
+use crate::text_life::indexset_text_map_len;
+use std::alloc::Global;
+
+/// Writes bytes into the first places, as far as there is room.
+pub fn write_bytes(bytes: &[u8], out: &mut [u8])
+    ensures { out.new ≡ written_over bytes.now out.old }
+{
+    let count = bytes.len().min(out.len());
+    out[..count].copy_from_slice(&bytes[..count]);
+}
+
+/// Writes the pair at a position, counted from 0, where there is one: as many bytes of its key as there
+/// is room for, how many the key has, and its value.
+#[unsafe(no_mangle)]
+pub extern "C" fn indexset_text_map_at(
+    alloc: Global,
+    map: &mut TextHandle,
+    position: usize,
+    key: &mut [u8],
+    len: &mut usize,
+    value: &mut u64,
+) -> bool
+    ensures found { result ≡ true → value_at (text_pairs map.old.slot.value) position ≡ Some value.new }
+    ensures long { result ≡ true → len.new ≡ length (key_at (text_pairs map.old.slot.value) position) }
+    ensures bytes { key.new ≡ written_over (key_at (text_pairs map.old.slot.value) position) key.old }
+    ensures absent { result ≡ false → value_at (text_pairs map.old.slot.value) position ≡ None }
+    ensures no_len { result ≡ false → len.new ≡ len.old }
+    ensures no_value { result ≡ false → value.new ≡ value.old }
+    ensures same { map.new.slot.value ≡ map.old.slot.value }
+{
+    let Some(held) = map.take(alloc) else {
+        return false;
+    };
+    let found = match held.get_index(position) {
+        Some((stored, number)) => {
+            write_bytes(stored.as_slice(), key);
+            *len = stored.len();
+            *value = *number;
+            true
+        }
+        None => false,
+    };
+    map.put(held);
+    found
+}
+
+/// Writes the pair of the first key that is not below a key, where there is one, as `indexset_text_map_at`
+/// does.
+#[unsafe(no_mangle)]
+pub extern "C" fn indexset_text_map_lower_bound(
+    alloc: Global,
+    map: &mut TextHandle,
+    from: &[u8],
+    key: &mut [u8],
+    len: &mut usize,
+    value: &mut u64,
+) -> bool
+    ensures found { result ≡ true → value_at (text_pairs map.old.slot.value) (key_rank (slice_cmp nat_cmp) (text_pairs map.old.slot.value) from.now) ≡ Some value.new }
+    ensures long { result ≡ true → len.new ≡ length (key_at (text_pairs map.old.slot.value) (key_rank (slice_cmp nat_cmp) (text_pairs map.old.slot.value) from.now)) }
+    ensures bytes { key.new ≡ written_over (key_at (text_pairs map.old.slot.value) (key_rank (slice_cmp nat_cmp) (text_pairs map.old.slot.value) from.now)) key.old }
+    ensures absent { result ≡ false → value_at (text_pairs map.old.slot.value) (key_rank (slice_cmp nat_cmp) (text_pairs map.old.slot.value) from.now) ≡ None }
+    ensures no_len { result ≡ false → len.new ≡ len.old }
+    ensures no_value { result ≡ false → value.new ≡ value.old }
+    ensures same { map.new.slot.value ≡ map.old.slot.value }
+{
+    let position = indexset_text_map_rank(alloc, map, from);
+    indexset_text_map_at(alloc, map, position, key, len, value)
+}
+
+/// Writes the pair of the least key, where there is one, as `indexset_text_map_at` does.
+#[unsafe(no_mangle)]
+pub extern "C" fn indexset_text_map_first(
+    alloc: Global,
+    map: &mut TextHandle,
+    key: &mut [u8],
+    len: &mut usize,
+    value: &mut u64,
+) -> bool
+    ensures found { result ≡ true → value_at (text_pairs map.old.slot.value) 0 ≡ Some value.new }
+    ensures long { result ≡ true → len.new ≡ length (key_at (text_pairs map.old.slot.value) 0) }
+    ensures bytes { key.new ≡ written_over (key_at (text_pairs map.old.slot.value) 0) key.old }
+    ensures absent { result ≡ false → value_at (text_pairs map.old.slot.value) 0 ≡ None }
+    ensures no_len { result ≡ false → len.new ≡ len.old }
+    ensures no_value { result ≡ false → value.new ≡ value.old }
+    ensures same { map.new.slot.value ≡ map.old.slot.value }
+{
+    indexset_text_map_at(alloc, map, 0, key, len, value)
+}
+
+/// Writes the pair of the greatest key, where there is one, as `indexset_text_map_at` does.
+#[unsafe(no_mangle)]
+pub extern "C" fn indexset_text_map_last(
+    alloc: Global,
+    map: &mut TextHandle,
+    key: &mut [u8],
+    len: &mut usize,
+    value: &mut u64,
+) -> bool
+    ensures found { result ≡ true → value_at (text_pairs map.old.slot.value) (length (text_pairs map.old.slot.value) - 1) ≡ Some value.new }
+    ensures long { result ≡ true → len.new ≡ length (key_at (text_pairs map.old.slot.value) (length (text_pairs map.old.slot.value) - 1)) }
+    ensures bytes { key.new ≡ written_over (key_at (text_pairs map.old.slot.value) (length (text_pairs map.old.slot.value) - 1)) key.old }
+    ensures absent { result ≡ false → value_at (text_pairs map.old.slot.value) (length (text_pairs map.old.slot.value) - 1) ≡ None }
+    ensures no_len { result ≡ false → len.new ≡ len.old }
+    ensures no_value { result ≡ false → value.new ≡ value.old }
+    ensures same { map.new.slot.value ≡ map.old.slot.value }
+{
+    let count = indexset_text_map_len(alloc, map);
+    indexset_text_map_at(alloc, map, count.saturating_sub(1), key, len, value)
+}
