@@ -1,5 +1,5 @@
 //! The logged map, a logged set of pairs.
-ghost use Rattle.std.specs.Prelude.{◌≡◌, ◌+◌, ◌<◌, ◌≤◌, [], find, length, map, None, IfOk, OnOk, IfErr, OnErr, IsOk};
+ghost use Rattle.std.specs.Prelude.{◌≡◌, ◌==◌, ◌+◌, ◌<◌, ◌≤◌, [], find, length, map, None, IfOk, OnOk, IfErr, OnErr, IsOk};
 ghost use Rattle.std.specs.Map.Iter.{ShowsInOrder, ShowsInReverse, deref};
 ghost use Rattle.std.specs.Option.{option_copied, unwrap_or};
 ghost use Rattle.std.specs.Ordering.{is_eq};
@@ -12,6 +12,7 @@ ghost use Rattle.indexset_core.specs.declared.refusal.Refusal.TheVariants.{Memor
 ghost use Rattle.indexset_log.specs.Attach.{attached, attach_refusal, nodes_refusal};
 ghost use Rattle.indexset_log.specs.Located.{located};
 
+mod ends;
 pub mod iter;
 mod put;
 pub mod range;
@@ -107,6 +108,13 @@ impl<K: Ord + Clone + Drop, V: Clone + Drop, Node: NodeLike<Pair<K, V>>> BTreeMa
         ensures { result ≡ length (joined self.now.nodes) }
     {
         self.set.len()
+    }
+
+    /// Returns whether there is no pair.
+    pub fn is_empty(&self) -> bool
+        ensures { result ≡ (length (joined self.now.nodes) == 0) }
+    {
+        self.set.is_empty()
     }
 
     /// Returns the number of nodes: no more than pairs. None is empty or holds more than the node

@@ -9,6 +9,7 @@ ghost use Rattle.indexset_core.specs.Parted.{IsParted};
 ghost use Rattle.indexset_log.specs.Located.{located, IsFoundIn};
 
 mod attach;
+mod ends;
 pub mod from_nodes;
 pub mod iter;
 mod make;

@@ -83,3 +83,16 @@ impl<K: Ord + Clone + Drop, V: Clone + Drop, Node: NodeLike<Pair<K, V>>> BTreeMa
         }
     }
 }
+
+impl<'a, K: Ord + Clone + Drop, V: Clone + Drop, Node: NodeLike<Pair<K, V>>> IntoIterator
+    for &'a BTreeMap<K, V, Node> {
+    type Item = (&'a K, &'a V);
+
+    type IntoIter = Iter<'a, K, V, Node>;
+
+    ghost into_iter_gives = { λ m r. (r ≡ joined m.now.nodes) × ShowsInOrder (pair_shown {K = K} {V = V}) × ShowsInReverse (pair_shown {K = K} {V = V}) };
+
+    fn into_iter(self) -> Iter<'a, K, V, Node> {
+        self.iter()
+    }
+}

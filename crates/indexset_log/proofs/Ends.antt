@@ -1,0 +1,113 @@
+-- The item at a position of lawful nodes: what its removal tells, and what is below it or above it at either end.
+use Rattle.std.proofs.Common.{◌≡◌, ℕ, zero, suc, ◌+◌, ◌-◌, ◌<◌, ◌≤◌, Bool, true, false, List, [], ◌∷◌, length, length-append, filter, take, drop, remove, slice_get, Option, Some, None, IfSome, Ordering, refl, ap, sym, ◌∙◌, arith}
+use Rattle.std.specs.Borrow.{Bor}
+use Rattle.std.specs.Cmp.{IsTotalOrder}
+use Rattle.std.specs.Map.Iter.{TakesFirst, TakesLast, deref}
+use Rattle.std.specs.Option.{option_map_or}
+use Rattle.std.specs.Ordering.{is_lt}
+use Rattle.std.proofs.lemmas.Cmp.{tied_itself}
+use Rattle.std.proofs.lemmas.List.{length-set, nil_from_length, take_all}
+use Rattle.std.proofs.lemmas.List.Sums.{length-filter}
+use Rattle.std.proofs.lemmas.Option.{slice_get_within}
+use Rattle.indexset_core.specs.declared.pair.Pair.{Pair}
+use Rattle.indexset_core.specs.Nodes.{joined, node_at, IsLawful}
+use Rattle.indexset_core.specs.Order.{IsAscending, IsFoundAt, above, below, put, without}
+use Rattle.indexset_core.specs.Pairs.{pair_keys}
+use Rattle.indexset_core.proofs.CallerLemmas.{equal_read, found_put, found_without, get_in_node, length-joined-more, located_found, parted_by_item, rank-slice_get, slice_get-right}
+use Rattle.indexset_log.specs.Edits.{with_taken}
+use Rattle.indexset_log.specs.Ends.{IsItemAt, removal_events_at}
+use Rattle.indexset_log.specs.Table.{removal_events, taking_count, taking_events}
+use Rattle.indexset_log.proofs.PlaceTakes.{place_contents, place_events}
+use Rattle.indexset_log.proofs.Takes.{removal_few, some_read, taken_replay, taking_length}
+use Rattle.indexset_log.proofs.Views.{lawful_ascends}
+
+module _ {T : Type 0} (cmp : T → T → Ordering) (o : IsTotalOrder cmp) (l : List T) (up : IsAscending cmp l) where
+  module _ (i : ℕ) (x : T) (is : slice_get l i ≡ Some x) where
+    stands : IsFoundAt cmp l x i
+    stands = located_found cmp l x i (parted_by_item cmp o l up x) (sym (rank-slice_get cmp o l up i x is)) (equal_read (λ y. cmp y x) l i x is ∙ rw (tied_itself o x) refl)
+
+    how_low : length (below cmp l x) ≡ i
+    how_low = length-filter (λ y. is_lt (cmp y x)) l ∙ rank-slice_get cmp o l up i x is
+
+    none_above : i ≡ length l - 1 → above cmp l x ≡ []
+    unfolding put
+    none_above last =
+        let low = how_low in
+        let whole = ap (λ q. length q) (found_put cmp l x i o up stands) in
+        let long = length-append (below cmp l x) (x ∷ above cmp l x) in
+        nil_from_length (above cmp l x) (omega (arith, low, whole, long, length-set l i x, slice_get_within l i x is))
+
+    pub without_there : without cmp l x ≡ remove l i
+    without_there = found_without cmp l x i o up stands
+
+  pub first_least : (r : Option (Bor T)) (rest : List T) → TakesFirst deref l r rest → IfSome r (λ x. below cmp l x.now ≡ [])
+  first_least None rest is = tt
+  first_least (Some x) rest is = nil_from_length (below cmp l x.now) (how_low 0 x.now (rw is refl))
+
+  pub last_greatest : (r : Option (Bor T)) (rest : List T) → TakesLast deref l r rest → IfSome r (λ x. above cmp l x.now ≡ [])
+  last_greatest None rest is = tt
+  last_greatest (Some x) rest is = none_above (length rest + 0) x.now (rw is (slice_get-right rest (x.now ∷ []) (length rest + 0) 0 refl)) (omega (arith, ap (λ q. length q) is, length-append rest (x.now ∷ [])))
+
+-- the removal of the item at the place
+module _ {T : Type 0} {cmp : T → T → Ordering} {size : ℕ} {ns : List (List T)} (o : IsTotalOrder cmp) (law : IsLawful cmp size ns) {p : ℕ × ℕ} {i : ℕ} (at : IsItemAt ns p i) where
+  module _ {x : T} (here : slice_get (node_at ns p.0) p.1 ≡ Some x) where
+    pub item_there : slice_get (joined ns) i ≡ Some x
+    item_there = rw (← at.before) (get_in_node ns p.0 p.1 at.node_in at.offset_in ∙ here)
+
+    pub item_events : removal_events_at cmp size ns i ≡ taking_events size ns p.0 p.1 x
+    unfolding removal_events_at
+    item_events = rw item_there (place_events cmp o size ns law p at.node_in x here)
+
+    pub item_contents : joined (with_taken size ns p.0 p.1) ≡ remove (joined ns) i
+    item_contents =
+        place_contents cmp o size ns law p at.node_in x here 0 (with_taken size ns p.0 p.1) (taken_replay o law p.0 p.1 at.node_in here 0)
+        ∙ without_there cmp o (joined ns) (lawful_ascends cmp size ns law) i x item_there
+
+  pub item_count : length (removal_events_at cmp size ns i) ≡ taking_count size ns p.0 p.1
+  item_count = let there = some_read (node_at ns p.0) p.1 at.offset_in in ap (λ q. length q) (item_events there.1) ∙ taking_length size ns p.0 p.1 there.0
+
+pub few_at : {T : Type 0} (cmp : T → T → Ordering) (size : ℕ) (ns : List (List T)) (i : ℕ) → length (removal_events_at cmp size ns i) ≤ 3
+unfolding removal_events_at
+few_at cmp size ns i =
+    elim (slice_get (joined ns) i) as (λ r. length (option_map_or (λ x. removal_events cmp size ns x) r []) ≤ 3) [
+      | None ↦ omega arith
+      | Some x ↦ removal_few cmp size ns x
+    ]
+
+-- where there is no item
+pub no_events_at : {T : Type 0} (cmp : T → T → Ordering) (size : ℕ) (ns : List (List T)) (i : ℕ) → joined ns ≡ [] → removal_events_at cmp size ns i ≡ []
+unfolding removal_events_at
+no_events_at cmp size ns i none = rw none refl
+
+pub remove_nothing : {X : Type 0} (l : List X) (i : ℕ) → l ≡ [] → l ≡ remove l i
+remove_nothing [] zero none = refl
+remove_nothing [] (suc i) none = refl
+remove_nothing (x ∷ l) i none = cc
+
+-- what is left of a list without its first or its last item
+pub remove_first : {X : Type 0} (l : List X) → remove l 0 ≡ drop 1 l
+remove_first [] = refl
+remove_first (x ∷ l) = refl
+
+pub remove_last : {X : Type 0} (l : List X) (i : ℕ) → i ≡ length l - 1 → remove l i ≡ take i l
+remove_last [] zero last = refl
+remove_last [] (suc i) last = refl
+remove_last (x ∷ []) zero last = refl
+remove_last (x ∷ y ∷ l) zero last = absurd (omega (arith, last))
+remove_last (x ∷ l) (suc i) last = ap (λ q. x ∷ q) (remove_last l i (omega (arith, last)))
+
+-- the last item stands at the end of the last node
+pub last_there : {T : Type 0} (ns : List (List T)) (k o : ℕ) → k + 1 ≡ length ns → o + 1 ≡ length (node_at ns k) → IsItemAt ns (k, o) (length (joined ns) - 1)
+last_there ns k o last end =
+    let inside : k < length ns = omega (arith, last) in
+    let whole : take (k + 1) ns ≡ ns = take_all (k + 1) ns (omega (arith, last)) in
+    record { node_in = inside; offset_in = omega (arith, end); before = omega (arith, end, length-joined-more ns k inside, ap (λ l. length (joined l)) whole) }
+
+-- where no pair's key passes a test, no key does
+pub no_key_passes : {K V : Type 0} (p : K → Bool) (l : List (Pair K V)) → filter (λ q. p q.key) l ≡ [] → filter p (pair_keys l) ≡ []
+no_key_passes p [] none = refl
+no_key_passes p (q ∷ l) none =
+    elim (p q.key) as (λ b. p q.key ≡ b → filter p (pair_keys (q ∷ l)) ≡ []) [
+      | true ↦ λ e. let some : q ∷ filter (λ r. p r.key) l ≡ [] = rw e at none in cc
+      | false ↦ λ e. rw e (no_key_passes p l (rw e at none))
+    ] refl
