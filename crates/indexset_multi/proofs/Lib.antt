@@ -3,6 +3,7 @@ pub mod CallerLemmas
 pub mod Free
 pub mod Lists
 pub mod Numbers
+pub mod Removals
 pub mod Runs
 pub mod Searches
 pub mod Takes

@@ -17,7 +17,7 @@ use Rattle.indexset_core.specs.Nodes.{joined, IsLawful}
 use Rattle.indexset_core.specs.Order.{IsAscending, put, without}
 use Rattle.indexset_core.proofs.CallerLemmas.{equal_from, is_some-find}
 use Rattle.indexset_log.proofs.CallerLemmas.{Each, all_each, around, each-map, lawful_ascends, parts-put, parts-without, rises}
-use Rattle.indexset_multi.specs.Keys.{AreNumberedBelow, entries, equal_pair, first_pair, has_pair_of, kept_number, pairs_of, without_first, without_named}
+use Rattle.indexset_multi.specs.Keys.{AreNumberedBelow, entries, equal_pair, first_pair, has_pair_of, kept_number, pairs_of, without_first, without_key, without_named}
 use Rattle.indexset_multi.specs.Tree.{MultiTree, inserted_pair, takes_number}
 use Rattle.indexset_multi.proofs.Numbers.{below_less, numbers_total}
 
@@ -267,6 +267,24 @@ module _ {K V : Type 0} (cmp : K → K → Ordering) (o : IsTotalOrder cmp) wher
 
   pub others_left_first : (k : K) (l : List (MultiPair K V)) (other : K) → is_eq (cmp other k) ≡ false → pairs_of cmp (without_named cmp l (first_pair cmp l k)) other ≡ pairs_of cmp l other
   others_left_first k l other ne = ap (λ f. pairs_of cmp (without_named cmp l f) other) (first_filtered (λ p. is_eq (cmp p.key k)) l) ∙ others_left k (λ _. true) l other ne
+
+  -- and so do all of them, in order
+  module _ (k : K) (l : List (MultiPair K V)) where
+    rest_left : (x : MultiPair K V) → find (λ _. true) (pairs_of cmp l k) ≡ Some x → without_key cmp (without (by_number cmp) l x) k ≡ without_key cmp l k
+    unfolding without
+    rest_left x e =
+        let found = found_each (λ p. is_eq (cmp p.key k)) (λ _. true) (λ z. Unit {0}) l x (any_each l) e in
+        nested_all (λ p. not (is_eq (cmp p.key k))) (λ p. not (is_eq (by_number cmp p x))) l (each-map (λ z. Unit {0}) _ (λ p _ other. not_tied (by_number cmp p x) (λ tied.
+        let here : is_eq (cmp p.key k) ≡ true = ap is_eq (o.congr p.key x.key k (keys_tied p x tied)) ∙ found.1 in
+        false≢true (ap not (sym here) ∙ other))) l (any_each l))
+
+    pub rest_left_first : without_key cmp (without_named cmp l (first_pair cmp l k)) k ≡ without_key cmp l k
+    rest_left_first =
+        ap (λ f. without_key cmp (without_named cmp l f) k) (first_filtered (λ p. is_eq (cmp p.key k)) l)
+        ∙ elim (find (λ _. true) (pairs_of cmp l k)) as (λ f. find (λ _. true) (pairs_of cmp l k) ≡ f → without_key cmp (without_named cmp l f) k ≡ without_key cmp l k) [
+          | None ↦ λ e. refl
+          | Some x ↦ λ e. rest_left x e
+        ] refl
 
 -- an insertion into a map
 module _ {K V : Type 0} (cmp : K → K → Ordering) (o : IsTotalOrder cmp) (eq : V → V → Bool) (m : MultiTree K V) (k : K) (w : V) where

@@ -1,5 +1,5 @@
 -- Lists of numbered pairs, by key.
-use Rattle.std.specs.Prelude.{ℕ, ◌<◌, Bool, List, [], ◌∷◌, if◌then◌else◌, Option, filter, find, map}
+use Rattle.std.specs.Prelude.{ℕ, ◌<◌, Bool, List, [], ◌∷◌, if◌then◌else◌, not, Option, filter, find, map}
 use Rattle.std.specs.Borrow.{Bor}
 use Rattle.std.specs.List.{All, list_any}
 use Rattle.std.specs.Option.{option_map, option_map_or}
@@ -46,6 +46,10 @@ module _ {K V : Type 0} where
     -- the first of them, where there is one
     abbrev pub first_pair : List (MultiPair K V) → K → Option (MultiPair K V)
     first_pair l k = find (λ p. is_eq (cmp p.key k)) l
+
+    -- the pairs of other keys
+    abbrev pub without_key : List (MultiPair K V) → K → List (MultiPair K V)
+    without_key l k = filter (λ p. not (is_eq (cmp p.key k))) l
 
     -- the first of them whose value equals w, where there is one
     abbrev pub equal_pair : (V → V → Bool) → List (MultiPair K V) → K → V → Option (MultiPair K V)

@@ -1,5 +1,5 @@
 -- What a multimap is, and what an insertion makes of it.
-use Rattle.std.specs.Prelude.{ℕ, ◌+◌, ◌==◌, ◌&&◌, length, Bool, List, [], Option, is_none, if◌then◌else◌}
+use Rattle.std.specs.Prelude.{◌≡◌, ℕ, ◌+◌, ◌==◌, ◌&&◌, length, Bool, List, [], Option, Some, is_none, if◌then◌else◌}
 use Rattle.std.below.core.specs.declared.int.u64.TheConstants.{MAX}
 use Rattle.std.specs.Option.{option_map_or, unwrap_or}
 use Rattle.std.specs.declared.cmp.Ordering.{Ordering}
@@ -9,6 +9,8 @@ use Rattle.indexset_core.specs.declared.refusal.Refusal.TheVariants.{Numbers}
 use Rattle.indexset_core.specs.MultiPairs.{by_number, numbered_pair}
 use Rattle.indexset_core.specs.Nodes.{joined}
 use Rattle.indexset_log.specs.declared.change.ChangeEventUnassigned.{ChangeEventUnassigned}
+use Rattle.indexset_log.specs.declared.change.ChangeEvent.{ChangeEvent}
+use Rattle.indexset_log.specs.Replay.{replay, IsNumberedFrom}
 use Rattle.indexset_log.specs.Table.{put_events, removal_events}
 use Rattle.indexset_log.specs.Tree.{refusal_for}
 use Rattle.indexset_multi.specs.Keys.{kept_number}
@@ -23,6 +25,13 @@ pub record MultiTree (K V : Type 0) : Type 0 where
 -- the events of the removal of the pair that is named, where one is
 abbrev pub pair_removal_events : {K V : Type 0} → (K → K → Ordering) → ℕ → List (List (MultiPair K V)) → Option (MultiPair K V) → List (ChangeEventUnassigned (MultiPair K V))
 pair_removal_events cmp size ns pair = option_map_or (λ p. removal_events (by_number cmp) size ns p) pair []
+
+-- some events, numbered from the first's next one, lead from its nodes to the second's, whose next number comes after them
+pub record IsLedTo {K V : Type 0} (cmp : K → K → Ordering) (m n : MultiTree K V) : Type 0 where
+  pub events : List (ChangeEvent (MultiPair K V))
+  pub numbered : IsNumberedFrom m.next events
+  pub replayed : replay (by_number cmp) m.nodes events ≡ Some n.nodes
+  pub next : n.next ≡ m.next + length events
 
 module _ {K V : Type 0} (cmp : K → K → Ordering) (eq : V → V → Bool) where
   module _ (m : MultiTree K V) (k : K) (w : V) where

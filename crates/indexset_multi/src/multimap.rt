@@ -12,6 +12,7 @@ pub mod iter;
 mod put;
 pub mod range;
 mod remove;
+mod remove_all;
 mod traits;
 
 use indexset_core::constants::DEFAULT_INNER_SIZE;

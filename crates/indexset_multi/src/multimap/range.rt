@@ -163,7 +163,9 @@ impl<K: Ord + Clone + Drop, V: Eq + Clone + Drop, Node: NodeLike<MultiPair<K, V>
     V,
     Node,
 > {
-    /// Returns the pairs of a key, in order of their numbers.
+    /// Returns the pairs of a key, in order of their numbers, by one search for the first and, from
+    /// there, steps that double: a key with one pair, or none, costs at most one comparison more
+    /// than the two binary searches, and one with `n` pairs a few times as many as `n` has bits.
     pub fn get(&self, key: &K) -> Range<'_, K, V, Node>
         ensures rest { result ≡ entries (pairs_of K.cmp (joined self.now.nodes) key.now) }
         ensures runs { ShowsInOrder (pair_shown {K = K} {V = V}) }
@@ -174,7 +176,7 @@ impl<K: Ord + Clone + Drop, V: Eq + Clone + Drop, Node: NodeLike<MultiPair<K, V>
         }
     }
 
-    /// Does the same, with their numbers. (In the Rust crate it is private.)
+    /// Does the same, with their numbers, by as few comparisons. (In the Rust crate it is private.)
     pub fn raw_get(&self, key: &K) -> RawRange<'_, K, V, Node>
         ensures rest { result ≡ pairs_of K.cmp (joined self.now.nodes) key.now }
         ensures runs { ShowsInOrder (number_shown {K = K} {V = V}) }
@@ -186,7 +188,8 @@ impl<K: Ord + Clone + Drop, V: Eq + Clone + Drop, Node: NodeLike<MultiPair<K, V>
     }
 
     /// Returns the pairs whose keys satisfy both bounds, in order. The start must not be past the
-    /// end, nor at it where both are excluded, which `bounds_are_ordered` of the core tests.
+    /// end, nor at it where both are excluded, which `bounds_are_ordered` of the core tests. Each
+    /// bound costs two binary searches.
     ///
     /// ```
     /// // The pairs of the keys from 10 on that are below 20.

@@ -25,9 +25,9 @@ impl<K: Ord + Clone + Drop, V: Eq + Clone + Drop, Node: NodeLike<MultiPair<K, V>
     V,
     Node,
 > {
-    /// Removes the first pair of a key, if any, and returns it with the events. A node that is left small
-    /// is joined with a small neighbour. Fails with `Numbers` where the events do not fit the counter,
-    /// else with `Memory`. A failed call changes nothing.
+    /// Removes the first pair of a key, if any, and returns it with the events, by one search. A node that
+    /// is left small is joined with a small neighbour. Fails with `Numbers` where the events do not fit
+    /// the counter, else with `Memory`. A failed call changes nothing.
     pub fn remove_some_cdc(
         &mut self,
         key: &K,
@@ -82,8 +82,9 @@ impl<K: Ord + Clone + Drop, V: Eq + Clone + Drop, Node: NodeLike<MultiPair<K, V>
     }
 
     /// Removes the first pair of a key whose value is equal, if any, and returns it with the events. Other
-    /// such pairs of the key stay. A node that is left small is joined with a small neighbour. Fails as
-    /// `remove_some_cdc` does, and then changes nothing.
+    /// such pairs of the key stay. It compares keys as `get` does, and then the values of the key's pairs,
+    /// one by one. A node that is left small is joined with a small neighbour. Fails as `remove_some_cdc`
+    /// does, and then changes nothing.
     pub fn remove_cdc(
         &mut self,
         key: &K,
@@ -112,10 +113,10 @@ impl<K: Ord + Clone + Drop, V: Eq + Clone + Drop, Node: NodeLike<MultiPair<K, V>
         self.take_cdc(place)
     }
 
-    /// Removes the first pair of a key whose value is equal, if any, and returns it. It uses up as many
-    /// numbers as `remove_cdc`, and fails with `Numbers` where they do not fit. It allocates only where it
-    /// joins two nodes of a type that allocates, and else does not fail with `Memory`. A failed call
-    /// changes nothing.
+    /// Removes the first pair of a key whose value is equal, if any, and returns it. It compares, and uses
+    /// up numbers, as `remove_cdc` does, and fails with `Numbers` where they do not fit. It allocates only
+    /// where it joins two nodes of a type that allocates, and else does not fail with `Memory`. A failed
+    /// call changes nothing.
     pub fn remove(&mut self, key: &K, value: &V) -> Result<Option<(K, V)>, Refusal>
         ensures answer { IfOk result (λ entry. entry ≡ option_map key_and_value (equal_pair K.cmp V.eq (joined self.old.nodes) key.now value.now)) }
         ensures contents { OnOk result (joined self.new.nodes ≡ without_named K.cmp (joined self.old.nodes) (equal_pair K.cmp V.eq (joined self.old.nodes) key.now value.now)) }
