@@ -34,6 +34,9 @@
 -- | `IsNodeList cmp ns`, `IsLawful cmp size ns` | no node is empty and the items of all ascend; besides, each is within the size |
 -- | `step cmp ns e`, `replay cmp ns es` | the nodes after an event; after events in turn |
 -- | `IsFeed`, `IsAt`, `IsDelivered` | events numbered in turn that lead from given nodes; a replica that holds what the first j lead to; one that holds what the longest beginning leads to whose events came in turn |
+-- | `IsBeginning`, `HoldsAll` | a replica that holds what some beginning of a feed leads to, and awaits the event after it; one that holds what all events lead to |
+-- | `IsCopy`, `AreCopies` | an item is another one, or an equal clone of it, or one of such a clone, and so on; nodes hold copies of the items of other nodes, one for each |
+-- | `AreClonesEqual`, `LeadsToCopies`, `CopiesBeginning`, `CopiesAll` | each clone of a type equals its source; events lead to copies of given nodes; a replica that holds copies of what a beginning of a feed leads to, or all events |
 
 pub use Rattle.indexset_spine.specs.Cut.{items}
 pub use Rattle.indexset_core.specs.Order.{IsAscending, below, above, rank, has_equal, equal_element, lower_element, put, keep, without}
@@ -47,9 +50,11 @@ pub use Rattle.indexset_map.specs.Contents.{with_entry, with_pairs, without_at, 
 pub use Rattle.indexset_map.specs.Walk.{HasWritten, walk_back, walk_front, written}
 pub use Rattle.indexset_core.specs.Nodes.{joined, vec_items, IsNodeList}
 pub use Rattle.indexset_log.specs.Clones.{IsEventClone}
+pub use Rattle.indexset_log.specs.declared.change.ChangeEvent.{ChangeEvent}
 pub use Rattle.indexset_log.specs.Tree.{Tree}
 pub use Rattle.indexset_log.specs.Table.{put_events, checked_put_events, removal_events}
 pub use Rattle.indexset_log.specs.Replay.{IsNumberedFrom, numbered_from, replay, step, unassigned}
 pub use Rattle.indexset_multi.specs.Keys.{entries, equal_pair, has_pair_of, pairs_of, without_first}
-pub use Rattle.indexset_replica.specs.Delivery.{HasStopped, IsAt, IsDelivered, IsDelivery, IsFeed, IsFollowed, IsReached, IsSubsequence, numbers_from}
+pub use Rattle.indexset_replica.specs.Copies.{AreClonesEqual, AreCopies, IsCopy, LeadsToCopies}
+pub use Rattle.indexset_replica.specs.Delivery.{CopiesAll, CopiesBeginning, HasStopped, HoldsAll, IsAlike, IsAt, IsBeginning, IsDelivered, IsDelivery, IsFeed, IsFollowed, IsReached, IsSubsequence, numbers_from}
 pub use Rattle.indexset_replica.specs.Replica.{AddsClone, IsClonedStep, IsEqualClone}

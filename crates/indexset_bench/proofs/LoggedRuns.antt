@@ -2,6 +2,7 @@
 use Rattle.std.proofs.Common.{◌≡◌, ℕ, ◌+◌, ◌*◌, ◌-◌, ◌≤◌, List, [], ◌∷◌, ◌++◌, length, slice_get, Some, Ordering, refl, ap, sym, ◌∙◌, arith, append_assoc, length-append}
 use Rattle.std.proofs.lemmas.List.{append-nil}
 use Rattle.std.proofs.lemmas.List.Sums.{fold-append}
+use Rattle.std.specs.Cmp.{IsTotalOrder}
 use Rattle.std.specs.List.{AllZip, AppendsClones, fold}
 use Rattle.std.proofs.lemmas.List.Elements.{length_all_zip}
 use Rattle.indexset_log.specs.Clones.{IsEventClone}
@@ -11,6 +12,8 @@ use Rattle.indexset_log.specs.Replay.{replay, numbered_from, assigned, IsNumbere
 use Rattle.indexset_log.proofs.CallerLemmas.{clones_numbered, few_nodes, length-numbered, replay-append, zip_on}
 use Rattle.indexset_core.specs.Nodes.{joined}
 use Rattle.indexset_log.specs.Joining.{IsSpaced}
+use Rattle.indexset_replica.specs.Copies.{AreClonesEqual, LeadsToCopies}
+use Rattle.indexset_replica.proofs.CallerLemmas.{copies_itself, replay_copies}
 use Rattle.indexset_bench.specs.Told.{events_in_turn}
 
 -- ---- the events of the table, command by command
@@ -68,6 +71,9 @@ module _ {S C T : Type 0} {cmp : T → T → Ordering} {left : S → C → S} {e
 
   pub told_replayed : P → replay cmp ns told ≡ Some now
   told_replayed p = rw (far.told_is p) far.replayed
+
+  pub told_copies : IsTotalOrder cmp → AreClonesEqual cmp R → LeadsToCopies cmp R ns told now
+  told_copies o equal = replay_copies cmp R o equal ns ns now (numbered_from from (events_in_turn left events t done)) told (copies_itself cmp R ns) far.cloned far.replayed
 
   -- by the first commands, as many as were answered
   module _ {first : List C} (same : first ≡ done) where

@@ -6,6 +6,7 @@ ghost use Rattle.indexset_core.specs.Nodes.{joined};
 ghost use Rattle.indexset_log.specs.Clones.{IsEventClone};
 ghost use Rattle.indexset_log.specs.Joining.{IsSpaced};
 ghost use Rattle.indexset_log.specs.Replay.{replay, numbered_from, IsNumberedFrom};
+ghost use Rattle.indexset_replica.specs.Copies.{AreClonesEqual, LeadsToCopies};
 
 use crate::logged::Logged;
 use indexset_core::refusal::Refusal;
@@ -36,6 +37,9 @@ pub fn run_logged<L: Logged>(alloc: Global, tree: &mut L, commands: Vec<L::Comma
 
     // Where clones are identical, they lead from the nodes before the run to those after it.
     ensures replay { L.clones → replay L.Item.Ord.cmp (L.nodes tree.old) result.events.items ≡ Some (L.nodes tree.new) }
+    // Where clones equal their sources, they lead to copies of the nodes after it.
+    ensures replay_of_clones { AreClonesEqual L.Item.Ord.cmp L.cloned
+        → LeadsToCopies L.Item.Ord.cmp L.cloned (L.nodes tree.old) result.events.items (L.nodes tree.new) }
     ensures numbered { IsNumberedFrom (L.next tree.old) result.events.items }
     ensures events { L.clones → result.events.items ≡ numbered_from (L.next tree.old) (events_in_turn L.left L.events tree.old
         (take (length result.replies.items) commands.items)) }

@@ -1,6 +1,6 @@
 use Rattle.std.proofs.Common.{◌/◌, [], ◌∷◌, ◌++◌, length, refl, ap, subst, sym, arith, length-append, rules, ◌∙◌}
 use Rattle.std.specs.Vec.Iter.{into_iter_items}
-use Rattle.indexset_bench.proofs.LoggedRuns.{LogSoFar, clones_to_first, few_after, few_from_none, more_log, next_command, no_log, replay_to_first, table_to_first, told_next, told_numbered, told_replayed, tree_to_first}
+use Rattle.indexset_bench.proofs.LoggedRuns.{LogSoFar, clones_to_first, few_after, few_from_none, more_log, next_command, no_log, replay_to_first, table_to_first, told_copies, told_next, told_numbered, told_replayed, tree_to_first}
 use Rattle.indexset_bench.proofs.CommandRuns.{replies_to_first, held_after_first, first_commands, count_of_replies, count_of_done, further}
 use Rattle.indexset_bench.proofs.logged_run.run_logged.Goals as goal
 
@@ -76,6 +76,9 @@ returns-in-Err-clause-table g c =
 pub returns-in-Err-clause-replay : goal.returns-in-Err-clause-replay
 returns-in-Err-clause-replay g c p = rw (c.in-Err.ensures.no_event, c.in-Err.ensures.unchanged) (told_replayed c.loop-command.invariant.log p)
 
+pub returns-in-Err-clause-replay_of_clones : goal.returns-in-Err-clause-replay_of_clones
+returns-in-Err-clause-replay_of_clones g c equal = rw (c.in-Err.ensures.no_event, c.in-Err.ensures.unchanged) (told_copies c.loop-command.invariant.log g.met.L.Item.Ord.total equal)
+
 pub returns-in-Err-clause-numbered : goal.returns-in-Err-clause-numbered
 returns-in-Err-clause-numbered g c = rw c.in-Err.ensures.no_event (told_numbered c.loop-command.invariant.log)
 
@@ -103,6 +106,9 @@ returns-clause-table g c = replay_to_first c.loop-command.invariant.log (first_c
 
 pub returns-clause-replay : goal.returns-clause-replay
 returns-clause-replay g c = told_replayed c.loop-command.invariant.log
+
+pub returns-clause-replay_of_clones : goal.returns-clause-replay_of_clones
+returns-clause-replay_of_clones g c = told_copies c.loop-command.invariant.log g.met.L.Item.Ord.total
 
 pub returns-clause-numbered : goal.returns-clause-numbered
 returns-clause-numbered g c = told_numbered c.loop-command.invariant.log
