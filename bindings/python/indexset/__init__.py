@@ -10,14 +10,19 @@ default), `uint64` or `float64`.
 """
 from ._native import BACKEND, version
 from ._dict import SortedDict
-from ._log import Change, LoggedDict
+from ._log import LoggedDict
 from ._multi import SortedMultiDict
+from ._nodes import Change
+from ._replica import Gap, Refused, Replica
 from ._set import SortedSet
 
 __all__ = [
     "BACKEND",
     "Change",
+    "Gap",
     "LoggedDict",
+    "Refused",
+    "Replica",
     "SortedDict",
     "SortedMultiDict",
     "SortedSet",

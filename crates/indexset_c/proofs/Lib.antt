@@ -2,4 +2,5 @@ pub mod Boxes
 mod LogLemmas
 mod MultiLemmas
 pub mod PairLemmas
+mod ReplicaLemmas
 mod WrittenLemmas

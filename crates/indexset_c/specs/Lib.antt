@@ -1,3 +1,4 @@
 pub mod Elements
 pub mod Events
+pub mod Replicas
 pub mod Slots

@@ -22,6 +22,7 @@ use Rattle.indexset_set.specs.contracts.BTreeSet as Set
 use Rattle.indexset_map.specs.contracts.BTreeMap as Map
 use Rattle.indexset_log.specs.contracts.map.BTreeMap as Logged
 use Rattle.indexset_multi.specs.contracts.multimap.BTreeMultiMap as Multi
+use Rattle.indexset_replica.specs.contracts.Replica as Replica
 
 abbrev pub set_row : RattleType
 set_row = Set.the_row u64 ord equal partial
@@ -60,3 +61,9 @@ multi_row = Multi.the_row u64 u64 (node_row multi_pair_row) ord eq equal partial
 
 abbrev pub holds_multi : Global → Ptr → Option multi_row.Denot → Fml
 holds_multi alloc = holds (frees.dealloc_token alloc) multi_row
+
+abbrev pub replica_row : RattleType
+replica_row = Replica.the_row pair_row TODO
+
+abbrev pub holds_replica : Global → Ptr → Option replica_row.Denot → Fml
+holds_replica alloc = holds (frees.dealloc_token alloc) replica_row

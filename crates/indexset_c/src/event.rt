@@ -1,10 +1,10 @@
 //! Changes of a logged map, as C sees them.
-ghost use Rattle.std.specs.Prelude.{◌≡◌, ◌≤◌, length, map};
+ghost use Rattle.std.specs.Prelude.{◌≡◌, ◌≤◌, Some, length, map};
 ghost use Rattle.indexset_c.specs.Elements.{written};
-ghost use Rattle.indexset_c.specs.Events.{record_of, record_with};
+ghost use Rattle.indexset_c.specs.Events.{event_of, record_of, record_with};
 
 use indexset_core::pair::Pair;
-use indexset_log::change::ChangeEvent;
+use indexset_log::change::{ChangeEvent, Id};
 
 /// In the node, the pair is put at the index.
 pub const INSERT: u32 = 1;
@@ -66,9 +66,10 @@ fn filled(
     }
 }
 
-/// Returns the record of a change.
+/// Returns the record of a change, from which `event_of` returns the change.
 pub fn record_of(event: &ChangeEvent<Pair<u64, u64>>) -> Event
-    ensures { result ≡ record_of event.now }
+    ensures value { result ≡ record_of event.now }
+    ensures undone { event_of result ≡ Some event.now }
 {
     let number = event.id().inner();
     let none = Pair { key: 0, value: 0 };
@@ -97,6 +98,55 @@ pub fn record_of(event: &ChangeEvent<Pair<u64, u64>>) -> Event
             next_max_value,
             ..
         } => filled(number, MERGE, max_value, next_max_value, 0),
+    }
+}
+
+/// Returns the change of a record, or `None` where its kind is none of the six.
+pub fn event_of(record: &Event) -> Option<ChangeEvent<Pair<u64, u64>>>
+    ensures { result ≡ event_of record.now }
+{
+    let event_id = Id::from(record.number);
+    let max_value = Pair {
+        key: record.node_key,
+        value: record.node_value,
+    };
+    let value = Pair {
+        key: record.key,
+        value: record.value,
+    };
+    let index = record.index;
+    match record.kind {
+        INSERT => Some(ChangeEvent::InsertAt {
+            event_id,
+            max_value,
+            value,
+            index,
+        }),
+        REMOVE => Some(ChangeEvent::RemoveAt {
+            event_id,
+            max_value,
+            value,
+            index,
+        }),
+        CREATE => Some(ChangeEvent::CreateNode {
+            event_id,
+            max_value,
+        }),
+        DROP => Some(ChangeEvent::RemoveNode {
+            event_id,
+            max_value,
+        }),
+        SPLIT => Some(ChangeEvent::SplitNode {
+            event_id,
+            max_value,
+            split_index: index,
+        }),
+        MERGE => Some(ChangeEvent::MergeNodes {
+            event_id,
+            max_value,
+            next_max_value: value,
+        }),
+        _ => None,
     }
 }
 

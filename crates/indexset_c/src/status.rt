@@ -1,5 +1,6 @@
 //! What a call returns that can fail.
 ghost use Rattle.std.specs.Prelude.{◌≡◌, ◌↔◌};
+ghost use Rattle.indexset_c.specs.Replicas.{status_of};
 
 use indexset_core::refusal::Refusal;
 
@@ -33,5 +34,17 @@ pub fn of_refusal(cause: Refusal) -> u32
         Refusal::Memory => MEMORY,
         Refusal::Numbers => NUMBERS,
         _ => UNFIT,
+    }
+}
+
+/// Returns the status of an event that a replica refused: memory and numbers have the statuses that they
+/// have everywhere, and each other refusal has its own number, from 11 on.
+pub fn status_of(cause: Refusal) -> u32
+    ensures { result ≡ status_of cause }
+{
+    match cause {
+        Refusal::Memory => MEMORY,
+        Refusal::Numbers => NUMBERS,
+        other => u32::from(other.number()),
     }
 }
