@@ -27,15 +27,15 @@ copied_pairs replica = joined (copied_nodes replica)
 abbrev pub replica_of : Tree (Pair ℕ ℕ) → ReplicaState (Pair ℕ ℕ)
 replica_of log = record { nodes = log.nodes; next = log.next }
 
--- the status of a refusal: its own number, but for memory and numbers
+-- the status of a refusal: its own number, but for memory, numbers and nodes that do not fit
 abbrev pub status_of : Refusal → ℕ
 status_of refusals.Memory = MEMORY
 status_of refusals.Numbers = NUMBERS
-status_of refusals.Empty = number_of refusals.Empty
-status_of refusals.TooLarge = number_of refusals.TooLarge
-status_of refusals.Unsorted = number_of refusals.Unsorted
-status_of refusals.Overlaps = number_of refusals.Overlaps
-status_of refusals.PairNumber = number_of refusals.PairNumber
+status_of refusals.Empty = UNFIT
+status_of refusals.TooLarge = UNFIT
+status_of refusals.Unsorted = UNFIT
+status_of refusals.Overlaps = UNFIT
+status_of refusals.PairNumber = UNFIT
 status_of refusals.Gap = number_of refusals.Gap
 status_of refusals.NoSuchNode = number_of refusals.NoSuchNode
 status_of refusals.IndexOutside = number_of refusals.IndexOutside

@@ -1,10 +1,10 @@
 //! Changes of a logged map, as C sees them.
 ghost use Rattle.std.specs.Prelude.{◌≡◌, ◌≤◌, Some, length, map};
 ghost use Rattle.indexset_c.specs.Elements.{written};
-ghost use Rattle.indexset_c.specs.Events.{event_of, record_of, record_with};
+ghost use Rattle.indexset_c.specs.Events.{event_of, record_of, record_with, unnumbered};
 
 use indexset_core::pair::Pair;
-use indexset_log::change::{ChangeEvent, Id};
+use indexset_log::change::{ChangeEvent, ChangeEventUnassigned, Id};
 
 /// In the node, the pair is put at the index.
 pub const INSERT: u32 = 1;
@@ -67,6 +67,7 @@ fn filled(
 }
 
 /// Returns the record of a change, from which `event_of` returns the change.
+#[tactic(auto, unfolding(crate::specs::Events::unnumbered))]
 pub fn record_of(event: &ChangeEvent<Pair<u64, u64>>) -> Event
     ensures value { result ≡ record_of event.now }
     ensures undone { event_of result ≡ Some event.now }
@@ -101,52 +102,52 @@ pub fn record_of(event: &ChangeEvent<Pair<u64, u64>>) -> Event
     }
 }
 
-/// Returns the change of a record, or `None` where its kind is none of the six.
-pub fn event_of(record: &Event) -> Option<ChangeEvent<Pair<u64, u64>>>
-    ensures { result ≡ event_of record.now }
+// Returns the change of a record without its number.
+#[tactic(auto, unfolding(crate::specs::Events::unnumbered))]
+fn unnumbered(event: &Event) -> Option<ChangeEventUnassigned<Pair<u64, u64>>>
+    ensures { result ≡ unnumbered event.now }
 {
-    let event_id = Id::from(record.number);
     let max_value = Pair {
-        key: record.node_key,
-        value: record.node_value,
+        key: event.node_key,
+        value: event.node_value,
     };
     let value = Pair {
-        key: record.key,
-        value: record.value,
+        key: event.key,
+        value: event.value,
     };
-    let index = record.index;
-    match record.kind {
-        INSERT => Some(ChangeEvent::InsertAt {
-            event_id,
+    let index = event.index;
+    match event.kind {
+        INSERT => Some(ChangeEventUnassigned::InsertAt {
             max_value,
             value,
             index,
         }),
-        REMOVE => Some(ChangeEvent::RemoveAt {
-            event_id,
+        REMOVE => Some(ChangeEventUnassigned::RemoveAt {
             max_value,
             value,
             index,
         }),
-        CREATE => Some(ChangeEvent::CreateNode {
-            event_id,
-            max_value,
-        }),
-        DROP => Some(ChangeEvent::RemoveNode {
-            event_id,
-            max_value,
-        }),
-        SPLIT => Some(ChangeEvent::SplitNode {
-            event_id,
+        CREATE => Some(ChangeEventUnassigned::CreateNode { max_value }),
+        DROP => Some(ChangeEventUnassigned::RemoveNode { max_value }),
+        SPLIT => Some(ChangeEventUnassigned::SplitNode {
             max_value,
             split_index: index,
         }),
-        MERGE => Some(ChangeEvent::MergeNodes {
-            event_id,
+        MERGE => Some(ChangeEventUnassigned::MergeNodes {
             max_value,
             next_max_value: value,
         }),
         _ => None,
+    }
+}
+
+/// Returns the change of a record, or `None` where its kind is none of the six.
+pub fn event_of(event: &Event) -> Option<ChangeEvent<Pair<u64, u64>>>
+    ensures { result ≡ event_of event.now }
+{
+    match unnumbered(event) {
+        Some(change) => Some(change.assign_id(Id::from(event.number))),
+        None => None,
     }
 }
 

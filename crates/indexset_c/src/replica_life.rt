@@ -17,11 +17,7 @@ use std::alloc::{AllocError, Global};
 /// Makes a replica without nodes, which awaits the change of the number `next`. Fails where the handle
 /// leads to a replica.
 #[unsafe(no_mangle)]
-pub extern "C" fn indexset_replica_new(
-    alloc: Global,
-    replica: &mut ReplicaHandle,
-    next: u64,
-) -> u32
+pub extern "C" fn indexset_replica_new(alloc: Global, replica: &mut ReplicaHandle, next: u64) -> u32
     ensures made { result ≡ YES → replica.new.slot.value ≡ Some (record { nodes = []; next = next }) }
     ensures refused { result ≢ YES → replica.new.slot.value ≡ replica.old.slot.value }
     ensures held { result ≡ HELD ↔ (is_some replica.old.slot.value ≡ true) }

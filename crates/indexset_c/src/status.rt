@@ -37,14 +37,19 @@ pub fn of_refusal(cause: Refusal) -> u32
     }
 }
 
-/// Returns the status of an event that a replica refused: memory and numbers have the statuses that they
-/// have everywhere, and each other refusal has its own number, from 11 on.
+/// Returns the status of a change that a replica refused: memory, numbers and nodes that do not fit have
+/// the statuses that they have everywhere, and each other refusal has its own number, from 11 on.
 pub fn status_of(cause: Refusal) -> u32
     ensures { result ≡ status_of cause }
 {
     match cause {
         Refusal::Memory => MEMORY,
         Refusal::Numbers => NUMBERS,
+        Refusal::Empty
+        | Refusal::TooLarge
+        | Refusal::Unsorted
+        | Refusal::Overlaps
+        | Refusal::PairNumber => UNFIT,
         other => u32::from(other.number()),
     }
 }
