@@ -1,7 +1,6 @@
 -- What a replica makes of a record.
-use Rattle.std.proofs.Common.{◌≡◌, ◌==◌, ℕ, zero, suc, ◌+◌, ◌<◌, ◌≤◌, List, [], ◌∷◌, take, length, slice_get, Option, Some, None, true, false, not, nat_lt, refl, sym, ap, ◌∙◌, arith, add-one, option_and_then}
-use Rattle.std.below.core.specs.declared.int.u64.TheConstants.{MAX}
-use Rattle.std.proofs.lemmas.Bool.{eqb-true, le-ltb, lt-ltb, not-false}
+use Rattle.std.proofs.Common.{◌≡◌, ℕ, zero, suc, ◌+◌, ◌<◌, ◌≤◌, List, [], ◌∷◌, take, slice_get, Option, Some, None, refl, sym, ap, ◌∙◌, arith, add-one, option_and_then}
+use Rattle.std.proofs.lemmas.Bool.{le-ltb, lt-ltb}
 use Rattle.std.proofs.lemmas.Option.{same_Some}
 use Rattle.std.specs.Option.{option_map, unwrap_or}
 use Rattle.std.specs.Ordering.{nat_cmp}

@@ -1,4 +1,4 @@
-use Rattle.std.proofs.Common.{◌≡◌, ◌<◌, ◌≤◌, unwrap_or, refl, ap, sym, ◌∙◌, arith}
+use Rattle.std.proofs.Common.{◌≡◌, ◌≤◌, unwrap_or, refl, ap, sym, ◌∙◌, arith}
 use Rattle.indexset_log.specs.Replay.{event_number}
 use Rattle.indexset_c.specs.declared.status.TheConstants.{MEMORY}
 use Rattle.indexset_c.specs.Replicas.{status_of}
