@@ -33,5 +33,11 @@ if python3 -c "$can_build" 2>/dev/null; then
     try python3 python/out/test_text.py
 fi
 
+# The package as pip makes it, where an environment can be made: it asks for nothing of the network.
+if python3 -m venv python/out/fresh 2>/dev/null; then
+    try python/out/fresh/bin/pip install -q --no-index ./python
+    try env -u INDEXSET_LIBRARY python/out/fresh/bin/python -c 'import indexset; print(indexset.BACKEND, indexset.SortedSet([2, 1]))'
+fi
+
 echo "$passed passed, $failed failed"
 test "$failed" = 0

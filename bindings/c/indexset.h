@@ -1,5 +1,5 @@
 /* Ordered sets and maps of 64-bit numbers, with positions; maps whose keys may have several values; maps
- * that tell their changes; and maps from byte strings to 64-bit numbers.
+ * that tell their changes, and replicas that follow such a map; and maps from byte strings to 64-bit numbers.
  *
  * A handle leads to a collection on the heap, or to none. It starts as INDEXSET_HANDLE, which leads to
  * none; indexset_set_new has it lead to an empty set, and indexset_set_free to none again; the handles of the
@@ -41,7 +41,16 @@ enum indexset_status {
     INDEXSET_NONE = 3,   /* the handle leads to no collection */
     INDEXSET_HELD = 4,   /* the handle leads to a collection already */
     INDEXSET_NUMBERS = 5, /* too few numbers are left */
-    INDEXSET_UNFIT = 6   /* what was given does not fit */
+    INDEXSET_UNFIT = 6,  /* what was given does not fit */
+    /* why a replica refuses a change, besides INDEXSET_MEMORY, INDEXSET_NUMBERS and INDEXSET_UNFIT */
+    INDEXSET_GAP = 11,            /* changes before it are missing */
+    INDEXSET_NO_SUCH_NODE = 12,   /* no node has the last key that it names */
+    INDEXSET_INDEX_OUTSIDE = 13,  /* its index is outside the node */
+    INDEXSET_VALUE_DIFFERS = 14,  /* another key stands at its index */
+    INDEXSET_WOULD_BE_EMPTY = 15, /* it would remove the only pair of a node */
+    INDEXSET_OUT_OF_ORDER = 16,   /* the keys would not be in order afterwards */
+    INDEXSET_BAD_SPLIT = 17,      /* it would split off an empty part */
+    INDEXSET_NOT_NEIGHBOURS = 18  /* the second node that it names does not follow the first */
 };
 
 /* The handle of an ordered set of uint64_t. Both fields are the library's own. */
@@ -325,6 +334,64 @@ size_t indexset_log_range(indexset_log *log, uint64_t low, uint64_t high, uint64
  * for. Returns how many it wrote. These, the pairs from 0 to UINT64_MAX and the number of the next change
  * are a snapshot, from which a copy goes on. */
 size_t indexset_log_node_lengths(indexset_log *log, size_t *out, size_t places);
+
+/* The handle of a replica: a copy of the nodes of a logged map, which follows the map by its changes. Both
+ * fields are the library's own. */
+typedef struct indexset_replica {
+    void *at;
+    bool live;
+} indexset_replica;
+
+/* Makes a replica without nodes, which awaits the change of the number `next`. INDEXSET_YES, or
+ * INDEXSET_MEMORY, or INDEXSET_HELD where the handle leads to a replica; unless it is INDEXSET_YES, nothing
+ * changes. */
+uint32_t indexset_replica_new(indexset_replica *replica, uint64_t next);
+
+/* Makes a replica with the nodes of a logged map, which awaits its next change. INDEXSET_YES, or
+ * INDEXSET_MEMORY, or INDEXSET_NONE where `log` leads to none, or else INDEXSET_HELD where `replica` leads to
+ * a replica. `log` never changes, and `replica` only where it is INDEXSET_YES. */
+uint32_t indexset_replica_from_log(indexset_replica *replica, indexset_log *log);
+
+/* Frees the replica, and leaves the handle with none. Of a handle with none it does nothing. */
+void indexset_replica_free(indexset_replica *replica);
+
+/* Makes a change of the logged map, and awaits the next. INDEXSET_YES, or the first of these that applies:
+ * INDEXSET_NONE; INDEXSET_UNFIT where the kind is none of enum indexset_kind; INDEXSET_NO where the number is
+ * below the one that is awaited, so that the change was made before; INDEXSET_GAP where it is above it;
+ * INDEXSET_NUMBERS where it is UINT64_MAX, after which there is none; a status from INDEXSET_NO_SUCH_NODE on,
+ * where the change does not fit the nodes; INDEXSET_MEMORY. Unless it is INDEXSET_YES, nothing changes. What
+ * fits goes by the keys, whatever the values are. */
+uint32_t indexset_replica_apply(indexset_replica *replica, const indexset_event *event);
+
+/* Makes `count` changes, first to last, and passes over each whose number is below the one that is awaited.
+ * Writes how many it took to `taken`, those that it passed over among them. INDEXSET_YES where it took them
+ * all, or else the status of the change after those, as indexset_replica_apply has it; or INDEXSET_NONE. */
+uint32_t indexset_replica_apply_all(indexset_replica *replica, const indexset_event *events, size_t count, size_t *taken);
+
+/* Returns how many pairs there are, how many nodes, and the number of the change that is awaited. The first
+ * takes a time that grows with the number of nodes. */
+size_t indexset_replica_len(indexset_replica *replica);
+size_t indexset_replica_node_count(indexset_replica *replica);
+uint64_t indexset_replica_next(indexset_replica *replica);
+
+/* Writes the value of a key. True, or false where the key is not there, and then nothing is written. */
+bool indexset_replica_get(indexset_replica *replica, uint64_t key, uint64_t *out);
+
+/* Tells whether a key is there. */
+bool indexset_replica_contains(indexset_replica *replica, uint64_t key);
+
+/* Writes the pair of the least or the greatest key. True, or false where the replica is empty, and then
+ * nothing is written. */
+bool indexset_replica_first(indexset_replica *replica, uint64_t *key, uint64_t *value);
+bool indexset_replica_last(indexset_replica *replica, uint64_t *key, uint64_t *value);
+
+/* Writes the pairs of the keys from `low` to `high`, both included, in order into two arrays, as many as
+ * both have room for. Returns how many it wrote. */
+size_t indexset_replica_range(indexset_replica *replica, uint64_t low, uint64_t high, uint64_t *keys, size_t key_places, uint64_t *values, size_t value_places);
+
+/* Writes how many pairs each node has, in order into an array of `places` places, as many as it has room
+ * for. Returns how many it wrote. */
+size_t indexset_replica_node_lengths(indexset_replica *replica, size_t *out, size_t places);
 
 /* The handle of an ordered map from byte strings to uint64_t. Both fields are the library's own.
  *

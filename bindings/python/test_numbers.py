@@ -8,7 +8,7 @@ import sys
 import unittest
 
 import indexset
-from indexset import LoggedDict, SortedMultiDict, _log, _multi
+from indexset import Gap, LoggedDict, Refused, Replica, SortedMultiDict, _log, _multi, _nodes, _replica
 
 
 class MultiDictionaries(unittest.TestCase):
@@ -112,8 +112,74 @@ class LoggedDictionaries(unittest.TestCase):
         self.assertRaises(OverflowError, last.__setitem__, 1, 1)
         self.assertEqual((len(last), last.nodes()), (0, []))
 
+
+class Replicas(unittest.TestCase):
+    def test_lost_repeated_and_swapped(self):
+        rng = random.Random(3)
+        told, states = [], {}
+        ours = LoggedDict(told.append, keys="float64", values="uint64", size=4, next=50)
+        replica = Replica(keys="float64", values="uint64", next=50)
+        exact = Replica(ours)
+        states[50] = []
+        for step in range(3000):
+            key = rng.randrange(-60, 60) / 2
+            if rng.random() < (0.7 if step < 1500 else 0.4):
+                ours[key] = step
+            else:
+                ours.pop(key, None)
+            for change in told[exact.next - 50 :]:
+                self.assertTrue(exact.apply(change))
+                states[exact.next] = exact.nodes()
+            self.assertEqual(states[ours.next], ours.nodes())
+            at = replica.next - 50
+            sent = [change for change in told[max(at - 2, 0) : at + 5] if rng.random() < 0.9]
+            if rng.random() < 0.2:
+                rng.shuffle(sent)
+            before = 0
+            for change in sent:
+                if change.number > at + 50:
+                    break
+                before, at = before + 1, at + (change.number == at + 50)
+            if before == len(sent):
+                self.assertEqual(replica.apply_all(sent), before)
+            else:
+                with self.assertRaises(Gap) as gap:
+                    replica.apply_all(sent)
+                self.assertEqual((gap.exception.taken, gap.exception.change), (before, sent[before]))
+            self.assertEqual((replica.next, replica.nodes()), (at + 50, states[at + 50]))
+            if step % 500 == 0:
+                self.assertEqual(Replica(ours).nodes(), ours.nodes())
+        replica.apply_all(told)
+        self.assertEqual((replica.next, replica.nodes()), (ours.next, ours.nodes()))
+        self.assertEqual((replica, len(replica), list(replica)), (ours, len(ours), list(ours)))
+        self.assertEqual([replica.get(key / 2) for key in range(-60, 60)], [ours.get(key / 2) for key in range(-60, 60)])
+        self.assertEqual(list(replica.irange(-3, 3.5)), list(ours.irange(-3, 3.5)))
+
+    def test_refused(self):
+        told = []
+        ours = LoggedDict(told.append, {1: 10, 2: 20})
+        replica = Replica(ours)
+        self.assertEqual((repr(replica), replica.next, 1 in replica, "1" in replica), ("Replica({1: 10, 2: 20})", 2, True, False))
+        self.assertRaises(KeyError, replica.__getitem__, 3)
+        self.assertFalse(replica.apply(told[1]))
+        self.assertRaises(Gap, replica.apply, told[1]._replace(number=3))
+        wrong = told[1]._replace(number=2, node=(7, 0))
+        with self.assertRaises(Refused) as refused:
+            replica.apply_all([told[0], wrong])
+        self.assertEqual((refused.exception.status, refused.exception.taken), (12, 1))
+        self.assertNotIsInstance(refused.exception, Gap)
+        self.assertRaises(ValueError, replica.apply, wrong._replace(kind="text"))
+        self.assertRaises(OverflowError, replica.apply, wrong._replace(node=(1 << 63, 0)))
+        self.assertRaises(OverflowError, replica.apply, wrong._replace(index=-1))
+        self.assertEqual((replica.apply_all([]), replica), (0, ours))
+        last = Replica(next=(1 << 64) - 1)
+        self.assertRaises(OverflowError, last.apply, told[0]._replace(number=last.next))
+        self.assertRaises(OverflowError, Replica, next=1 << 64)
+        self.assertRaises(ValueError, Replica, keys="text")
+        self.assertEqual((len(last), last.nodes()), (0, []))
+
     def test_examples(self):
-        for module in (_log, _multi):
+        for module in (_log, _multi, _nodes, _replica):
             self.assertEqual(doctest.testmod(module).failed, 0)
 
 

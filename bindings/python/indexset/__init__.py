@@ -10,15 +10,20 @@ default), `uint64` or `float64`, and those of a `SortedDict` also `str` or `byte
 """
 from ._native import BACKEND, version
 from ._dict import SortedDict
-from ._log import Change, LoggedDict
+from ._log import LoggedDict
 from ._multi import SortedMultiDict
+from ._nodes import Change
+from ._replica import Gap, Refused, Replica
 from ._set import SortedSet
 from ._text import TextDict
 
 __all__ = [
     "BACKEND",
     "Change",
+    "Gap",
     "LoggedDict",
+    "Refused",
+    "Replica",
     "SortedDict",
     "SortedMultiDict",
     "SortedSet",

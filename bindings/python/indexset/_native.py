@@ -11,6 +11,7 @@ from array import array
 from typing import Any
 
 NO, YES, MEMORY, NONE, HELD, NUMBERS, UNFIT = range(7)
+GAP = 11
 
 # At most so many changes are made by a call of a logged map.
 CHANGES = 3
@@ -28,9 +29,9 @@ try:
         """A handle, of a collection of this name, that leads to none."""
         return ffi.new(f"indexset_{what} *")
 
-    def events() -> Any:
-        """Places for the changes of a call."""
-        return ffi.new("indexset_event[]", CHANGES)
+    def events(count: int) -> Any:
+        """Places for records of changes."""
+        return ffi.new("indexset_event[]", count)
 
     def number() -> Any:
         """A place for one number."""
@@ -167,6 +168,20 @@ except ImportError:
             ("log_contains", truth, [handle, key]),
             ("log_range", count, [handle, key, key, keys, count, keys, count]),
             ("log_node_lengths", count, [handle, counts, count]),
+            ("replica_new", status, [handle, key]),
+            ("replica_from_log", status, [handle, handle]),
+            ("replica_free", None, [handle]),
+            ("replica_apply", status, [handle, changes]),
+            ("replica_apply_all", status, [handle, changes, count, counts]),
+            ("replica_len", count, [handle]),
+            ("replica_node_count", count, [handle]),
+            ("replica_next", key, [handle]),
+            ("replica_get", truth, [handle, key, keys]),
+            ("replica_contains", truth, [handle, key]),
+            ("replica_first", truth, [handle, keys, keys]),
+            ("replica_last", truth, [handle, keys, keys]),
+            ("replica_range", count, [handle, key, key, keys, count, keys, count]),
+            ("replica_node_lengths", count, [handle, counts, count]),
         ]:
             function = getattr(loaded, "indexset_" + name)
             function.restype, function.argtypes = result, words
@@ -178,9 +193,9 @@ except ImportError:
         """A handle, of a collection of this name, that leads to none."""
         return _Handle()
 
-    def events() -> Any:
-        """Places for the changes of a call."""
-        return (_Event * CHANGES)()
+    def events(count: int) -> Any:
+        """Places for records of changes."""
+        return (_Event * count)()
 
     def number() -> Any:
         """A place for one number."""

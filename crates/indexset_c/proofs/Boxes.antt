@@ -24,7 +24,8 @@ use Rattle.indexset_set.proofs.BTreeSet.TheLaws as set
 use Rattle.indexset_map.proofs.BTreeMap.TheLaws as map
 use Rattle.indexset_log.proofs.map.BTreeMap.TheLaws as logged
 use Rattle.indexset_multi.proofs.multimap.BTreeMultiMap.TheLaws as multi
-use Rattle.indexset_c.specs.Slots.{log_row, map_row, multi_pair_row, multi_row, node_row, nodes, pair_row, set_row}
+use Rattle.indexset_replica.proofs.Replica.TheLaws as replica
+use Rattle.indexset_c.specs.Slots.{log_row, map_row, multi_pair_row, multi_row, node_row, nodes, pair_row, pairs_cloned, pairs_compare, pairs_equal, pairs_partial, replica_row, set_row}
 
 number_laws : Laws u64
 number_laws = of_field u64-field u64-laws refl (copy_shared u64-field u64-copy)
@@ -64,3 +65,9 @@ multi_laws = multi.the_row_laws u64 u64 (node_row multi_pair_row) ord eq equal p
 
 abbrev pub multi_box : Bx
 multi_box = on_heap multi_row multi_laws
+
+pub replica_laws : Laws replica_row
+replica_laws = replica.the_row_laws pair_row pairs_compare pairs_equal pairs_partial pairs_cloned pair_laws
+
+abbrev pub replica_box : Bx
+replica_box = on_heap replica_row replica_laws

@@ -2,6 +2,7 @@ pub mod Boxes
 mod LogLemmas
 mod MultiLemmas
 pub mod PairLemmas
+mod ReplicaLemmas
 mod TextBoxes
 pub mod TextLemmas
 mod TextWrittenLemmas

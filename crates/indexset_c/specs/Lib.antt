@@ -1,4 +1,5 @@
 pub mod Elements
 pub mod Events
+pub mod Replicas
 pub mod Slots
 pub mod Text

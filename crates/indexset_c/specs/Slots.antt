@@ -1,27 +1,38 @@
 -- What the slots own: what a box of the collection owns, where there is one.
 use base.Fml.{Fml}
+use mathlib.Core.List.{[]}
+use mir.Syntax.{impl, tnil, dnil}
 use denote.RawPtr.{Ptr}
 use denote.RattleType.{RattleType}
 use denote.Builtin.{u64}
 use Rattle.std.specs.Prelude.{Option, true, vec_capacity}
 use Rattle.std.below.core.specs.declared.int.usize.TheConstants.{MAX}
 use Rattle.std.specs.Global.{Global}
+use Rattle.std.specs.declared.clone.Clone
+use Rattle.std.specs.declared.cmp.Ord
+use Rattle.std.specs.declared.cmp.PartialEq
+use Rattle.std.specs.declared.cmp.PartialOrd
 use Rattle.std.specs.contracts.alloc.Global as Heap
 use Rattle.std.specs.contracts.impls.GlobalAllocator.TheImpl.{ghosts as frees}
-use Rattle.std.specs.contracts.prelude.U64Clone.TheImpl.{ghosts as clone}
-use Rattle.std.specs.contracts.prelude.U64Ord.TheImpl.{ghosts as ord}
-use Rattle.std.specs.contracts.prelude.U64Eq.TheImpl.{ghosts as eq}
-use Rattle.std.specs.contracts.prelude.U64PartialEq.TheImpl.{ghosts as equal}
-use Rattle.std.specs.contracts.prelude.U64PartialOrd.TheImpl.{ghosts as partial}
+use Rattle.std.specs.contracts.prelude.U64Clone.TheImpl.{ghosts as clone, dict as clone_dict}
+use Rattle.std.specs.contracts.prelude.U64Ord.TheImpl.{ghosts as ord, dict as ord_dict}
+use Rattle.std.specs.contracts.prelude.U64Eq.TheImpl.{ghosts as eq, dict as eq_dict}
+use Rattle.std.specs.contracts.prelude.U64PartialEq.TheImpl.{ghosts as equal, dict as equal_dict}
+use Rattle.std.specs.contracts.prelude.U64PartialOrd.TheImpl.{ghosts as partial, dict as partial_dict}
 use Rattle.std.specs.contracts.vec.Vec as vec
 use Rattle.indexset_core.specs.contracts.multipair.MultiPair as multi_pair
 use Rattle.indexset_core.specs.contracts.pair.Pair as pair
+use Rattle.indexset_core.specs.contracts.pair.PairClone.TheImpl as pair_clone
+use Rattle.indexset_core.specs.contracts.pair.PairOrd.TheImpl as pair_ord
+use Rattle.indexset_core.specs.contracts.pair.PairPartialEq.TheImpl as pair_equal
+use Rattle.indexset_core.specs.contracts.pair.PairPartialOrd.TheImpl as pair_partial
 use Rattle.indexset_core.specs.declared.node.NodeLike.{Ghosts}
 use Rattle.indexset_handle.specs.Holds.{holds}
 use Rattle.indexset_set.specs.contracts.BTreeSet as Set
 use Rattle.indexset_map.specs.contracts.BTreeMap as Map
 use Rattle.indexset_log.specs.contracts.map.BTreeMap as Logged
 use Rattle.indexset_multi.specs.contracts.multimap.BTreeMultiMap as Multi
+use Rattle.indexset_replica.specs.contracts.Replica as Replica
 
 abbrev pub set_row : RattleType
 set_row = Set.the_row u64 ord equal partial
@@ -60,3 +71,22 @@ multi_row = Multi.the_row u64 u64 (node_row multi_pair_row) ord eq equal partial
 
 abbrev pub holds_multi : Global → Ptr → Option multi_row.Denot → Fml
 holds_multi alloc = holds (frees.dealloc_token alloc) multi_row
+
+-- what the impls of a pair of numbers say of it
+abbrev pub pairs_compare : Ord.Ghosts pair_row.Denot
+pairs_compare = pair_ord.ghosts u64 u64 ord ord_dict eq eq_dict equal equal_dict partial partial_dict
+
+abbrev pub pairs_equal : PartialEq.Ghosts pair_row.Denot
+pairs_equal = pair_equal.ghosts u64 u64 equal equal_dict
+
+abbrev pub pairs_partial : PartialOrd.Ghosts pair_row.Denot
+pairs_partial = pair_partial.ghosts u64 u64 partial partial_dict equal equal_dict
+
+abbrev pub pairs_cloned : Clone.Ghosts pair_row.Denot
+pairs_cloned = pair_clone.ghosts u64 u64 clone clone_dict clone clone_dict (impl [] tnil dnil) (impl [] tnil dnil)
+
+abbrev pub replica_row : RattleType
+replica_row = Replica.the_row pair_row pairs_compare pairs_equal pairs_partial pairs_cloned
+
+abbrev pub holds_replica : Global → Ptr → Option replica_row.Denot → Fml
+holds_replica alloc = holds (frees.dealloc_token alloc) replica_row

@@ -1,10 +1,10 @@
 //! Changes of a logged map, as C sees them.
-ghost use Rattle.std.specs.Prelude.{◌≡◌, ◌≤◌, length, map};
+ghost use Rattle.std.specs.Prelude.{◌≡◌, ◌≤◌, Some, length, map};
 ghost use Rattle.indexset_c.specs.Elements.{written};
-ghost use Rattle.indexset_c.specs.Events.{record_of, record_with};
+ghost use Rattle.indexset_c.specs.Events.{event_of, record_of, record_with, unnumbered};
 
 use indexset_core::pair::Pair;
-use indexset_log::change::ChangeEvent;
+use indexset_log::change::{ChangeEvent, ChangeEventUnassigned, Id};
 
 /// In the node, the pair is put at the index.
 pub const INSERT: u32 = 1;
@@ -66,9 +66,11 @@ fn filled(
     }
 }
 
-/// Returns the record of a change.
+/// Returns the record of a change, from which `event_of` returns the change.
+#[tactic(auto, unfolding(crate::specs::Events::unnumbered))]
 pub fn record_of(event: &ChangeEvent<Pair<u64, u64>>) -> Event
-    ensures { result ≡ record_of event.now }
+    ensures value { result ≡ record_of event.now }
+    ensures undone { event_of result ≡ Some event.now }
 {
     let number = event.id().inner();
     let none = Pair { key: 0, value: 0 };
@@ -97,6 +99,55 @@ pub fn record_of(event: &ChangeEvent<Pair<u64, u64>>) -> Event
             next_max_value,
             ..
         } => filled(number, MERGE, max_value, next_max_value, 0),
+    }
+}
+
+// Returns the change of a record without its number.
+#[tactic(auto, unfolding(crate::specs::Events::unnumbered))]
+fn unnumbered(event: &Event) -> Option<ChangeEventUnassigned<Pair<u64, u64>>>
+    ensures { result ≡ unnumbered event.now }
+{
+    let max_value = Pair {
+        key: event.node_key,
+        value: event.node_value,
+    };
+    let value = Pair {
+        key: event.key,
+        value: event.value,
+    };
+    let index = event.index;
+    match event.kind {
+        INSERT => Some(ChangeEventUnassigned::InsertAt {
+            max_value,
+            value,
+            index,
+        }),
+        REMOVE => Some(ChangeEventUnassigned::RemoveAt {
+            max_value,
+            value,
+            index,
+        }),
+        CREATE => Some(ChangeEventUnassigned::CreateNode { max_value }),
+        DROP => Some(ChangeEventUnassigned::RemoveNode { max_value }),
+        SPLIT => Some(ChangeEventUnassigned::SplitNode {
+            max_value,
+            split_index: index,
+        }),
+        MERGE => Some(ChangeEventUnassigned::MergeNodes {
+            max_value,
+            next_max_value: value,
+        }),
+        _ => None,
+    }
+}
+
+/// Returns the change of a record, or `None` where its kind is none of the six.
+pub fn event_of(event: &Event) -> Option<ChangeEvent<Pair<u64, u64>>>
+    ensures { result ≡ event_of event.now }
+{
+    match unnumbered(event) {
+        Some(change) => Some(change.assign_id(Id::from(event.number))),
+        None => None,
     }
 }
 

@@ -1,5 +1,6 @@
 //! What a call returns that can fail.
 ghost use Rattle.std.specs.Prelude.{◌≡◌, ◌↔◌};
+ghost use Rattle.indexset_c.specs.Replicas.{status_of};
 
 use indexset_core::refusal::Refusal;
 
@@ -33,5 +34,22 @@ pub fn of_refusal(cause: Refusal) -> u32
         Refusal::Memory => MEMORY,
         Refusal::Numbers => NUMBERS,
         _ => UNFIT,
+    }
+}
+
+/// Returns the status of a change that a replica refused: memory, numbers and nodes that do not fit have
+/// the statuses that they have everywhere, and each other refusal has its own number, from 11 on.
+pub fn status_of(cause: Refusal) -> u32
+    ensures { result ≡ status_of cause }
+{
+    match cause {
+        Refusal::Memory => MEMORY,
+        Refusal::Numbers => NUMBERS,
+        Refusal::Empty
+        | Refusal::TooLarge
+        | Refusal::Unsorted
+        | Refusal::Overlaps
+        | Refusal::PairNumber => UNFIT,
+        other => u32::from(other.number()),
     }
 }

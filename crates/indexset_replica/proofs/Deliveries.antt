@@ -110,6 +110,13 @@ module _ {T : Type 0} (cmp : T → T → Ordering) where
   unfolding delivered
   passed_over r e other = rw (ne_eqb (event_number e) r.next other) refl
 
+  -- an event that is applied is the next
+  pub turn_taken : (ns : List (List T)) (next : ℕ) (e : ChangeEvent T) → apply_refusal cmp ns next e ≡ None → event_number e ≡ next
+  unfolding apply_refusal
+  turn_taken ns next e fits =
+      let number = else_none _ Gap (if next == MAX then Some Numbers else misfit cmp ns (unassigned e)) fits in
+      eqb-true (event_number e) next (not-false _ number.0)
+
   pub taken_in : (r new : ReplicaState T) (e : ChangeEvent T) → apply_refusal cmp r.nodes r.next e ≡ None → step cmp r.nodes e ≡ Some new.nodes → new.next ≡ r.next + 1 → delivered cmp r e ≡ Some new
   unfolding delivered apply_refusal
   taken_in r new e fits made next =

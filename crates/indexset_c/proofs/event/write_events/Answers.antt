@@ -11,5 +11,5 @@ loop-i-preserved c =
     record {
       long = length-set c.loop-i.out i c.record_of.result ∙ c.loop-i.invariant.long;
       done = ap (λ l. slice_set l i c.record_of.result) c.loop-i.invariant.done ∙ written_more (map record_of events) c.args.out.now i c.record_of.result
-          (answer_read record_of events i _ c.record_of.result test c.record_of.ensures) (omega (arith, fits, test));
+          (answer_read record_of events i _ c.record_of.result test c.record_of.ensures.value) (omega (arith, fits, test));
     }

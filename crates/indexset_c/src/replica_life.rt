@@ -1,0 +1,150 @@
+//! Calls that make and free a replica, and return its length, its node count and the number that it
+//! awaits.
+ghost use Rattle.std.specs.Prelude.{◌≡◌, ◌≢◌, ◌↔◌, [], Some, None, IfOk, IfSome, length, is_some, min, option_map, true};
+ghost use Rattle.std.specs.Option.{option_map_or};
+ghost use Rattle.indexset_core.specs.Nodes.{vec_items};
+ghost use Rattle.indexset_c.specs.Replicas.{copied_nodes, copied_pairs, replica_of};
+
+use crate::log_handle::LogHandle;
+use crate::log_slot::{LoggedMap, LoggedNodes};
+use crate::replica_handle::ReplicaHandle;
+use crate::replica_slot::MapReplica;
+use crate::status::{HELD, MEMORY, NONE, YES};
+use indexset_core::pair::Pair;
+use indexset_replica::Replica;
+use std::alloc::{AllocError, Global};
+
+/// Makes a replica without nodes, which awaits the change of the number `next`. Fails where the handle
+/// leads to a replica.
+#[unsafe(no_mangle)]
+pub extern "C" fn indexset_replica_new(alloc: Global, replica: &mut ReplicaHandle, next: u64) -> u32
+    ensures made { result ≡ YES → replica.new.slot.value ≡ Some (record { nodes = []; next = next }) }
+    ensures refused { result ≢ YES → replica.new.slot.value ≡ replica.old.slot.value }
+    ensures held { result ≡ HELD ↔ (is_some replica.old.slot.value ≡ true) }
+    ensures status { result ≢ YES → result ≢ HELD → result ≡ MEMORY }
+{
+    if let Some(held) = replica.take(alloc) {
+        replica.put(held);
+        return HELD;
+    }
+    match Box::new(alloc, Replica::new(alloc, next)) {
+        Ok(made) => {
+            replica.put(made);
+            YES
+        }
+        Err(_) => MEMORY,
+    }
+}
+
+// Returns copies of the nodes that remain of a walk.
+fn copies(alloc: Global, walk: LoggedNodes<'_>) -> Result<Vec<Vec<Pair<u64, u64>>>, AllocError>
+    ensures { IfOk result (λ nodes. vec_items nodes.items ≡ vec_items walk.entry) }
+{
+    let mut nodes = Vec::new(alloc);
+    for node in walk {
+        nodes.push(Vec::from_clones(alloc, node.as_slice())?)?;
+    }
+    Ok(nodes)
+}
+
+// Returns a replica of a logged map, or `None` where memory ran out.
+fn replica_of(alloc: Global, log: &LoggedMap) -> Option<MapReplica>
+    ensures { IfSome result (λ r. r ≡ replica_of log.now) }
+{
+    // The contract of `node_count` says that the nodes are lawful.
+    let _count = log.node_count();
+    let Ok(nodes) = copies(alloc, log.iter_nodes()) else {
+        return None;
+    };
+    match Replica::from_nodes(nodes, log.events_issued()) {
+        Ok(replica) => Some(replica),
+        Err(_) => None,
+    }
+}
+
+/// Makes a replica of a logged map, which has its nodes and awaits its next change. Fails where the
+/// handle leads to a replica. The logged map stays as it is.
+#[unsafe(no_mangle)]
+pub extern "C" fn indexset_replica_from_log(
+    alloc: Global,
+    replica: &mut ReplicaHandle,
+    log: &mut LogHandle,
+) -> u32
+    ensures made { result ≡ YES → replica.new.slot.value ≡ option_map replica_of log.old.slot.value }
+    ensures refused { result ≢ YES → replica.new.slot.value ≡ replica.old.slot.value }
+    ensures none { result ≡ NONE ↔ (log.old.slot.value ≡ None) }
+    ensures held { log.old.slot.value ≢ None → (result ≡ HELD ↔ (is_some replica.old.slot.value ≡ true)) }
+    ensures same { log.new.slot.value ≡ log.old.slot.value }
+    ensures status { result ≢ YES → result ≢ NONE → result ≢ HELD → result ≡ MEMORY }
+{
+    let Some(held) = log.take(alloc) else {
+        return NONE;
+    };
+    if let Some(other) = replica.take(alloc) {
+        replica.put(other);
+        log.put(held);
+        return HELD;
+    }
+    let made = replica_of(alloc, &held);
+    log.put(held);
+    let Some(made) = made else {
+        return MEMORY;
+    };
+    match Box::new(alloc, made) {
+        Ok(made) => {
+            replica.put(made);
+            YES
+        }
+        Err(_) => MEMORY,
+    }
+}
+
+/// Frees a replica, and leaves its handle with none.
+#[unsafe(no_mangle)]
+pub extern "C" fn indexset_replica_free(alloc: Global, replica: &mut ReplicaHandle)
+    ensures { replica.new.slot.value ≡ None }
+{
+    drop(replica.take(alloc));
+}
+
+/// Returns how many pairs there are, in time linear in the number of nodes.
+#[unsafe(no_mangle)]
+pub extern "C" fn indexset_replica_len(alloc: Global, replica: &mut ReplicaHandle) -> usize
+    ensures value { result ≡ min (length (copied_pairs replica.old.slot.value)) usize.MAX }
+    ensures same { replica.new.slot.value ≡ replica.old.slot.value }
+{
+    let Some(held) = replica.take(alloc) else {
+        return 0;
+    };
+    let len = held.len();
+    replica.put(held);
+    len
+}
+
+/// Returns how many nodes there are.
+#[unsafe(no_mangle)]
+pub extern "C" fn indexset_replica_node_count(alloc: Global, replica: &mut ReplicaHandle) -> usize
+    ensures value { result ≡ length (copied_nodes replica.old.slot.value) }
+    ensures same { replica.new.slot.value ≡ replica.old.slot.value }
+{
+    let Some(held) = replica.take(alloc) else {
+        return 0;
+    };
+    let count = held.nodes().len();
+    replica.put(held);
+    count
+}
+
+/// Returns the number of the change that is awaited.
+#[unsafe(no_mangle)]
+pub extern "C" fn indexset_replica_next(alloc: Global, replica: &mut ReplicaHandle) -> u64
+    ensures value { result ≡ option_map_or (λ r. r.next) replica.old.slot.value 0 }
+    ensures same { replica.new.slot.value ≡ replica.old.slot.value }
+{
+    let Some(held) = replica.take(alloc) else {
+        return 0;
+    };
+    let next = held.next();
+    replica.put(held);
+    next
+}

@@ -1,0 +1,198 @@
+//! Calls that read a replica.
+ghost use Rattle.std.specs.Prelude.{◌≡◌, ◌<◌, ◌≤◌, ◌-◌, None, Some, false, true, length, min};
+ghost use Rattle.std.specs.Ordering.{nat_cmp};
+ghost use Rattle.std.specs.declared.ops.Bound.TheVariants.{Included};
+ghost use Rattle.indexset_core.specs.Nodes.{node_lengths, vec_items};
+ghost use Rattle.indexset_core.specs.Pairs.{has_key, pair_keys, pair_values, pairs_within, value_of};
+ghost use Rattle.indexset_c.specs.Elements.{entry_at, written};
+ghost use Rattle.indexset_c.specs.Replicas.{copied_nodes, copied_pairs};
+
+use crate::map_positions::write_pair;
+use crate::replica_handle::ReplicaHandle;
+use crate::replica_slot::ReplicaRange;
+use crate::set_positions::write;
+use indexset_core::pair::Pair;
+use std::alloc::Global;
+use std::ops::Bound;
+
+// Returns the pair of a key that is sought.
+fn sought(key: u64) -> Pair<u64, u64>
+    ensures { result ≡ record { key = key; value = 0 } }
+{
+    Pair { key, value: 0 }
+}
+
+/// Writes the value of a key, where there is one.
+#[unsafe(no_mangle)]
+pub extern "C" fn indexset_replica_get(
+    alloc: Global,
+    replica: &mut ReplicaHandle,
+    key: u64,
+    out: &mut u64,
+) -> bool
+    ensures found { result ≡ true → value_of nat_cmp (copied_pairs replica.old.slot.value) key ≡ Some out.new }
+    ensures absent { result ≡ false → value_of nat_cmp (copied_pairs replica.old.slot.value) key ≡ None }
+    ensures unwritten { result ≡ false → out.new ≡ out.old }
+    ensures same { replica.new.slot.value ≡ replica.old.slot.value }
+{
+    let Some(held) = replica.take(alloc) else {
+        return false;
+    };
+    let found = match held.get(&sought(key)) {
+        Some(pair) => Some(pair.value),
+        None => None,
+    };
+    replica.put(held);
+    write(found, out)
+}
+
+/// Returns whether a key is there.
+#[unsafe(no_mangle)]
+pub extern "C" fn indexset_replica_contains(
+    alloc: Global,
+    replica: &mut ReplicaHandle,
+    key: u64,
+) -> bool
+    ensures value { result ≡ has_key nat_cmp (copied_pairs replica.old.slot.value) key }
+    ensures same { replica.new.slot.value ≡ replica.old.slot.value }
+{
+    let Some(held) = replica.take(alloc) else {
+        return false;
+    };
+    let found = held.contains(&sought(key));
+    replica.put(held);
+    found
+}
+
+/// Writes the pair of the least key, where there is one.
+#[unsafe(no_mangle)]
+pub extern "C" fn indexset_replica_first(
+    alloc: Global,
+    replica: &mut ReplicaHandle,
+    key: &mut u64,
+    value: &mut u64,
+) -> bool
+    ensures found { result ≡ true → entry_at (copied_pairs replica.old.slot.value) 0 ≡ Some (key.new, value.new) }
+    ensures absent { result ≡ false → entry_at (copied_pairs replica.old.slot.value) 0 ≡ None }
+    ensures no_key { result ≡ false → key.new ≡ key.old }
+    ensures no_value { result ≡ false → value.new ≡ value.old }
+    ensures same { replica.new.slot.value ≡ replica.old.slot.value }
+{
+    let Some(held) = replica.take(alloc) else {
+        return false;
+    };
+    let found = match held.first() {
+        Some(pair) => Some((pair.key, pair.value)),
+        None => None,
+    };
+    replica.put(held);
+    write_pair(found, key, value)
+}
+
+/// Writes the pair of the greatest key, where there is one.
+#[unsafe(no_mangle)]
+pub extern "C" fn indexset_replica_last(
+    alloc: Global,
+    replica: &mut ReplicaHandle,
+    key: &mut u64,
+    value: &mut u64,
+) -> bool
+    ensures found { result ≡ true → entry_at (copied_pairs replica.old.slot.value) (length (copied_pairs replica.old.slot.value) - 1) ≡ Some (key.new, value.new) }
+    ensures absent { result ≡ false → entry_at (copied_pairs replica.old.slot.value) (length (copied_pairs replica.old.slot.value) - 1) ≡ None }
+    ensures no_key { result ≡ false → key.new ≡ key.old }
+    ensures no_value { result ≡ false → value.new ≡ value.old }
+    ensures same { replica.new.slot.value ≡ replica.old.slot.value }
+{
+    let Some(held) = replica.take(alloc) else {
+        return false;
+    };
+    let found = match held.last() {
+        Some(pair) => Some((pair.key, pair.value)),
+        None => None,
+    };
+    replica.put(held);
+    write_pair(found, key, value)
+}
+
+// Writes how long each node is, as far as there is room, and returns how many those are.
+fn write_lengths(nodes: &[Vec<Pair<u64, u64>>], out: &mut [usize]) -> usize
+    ensures count { result ≡ min (length nodes.now) (length out.old) }
+    ensures written { out.new ≡ written result (node_lengths (vec_items nodes.now)) out.old }
+{
+    let count = nodes.len().min(out.len());
+    for i in 0..count {
+        out[i] = nodes[i].len();
+    }
+    count
+}
+
+/// Writes how many pairs each node has, in order and as far as there is room. Returns how many it wrote.
+#[unsafe(no_mangle)]
+pub extern "C" fn indexset_replica_node_lengths(
+    alloc: Global,
+    replica: &mut ReplicaHandle,
+    out: &mut [usize],
+) -> usize
+    ensures count { result ≡ min (length (copied_nodes replica.old.slot.value)) (length out.old) }
+    ensures written { out.new ≡ written result (node_lengths (copied_nodes replica.old.slot.value)) out.old }
+    ensures same { replica.new.slot.value ≡ replica.old.slot.value }
+{
+    let Some(held) = replica.take(alloc) else {
+        return 0;
+    };
+    let count = write_lengths(held.nodes(), out);
+    replica.put(held);
+    count
+}
+
+// Writes what a walk gives, as far as there is room in both slices, and returns how much that is.
+fn write_copied(mut walk: ReplicaRange<'_>, keys: &mut [u64], values: &mut [u64]) -> usize
+    ensures count { result ≡ min (length walk.entry) (min (length keys.old) (length values.old)) }
+    ensures keys { keys.new ≡ written result (pair_keys walk.entry) keys.old }
+    ensures values { values.new ≡ written result (pair_values walk.entry) values.old }
+{
+    let room = keys.len().min(values.len());
+    let mut count = 0;
+    while count < room {
+        let Some(pair) = walk.next() else {
+            break;
+        };
+        keys[count] = pair.key;
+        values[count] = pair.value;
+        count += 1;
+    }
+    count
+}
+
+/// Writes the pairs of the keys from `low` to `high`, both included, in order and as far as there is
+/// room. Returns how many it wrote.
+#[unsafe(no_mangle)]
+pub extern "C" fn indexset_replica_range(
+    alloc: Global,
+    replica: &mut ReplicaHandle,
+    low: u64,
+    high: u64,
+    keys: &mut [u64],
+    values: &mut [u64],
+) -> usize
+    ensures count { low ≤ high → result ≡ min (length (pairs_within nat_cmp (copied_pairs replica.old.slot.value) (Included low) (Included high))) (min (length keys.old) (length values.old)) }
+    ensures keys { low ≤ high → keys.new ≡ written result (pair_keys (pairs_within nat_cmp (copied_pairs replica.old.slot.value) (Included low) (Included high))) keys.old }
+    ensures values { low ≤ high → values.new ≡ written result (pair_values (pairs_within nat_cmp (copied_pairs replica.old.slot.value) (Included low) (Included high))) values.old }
+    ensures none { high < low → result ≡ 0 }
+    ensures no_keys { high < low → keys.new ≡ keys.old }
+    ensures no_values { high < low → values.new ≡ values.old }
+    ensures same { replica.new.slot.value ≡ replica.old.slot.value }
+{
+    if high < low {
+        return 0;
+    }
+    let Some(held) = replica.take(alloc) else {
+        return 0;
+    };
+    let first = sought(low);
+    let last = sought(high);
+    let walk = held.range((Bound::Included(&first), Bound::Included(&last)));
+    let count = write_copied(walk, keys, values);
+    replica.put(held);
+    count
+}
