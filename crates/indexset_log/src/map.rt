@@ -174,6 +174,12 @@ impl<K: Ord + Clone + Drop, V: Clone + Drop, Node: NodeLike<Pair<K, V>>> BTreeMa
     }
 
     /// Returns the pair of a key, or `None` where there is none.
+    ///
+    /// ```
+    /// let mut tree: map::BTreeMap<u64, u64, Vec<Pair<u64, u64>>> = map::BTreeMap::new(alloc);
+    /// tree.insert(1, 10).map_err(|refused| refused.cause)?;
+    /// assert!(rt; tree.get(&1).is_some_and(|pair| pair.value == 10));
+    /// ```
     pub fn get(&self, key: &K) -> Option<&Pair<K, V>>
         ensures { option_copied result ≡ pair_of K.cmp (joined self.now.nodes) key.now }
     {

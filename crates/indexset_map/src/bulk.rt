@@ -11,6 +11,12 @@ use indexset_core::refusal::Refusal;
 impl<K: Ord + Drop, V: Drop> BTreeMap<K, V> {
     /// Removes the pairs whose keys are not below the key, and returns them as a map of the same
     /// node size. Fails with `Memory`: a failed call changes nothing.
+    ///
+    /// ```
+    /// let mut low = BTreeMap::from_iter(alloc, [(1, 'a'), (2, 'b'), (3, 'c')])?;
+    /// let high = low.split_off(&2)?;
+    /// assert!(rt; low.len() == 1 && high.len() == 2);
+    /// ```
     pub fn split_off(&mut self, key: &K) -> Result<Self, Refusal>
         ensures below { OnOk result (self.new.pairs ≡ pairs_below K.cmp self.old.pairs key.now) }
         ensures rest { IfOk result (λ m. m.pairs ≡ pairs_from K.cmp self.old.pairs key.now) }
@@ -31,6 +37,13 @@ impl<K: Ord + Drop, V: Drop> BTreeMap<K, V> {
     /// Moves all pairs of the other map into this one, first to last, replacing pairs of equal
     /// keys. Fails with `Memory`: a failed call has moved a prefix, and the other map keeps the
     /// rest.
+    ///
+    /// ```
+    /// let mut map = BTreeMap::from_iter(alloc, [(1, 'a'), (2, 'b')])?;
+    /// let mut other = BTreeMap::from_iter(alloc, [(2, 'c')])?;
+    /// map.append(&mut other)?;
+    /// assert!(rt; map.get(&2) == Some(&'c') && other.is_empty());
+    /// ```
     pub fn append(&mut self, other: &mut Self) -> Result<(), Refusal>
         ensures ok { OnOk result (self.new.pairs ≡ put_all (by_key K.cmp) self.old.pairs other.old.pairs) }
         ensures emptied { OnOk result (other.new.pairs ≡ []) }

@@ -16,10 +16,9 @@ use std::ops::Bound;
 /// A position of a map from 0 to the length, which is the end place, where there is no pair.
 ///
 /// ```
-/// // The keys of a map with keys 1 and 3, next to 2.
+/// let map = BTreeMap::from_iter(alloc, [(1, 'a'), (3, 'b')])?;
 /// let cursor = map.lower_bound(Bound::Included(&2));
-/// assert_eq!(rt; cursor.key(), Some(&3));
-/// assert_eq!(rt; cursor.peek_prev().map(|pair| pair.0), Some(&1));
+/// assert!(rt; cursor.key() == Some(&3) && cursor.peek_prev() == Some((&1, &'a')));
 /// ```
 ///
 /// A cursor goes round: one on from the end place is the first position, and one back from there is
@@ -42,6 +41,12 @@ impl<'a, K: Ord, V> Model for CursorMap<'a, K, V> {
 impl<K: Ord, V> BTreeMap<K, V> {
     /// Returns a cursor at the first pair whose key is within the bound, or at the end place where
     /// there is none.
+    ///
+    /// ```
+    /// let map = BTreeMap::from_iter(alloc, [(10, 'a'), (20, 'b')])?;
+    /// let cursor = map.lower_bound(Bound::Included(&15));
+    /// assert_eq!(rt; cursor.key_value(), Some((&20, &'b')));
+    /// ```
     pub fn lower_bound(&self, bound: Bound<&K>) -> CursorMap<'_, K, V>
         ensures pairs { result.list ≡ self.now.pairs }
         ensures position { result.position ≡ position_or_len (λ p. is_from_start K.cmp (bound_map (λ k. k.now) bound.entry) p.key) self.now.pairs }
@@ -58,8 +63,9 @@ impl<K: Ord, V> BTreeMap<K, V> {
     /// the end place where there is none: above an included key, and at or above an excluded one.
     ///
     /// ```
-    /// // Of a map with the keys 1 and 3.
-    /// assert_eq!(rt; map.upper_bound(Bound::Included(&1)).key(), Some(&3));
+    /// let map = BTreeMap::from_iter(alloc, [(10, 'a'), (20, 'b')])?;
+    /// let cursor = map.upper_bound(Bound::Included(&10));
+    /// assert_eq!(rt; cursor.key_value(), Some((&20, &'b')));
     /// ```
     pub fn upper_bound(&self, bound: Bound<&K>) -> CursorMap<'_, K, V>
         ensures pairs { result.list ≡ self.now.pairs }

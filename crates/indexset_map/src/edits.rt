@@ -15,6 +15,13 @@ impl<K: Ord + Drop, V: Drop> BTreeMap<K, V> {
     /// Inserts a pair and returns `None`. If the key is present, keeps the stored key, replaces its
     /// value, allocates nothing and returns the old value. Fails with `Memory`: a failed call hands
     /// back both and changes nothing.
+    ///
+    /// ```
+    /// let mut prices = BTreeMap::new(alloc)?;
+    /// let first = prices.insert("pear", 120)?;
+    /// let again = prices.insert("pear", 130)?;
+    /// assert!(rt; first.is_none() && again == Some(120));
+    /// ```
     pub fn insert(&mut self, key: K, value: V) -> Result<Option<V>, Refused<(K, V)>>
         ensures old { IfOk result (λ o. o ≡ value_of K.cmp self.old.pairs key) }
         ensures ok { OnOk result (self.new ≡ with_entry K.cmp self.old key value) }
@@ -50,6 +57,11 @@ impl<K: Ord + Drop, V: Drop> BTreeMap<K, V> {
 
     /// Removes the pair of a key and returns its value, or returns `None`, by two binary searches.
     /// It allocates nothing.
+    ///
+    /// ```
+    /// let mut prices = BTreeMap::from_iter(alloc, [("pear", 120)])?;
+    /// assert!(rt; prices.remove(&"pear") == Some(120) && prices.remove(&"pear").is_none());
+    /// ```
     pub fn remove(&mut self, key: &K) -> Option<V>
         ensures value { result ≡ value_of K.cmp self.old.pairs key.now }
         ensures rest { self.new ≡ without_entry K.cmp self.old key.now }
@@ -63,6 +75,11 @@ impl<K: Ord + Drop, V: Drop> BTreeMap<K, V> {
 
     /// Removes the pair of the least key and returns it, or returns `None` where the map is empty.
     /// It allocates nothing.
+    ///
+    /// ```
+    /// let mut prices = BTreeMap::from_iter(alloc, [("pear", 120), ("fig", 45)])?;
+    /// assert_eq!(rt; prices.pop_first(), Some(("fig", 45)));
+    /// ```
     pub fn pop_first(&mut self) -> Option<(K, V)>
         ensures value { result ≡ option_map entry_of (slice_get self.old.pairs 0) }
         ensures rest { self.new.pairs ≡ drop 1 self.old.pairs }
@@ -104,6 +121,12 @@ impl<K: Ord + Drop, V: Drop> BTreeMap<K, V> {
 
     /// Calls the closure once for each pair, in order, and keeps the pairs for which it returned
     /// true, with the values that it left. It allocates nothing.
+    ///
+    /// ```
+    /// let mut prices = BTreeMap::from_iter(alloc, [("pear", 120), ("fig", 45)])?;
+    /// prices.retain(|_, price| *price < 100);
+    /// assert!(rt; prices.len() == 1 && prices.contains_key(&"fig"));
+    /// ```
     pub fn retain<F: FnMut(&K, &mut V) -> bool>(&mut self, f: F)
         requires { F.IsAlwaysCallable f }
         ensures kept { RetainsInTurn (CalledOnPair F.FnMut) f self.old.pairs self.new.pairs }

@@ -21,9 +21,10 @@ impl<K: Ord, V> BTreeMap<K, V> {
     /// end, nor at it where both are excluded, which `bounds_are_ordered` of the core tests.
     ///
     /// ```
-    /// // The pairs of the keys from 10 on that are below 20, and all from 20 on.
+    /// let map = BTreeMap::from_iter(alloc, [(5, 'a'), (10, 'b'), (15, 'c'), (20, 'd')])?;
     /// let teens = map.range(10..20);
-    /// let rest = map.range((Bound::Included(&20), Bound::Unbounded));
+    /// let above = map.range((Bound::Excluded(&15), Bound::Unbounded));
+    /// assert!(rt; teens.eq([(&10, &'b'), (&15, &'c')]) && above.eq([(&20, &'d')]));
     /// ```
     pub fn range<R: Bounds<K> + Drop>(&self, range: R) -> RangeMap<'_, K, V>
         requires { IsTrue (are_ordered K.cmp (R.start range) (R.end range)) }
@@ -40,8 +41,9 @@ impl<K: Ord, V> BTreeMap<K, V> {
     /// the bounds are the wrong way round, and positions past the end have none.
     ///
     /// ```
-    /// // The third page of a hundred pairs each.
-    /// let page = map.range_idx((Bound::Included(200), Bound::Excluded(300)));
+    /// let map = BTreeMap::from_iter(alloc, [(5, 'a'), (10, 'b'), (15, 'c')])?;
+    /// let page = map.range_idx((Bound::Included(1), Bound::Unbounded));
+    /// assert!(rt; page.eq([(&10, &'b'), (&15, &'c')]));
     /// ```
     pub fn range_idx(&self, range: (Bound<usize>, Bound<usize>)) -> RangeMap<'_, K, V>
         ensures rest { result ≡ in_positions self.now.pairs range.0 range.1 }

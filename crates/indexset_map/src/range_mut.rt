@@ -21,12 +21,12 @@ impl<K: Ord, V> BTreeMap<K, V> {
     /// `bounds_are_ordered` of the core tests.
     ///
     /// ```
-    /// // Adds a hundred to the balances of the names from B on that are below Cheryl.
-    /// let mut walk = map.range_mut((Bound::Included(&"B"), Bound::Excluded(&"Cheryl")));
-    /// while walk.has_next() {
-    ///     let (_, balance) = walk.next_pair();
-    ///     *balance = balance.saturating_add(100);
+    /// let mut map = BTreeMap::from_iter(alloc, [(5, 1), (10, 1), (15, 1)])?;
+    /// let mut upper = map.range_mut(10..);
+    /// while let Some((_, value)) = upper.next() {
+    ///     *value += 1;
     /// }
+    /// assert!(rt; map.values().copied().eq([1, 2, 2]));
     /// ```
     pub fn range_mut<R: Bounds<K> + Drop>(&mut self, range: R) -> RangeMut<'_, K, V>
         requires { IsTrue (are_ordered K.cmp (R.start range) (R.end range)) }

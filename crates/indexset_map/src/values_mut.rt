@@ -8,10 +8,13 @@ use super::BTreeMap;
 /// The remaining values of a map, by mutable references, from both ends.
 ///
 /// ```
+/// let mut map = BTreeMap::from_iter(alloc, [(1, 1u8), (2, 2)])?;
 /// let mut values = map.values_mut();
-/// while let Some(value) = values.next() {
+/// while values.has_next() {
+///     let value = values.next_value();
 ///     *value = value.saturating_add(10);
 /// }
+/// assert!(rt; map.values().copied().eq([11, 12]));
 /// ```
 #[derive(Drop)]
 pub struct ValuesMut<'a, K: Ord, V> {
@@ -26,6 +29,15 @@ impl<K: Ord, V> BTreeMap<K, V> {
     ghost use Rattle.indexset_map.specs.ValuesWalk.{values_walk};
 
     /// Returns an iterator over mutable references to the values, in the order of their keys.
+    ///
+    /// ```
+    /// let mut map = BTreeMap::from_iter(alloc, [(1, 10), (2, 20)])?;
+    /// let mut values = map.values_mut();
+    /// while let Some(value) = values.next() {
+    ///     *value += 1;
+    /// }
+    /// assert!(rt; map.values().copied().eq([11, 21]));
+    /// ```
     pub fn values_mut(&mut self) -> ValuesMut<'_, K, V>
         ensures same_map { (walk_map (values_walk result)).ghost_name ≡ self.entry.ghost_name }
         ensures unchanged { (walk_map (values_walk result)).now ≡ self.old }

@@ -22,6 +22,15 @@ impl<T: Ord + Clone + Drop> Replica<T> {
     /// what a beginning leads to whatever the places are, and what all events lead to where the places are
     /// all of them in order, or where it awaits the event after the last. What it holds are the items
     /// themselves where clones are identical to their sources, and else copies of them.
+    ///
+    /// ```
+    /// // The first event comes twice, and the second before it: that one is passed over.
+    /// let first = ChangeEvent::CreateNode { event_id: Id::from(0), max_value: 5 };
+    /// let second = ChangeEvent::InsertAt { event_id: Id::from(1), max_value: 5, value: 7, index: 1 };
+    /// let mut copy = Replica::new(alloc, 0);
+    /// copy.follow([first, second].as_slice(), [1, 0, 0].as_slice())?;
+    /// assert!(rt; copy.len() == 1 && copy.next() == 1);
+    /// ```
     pub fn follow(&mut self, events: &[ChangeEvent<T>], order: &[usize]) -> Result<(), Refusal>
         requires inside { All (λ p. p < length events.now) order.now }
         ensures cloned { OnOk result (IsFollowed T.cmp T.is_clone events.now self.old order.now self.new) }

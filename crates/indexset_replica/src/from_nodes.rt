@@ -13,6 +13,13 @@ impl<T: Ord + Clone + Drop> Replica<T> {
     /// allocates nothing, and compares neighbouring items once. It fails at the first node that is
     /// `Empty`, `Unsorted`, or `Overlaps` the one before, by the first of these that holds, and for no
     /// other reason. A call that fails returns the nodes.
+    ///
+    /// ```
+    /// // A snapshot: the nodes of a tree, and the number of its next event.
+    /// let nodes = vec![in alloc; vec![in alloc; 1, 2]?, vec![in alloc; 5]?]?;
+    /// let copy = Replica::from_nodes(nodes, 3).map_err(|refused| refused.cause)?;
+    /// assert!(rt; copy.len() == 3 && copy.last() == Some(&5) && copy.next() == 3);
+    /// ```
     pub fn from_nodes(nodes: Vec<Vec<T>>, next: u64) -> Result<Self, Refused<Vec<Vec<T>>>>
         ensures replica { IfOk result (λ r. r ≡ record { nodes = vec_items nodes.items; next = next }) }
         ensures good { OnOk result (nodes_refusal T.cmp usize.MAX (vec_items nodes.items) ≡ None) }

@@ -119,6 +119,13 @@ impl<T: Ord + Clone + Drop> Replica<T> {
     /// fit the nodes (`NoSuchNode`, `IndexOutside`, `ValueDiffers`, `WouldBeEmpty`, `OutOfOrder`, `BadSplit`
     /// or `NotNeighbours`); `Memory`, also where the clone does not equal its source. A call that fails
     /// changes nothing.
+    ///
+    /// ```
+    /// let mut copy: Replica<u64> = Replica::new(alloc, 0);
+    /// copy.apply(&ChangeEvent::CreateNode { event_id: Id::from(0), max_value: 5 })?;
+    /// let again = copy.apply(&ChangeEvent::CreateNode { event_id: Id::from(0), max_value: 5 });
+    /// assert!(rt; copy.contains(&5) && again.is_err() && copy.next() == 1);
+    /// ```
     pub fn apply(&mut self, event: &ChangeEvent<T>) -> Result<(), Refusal>
         ensures cloned { OnOk result (IsClonedStep T.cmp T.is_clone self.old.nodes (unassigned event.now) self.new.nodes) }
         ensures step { ((x y : T) → T.is_clone x y → y ≡ x) → OnOk result (step T.cmp self.old.nodes event.now ≡ Some self.new.nodes) }

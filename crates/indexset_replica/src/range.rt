@@ -23,7 +23,10 @@ impl<T: Ord + Clone + Drop> Replica<T> {
     ///
     /// ```
     /// // The items from 10 on that are below 20.
-    /// let teens = replica.range((Bound::Included(&10), Bound::Excluded(&20)));
+    /// let nodes = vec![in alloc; vec![in alloc; 5, 10]?, vec![in alloc; 15, 20]?]?;
+    /// let copy = Replica::from_nodes(nodes, 4).map_err(|refused| refused.cause)?;
+    /// let teens = copy.range((Bound::Included(&10), Bound::Excluded(&20)));
+    /// assert!(rt; teens.copied().eq([10, 15]));
     /// ```
     pub fn range(&self, range: (Bound<&T>, Bound<&T>)) -> Iter<'_, T>
         requires { IsTrue (are_ordered T.cmp (bound_map (λ v. v.now) range.0) (bound_map (λ v. v.now) range.1)) }

@@ -22,6 +22,11 @@ pub use union_walk::Union;
 
 impl<T: Ord> BTreeSet<T> {
     /// Returns the elements of either set, ascending. Of two equal ones it gives this set's.
+    ///
+    /// ```
+    /// let (one, other) = (BTreeSet::from_iter(alloc, [1, 2])?, BTreeSet::from_iter(alloc, [2, 3])?);
+    /// assert!(rt; one.union(&other).copied().eq([1, 2, 3]));
+    /// ```
     pub fn union<'a>(&'a self, other: &'a BTreeSet<T>) -> Union<'a, T>
         ensures rest { result ≡ union T.cmp (items self.now) (items other.now) }
         ensures few { length result ≤ length (items self.now) + length (items other.now) }
@@ -33,6 +38,11 @@ impl<T: Ord> BTreeSet<T> {
     }
 
     /// Returns the elements of this set that have an equal one in the other, ascending.
+    ///
+    /// ```
+    /// let (one, other) = (BTreeSet::from_iter(alloc, [1, 2])?, BTreeSet::from_iter(alloc, [2, 3])?);
+    /// assert!(rt; one.intersection(&other).copied().eq([2]));
+    /// ```
     pub fn intersection<'a>(&'a self, other: &'a BTreeSet<T>) -> Intersection<'a, T>
         ensures rest { result ≡ intersection T.cmp (items self.now) (items other.now) }
         ensures few { length result ≤ length (items self.now) }
@@ -44,6 +54,11 @@ impl<T: Ord> BTreeSet<T> {
     }
 
     /// Returns the elements of this set that have no equal one in the other, ascending.
+    ///
+    /// ```
+    /// let (one, other) = (BTreeSet::from_iter(alloc, [1, 2])?, BTreeSet::from_iter(alloc, [2, 3])?);
+    /// assert!(rt; one.difference(&other).copied().eq([1]));
+    /// ```
     pub fn difference<'a>(&'a self, other: &'a BTreeSet<T>) -> Difference<'a, T>
         ensures rest { result ≡ difference T.cmp (items self.now) (items other.now) }
         ensures few { length result ≤ length (items self.now) }

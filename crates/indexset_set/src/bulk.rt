@@ -18,6 +18,12 @@ use indexset_core::refusal::Refusal;
 impl<T: Ord + Drop> BTreeSet<T> {
     /// Calls the closure once for each element, in order, and keeps the elements for which it
     /// returned true. It allocates nothing.
+    ///
+    /// ```
+    /// let mut set = BTreeSet::from_iter(alloc, 1..=6)?;
+    /// set.retain(|element| element % 2 == 0);
+    /// assert!(rt; set.iter().copied().eq([2, 4, 6]));
+    /// ```
     pub fn retain<F: FnMut(&T) -> bool>(&mut self, mut f: F)
         requires { F.IsAlwaysCallable f }
         ensures kept { IsFiltered (CalledAt F.FnMut) f (items self.old) (items self.new) }
@@ -35,6 +41,12 @@ impl<T: Ord + Drop> BTreeSet<T> {
 
     /// Removes the elements not below the value, and returns them as a set of the same node size.
     /// Fails with `Memory`: a failed call changes nothing.
+    ///
+    /// ```
+    /// let mut low = BTreeSet::from_iter(alloc, [1, 2, 3, 4])?;
+    /// let high = low.split_off(&3)?;
+    /// assert!(rt; low.last() == Some(&2) && high.first() == Some(&3));
+    /// ```
     pub fn split_off(&mut self, value: &T) -> Result<Self, Refusal>
         ensures below { OnOk result (items self.new ≡ below T.cmp (items self.old) value.now) }
         ensures rest { IfOk result (λ s. items s ≡ not_below T.cmp (items self.old) value.now) }
@@ -52,6 +64,12 @@ impl<T: Ord + Drop> BTreeSet<T> {
 
     /// Removes the elements from a position on, and returns them as a set of the same node size.
     /// Fails with `Memory`: a failed call changes nothing.
+    ///
+    /// ```
+    /// let mut front = BTreeSet::from_iter(alloc, [1, 2, 3, 4])?;
+    /// let back = front.split_off_index(1)?;
+    /// assert!(rt; front.len() == 1 && back.len() == 3);
+    /// ```
     pub fn split_off_index(&mut self, i: usize) -> Result<Self, Refusal>
         requires { i ≤ length (items self.old) }
         ensures first { OnOk result (items self.new ≡ take i (items self.old)) }
@@ -69,6 +87,13 @@ impl<T: Ord + Drop> BTreeSet<T> {
     /// Moves all elements of the other set into this one, first to last, replacing equal ones.
     /// Elements above all here move by blocks without a comparison. Fails with `Memory`: a failed
     /// call has moved a prefix, and the other set keeps the rest.
+    ///
+    /// ```
+    /// let mut set = BTreeSet::from_iter(alloc, [1, 2])?;
+    /// let mut other = BTreeSet::from_iter(alloc, [2, 3])?;
+    /// set.append(&mut other)?;
+    /// assert!(rt; set.iter().copied().eq([1, 2, 3]) && other.is_empty());
+    /// ```
     pub fn append(&mut self, other: &mut Self) -> Result<(), Refusal>
         ensures ok { OnOk result (items self.new ≡ put_all T.cmp (items self.old) (items other.old)) }
         ensures nodes { OnOk result (self.new.nodes ≡ nodes_put_all T.cmp self.old (items other.old)) }

@@ -10,9 +10,10 @@ use std::marker::Model;
 /// A position of a set from 0 to the length, which is the end place, where there is no element.
 ///
 /// ```
-/// // The neighbours of the element at position 4.
-/// let cursor = set.cursor_at(4);
-/// let (before, after) = (cursor.peek_prev(), cursor.peek_next());
+/// // The neighbours of the element at position 1.
+/// let set = BTreeSet::from_iter(alloc, [10, 20, 30])?;
+/// let cursor = set.cursor_at(1);
+/// assert!(rt; cursor.peek_prev() == Some(&10) && cursor.peek_next() == Some(&30));
 /// ```
 ///
 /// A cursor goes round: one on from the end place is the first position, and one back from there is

@@ -13,6 +13,13 @@ impl<T: Ord + Drop> BTreeSet<T> {
     /// allocates nothing and returns false. It costs two binary searches at most, one comparison
     /// where the value is above all elements, and moves items of one node. Fails with `Memory`: a
     /// failed call hands the value back and changes nothing.
+    ///
+    /// ```
+    /// let mut set = BTreeSet::new(alloc)?;
+    /// let first = set.insert(7)?;
+    /// let again = set.insert(7)?;
+    /// assert!(rt; first && !again && set.len() == 1);
+    /// ```
     pub fn insert(&mut self, value: T) -> Result<bool, Refused<T>>
         ensures added { IfOk result (λ b. b ≡ not (has_equal T.cmp (items self.old) value)) }
         ensures ok { OnOk result (items self.new ≡ keep T.cmp (items self.old) value) }
@@ -35,6 +42,12 @@ impl<T: Ord + Drop> BTreeSet<T> {
     /// Replaces the element equal to `value` and returns the old one, and allocates nothing then.
     /// If there is none, inserts `value` and returns `None`. Costs as `insert`. Fails with
     /// `Memory`: a failed call hands the value back and changes nothing.
+    ///
+    /// ```
+    /// let mut set = BTreeSet::from_iter(alloc, [7])?;
+    /// let old = set.replace(7)?;
+    /// assert_eq!(rt; old, Some(7));
+    /// ```
     pub fn replace(&mut self, value: T) -> Result<Option<T>, Refused<T>>
         ensures old { IfOk result (λ o. o ≡ equal_element T.cmp (items self.old) value) }
         ensures ok { OnOk result (items self.new ≡ put T.cmp (items self.old) value) }
@@ -55,6 +68,11 @@ impl<T: Ord + Drop> BTreeSet<T> {
 
     /// Removes the element equal to the value and returns it, or returns `None`, by two binary
     /// searches. It allocates nothing.
+    ///
+    /// ```
+    /// let mut set = BTreeSet::from_iter(alloc, [7, 8])?;
+    /// assert!(rt; set.take(&7) == Some(7) && set.take(&7).is_none());
+    /// ```
     pub fn take(&mut self, value: &T) -> Option<T>
         ensures value { result ≡ equal_element T.cmp (items self.old) value.now }
         ensures rest { items self.new ≡ without T.cmp (items self.old) value.now }
@@ -72,6 +90,11 @@ impl<T: Ord + Drop> BTreeSet<T> {
 
     /// Removes the element equal to the value, and returns whether there was one. It allocates
     /// nothing.
+    ///
+    /// ```
+    /// let mut set = BTreeSet::from_iter(alloc, [7, 8])?;
+    /// assert!(rt; set.remove(&7) && !set.remove(&7));
+    /// ```
     pub fn remove(&mut self, value: &T) -> bool
         ensures removed { result ≡ has_equal T.cmp (items self.old) value.now }
         ensures rest { items self.new ≡ without T.cmp (items self.old) value.now }

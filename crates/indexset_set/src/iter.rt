@@ -89,6 +89,11 @@ impl<'a, T> FusedIterator for Iter<'a, T> {}
 
 impl<T: Ord> BTreeSet<T> {
     /// Returns the elements, in order.
+    ///
+    /// ```
+    /// let set = BTreeSet::from_iter(alloc, [30, 10, 20])?;
+    /// assert!(rt; set.iter().rev().copied().eq([30, 20, 10]));
+    /// ```
     pub fn iter(&self) -> Iter<'_, T>
         ensures rest { result ≡ items self.now }
         ensures ascending { IsAscending T.cmp result }

@@ -61,6 +61,11 @@ pub(super) fn locate_near<T: Ord>(spine: &Spine<T>, near: usize, value: &T) -> S
 
 impl<T: Ord> BTreeSet<T> {
     /// Returns the element equal to the value, or `None`, by two binary searches.
+    ///
+    /// ```
+    /// let set = BTreeSet::from_iter(alloc, [10, 20])?;
+    /// assert!(rt; set.get(&20) == Some(&20) && set.get(&15).is_none());
+    /// ```
     pub fn get(&self, value: &T) -> Option<&T>
         ensures { option_copied result ≡ equal_element T.cmp (items self.now) value.now }
     {
@@ -73,6 +78,11 @@ impl<T: Ord> BTreeSet<T> {
     }
 
     /// Returns whether an element equal to the value is present, by two binary searches.
+    ///
+    /// ```
+    /// let set = BTreeSet::from_iter(alloc, [10, 20])?;
+    /// assert!(rt; set.contains(&20) && !set.contains(&15));
+    /// ```
     pub fn contains(&self, value: &T) -> bool
         ensures { result ≡ has_equal T.cmp (items self.now) value.now }
     {
@@ -81,6 +91,11 @@ impl<T: Ord> BTreeSet<T> {
 
     /// Returns how many elements are below the value, by two binary searches and a sum over the
     /// index.
+    ///
+    /// ```
+    /// let board = BTreeSet::from_iter(alloc, [10, 20, 30])?;
+    /// assert!(rt; board.rank(&30) == 2 && board.rank(&25) == 2);
+    /// ```
     pub fn rank(&self, value: &T) -> usize
         ensures value { result ≡ rank T.cmp (items self.now) value.now }
         ensures there { has_equal T.cmp (items self.now) value.now ≡ true → slice_get (items self.now) result ≡ equal_element T.cmp (items self.now) value.now }
@@ -94,9 +109,8 @@ impl<T: Ord> BTreeSet<T> {
     /// and a sum over the index. (Not in the Rust crate.)
     ///
     /// ```
-    /// // Of a set of 10, 20 and 30.
-    /// assert_eq!(rt; set.index_of(&20), Some(1));
-    /// assert_eq!(rt; set.index_of(&25), None);
+    /// let set = BTreeSet::from_iter(alloc, [10, 20, 30])?;
+    /// assert!(rt; set.index_of(&20) == Some(1) && set.index_of(&25).is_none());
     /// ```
     pub fn index_of(&self, value: &T) -> Option<usize>
         ensures value { result ≡ index_of T.cmp (items self.now) value.now }
@@ -112,6 +126,11 @@ impl<T: Ord> BTreeSet<T> {
     }
 
     /// Returns the first element that is not below the value, or `None` where there is none.
+    ///
+    /// ```
+    /// let set = BTreeSet::from_iter(alloc, [10, 20, 30])?;
+    /// assert!(rt; set.lower_bound(&15) == Some(&20) && set.lower_bound(&31).is_none());
+    /// ```
     pub fn lower_bound(&self, value: &T) -> Option<&T>
         ensures { option_copied result ≡ lower_element T.cmp (items self.now) value.now }
     {
@@ -122,8 +141,8 @@ impl<T: Ord> BTreeSet<T> {
     /// binary searches. (Not in the Rust crate.)
     ///
     /// ```
-    /// // Of a set of 10, 20 and 30.
-    /// assert_eq!(rt; set.upper_bound(&20), Some(&30));
+    /// let set = BTreeSet::from_iter(alloc, [10, 20, 30])?;
+    /// assert!(rt; set.upper_bound(&20) == Some(&30) && set.upper_bound(&30).is_none());
     /// ```
     pub fn upper_bound(&self, value: &T) -> Option<&T>
         ensures { option_copied result ≡ upper_element T.cmp (items self.now) value.now }

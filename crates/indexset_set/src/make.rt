@@ -47,6 +47,11 @@ impl<T: Ord + Drop> BTreeSet<T> {
 
     /// Returns the set of the values of an iterator, of the default node size. Of equal ones the
     /// first is kept. Fails with `Memory`: a failed call drops all values.
+    ///
+    /// ```
+    /// let set = BTreeSet::from_iter(alloc, [30, 10, 20, 10])?;
+    /// assert!(rt; set.iter().copied().eq([10, 20, 30]));
+    /// ```
     pub fn from_iter<I: IntoIterator<Item = T>>(alloc: Global, iter: I) -> Result<Self, Refusal>
         requires { IsFiniteIterable I.into_iter_gives I.IntoIter.can_next I.IntoIter.remaining iter }
         ensures kept { IfOk result (λ s. (it : I.IntoIter) × I.into_iter_gives iter it
@@ -85,6 +90,11 @@ impl<T: Ord + Drop> BTreeSet<T> {
     }
 
     /// Returns the set of the values, as `from_iter` makes it.
+    ///
+    /// ```
+    /// let set = BTreeSet::from(alloc, vec![in alloc; 30, 10, 20]?)?;
+    /// assert_eq!(rt; set.first(), Some(&10));
+    /// ```
     pub fn from(alloc: Global, values: Vec<T>) -> Result<Self, Refusal>
         ensures kept { IfOk result (λ s. items s ≡ fold (keep T.cmp) [] values.items) }
         ensures nodes { IfOk result (λ s. s.nodes ≡ nodes_kept_all T.cmp (cut ([] ∷ []) DEFAULT_INNER_SIZE) values.items) }
@@ -98,6 +108,12 @@ impl<T: Ord + Drop> BTreeSet<T> {
     /// comparisons a value and no search. Where they do not ascend, fails with `Unsorted` and hands
     /// them back. Fails with `Memory`, and then drops the values and hands back none. (Not in the
     /// Rust crate.)
+    ///
+    /// ```
+    /// let set = BTreeSet::from_sorted(alloc, vec![in alloc; 10, 20, 30]?).map_err(|refused| refused.cause)?;
+    /// let unsorted = BTreeSet::from_sorted(alloc, vec![in alloc; 10, 10]?);
+    /// assert!(rt; set.len() == 3 && unsorted.is_err());
+    /// ```
     pub fn from_sorted(alloc: Global, values: Vec<T>) -> Result<Self, Refused<Vec<T>>>
         ensures elements { IfOk result (λ s. items s ≡ values.items) }
         ensures nodes { IfOk result (λ s. s.nodes ≡ nodes_kept_all T.cmp (cut ([] ∷ []) DEFAULT_INNER_SIZE) values.items) }

@@ -13,6 +13,11 @@ use std::ops::Index;
 impl<T: Ord> BTreeSet<T> {
     /// Returns the element at a position, counted from 0, or `None` past the end, in logarithmic
     /// time.
+    ///
+    /// ```
+    /// let board = BTreeSet::from_iter(alloc, [30, 10, 20])?;
+    /// assert!(rt; board.get_index(1) == Some(&20) && board.get_index(3).is_none());
+    /// ```
     pub fn get_index(&self, i: usize) -> Option<&T>
         ensures { option_copied result ≡ slice_get (items self.now) i }
     {
@@ -20,6 +25,11 @@ impl<T: Ord> BTreeSet<T> {
     }
 
     /// Returns the least element, or `None` where there is none.
+    ///
+    /// ```
+    /// let set = BTreeSet::from_iter(alloc, [30, 10, 20])?;
+    /// assert!(rt; set.first() == Some(&10) && set.last() == Some(&30));
+    /// ```
     pub fn first(&self) -> Option<&T>
         ensures element { option_copied result ≡ slice_get (items self.now) 0 }
         ensures variant { IsSome result ↔ (0 < length (items self.now)) }
@@ -45,6 +55,11 @@ impl<T: Ord> BTreeSet<T> {
 impl<T: Ord + Drop> BTreeSet<T> {
     /// Removes the least element and returns it, or returns `None` where the set is empty. It
     /// allocates nothing.
+    ///
+    /// ```
+    /// let mut queue = BTreeSet::from_iter(alloc, [30, 10, 20])?;
+    /// assert!(rt; queue.pop_first() == Some(10) && queue.pop_first() == Some(20));
+    /// ```
     pub fn pop_first(&mut self) -> Option<T>
         ensures value { result ≡ slice_get (items self.old) 0 }
         ensures rest { items self.new ≡ drop 1 (items self.old) }
@@ -58,6 +73,11 @@ impl<T: Ord + Drop> BTreeSet<T> {
 
     /// Removes the greatest element and returns it, or returns `None` where the set is empty. It
     /// allocates nothing.
+    ///
+    /// ```
+    /// let mut board = BTreeSet::from_iter(alloc, [30, 10, 20])?;
+    /// assert_eq!(rt; board.pop_last(), Some(30));
+    /// ```
     pub fn pop_last(&mut self) -> Option<T>
         ensures value { result ≡ slice_get (items self.old) (length (items self.old) - 1) }
         ensures rest { items self.new ≡ take (length (items self.old) - 1) (items self.old) }

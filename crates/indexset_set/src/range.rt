@@ -22,9 +22,10 @@ impl<T: Ord> BTreeSet<T> {
     /// nor at it where both are excluded, which `bounds_are_ordered` of the core tests.
     ///
     /// ```
-    /// // The elements from 10 on that are below 20, and all from 20 on.
+    /// let set = BTreeSet::from_iter(alloc, [5, 10, 15, 20])?;
     /// let teens = set.range(10..20);
-    /// let rest = set.range((Bound::Included(&20), Bound::Unbounded));
+    /// let above = set.range((Bound::Excluded(&10), Bound::Unbounded));
+    /// assert!(rt; teens.copied().eq([10, 15]) && above.copied().eq([15, 20]));
     /// ```
     pub fn range<R: Bounds<T> + Drop>(&self, range: R) -> Range<'_, T>
         requires { IsTrue (are_ordered T.cmp (R.start range) (R.end range)) }
@@ -53,8 +54,10 @@ impl<T: Ord> BTreeSet<T> {
     /// where the bounds are the wrong way round, and positions past the end have none.
     ///
     /// ```
-    /// // The third page of a hundred elements each.
-    /// let page = set.range_idx((Bound::Included(200), Bound::Excluded(300)));
+    /// // The second page of two elements each.
+    /// let set = BTreeSet::from_iter(alloc, [5, 10, 15, 20, 25])?;
+    /// let page = set.range_idx((Bound::Included(2), Bound::Excluded(4)));
+    /// assert!(rt; page.copied().eq([15, 20]));
     /// ```
     pub fn range_idx(&self, range: (Bound<usize>, Bound<usize>)) -> Range<'_, T>
         ensures rest { result ≡ in_positions (items self.now) range.0 range.1 }

@@ -24,6 +24,13 @@ use std::convert::AsStr;
 use std::marker::Model;
 
 /// Compares the text of an item with a borrowed text, byte by byte. It allocates nothing.
+///
+/// ```
+/// // An element of text, found by a &str without an allocation.
+/// let mut names = BTreeSet::new(alloc)?;
+/// names.insert(String::from_str(alloc, "pear")?)?;
+/// assert!(rt; names.get_by(&mut ByStr::new("pear")).is_some());
+/// ```
 #[derive(Drop)]
 pub struct ByStr<'a> {
     sought: &'a str,

@@ -21,6 +21,17 @@ use indexset_core::refusal::Refused;
 impl<K: Ord + Clone + Drop, V: Clone + Drop, Node: NodeLike<Pair<K, V>>> BTreeMap<K, V, Node> {
     /// Inserts a pair, replaces that of an equal key and returns its value, and returns the events.
     /// A failed call hands key and value back and changes nothing.
+    ///
+    /// ```
+    /// // The events of a change, applied to a copy.
+    /// let mut tree: map::BTreeMap<u64, u64, Vec<Pair<u64, u64>>> = map::BTreeMap::new(alloc);
+    /// let mut copy = Replica::new(alloc, 0);
+    /// let (_, events) = tree.insert_cdc(1, 10).map_err(|refused| refused.cause)?;
+    /// for event in &events {
+    ///     copy.apply(event)?;
+    /// }
+    /// assert!(rt; copy.len() == 1 && copy.next() == tree.events_issued());
+    /// ```
     pub fn insert_cdc(
         &mut self,
         key: K,

@@ -23,7 +23,12 @@ impl<K: Ord + Clone + Drop, V: Clone + Drop, Node: NodeLike<Pair<K, V>>> BTreeMa
     ///
     /// ```
     /// // The pairs of the keys from 10 on that are below 20.
-    /// let teens = map.range((Bound::Included(&10), Bound::Excluded(&20)));
+    /// let mut tree: map::BTreeMap<u64, u64, Vec<Pair<u64, u64>>> = map::BTreeMap::new(alloc);
+    /// for key in [5, 10, 15, 20] {
+    ///     tree.insert(key, 0).map_err(|refused| refused.cause)?;
+    /// }
+    /// let teens = tree.range((Bound::Included(&10), Bound::Excluded(&20)));
+    /// assert!(rt; teens.map(|(key, _)| *key).eq([10, 15]));
     /// ```
     pub fn range(&self, range: (Bound<&K>, Bound<&K>)) -> Range<'_, K, V, Node>
         requires { IsTrue (are_ordered K.cmp (bound_map (λ k. k.now) range.0) (bound_map (λ k. k.now) range.1)) }

@@ -20,6 +20,13 @@ impl<K: Ord + Clone + Drop, V: Clone + Drop, Node: NodeLike<Pair<K, V>>> BTreeMa
     /// Removes the pair of a key, if any, and returns it with the events. A node that is left small is
     /// joined with a small neighbour. Fails with `Numbers` where the events do not fit the counter, else
     /// with `Memory`. A failed call changes nothing.
+    ///
+    /// ```
+    /// let mut tree: map::BTreeMap<u64, u64, Vec<Pair<u64, u64>>> = map::BTreeMap::new(alloc);
+    /// tree.insert(1, 10).map_err(|refused| refused.cause)?;
+    /// let (removed, events) = tree.remove_cdc(&1)?;
+    /// assert!(rt; removed == Some((1, 10)) && events.len() == 1);
+    /// ```
     pub fn remove_cdc(
         &mut self,
         key: &K,

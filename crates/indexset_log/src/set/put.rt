@@ -25,6 +25,13 @@ use indexset_core::search;
 impl<T: Ord + Clone + Drop, Node: NodeLike<T>> BTreeSet<T, Node> {
     /// Inserts an item, replaces an equal one, and returns the events. A failed call hands the item
     /// back and changes nothing.
+    ///
+    /// ```
+    /// let mut tree: set::BTreeSet<u64, Vec<u64>> = set::BTreeSet::new(alloc);
+    /// let (old, events) = tree.put_cdc(5).map_err(|refused| refused.cause)?;
+    /// let made = ChangeEvent::CreateNode { event_id: Id::from(0), max_value: 5 };
+    /// assert!(rt; old.is_none() && events.as_slice() == [made].as_slice());
+    /// ```
     pub fn put_cdc(&mut self, value: T) -> Result<(Option<T>, Vec<ChangeEvent<T>>), Refused<T>>
         ensures answer { IfOk result (λ r. r.0 ≡ equal_element T.cmp (joined self.old.nodes) value) }
         ensures contents { OnOk result (joined self.new.nodes ≡ put T.cmp (joined self.old.nodes) value) }
@@ -105,6 +112,12 @@ impl<T: Ord + Clone + Drop, Node: NodeLike<T>> BTreeSet<T, Node> {
 
     /// Inserts an item and returns true. If an equal one is present, returns false, drops the item,
     /// uses up no number, allocates nothing and changes nothing.
+    ///
+    /// ```
+    /// let mut tree: set::BTreeSet<u64, Vec<u64>> = set::BTreeSet::new(alloc);
+    /// tree.insert(5).map_err(|refused| refused.cause)?;
+    /// assert!(rt; tree.contains(&5) && tree.events_issued() == 1);
+    /// ```
     #[tactic(auto, unfolding(indexset_core::specs::Order::keep, crate::specs::Edits::with_checked_put, crate::specs::Table::checked_put_events))]
     pub fn insert(&mut self, value: T) -> Result<bool, Refused<T>>
         ensures answer { IfOk result (λ r. r ≡ not (has_equal T.cmp (joined self.old.nodes) value)) }

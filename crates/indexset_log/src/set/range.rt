@@ -88,8 +88,12 @@ impl<T: Ord + Clone + Drop, Node: NodeLike<T>> BTreeSet<T, Node> {
     /// nor at it where both are excluded, which `bounds_are_ordered` of the core tests.
     ///
     /// ```
-    /// // The items from 10 on that are below 20.
-    /// let teens = set.range((Bound::Included(&10), Bound::Excluded(&20)));
+    /// let mut tree: set::BTreeSet<u64, Vec<u64>> = set::BTreeSet::new(alloc);
+    /// for number in [5, 10, 15] {
+    ///     tree.insert(number).map_err(|refused| refused.cause)?;
+    /// }
+    /// let upper = tree.range((Bound::Included(&10), Bound::Unbounded));
+    /// assert!(rt; upper.copied().eq([10, 15]));
     /// ```
     pub fn range(&self, range: (Bound<&T>, Bound<&T>)) -> Range<'_, T, Node>
         requires { IsTrue (are_ordered T.cmp (bound_map (λ v. v.now) range.0) (bound_map (λ v. v.now) range.1)) }

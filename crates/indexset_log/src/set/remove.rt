@@ -22,6 +22,13 @@ impl<T: Ord + Clone + Drop, Node: NodeLike<T>> BTreeSet<T, Node> {
     /// Removes the equal item, if any, and returns it with the events. A node that is left small is
     /// joined with a small neighbour. Fails with `Numbers` where the events do not fit the counter, else
     /// with `Memory`. A failed call changes nothing.
+    ///
+    /// ```
+    /// let mut tree: set::BTreeSet<u64, Vec<u64>> = set::BTreeSet::new(alloc);
+    /// tree.insert(5).map_err(|refused| refused.cause)?;
+    /// let (removed, events) = tree.remove_cdc(&5)?;
+    /// assert!(rt; removed == Some(5) && events.len() == 1);
+    /// ```
     pub fn remove_cdc(&mut self, value: &T) -> Result<(Option<T>, Vec<ChangeEvent<T>>), Refusal>
         ensures answer { IfOk result (λ r. r.0 ≡ equal_element T.cmp (joined self.old.nodes) value.now) }
         ensures contents { OnOk result (joined self.new.nodes ≡ without T.cmp (joined self.old.nodes) value.now) }

@@ -166,6 +166,12 @@ impl<K: Ord + Clone + Drop, V: Eq + Clone + Drop, Node: NodeLike<MultiPair<K, V>
     /// Returns the pairs of a key, in order of their numbers, by one search for the first and, from
     /// there, steps that double: a key with one pair, or none, costs at most one comparison more
     /// than the two binary searches, and one with `n` pairs a few times as many as `n` has bits.
+    ///
+    /// ```
+    /// let mut tags: multimap::BTreeMultiMap<u64, u64, Vec<MultiPair<u64, u64>>> = multimap::BTreeMultiMap::new(alloc);
+    /// tags.insert(1, 100).map_err(|refused| refused.cause)?;
+    /// assert!(rt; tags.get(&1).eq([(&1, &100)]) && tags.get(&2).len() == 0);
+    /// ```
     pub fn get(&self, key: &K) -> Range<'_, K, V, Node>
         ensures rest { result ≡ entries (pairs_of K.cmp (joined self.now.nodes) key.now) }
         ensures runs { ShowsInOrder (pair_shown {K = K} {V = V}) }
@@ -193,7 +199,12 @@ impl<K: Ord + Clone + Drop, V: Eq + Clone + Drop, Node: NodeLike<MultiPair<K, V>
     ///
     /// ```
     /// // The pairs of the keys from 10 on that are below 20.
-    /// let teens = map.range((Bound::Included(&10), Bound::Excluded(&20)));
+    /// let mut tags: multimap::BTreeMultiMap<u64, u64, Vec<MultiPair<u64, u64>>> = multimap::BTreeMultiMap::new(alloc);
+    /// for (tag, document) in [(5, 1), (10, 1), (10, 2), (20, 1)] {
+    ///     tags.insert(tag, document).map_err(|refused| refused.cause)?;
+    /// }
+    /// let teens = tags.range((Bound::Included(&10), Bound::Excluded(&20)));
+    /// assert!(rt; teens.eq([(&10, &1), (&10, &2)]));
     /// ```
     pub fn range(&self, range: (Bound<&K>, Bound<&K>)) -> Range<'_, K, V, Node>
         requires { IsTrue (are_ordered K.cmp (bound_map (λ k. k.now) range.0) (bound_map (λ k. k.now) range.1)) }

@@ -117,6 +117,13 @@ impl<K: Ord + Clone + Drop, V: Eq + Clone + Drop, Node: NodeLike<MultiPair<K, V>
     /// up numbers, as `remove_cdc` does, and fails with `Numbers` where they do not fit. It allocates only
     /// where it joins two nodes of a type that allocates, and else does not fail with `Memory`. A failed
     /// call changes nothing.
+    ///
+    /// ```
+    /// let mut tags: multimap::BTreeMultiMap<u64, u64, Vec<MultiPair<u64, u64>>> = multimap::BTreeMultiMap::new(alloc);
+    /// tags.insert(1, 100).map_err(|refused| refused.cause)?;
+    /// let removed = tags.remove(&1, &100)?;
+    /// assert!(rt; removed == Some((1, 100)) && !tags.contains_key(&1));
+    /// ```
     pub fn remove(&mut self, key: &K, value: &V) -> Result<Option<(K, V)>, Refusal>
         ensures answer { IfOk result (λ entry. entry ≡ option_map key_and_value (equal_pair K.cmp V.eq (joined self.old.nodes) key.now value.now)) }
         ensures contents { OnOk result (joined self.new.nodes ≡ without_named K.cmp (joined self.old.nodes) (equal_pair K.cmp V.eq (joined self.old.nodes) key.now value.now)) }
