@@ -167,36 +167,6 @@ fn few_comparisons_for_a_first_pair(rt: HostRuntime) -> Result<(), Fail> {
     Ok(())
 }
 
-// The same pairs, and of the key 5119 so many in all.
-fn with_more(alloc: Global, asked: &Cell<u64>, count: u64) -> Result<MultiMap<'_>, Refusal> {
-    let mut map = many_numbered(alloc, asked)?;
-    for value in 10240..10239 + count {
-        map.insert(Counted { key: 5119, asked }, value)?;
-    }
-    Ok(map)
-}
-
-#[test]
-fn comparisons_by_pairs_of_a_key(rt: HostRuntime) -> Result<(), Fail> {
-    for (count, most) in [(2, 20), (10, 25), (600, 60)] {
-        let asked = Cell::new(0);
-        let map = with_more(rt.alloc(), &asked, count)?;
-        asked.set(0);
-        let found = map
-            .get(&Counted {
-                key: 5119,
-                asked: &asked,
-            })
-            .len();
-        let get = asked.get();
-        assert!(rt;
-            found == count as usize && get <= most,
-            "of {count}: {found} {get}"
-        );
-    }
-    Ok(())
-}
-
 #[test]
 fn few_comparisons_in_a_replica(rt: HostRuntime) -> Result<(), Fail> {
     let asked = Cell::new(0);

@@ -1,8 +1,8 @@
 -- The first pairs of a key removed one after another.
-use Rattle.std.proofs.Common.{◌≡◌, ℕ, zero, suc, ◌+◌, ◌-◌, ◌<◌, ◌≤◌, Bool, true, false, not, cond, List, [], ◌∷◌, ◌++◌, length, drop, filter, find, Option, Some, None, Ordering, refl, ap, sym, ◌∙◌, arith, length-append}
+use Rattle.std.proofs.Common.{◌≡◌, ℕ, zero, suc, ◌+◌, ◌-◌, ◌≤◌, Bool, true, false, not, cond, List, [], ◌∷◌, ◌++◌, length, drop, filter, find, Option, Some, None, is_some, Ordering, refl, ap, sym, ◌∙◌, arith, length-append}
 use Rattle.std.specs.Option.{option_map}
 use Rattle.std.specs.Ordering.{is_eq}
-use Rattle.std.proofs.lemmas.Bool.{true≢false}
+use Rattle.std.proofs.lemmas.Bool.{false≢true}
 use Rattle.std.proofs.lemmas.List.{length-drop}
 use Rattle.std.proofs.lemmas.List.Sums.{count_by-le-length, length-filter}
 use Rattle.std.proofs.lemmas.Option.{none-some}
@@ -13,7 +13,7 @@ use Rattle.indexset_log.specs.Replay.{replay, numbered_from, IsNumberedFrom}
 use Rattle.indexset_log.specs.declared.change.ChangeEventUnassigned.{ChangeEventUnassigned}
 use Rattle.indexset_log.proofs.CallerLemmas.{length-numbered, numbered_is, numbered-append, replay-append}
 use Rattle.indexset_multi.specs.Keys.{first_pair, key_and_value, pairs_of, without_key, without_named}
-use Rattle.indexset_multi.specs.Tree.{IsLedTo, MultiTree}
+use Rattle.indexset_multi.specs.Tree.{IsLedBy, IsLedTo, MultiTree}
 
 -- one call's events after those of others
 pub led_further : {K V : Type 0} (cmp : K → K → Ordering) (m n p : MultiTree K V) → IsLedTo cmp m n → IsLedTo cmp n p → IsLedTo cmp m p
@@ -68,6 +68,14 @@ none_of : {A B : Type 0} (f : A → B) (o : Option A) → None ≡ option_map f 
 none_of f None e = refl
 none_of f (Some x) e = absurd (none-some (f x) e)
 
+some_from : {A : Type 0} (o : Option A) → is_some o ≡ true → (x : A) × (o ≡ Some x)
+some_from None e = absurd (false≢true e)
+some_from (Some x) e = (x, refl)
+
+none_from : {A : Type 0} (o : Option A) → is_some o ≡ false → o ≡ None
+none_from None e = refl
+none_from (Some x) e = absurd (false≢true (sym e))
+
 module _ {K V : Type 0} (cmp : K → K → Ordering) (k : K) (old now : List (MultiPair K V)) (n : ℕ) (gone : pairs_of cmp now k ≡ drop n (pairs_of cmp old k)) where
   -- a removal that found a pair was not the last
   pub found_one : (y : K × V) → Some y ≡ option_map key_and_value (first_pair cmp now k) → (1 ≤ length (pairs_of cmp now k)) × (n + 1 ≤ length (pairs_of cmp old k))
@@ -88,6 +96,19 @@ module _ {K V : Type 0} (cmp : K → K → Ordering) (k : K) (old now : List (Mu
   pub kept_as_is : None ≡ option_map key_and_value (first_pair cmp now k) → without_named cmp now (first_pair cmp now k) ≡ now
   kept_as_is e = let none = none_of key_and_value (first_pair cmp now k) e in rw none refl
 
+  pub found_true : is_some (first_pair cmp now k) ≡ true → (1 ≤ length (pairs_of cmp now k)) × (n + 1 ≤ length (pairs_of cmp old k))
+  found_true e =
+      let x = some_from (first_pair cmp now k) e in
+      found_one (key_and_value x.0) (sym (ap (λ o. option_map key_and_value o) x.1))
+
+  pub none_true : is_some (first_pair cmp now k) ≡ false → None ≡ option_map key_and_value (first_pair cmp now k)
+  none_true e = sym (ap (λ o. option_map key_and_value o) (none_from (first_pair cmp now k) e))
+
+  pub left_is : n ≤ length (pairs_of cmp old k) → pairs_of cmp now k ≡ drop (length (pairs_of cmp old k) - length (pairs_of cmp now k)) (pairs_of cmp old k)
+  left_is within =
+      let e : length (pairs_of cmp old k) - length (pairs_of cmp now k) ≡ n = omega (arith, within, ap (λ l. length l) gone, length-drop n (pairs_of cmp old k)) in
+      gone ∙ ap (λ i. drop i (pairs_of cmp old k)) (sym e)
+
   pub removed_fit : length (pairs_of cmp old k) ≤ length old
   removed_fit = rw (length-filter (λ p. is_eq (cmp p.key k)) old) (count_by-le-length (λ p. is_eq (cmp p.key k)) old)
 
@@ -99,3 +120,21 @@ led_once cmp m n es replayed next = record {
   replayed = replayed;
   next = next ∙ ap (λ c. m.next + c) (sym (length-numbered m.next es));
 }
+
+pub led_by_more : {K V : Type 0} (cmp : K → K → Ordering) (m n p : MultiTree K V) (a b all : List (ChangeEvent (MultiPair K V))) → IsLedBy cmp m n a → all ≡ a ++ b → IsNumberedFrom n.next b → replay (by_number cmp) n.nodes b ≡ Some p.nodes → p.next ≡ n.next + length b → IsLedBy cmp m p all
+led_by_more cmp m n p a b all led is numbered replayed next = rw is (record {
+  numbered = numbered-append m.next a b led.numbered (rw (← led.next) numbered);
+  replayed = replay-append (by_number cmp) m.nodes a b ∙ rw led.replayed replayed;
+  next = omega (arith, led.next, next, length-append a b);
+})
+
+pub led_by_none : {K V : Type 0} (cmp : K → K → Ordering) (m : MultiTree K V) → IsLedBy cmp m m []
+led_by_none cmp m = record { numbered = λ i lt d. absurd (omega (arith, lt)); replayed = refl; next = omega arith }
+
+pub some_mapped : {A B : Type 0} (f : A → B) (o : Option A) → is_some (option_map f o) ≡ is_some o
+some_mapped f None = refl
+some_mapped f (Some x) = refl
+
+pub drop_none : {X : Type 0} (l : List X) → drop 0 l ≡ l
+drop_none [] = refl
+drop_none (x ∷ l) = refl

@@ -26,6 +26,12 @@ pub record MultiTree (K V : Type 0) : Type 0 where
 abbrev pub pair_removal_events : {K V : Type 0} → (K → K → Ordering) → ℕ → List (List (MultiPair K V)) → Option (MultiPair K V) → List (ChangeEventUnassigned (MultiPair K V))
 pair_removal_events cmp size ns pair = option_map_or (λ p. removal_events (by_number cmp) size ns p) pair []
 
+-- the events, numbered from the first's next one, lead from its nodes to the second's, whose next number comes after them
+pub record IsLedBy {K V : Type 0} (cmp : K → K → Ordering) (m n : MultiTree K V) (events : List (ChangeEvent (MultiPair K V))) : Type 0 where
+  pub numbered : IsNumberedFrom m.next events
+  pub replayed : replay (by_number cmp) m.nodes events ≡ Some n.nodes
+  pub next : n.next ≡ m.next + length events
+
 -- some events, numbered from the first's next one, lead from its nodes to the second's, whose next number comes after them
 pub record IsLedTo {K V : Type 0} (cmp : K → K → Ordering) (m n : MultiTree K V) : Type 0 where
   pub events : List (ChangeEvent (MultiPair K V))

@@ -1,5 +1,5 @@
 //! The logged map with repeated keys: a logged set of numbered pairs.
-ghost use Rattle.std.specs.Prelude.{◌≡◌, ◌≤◌, [], length, map, IfSome};
+ghost use Rattle.std.specs.Prelude.{◌≡◌, ◌==◌, ◌≤◌, [], length, map, IfSome};
 ghost use Rattle.std.specs.Map.Iter.{ShowsInOrder, ShowsInReverse, deref};
 ghost use Rattle.indexset_core.specs.MultiPairs.{by_number};
 ghost use Rattle.indexset_core.specs.Nodes.{joined, IsLawful};
@@ -98,6 +98,13 @@ impl<K: Ord + Clone + Drop, V: Eq + Clone + Drop, Node: NodeLike<MultiPair<K, V>
         ensures { result ≡ length (joined self.now.nodes) }
     {
         self.set.len()
+    }
+
+    /// Returns whether there is no pair.
+    pub fn is_empty(&self) -> bool
+        ensures { result ≡ (length (joined self.now.nodes) == 0) }
+    {
+        self.set.is_empty()
     }
 
     /// Returns the number of nodes: no more than pairs. None is empty or holds more than the node

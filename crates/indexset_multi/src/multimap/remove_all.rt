@@ -1,16 +1,18 @@
 //! Removal of all pairs of a key.
-ghost use Rattle.std.specs.Prelude.{◌≡◌, ◌-◌, ◌/◌, [], drop, length, false, IfOk, OnOk, IfErr};
+ghost use Rattle.std.specs.Prelude.{◌≡◌, ◌-◌, ◌/◌, [], drop, length, false, is_some, IfOk, OnOk, IfErr, OnErr};
 ghost use Rattle.std.specs.Ordering.{is_eq};
 ghost use Rattle.indexset_core.specs.Nodes.{joined};
 ghost use Rattle.indexset_log.specs.Joining.{IsSpaced};
 ghost use Rattle.indexset_log.specs.Tree.{refusal_for};
-ghost use Rattle.indexset_multi.specs.Keys.{first_pair, pairs_of, without_key};
-ghost use Rattle.indexset_multi.specs.Tree.{IsLedTo, pair_removal_events};
+ghost use Rattle.indexset_multi.specs.Keys.{first_pair, pairs_of, without_key, without_named};
+ghost use Rattle.indexset_multi.specs.Tree.{IsLedBy, IsLedTo, MultiTree, pair_removal_events};
 
 use super::BTreeMultiMap;
+use indexset_core::moves::move_tail;
 use indexset_core::multipair::MultiPair;
 use indexset_core::node::NodeLike;
-use indexset_core::refusal::Refusal;
+use indexset_core::refusal::{Refusal, Refused};
+use indexset_log::change::ChangeEvent;
 
 impl<K: Ord + Clone + Drop, V: Eq + Clone + Drop, Node: NodeLike<MultiPair<K, V>>> BTreeMultiMap<
     K,
@@ -40,5 +42,70 @@ impl<K: Ord + Clone + Drop, V: Eq + Clone + Drop, Node: NodeLike<MultiPair<K, V>
             count += 1;
         }
         Ok(count)
+    }
+
+    /// Removes all pairs of a key, as `remove_all` does, and returns how many they were, and the events.
+    /// Fails where one of these removals does, or with `Memory` where there is none for the list of
+    /// events: the pairs before it are gone, and their events are handed back; it and those after it
+    /// stay. (Not in the Rust crate.)
+    pub fn remove_all_cdc(
+        &mut self,
+        key: &K,
+    ) -> Result<
+        (usize, Vec<ChangeEvent<MultiPair<K, V>>>),
+        Refused<Vec<ChangeEvent<MultiPair<K, V>>>>,
+    >
+        ensures count { IfOk result (λ r. r.0 ≡ length (pairs_of K.cmp (joined self.old.nodes) key.now)) }
+        ensures contents { OnOk result (joined self.new.nodes ≡ without_key K.cmp (joined self.old.nodes) key.now) }
+        ensures gone { OnOk result (pairs_of K.cmp (joined self.new.nodes) key.now ≡ []) }
+        ensures left { pairs_of K.cmp (joined self.new.nodes) key.now ≡ drop (length (pairs_of K.cmp (joined self.old.nodes) key.now) - length (pairs_of K.cmp (joined self.new.nodes) key.now)) (pairs_of K.cmp (joined self.old.nodes) key.now) }
+        ensures rest { without_key K.cmp (joined self.new.nodes) key.now ≡ without_key K.cmp (joined self.old.nodes) key.now }
+        ensures others { (other : K) → is_eq (K.cmp other key.now) ≡ false → pairs_of K.cmp (joined self.new.nodes) other ≡ pairs_of K.cmp (joined self.old.nodes) other }
+        ensures replay { ((x y : K) → K.is_clone x y → y ≡ x) → ((x y : V) → V.is_clone x y → y ≡ x) → IfOk result (λ r. IsLedBy K.cmp self.old self.new r.1.items) }
+        ensures replay_before { ((x y : K) → K.is_clone x y → y ≡ x) → ((x y : V) → V.is_clone x y → y ≡ x) → IfErr result (λ e. IsLedBy K.cmp self.old self.new e.value.items) }
+        ensures size { self.new.size ≡ self.old.size }
+        ensures spaced { IsSpaced (self.old.size / 2) self.old.nodes → IsSpaced (self.new.size / 2) self.new.nodes }
+        ensures pair_next { self.new.pair_next ≡ self.old.pair_next }
+    {
+        // The number of pairs fits.
+        let _len = self.set.len();
+        let mut count = 0;
+        let mut events = Vec::new(*self.set.allocator());
+        loop {
+            match self.remove_next(key, &mut events) {
+                Ok(true) => count += 1,
+                Ok(false) => return Ok((count, events)),
+                Err(cause) => {
+                    return Err(Refused {
+                        value: events,
+                        cause,
+                    });
+                }
+            }
+        }
+    }
+
+    // Removes the first pair of a key, if any, adds the events to others, and returns whether there was
+    // one. A failed call changes nothing.
+    fn remove_next(
+        &mut self,
+        key: &K,
+        events: &mut Vec<ChangeEvent<MultiPair<K, V>>>,
+    ) -> Result<bool, Refusal>
+        ensures found { IfOk result (λ found. found ≡ is_some (first_pair K.cmp (joined self.old.nodes) key.now)) }
+        ensures contents { OnOk result (joined self.new.nodes ≡ without_named K.cmp (joined self.old.nodes) (first_pair K.cmp (joined self.old.nodes) key.now)) }
+        ensures gone { OnOk result (pairs_of K.cmp (joined self.new.nodes) key.now ≡ drop 1 (pairs_of K.cmp (joined self.old.nodes) key.now)) }
+        ensures others { OnOk result ((other : K) → is_eq (K.cmp other key.now) ≡ false → pairs_of K.cmp (joined self.new.nodes) other ≡ pairs_of K.cmp (joined self.old.nodes) other) }
+        ensures replay { ((x y : K) → K.is_clone x y → y ≡ x) → ((x y : V) → V.is_clone x y → y ≡ x) → (m : MultiTree K V) → IsLedBy K.cmp m self.old events.old.items → IsLedBy K.cmp m self.new events.new.items }
+        ensures size { self.new.size ≡ self.old.size }
+        ensures spaced { IsSpaced (self.old.size / 2) self.old.nodes → IsSpaced (self.new.size / 2) self.new.nodes }
+        ensures pair_next { self.new.pair_next ≡ self.old.pair_next }
+        ensures unchanged { OnErr result (self.new ≡ self.old) }
+    {
+        // There is room for the events before the pair goes.
+        events.reserve(3)?;
+        let (pair, mut more) = self.remove_some_cdc(key)?;
+        move_tail(&mut more, 0, events);
+        Ok(pair.is_some())
     }
 }

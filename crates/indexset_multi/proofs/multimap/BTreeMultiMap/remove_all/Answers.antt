@@ -1,4 +1,4 @@
-use Rattle.std.proofs.Common.{◌≡◌, ◌+◌, ◌≤◌, drop, length, length-drop, refl, ap, ◌∙◌, arith}
+use Rattle.std.proofs.Common.{◌≡◌, drop, length, length-drop, refl, ap, ◌∙◌, arith}
 use Rattle.indexset_core.specs.Nodes.{joined}
 use Rattle.indexset_multi.specs.Keys.{first_pair, pairs_of, without_key}
 use Rattle.indexset_multi.specs.Tree.{pair_removal_events}
