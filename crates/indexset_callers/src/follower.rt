@@ -3,7 +3,7 @@
 ghost use Rattle.std.specs.Prelude.{◌≡◌, ◌<◌, true, [], length, Some, IfOk, OnOk, OnErr};
 ghost use Rattle.std.specs.List.{All};
 ghost use Rattle.std.specs.Ordering.{nat_cmp};
-ghost use Rattle.indexset.specs.Words.{by_key, joined, replay, value_of, IsAt, IsNumberedFrom};
+ghost use Rattle.indexset.specs.Words.{by_key, joined, replay, value_of, IsBeginning, IsNumberedFrom};
 
 use indexset::base::pair::Pair;
 use indexset::base::refusal::Refusal;
@@ -11,7 +11,6 @@ use indexset::cdc::change::ChangeEvent;
 use indexset::cdc::laws;
 use indexset::concurrent::map::BTreeMap;
 use indexset::replica::Replica;
-use indexset::replica::laws::reached_in_one_pass;
 use std::alloc::Global;
 
 /// The balance of an account.
@@ -60,9 +59,9 @@ impl Primary {
     /// is returned, it holds what a beginning of the events leads to: it passes over each that is not the
     /// next.
     pub fn deliver(&self, copy: &mut Replica<Balance>, order: &[usize]) -> Result<bool, Refusal>
-        requires at { IsAt (by_key nat_cmp) 0 [] self.now.events.items copy.old.next copy.old }
+        requires at { IsBeginning (by_key nat_cmp) 0 [] self.now.events.items copy.old }
         requires inside { All (λ place. place < length self.now.events.items) order.now }
-        ensures beginning { IsAt (by_key nat_cmp) 0 [] self.now.events.items copy.new.next copy.new }
+        ensures beginning { IsBeginning (by_key nat_cmp) 0 [] self.now.events.items copy.new }
         ensures all_came { IfOk result (λ all. all ≡ true → copy.new.nodes ≡ self.now.map.nodes) }
     {
         deliver_some(&self.map, self.events.as_slice(), copy, order)
@@ -105,13 +104,12 @@ fn deliver_some(
     requires replayed { replay (by_key nat_cmp) [] events.now ≡ Some map.now.nodes }
     requires numbered { IsNumberedFrom 0 events.now }
     requires counted { map.now.next ≡ length events.now }
-    requires at { IsAt (by_key nat_cmp) 0 [] events.now copy.old.next copy.old }
+    requires at { IsBeginning (by_key nat_cmp) 0 [] events.now copy.old }
     requires inside { All (λ place. place < length events.now) order.now }
-    ensures beginning { IsAt (by_key nat_cmp) 0 [] events.now copy.new.next copy.new }
+    ensures beginning { IsBeginning (by_key nat_cmp) 0 [] events.now copy.new }
     ensures all_came { IfOk result (λ all. all ≡ true → copy.new.nodes ≡ map.now.nodes) }
 {
     let issued = map.events_issued();
-    reached_in_one_pass();
     copy.follow(events, order)?;
     Ok(copy.next() == issued)
 }
