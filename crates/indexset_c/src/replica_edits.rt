@@ -59,6 +59,7 @@ pub extern "C" fn indexset_replica_apply(
     ensures fits { result ≡ YES → IfSome replica.old.slot.value (λ r. refused r event.now ≡ None) }
     ensures refusal { result ≢ YES → IfSome replica.old.slot.value (λ r. result ≡ unwrap_or (refused r event.now) MEMORY) }
     ensures none { result ≡ NONE ↔ (replica.old.slot.value ≡ None) }
+    ensures there { (replica.new.slot.value ≡ None) ↔ (replica.old.slot.value ≡ None) }
     ensures same { result ≢ YES → replica.new.slot.value ≡ replica.old.slot.value }
 {
     let Some(mut held) = replica.take(alloc) else {
@@ -83,6 +84,7 @@ pub extern "C" fn indexset_replica_apply_all(
     ensures some { result ≢ YES → result ≢ NONE → taken.new < length events.now }
     ensures refusal { result ≢ YES → IfSome replica.new.slot.value (λ r. IfSome (slice_get events.now taken.new) (λ e. result ≡ unwrap_or (refused r e) MEMORY)) }
     ensures none { result ≡ NONE ↔ (replica.old.slot.value ≡ None) }
+    ensures there { (replica.new.slot.value ≡ None) ↔ (replica.old.slot.value ≡ None) }
     ensures same { result ≡ NONE → (taken.new ≡ 0) × (replica.new.slot.value ≡ None) }
     ensures status { result ≢ NO }
 {
