@@ -140,3 +140,15 @@ impl<T: Ord + Clone + Drop> Replica<T> {
         }
     }
 }
+
+impl<'a, T: Ord + Clone + Drop> IntoIterator for &'a Replica<T> {
+    type Item = &'a T;
+
+    type IntoIter = Iter<'a, T>;
+
+    ghost into_iter_gives = { λ r i. (i ≡ joined r.now.nodes) × ShowsInOrder (deref {X = T}) × ShowsInReverse (deref {X = T}) };
+
+    fn into_iter(self) -> Iter<'a, T> {
+        self.iter()
+    }
+}
