@@ -139,6 +139,35 @@ fn made_of_many_in_order(rt: HostRuntime) -> Result<(), Fail> {
 }
 
 #[test]
+fn made_of_sorted_values(rt: HostRuntime) -> Result<(), Fail> {
+    let mut keys = Vec::new(rt.alloc());
+    for key in 0..3000 {
+        keys.push(key).map_err(|_| "memory")?;
+    }
+    let set = BTreeSet::from_sorted(rt.alloc(), keys).map_err(|refused| refused.cause)?;
+    let all = set.iter().copied().eq(0..3000);
+    assert!(rt; all && nodes_held(set, &[512, 512, 512, 512, 952]));
+    Ok(())
+}
+
+#[test]
+fn unsorted_values_are_handed_back(rt: HostRuntime) -> Result<(), Fail> {
+    for values in [[1u64, 2, 2], [1, 3, 2], [2, 1, 3]] {
+        let given = vec![in rt.alloc(); values[0], values[1], values[2]]?;
+        match BTreeSet::from_sorted(rt.alloc(), given) {
+            Ok(set) => assert!(rt; set.is_empty()),
+            Err(refused) => {
+                let unsorted = refused.cause == Refusal::Unsorted;
+                assert!(rt; unsorted && refused.value.as_slice() == values.as_slice());
+            }
+        }
+    }
+    let none = BTreeSet::<u64>::from_sorted(rt.alloc(), Vec::new(rt.alloc()));
+    assert!(rt; none.is_ok_and(|set| set.is_empty()));
+    Ok(())
+}
+
+#[test]
 fn clone_fails_at_each_element(rt: HostRuntime) -> Result<(), Fail> {
     let clones = Cell::new(0);
     let mut set = BTreeSet::with_maximum_node_size(rt.alloc(), 2)?;

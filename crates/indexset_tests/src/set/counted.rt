@@ -46,6 +46,22 @@ fn few_comparisons_in_many_nodes(rt: HostRuntime) -> Result<(), Fail> {
 }
 
 #[test]
+fn few_comparisons_of_positions_and_upper_bounds(rt: HostRuntime) -> Result<(), Fail> {
+    let asked = Cell::new(0);
+    let set = many(rt.alloc(), &asked)?;
+    for key in [0, 5119, 10238] {
+        let sought = Counted { key, asked: &asked };
+        asked.set(0);
+        let placed = set.index_of(&sought).map(|i| i as u64) == Some(key);
+        let place = asked.replace(0);
+        let next = set.upper_bound(&sought).map(|found| found.key);
+        let few = place <= 17 && asked.get() <= 17;
+        assert!(rt; placed && next == Some(key + 1) && few, "of {key}: {place}");
+    }
+    Ok(())
+}
+
+#[test]
 fn few_comparisons_of_calls_that_change(rt: HostRuntime) -> Result<(), Fail> {
     let asked = Cell::new(0);
     let mut set = many(rt.alloc(), &asked)?;

@@ -89,3 +89,38 @@ fn bounds_on_the_keys_of_pairs(rt: HostRuntime) -> Result<(), Fail> {
     assert!(rt; values && end.rev().map(|pair| pair.value).eq(['d', 'c']));
     Ok(())
 }
+
+#[test]
+fn ranges_as_rust_writes_them(rt: HostRuntime) -> Result<(), Fail> {
+    for size in [2, 1024] {
+        let set = set_of(rt.alloc(), size, &[1u64, 3, 5, 7])?;
+        let from = set.range(3..).eq(&[3, 5, 7]);
+        let to = set.range(..5).eq(&[1, 3]);
+        let up_to = set.range(..=5).eq(&[1, 3, 5]);
+        let between = set.range(2..7).eq(&[3, 5]);
+        let within = set.range(3..=7).eq(&[3, 5, 7]);
+        let all = set.range(..).len() == 4;
+        let lent = set.range(&4..).eq(&[5, 7]) && set.range(&1..&3).eq(&[1]);
+        let open = set.range((Unbounded, Unbounded)).len() == 4;
+        assert!(rt; from && to && up_to && between && within && all && lent && open);
+    }
+    Ok(())
+}
+
+#[test]
+fn positions_and_upper_bounds(rt: HostRuntime) -> Result<(), Fail> {
+    for size in [2, 1024] {
+        let set = set_of(rt.alloc(), size, &[1u64, 3, 5])?;
+        for (value, place, next) in [
+            (0, None, Some(&1)),
+            (1, Some(0), Some(&3)),
+            (2, None, Some(&3)),
+            (3, Some(1), Some(&5)),
+            (5, Some(2), None),
+            (9, None, None),
+        ] {
+            assert!(rt; set.index_of(&value) == place && set.upper_bound(&value) == next);
+        }
+    }
+    Ok(())
+}
