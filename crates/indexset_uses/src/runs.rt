@@ -1,15 +1,16 @@
 //! Commands to a map by name, carried out in turn.
-ghost use Rattle.std.specs.Prelude.{◌≡◌, ◌+◌, ◌*◌, ◌≤◌, length, take, Some};
+ghost use Rattle.std.specs.Prelude.{◌≡◌, ◌+◌, ◌*◌, ◌≤◌, length, take, Some, string_bytes};
 ghost use Rattle.std.specs.List.{fold};
 ghost use Rattle.std.specs.Ordering.{nat_cmp};
 ghost use Rattle.std.specs.String.{string_cmp};
 ghost use Rattle.std.specs.Cmp.Lexicographic.{slice_cmp};
-ghost use Rattle.indexset.specs.Words.{by_key, joined, replay, IsNumberedFrom};
+ghost use Rattle.indexset.specs.Words.{by_key, joined, replay, IsNumberedFrom, LeadsToCopies};
 ghost use Rattle.indexset_bench.specs.LoggedMap.{logged_map_after};
 
 use crate::stock::Stock;
 use crate::strings::Counts;
 use bytes::ByteStr;
+use indexset::replica::laws::clones;
 use indexset_bench::logged::map::LoggedMapCommand;
 use indexset_bench::logged_run::{LogRun, run_logged};
 use std::alloc::Global;
@@ -29,7 +30,8 @@ pub fn run_stock(
 }
 
 /// Carries out commands on a map by `String`. It holds what the commands with a reply make of it,
-/// and the events are numbered in turn.
+/// and the events are numbered in turn. They lead from the nodes before the run to copies of those after
+/// it: the same texts and counts, each in its place.
 pub fn run_counts(
     alloc: Global,
     counts: &mut Counts,
@@ -37,8 +39,10 @@ pub fn run_counts(
 ) -> LogRun<Counts>
     ensures contents { joined counts.new.nodes ≡ fold (logged_map_after string_cmp) (joined counts.old.nodes) (take (length result.replies.items) commands.items) }
     ensures numbered { IsNumberedFrom counts.old.next result.events.items }
+    ensures copies { LeadsToCopies (by_key string_cmp) (λ p q. (string_bytes q.key ≡ string_bytes p.key) × (q.value ≡ p.value)) counts.old.nodes result.events.items counts.new.nodes }
     ensures next { counts.new.next ≡ counts.old.next + length result.events.items }
     ensures few { length result.events.items ≤ 3 * length result.replies.items }
 {
+    clones::texts();
     run_logged(alloc, counts, commands)
 }

@@ -1,15 +1,18 @@
 //! Maps whose keys are `String`s. Their clones are other values of the same bytes, so the contracts say
 //! what the map holds and which numbers the events have, and of the items of events that they are clones.
-ghost use Rattle.std.specs.Prelude.{◌≡◌, ◌+◌, ◌≤◌, length, false, Some, IfOk, OnOk, OnErr, string_bytes};
+ghost use Rattle.std.specs.Prelude.{◌≡◌, ◌+◌, ◌≤◌, ℕ, List, length, false, map, Some, IfOk, OnOk, OnErr, string_bytes};
 ghost use Rattle.std.specs.List.{AllZip};
 ghost use Rattle.std.specs.String.{string_cmp};
-ghost use Rattle.indexset.specs.Words.{by_key, has_key, joined, numbered_from, pair, put, put_events, unassigned, value_of, without_key, IsClonedStep, IsEventClone, IsNumberedFrom};
+ghost use Rattle.indexset.specs.Words.{by_key, has_key, joined, numbered_from, pair, put, put_events, unassigned, value_of, without_key, AreCopies, IsClonedStep, IsEventClone, IsNumberedFrom};
 
+use crate::copies::apply_all;
+use bytes::ByteStr;
 use indexset::base::pair::Pair;
 use indexset::base::refusal::{Refusal, Refused};
 use indexset::cdc::change::ChangeEvent;
 use indexset::concurrent::map::BTreeMap;
 use indexset::replica::Replica;
+use indexset::replica::laws::{clones, copies_keep};
 
 /// How many there are of each name.
 pub type Count = Pair<String, u64>;
@@ -34,6 +37,25 @@ pub fn set_count(
 {
     let (_, events) = counts.insert_cdc(name, count)?;
     Ok(events)
+}
+
+/// Sets the count of a name in a map and in a copy of it, whose nodes hold copies of the map's items:
+/// after it they do so again, and have the same counts by the same texts.
+pub fn set_in_both(
+    counts: &mut Counts,
+    copy: &mut Replica<Count>,
+    name: String,
+    count: u64,
+) -> Result<(), Refusal>
+    requires { AreCopies (by_key string_cmp) (λ p q. (string_bytes q.key ≡ string_bytes p.key) × (q.value ≡ p.value)) counts.old.nodes copy.old.nodes }
+    ensures copies { OnOk result (AreCopies (by_key string_cmp) (λ p q. (string_bytes q.key ≡ string_bytes p.key) × (q.value ≡ p.value)) counts.new.nodes copy.new.nodes) }
+    ensures same { OnOk result (map (map {B = List ℕ × ℕ} (λ p. (string_bytes p.key, p.value))) copy.new.nodes ≡ map (map {B = List ℕ × ℕ} (λ p. (string_bytes p.key, p.value))) counts.new.nodes) }
+{
+    clones::texts();
+    clones::pairs::<String, u64>();
+    copies_keep::<Count, (ByteStr, u64)>();
+    let (_, events) = counts.insert_cdc(name, count)?;
+    apply_all(copy, events.as_slice())
 }
 
 /// Removes a name, and returns the events, at most three, numbered in turn.

@@ -1,16 +1,32 @@
-use Rattle.std.proofs.Common.{◌∷◌, ◌+◌, drop, option_and_then, ap, sym, ◌∙◌}
-use Rattle.std.proofs.lemmas.List.{at_drop_more}
+use Rattle.std.proofs.Common.{◌≡◌, [], ◌∷◌, ◌+◌, drop, option_and_then, ap, sym, ◌∙◌, refl, subst, arith}
+use Rattle.std.proofs.lemmas.List.{at_drop_more, drop_all}
 use Rattle.indexset.specs.Words.{replay, step}
+use Rattle.indexset_uses.proofs.Copied.{IsOnTheWay, at_end, one_more}
 use Rattle.indexset_uses.proofs.copies.apply_all.Goals as goal
 
+pub loop-event-init : goal.loop-event-init
+loop-event-init g c = record { same = λ clones. refl; copies = λ equal ns after es copied cloned led. record { nodes = ns; events = es; copied = copied; cloned = cloned; led = led } }
+
 pub loop-event-preserved : goal.loop-event-preserved
-loop-event-preserved g c clones =
+loop-event-preserved g c =
     let cmp = g.T.Ord.cmp in
+    let C = g.T.Clone.is_clone in
     let events = c.args.events.now in
     let i = c.loop-event.event-index in
     let nodes = c.loop-event.copy.nodes in
     let rest = drop (i + 1) events in
-    let next = at_drop_more (λ left. replay cmp nodes left) events i c.event-item.result c.loop-event-test.true in
-    let this = ap (λ event. replay cmp nodes (event ∷ rest)) (sym c.event-item.is) in
-    let after = ap (λ made. option_and_then (λ ns. replay cmp ns rest) made) {x = step cmp nodes c.event-item.result} (c.in_ok-apply.ensures.step clones) in
-    sym after ∙ (sym this ∙ (sym next ∙ c.loop-event.invariant clones))
+    let next : drop i events ≡ c.event-item.result ∷ rest = at_drop_more (λ left. left) events i c.event-item.result c.loop-event-test.true ∙ ap (λ event. event ∷ rest) (sym c.event-item.is) in
+    record {
+      same = λ clones.
+          let after = ap (λ made. option_and_then (λ ns. replay cmp ns rest) made) {x = step cmp nodes c.event-item.result} (c.in_ok-apply.ensures.step clones) in
+          sym after ∙ (ap (replay cmp nodes) (sym next) ∙ c.loop-event.invariant.same clones);
+      copies = λ equal ns after es copied cloned led.
+          let way = subst (IsOnTheWay cmp C after nodes) next (c.loop-event.invariant.copies equal ns after es copied cloned led) in
+          one_more cmp C after nodes (c.step_of_clones.ensures equal) c.apply.new.self.nodes c.event-item.result rest c.in_ok-apply.ensures.cloned way;
+    }
+
+pub returns-clause-copies : goal.returns-clause-copies
+returns-clause-copies g c = λ equal ns after es copied cloned led.
+    let events = c.args.events.now in
+    let none : drop c.loop-event.event-index events ≡ [] = drop_all c.loop-event.event-index events (omega arith) in
+    at_end g.T.Ord.cmp g.T.Clone.is_clone after c.loop-event.copy.nodes (subst (IsOnTheWay g.T.Ord.cmp g.T.Clone.is_clone after c.loop-event.copy.nodes) none (c.loop-event.invariant.copies equal ns after es copied cloned led))
