@@ -39,13 +39,13 @@
 -- | `AreClonesEqual`, `LeadsToCopies`, `CopiesBeginning`, `CopiesAll` | each clone of a type equals its source; events lead to copies of given nodes; a replica that holds copies of what a beginning of a feed leads to, or all events |
 
 pub use Rattle.indexset_spine.specs.Cut.{items}
-pub use Rattle.indexset_core.specs.Order.{IsAscending, below, above, rank, has_equal, equal_element, lower_element, put, keep, without}
+pub use Rattle.indexset_core.specs.Order.{IsAscending, below, above, rank, has_equal, index_of, equal_element, lower_element, put, keep, without}
 pub use Rattle.indexset_core.specs.Bounds.{are_ordered, is_within, in_range, in_positions}
 pub use Rattle.indexset_core.specs.Digits.{digits}
 pub use Rattle.indexset_core.specs.Pairs.{by_key, entry_of, has_key, key_rank, pair, pair_keys, pair_of, pair_values, pairs_within, put_value, set_value, value_of, without_key}
 pub use Rattle.indexset_core.specs.MultiPairs.{by_number}
 pub use Rattle.indexset_set.specs.SetAlgebra.{difference, intersection, symmetric_difference, union, put_all}
-pub use Rattle.indexset_set.specs.SetRanges.{not_below}
+pub use Rattle.indexset_set.specs.SetRanges.{not_below, upper_element}
 pub use Rattle.indexset_map.specs.Contents.{with_entry, with_pairs, without_at, without_entry}
 pub use Rattle.indexset_map.specs.Walk.{HasWritten, walk_back, walk_front, written}
 pub use Rattle.indexset_core.specs.Nodes.{joined, vec_items, IsNodeList}

@@ -1,5 +1,7 @@
 //! A leaderboard: players by their scores, the best first, read page by page.
-ghost use Rattle.std.specs.Prelude.{◌≡◌, ◌<◌, ◌+◌, ◌*◌, ◌^◌, true, not, Some, IfOk, IfSome, OnOk, OnErr, take, drop, slice_get};
+ghost use Rattle.std.specs.Prelude.{◌≡◌, ◌<◌, ◌+◌, ◌*◌, ◌^◌, true, not, Some, IfOk, IfSome, OnOk, OnErr, length, take, drop, slice_get};
+ghost use Rattle.std.specs.declared.cmp.Ordering.TheVariants.{Less};
+ghost use Rattle.std.specs.List.{AllWithin};
 ghost use Rattle.indexset.specs.Words.{has_equal, items, keep, rank};
 
 use indexset::BTreeSet;
@@ -36,6 +38,14 @@ pub fn place(board: &Board, entry: Entry) -> Option<usize>
     let place = board.rank(&entry);
     let there = board.get_index(place) == Some(&entry);
     there.then_some(place)
+}
+
+/// How many entries are better than this one: those before its place.
+pub fn better(board: &Board, entry: Entry) -> usize
+    ensures inside { has_equal ⟦<Entry as Ord>⟧.cmp (items board.now) entry ≡ true → result < length (items board.now) }
+    ensures before { AllWithin (λ other. ⟦<Entry as Ord>⟧.cmp other entry ≡ Less) (items board.now) 0 result }
+{
+    board.rank(&entry)
 }
 
 /// A page of `size` entries. The first page has the number 0.

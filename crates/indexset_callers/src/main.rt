@@ -34,6 +34,7 @@ fn show_window(rt: &HostRuntime) -> Result<()> {
     println!(rt; "oldest: {:?}", window::oldest(&window))?;
     println!(rt; "expired: {:?}", window::expire(&mut window, 130)?)?;
     println!(rt; "left: {window:?}")?;
+    println!(rt; "from 160 on: {}", window::since(&window, 160).len())?;
     Ok(())
 }
 
@@ -76,6 +77,10 @@ fn show_leaderboard(rt: &HostRuntime) -> Result<()> {
     println!(rt;
         "place of player 6: {:?}",
         leaderboard::place(&board, entry(200, 6))
+    )?;
+    println!(rt;
+        "better than 200: {}",
+        leaderboard::better(&board, entry(200, 5))
     )?;
     for number in 0..3 {
         println!(rt; "page {number}:")?;

@@ -1,13 +1,13 @@
 //! A window of time: values by the time at which they came, of which the oldest expire.
-ghost use Rattle.std.specs.Prelude.{◌≡◌, ◌≤◌, ◌<◌, [], slice_get, Some, IfOk, IfSome, OnOk, OnErr};
+ghost use Rattle.std.specs.Prelude.{◌≡◌, ℕ, ◌≤◌, ◌<◌, false, [], slice_get, Some, IfOk, IfSome, OnOk, OnErr};
 ghost use Rattle.std.specs.List.{All};
 ghost use Rattle.std.specs.Option.{option_map};
-ghost use Rattle.std.specs.Ordering.{nat_cmp};
+ghost use Rattle.std.specs.Ordering.{is_eq, nat_cmp};
 ghost use Rattle.std.specs.declared.ops.Bound.TheVariants.{Included, Excluded, Unbounded};
-ghost use Rattle.indexset.specs.Words.{below, entry_of, pair_keys, pairs_within, put_value, value_of};
+ghost use Rattle.indexset.specs.Words.{IsAscending, below, by_key, entry_of, pair_keys, pairs_within, put_value, value_of};
 
-use indexset::BTreeMap;
 use indexset::base::refusal::{Refusal, Refused};
+use indexset::{BTreeMap, RangeMap};
 use std::mem;
 
 /// Values by their time.
@@ -17,6 +17,7 @@ pub type Window = BTreeMap<u64, u64>;
 pub fn push(window: &mut Window, time: u64, value: u64) -> Result<Option<u64>, Refused<(u64, u64)>>
     ensures contents { OnOk result (window.new.pairs ≡ put_value nat_cmp window.old.pairs time value) }
     ensures there { OnOk result (value_of nat_cmp window.new.pairs time ≡ Some value) }
+    ensures others { OnOk result ((other : ℕ) → is_eq (nat_cmp other time) ≡ false → value_of nat_cmp window.new.pairs other ≡ value_of nat_cmp window.old.pairs other) }
     ensures before { IfOk result (λ old. old ≡ value_of nat_cmp window.old.pairs time) }
     ensures same { OnErr result (window.new ≡ window.old) }
 {
@@ -39,7 +40,17 @@ pub fn expire(window: &mut Window, start: u64) -> Result<Window, Refusal>
 pub fn oldest(window: &Window) -> Option<(u64, u64)>
     ensures first { result ≡ option_map entry_of (slice_get window.now.pairs 0) }
     ensures oldest { IfSome result (λ oldest. below nat_cmp (pair_keys window.now.pairs) oldest.0 ≡ []) }
+    ensures held { IfSome result (λ oldest. value_of nat_cmp window.now.pairs oldest.0 ≡ Some oldest.1) }
+    ensures all_from { IfSome result (λ oldest. All (λ time. oldest.0 ≤ time) (pair_keys window.now.pairs)) }
 {
     let (time, value) = window.first_key_value()?;
     Some((*time, *value))
+}
+
+/// The values from a time on.
+pub fn since(window: &Window, start: u64) -> RangeMap<'_, u64, u64>
+    ensures rest { result ≡ pairs_within nat_cmp window.now.pairs (Included start) Unbounded }
+    ensures ascending { IsAscending (by_key nat_cmp) result }
+{
+    window.range(start..)
 }

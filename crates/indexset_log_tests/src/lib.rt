@@ -5,6 +5,8 @@
 #![tactic(auto)]
 
 #[cfg(test)]
+mod ends;
+#[cfg(test)]
 mod events;
 #[cfg(test)]
 mod logged;
@@ -16,6 +18,8 @@ mod logged_run;
 mod logged_walks;
 #[cfg(test)]
 mod program;
+#[cfg(test)]
+mod remove_all;
 #[cfg(test)]
 mod run_map;
 #[cfg(test)]

@@ -190,3 +190,27 @@ fn few_comparisons_in_a_replica(rt: HostRuntime) -> Result<(), Fail> {
     }
     Ok(())
 }
+
+// The same pairs, and of the key 5119 six hundred in all.
+fn with_more(alloc: Global, asked: &Cell<u64>) -> Result<MultiMap<'_>, Refusal> {
+    let mut map = many_numbered(alloc, asked)?;
+    for value in 20_000..20_599 {
+        map.insert(Counted { key: 5119, asked }, value)?;
+    }
+    Ok(map)
+}
+
+#[test]
+fn few_comparisons_more_for_many_pairs_of_a_key(rt: HostRuntime) -> Result<(), Fail> {
+    let asked = Cell::new(0);
+    let map = with_more(rt.alloc(), &asked)?;
+    let sought = Counted {
+        key: 5119,
+        asked: &asked,
+    };
+    asked.set(0);
+    let found = map.get(&sought).len();
+    let get = asked.get();
+    assert!(rt; found == 600 && get <= 60, "{found} {get}");
+    Ok(())
+}

@@ -146,6 +146,11 @@ fn look_ups_give_the_held_item(rt: HostRuntime) -> Result<(), Fail> {
     let first = replica.first().is_some_and(|item| item.tag == 'a');
     let last = replica.last().is_some_and(|item| item.tag == 'e');
     assert!(rt; first && last && replica.len() == 5 && !replica.is_empty());
+    let mut tags = Vec::new(rt.alloc());
+    for item in &replica {
+        tags.push(item.tag)?;
+    }
+    assert!(rt; tags.as_slice() == ['a', 'b', 'c', 'd', 'e'].as_slice());
     Ok(())
 }
 

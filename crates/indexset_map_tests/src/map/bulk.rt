@@ -20,6 +20,27 @@ fn split_at_a_key(rt: HostRuntime) -> Result<(), Fail> {
 }
 
 #[test]
+fn made_of_sorted_entries(rt: HostRuntime) -> Result<(), Fail> {
+    let mut entries = Vec::new(rt.alloc());
+    for key in 0..3000u64 {
+        entries.push((key, key)).map_err(|_| "memory")?;
+    }
+    let map = BTreeMap::from_sorted(rt.alloc(), entries).map_err(|refused| refused.cause)?;
+    let all = map.keys().copied().eq(0..3000) && map.values().copied().eq(0..3000);
+    assert!(rt; all && map.node_count() == 5);
+    let given = vec![in rt.alloc(); (1u64, 'a'), (3, 'b'), (3, 'c')]?;
+    match BTreeMap::from_sorted(rt.alloc(), given) {
+        Ok(map) => assert!(rt; map.is_empty()),
+        Err(refused) => {
+            let unsorted = refused.cause == Refusal::Unsorted;
+            let entries = [(1, 'a'), (3, 'b'), (3, 'c')];
+            assert!(rt; unsorted && refused.value.as_slice() == entries.as_slice());
+        }
+    }
+    Ok(())
+}
+
+#[test]
 fn split_off_whole(rt: HostRuntime) -> Result<(), Fail> {
     for size in [2, 1024] {
         let mut map = five(rt.alloc(), size)?;

@@ -77,6 +77,22 @@ fn few_comparisons_of_rank(rt: HostRuntime) -> Result<(), Fail> {
 }
 
 #[test]
+fn few_comparisons_of_positions_and_upper_bounds(rt: HostRuntime) -> Result<(), Fail> {
+    let asked = Cell::new(0);
+    let map = many(rt.alloc(), &asked)?;
+    for key in [0, 5119, 10238] {
+        let sought = Counted { key, asked: &asked };
+        asked.set(0);
+        let placed = map.index_of(&sought).map(|i| i as u64) == Some(key);
+        let place = asked.replace(0);
+        let next = map.upper_bound(Included(&sought)).value().copied();
+        let few = place <= 17 && asked.get() <= 17;
+        assert!(rt; placed && next == Some(key + 1) && few, "of {key}: {place}");
+    }
+    Ok(())
+}
+
+#[test]
 fn few_comparisons_of_ranges(rt: HostRuntime) -> Result<(), Fail> {
     let asked = Cell::new(0);
     let mut map = many(rt.alloc(), &asked)?;

@@ -54,3 +54,22 @@ fn lower_bounds(rt: HostRuntime) -> Result<(), Fail> {
     }
     Ok(())
 }
+
+#[test]
+fn upper_bounds(rt: HostRuntime) -> Result<(), Fail> {
+    for size in [2, 1024] {
+        let map = two(rt.alloc(), size)?;
+        let rows = [
+            (Bound::Included(&0), Some(&1)),
+            (Bound::Included(&1), Some(&3)),
+            (Bound::Excluded(&1), Some(&1)),
+            (Bound::Excluded(&2), Some(&3)),
+            (Bound::Included(&3), None),
+            (Bound::Unbounded, None),
+        ];
+        for (bound, key) in rows {
+            assert!(rt; map.upper_bound(bound).key() == key);
+        }
+    }
+    Ok(())
+}

@@ -38,7 +38,11 @@ fn by_key_and_by_position(rt: HostRuntime) -> Result<(), Fail> {
             let pair = map.get_key_value(&key).map(|pair| (*pair.0, *pair.1));
             let read = map.get(&key).copied() == value && pair == value.map(|value| (key, value));
             let held = map.contains_key(&key) == value.is_some();
-            assert!(rt; read && held && map.rank(&key) == rank, "of {key}");
+            let placed = map.index_of(&key) == value.map(|_| rank);
+            assert!(rt;
+                read && held && placed && map.rank(&key) == rank,
+                "of {key}"
+            );
         }
         let fourth = map.get_index(3) == Some((&17, &"d"));
         let none = map.get_index(5).is_none() && map.get_index(usize::MAX).is_none();

@@ -20,6 +20,26 @@ fn bounds_on_keys(rt: HostRuntime) -> Result<(), Fail> {
 }
 
 #[test]
+fn ranges_as_rust_writes_them(rt: HostRuntime) -> Result<(), Fail> {
+    for size in [2, 1024] {
+        let mut map = five(rt.alloc(), size)?;
+        let from = shows(map.range(17..), &[(17, "d"), (41, "e")]);
+        let to = shows(map.range(..3), &[(1, "a"), (2, "b")]);
+        let within = shows(map.range(3..=17), &[(3, "c"), (17, "d")]);
+        let between = shows(map.range(3..17), &[(3, "c")]);
+        let up_to = map.range(..=&2).len() == 2 && map.range(..).len() == 5;
+        let mut walk = map.range_mut(2..=3);
+        while walk.has_next() {
+            let (_, value) = walk.next_pair();
+            *value = "z";
+        }
+        let written = map.values().copied().eq(["a", "z", "z", "d", "e"]);
+        assert!(rt; from && to && within && between && up_to && written);
+    }
+    Ok(())
+}
+
+#[test]
 fn positions_of_seven(rt: HostRuntime) -> Result<(), Fail> {
     let rows: [(Bound<usize>, Bound<usize>, &[(u64, u64)]); 4] = [
         (Included(1), Excluded(3), &[(1, 10), (2, 20)]),
