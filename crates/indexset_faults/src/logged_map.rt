@@ -38,6 +38,9 @@ pub fn trial(alloc: Global, call: &str) -> Option<Trial> {
         "checked_insert_cdc" => Some(checked_insert(alloc, call)),
         "remove" => Some(remove(alloc, call)),
         "remove_cdc" => Some(remove(alloc, call)),
+        "pop_first" => Some(pop(alloc, call, 2, &FULL[1..3])),
+        "pop_first_cdc" => Some(pop(alloc, call, 2, &FULL[1..3])),
+        "pop_last_cdc" => Some(pop(alloc, call, 1, &FULL[..2])),
         "attach_node" => Some(attach_node(alloc)),
         _ => None,
     }
@@ -120,11 +123,13 @@ fn checked_insert(alloc: Global, call: &str) -> Trial {
     })
 }
 
-// The nodes of 0, 1 and of 2, which have no room to spare: without 1 they are joined.
-fn two_nodes(alloc: Global) -> Result<Map, Refusal> {
+// The pairs of 0 to 2 in two nodes, so many in the first, which have no room to spare: without one of the
+// longer node they are joined.
+fn two_nodes(alloc: Global, first: usize) -> Result<Map, Refusal> {
+    let (front, back) = FULL[..3].split_at(first.min(3));
     let mut map = BTreeMap::with_maximum_node_size(alloc, 4);
-    map.attach_node(node_of(alloc, &FULL[..2])?)?;
-    map.attach_node(node_of(alloc, &FULL[2..3])?)?;
+    map.attach_node(node_of(alloc, front)?)?;
+    map.attach_node(node_of(alloc, back)?)?;
     Ok(map)
 }
 
@@ -138,22 +143,23 @@ fn node_of(alloc: Global, pairs: &[(u64, char)]) -> Result<Vec<Letters>, Refusal
     Ok(node)
 }
 
-// Whether it is the pair of 1.
-fn is_removed(pair: &Option<(Owned, char)>) -> bool {
-    pair.as_ref().is_some_and(|pair| is_pair(pair, 1, 'b'))
+// Whether it is this pair.
+fn is_removed(pair: &Option<(Owned, char)>, number: u64, letter: char) -> bool {
+    pair.as_ref()
+        .is_some_and(|pair| is_pair(pair, number, letter))
 }
 
 // Removes the pair of 1 by a call; whether that returned and told what it should.
 fn remove_by(map: &mut Map, call: &str, one: &Owned) -> Result<bool, Refusal> {
     if call == "remove" {
-        return Ok(is_removed(&map.remove(one)?));
+        return Ok(is_removed(&map.remove(one)?, 1, 'b'));
     }
     let (pair, events) = map.remove_cdc(one)?;
     let told = [
         Told::Remove(0, (1, 'b'), (1, 'b'), 1),
         Told::Merge(1, (0, 'a'), (2, 'c')),
     ];
-    Ok(is_removed(&pair) && are_events(events.as_slice(), &told))
+    Ok(is_removed(&pair, 1, 'b') && are_events(events.as_slice(), &told))
 }
 
 // Whether the nodes are joined without the pair of 1.
@@ -162,7 +168,7 @@ fn is_joined(map: &Map) -> bool {
 }
 
 fn remove(alloc: Global, call: &str) -> Trial {
-    let mut map = two_nodes(alloc)?;
+    let mut map = two_nodes(alloc, 2)?;
     let one = Owned::new(alloc, 1)?;
     Ok(match remove_by(&mut map, call, &one) {
         Ok(is_told) => answered(is_told && is_joined(&map)),
@@ -170,6 +176,43 @@ fn remove(alloc: Global, call: &str) -> Trial {
             let stays = holds(&map, &[&FULL[..2], &FULL[2..3]], 0);
             let again = remove_by(&mut map, call, &one).is_ok_and(|is_told| is_told);
             refused(cause, stays && again && is_joined(&map))
+        }
+    })
+}
+
+// Removes the pair of 0, or that of 2, by a call; whether that returned and told what it should.
+fn pop_by(map: &mut Map, call: &str) -> Result<bool, Refusal> {
+    match call {
+        "pop_first" => Ok(is_removed(&map.pop_first()?, 0, 'a')),
+        "pop_first_cdc" => {
+            let (pair, events) = map.pop_first_cdc()?;
+            let told = [
+                Told::Remove(0, (1, 'b'), (0, 'a'), 0),
+                Told::Merge(1, (1, 'b'), (2, 'c')),
+            ];
+            Ok(is_removed(&pair, 0, 'a') && are_events(events.as_slice(), &told))
+        }
+        _ => {
+            let (pair, events) = map.pop_last_cdc()?;
+            let told = [
+                Told::Remove(0, (2, 'c'), (2, 'c'), 1),
+                Told::Merge(1, (0, 'a'), (1, 'b')),
+            ];
+            Ok(is_removed(&pair, 2, 'c') && are_events(events.as_slice(), &told))
+        }
+    }
+}
+
+// Whether the pair at an end was removed by a call, and the nodes joined.
+fn pop(alloc: Global, call: &str, first: usize, left: &[(u64, char)]) -> Trial {
+    let mut map = two_nodes(alloc, first)?;
+    Ok(match pop_by(&mut map, call) {
+        Ok(is_told) => answered(is_told && holds(&map, &[left], 2)),
+        Err(cause) => {
+            let (front, back) = FULL[..3].split_at(first.min(3));
+            let stays = holds(&map, &[front, back], 0);
+            let again = pop_by(&mut map, call).is_ok_and(|is_told| is_told);
+            refused(cause, stays && again && holds(&map, &[left], 2))
         }
     })
 }

@@ -42,6 +42,9 @@ pub fn trial(alloc: Global, call: &str) -> Option<Trial> {
         "remove_at" => Some(remove(alloc, call)),
         "remove_cdc" => Some(remove(alloc, call)),
         "remove_at_cdc" => Some(remove(alloc, call)),
+        "pop_first" => Some(pop(alloc, call, [&[0, 1], &[2]], &[1, 2])),
+        "pop_first_cdc" => Some(pop(alloc, call, [&[0, 1], &[2]], &[1, 2])),
+        "pop_last_cdc" => Some(pop(alloc, call, [&[0], &[1, 2]], &[0, 1])),
         _ => None,
     }
 }
@@ -230,6 +233,40 @@ fn remove(alloc: Global, call: &str) -> Trial {
             let stays = holds(&tree, &[&[0, 1], &[2]], 0);
             let again = remove_by(&mut tree, call, &one).is_ok_and(|is_told| is_told);
             refused(cause, stays && again && holds(&tree, &[&[0, 2]], 2))
+        }
+    })
+}
+
+// Removes the first item of 0 to 2, or the last, by a call; whether that returned and told what it should.
+fn pop_by(tree: &mut Set, call: &str) -> Result<bool, Refusal> {
+    match call {
+        "pop_first" => Ok(number_of(&tree.pop_first()?) == Some(0)),
+        "pop_first_cdc" => {
+            let (item, events) = tree.pop_first_cdc()?;
+            let told = [Told::Remove(0, 1, 0, 0), Told::Merge(1, 1, 2)];
+            Ok(number_of(&item) == Some(0) && are_events(events.as_slice(), &told))
+        }
+        _ => {
+            let (item, events) = tree.pop_last_cdc()?;
+            let told = [Told::Remove(0, 2, 2, 1), Told::Merge(1, 0, 1)];
+            Ok(number_of(&item) == Some(2) && are_events(events.as_slice(), &told))
+        }
+    }
+}
+
+// Whether an item at an end of two nodes, which have no room to spare, was removed by a call, and the nodes
+// joined.
+fn pop(alloc: Global, call: &str, nodes: [&[u64]; 2], left: &[u64]) -> Trial {
+    let mut tree: Set = BTreeSet::with_maximum_node_size(alloc, 4);
+    for node in nodes {
+        tree.attach_node(owned_node(alloc, node)?)?;
+    }
+    Ok(match pop_by(&mut tree, call) {
+        Ok(is_told) => answered(is_told && holds(&tree, &[left], 2)),
+        Err(cause) => {
+            let stays = holds(&tree, &nodes, 0);
+            let again = pop_by(&mut tree, call).is_ok_and(|is_told| is_told);
+            refused(cause, stays && again && holds(&tree, &[left], 2))
         }
     })
 }

@@ -25,6 +25,7 @@ pub fn trial(alloc: Global, call: &str) -> Option<Trial> {
         ))),
         "from_iter" => Some(Ok(made(BTreeMap::from_iter(alloc, FIVE), &FIVE, 1024))),
         "from" => Some(from(alloc)),
+        "from_sorted" => Some(from_sorted(alloc)),
         "collect" => Some(Ok(collect(alloc))),
         "extend" => Some(extend(alloc)),
         "clone" => Some(clone(alloc)),
@@ -52,6 +53,22 @@ fn from(alloc: Global) -> Trial {
         entries.push(entry).map_err(|_| Refusal::Memory)?;
     }
     Ok(made(BTreeMap::from(alloc, entries), &FIVE, 1024))
+}
+
+// A call that fails drops the pairs, and hands back an empty list.
+fn from_sorted(alloc: Global) -> Trial {
+    let mut entries = Vec::new(alloc);
+    for (key, value) in FIVE {
+        let key = Owned::new(alloc, key)?;
+        entries.push((key, value)).map_err(|_| Refusal::Memory)?;
+    }
+    Ok(match BTreeMap::from_sorted(alloc, entries) {
+        Ok(map) => {
+            let held = map.iter().map(|(key, value)| (key.number(), *value));
+            answered(held.eq(FIVE) && map.node_count() == 1)
+        }
+        Err(failed) => refused(failed.cause, failed.value.is_empty()),
+    })
 }
 
 fn collect(alloc: Global) -> Outcome {

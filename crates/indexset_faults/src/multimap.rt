@@ -27,6 +27,17 @@ const WITHOUT_B: [(u64, u64, char); 2] = [(1, 0, 'a'), (2, 2, 'c')];
 
 const WITHOUT_A: [(u64, u64, char); 2] = [(1, 1, 'b'), (2, 2, 'c')];
 
+/// A pair of the key 1, and three of 2.
+const FOUR: [(u64, u64, char); 4] = [(1, 0, 'a'), (2, 1, 'b'), (2, 2, 'c'), (2, 3, 'd')];
+
+/// The events of the three removed from a node of their own; at the second the nodes are joined.
+const GONE: [Told<(u64, u64, char)>; 4] = [
+    Told::Remove(0, (2, 3, 'd'), (2, 1, 'b'), 0),
+    Told::Remove(1, (2, 3, 'd'), (2, 2, 'c'), 0),
+    Told::Merge(2, (1, 0, 'a'), (2, 3, 'd')),
+    Told::Remove(3, (2, 3, 'd'), (2, 3, 'd'), 1),
+];
+
 /// Makes the call of this name, if there is one.
 pub fn trial(alloc: Global, call: &str) -> Option<Trial> {
     match call {
@@ -36,6 +47,8 @@ pub fn trial(alloc: Global, call: &str) -> Option<Trial> {
         "remove_cdc" => Some(remove(alloc, call, &WITHOUT_B)),
         "remove_some" => Some(remove(alloc, call, &WITHOUT_A)),
         "remove_some_cdc" => Some(remove(alloc, call, &WITHOUT_A)),
+        "remove_all" => Some(remove_all(alloc)),
+        "remove_all_cdc" => Some(remove_all_cdc(alloc)),
         "attach_multi_node" => Some(attach_multi_node(alloc)),
         _ => None,
     }
@@ -143,6 +156,73 @@ fn remove(alloc: Global, call: &str, left: &[(u64, u64, char)]) -> Trial {
             let stays = holds(&map, &[&FULL[..2], &FULL[2..3]], 0);
             let again = remove_by(&mut map, call, &one).is_ok_and(|is_told| is_told);
             refused(cause, stays && again && holds(&map, &[left], 2))
+        }
+    })
+}
+
+// The nodes of the pair of 1 and of the three of 2, which have no room to spare.
+fn four(alloc: Global) -> Result<Map, Refusal> {
+    let mut map = BTreeMultiMap::with_maximum_node_size(alloc, 4);
+    map.attach_multi_node(node_of(alloc, &FOUR[..1])?)?;
+    map.attach_multi_node(node_of(alloc, &FOUR[1..])?)?;
+    Ok(map)
+}
+
+// Whether the pairs that the first events tell of, so many, are gone, and the others stay.
+fn is_left(map: &Map, events: u64) -> bool {
+    match events {
+        0 => holds(map, &[&FOUR[..1], &FOUR[1..]], 0),
+        1 => holds(map, &[&FOUR[..1], &FOUR[2..]], 1),
+        3 => holds(map, &[&[FOUR[0], FOUR[3]]], 3),
+        4 => holds(map, &[&FOUR[..1]], 4),
+        _ => false,
+    }
+}
+
+// Pairs that went before the call failed are not counted by the next.
+fn remove_all(alloc: Global) -> Trial {
+    let mut map = four(alloc)?;
+    let two = Owned::new(alloc, 2)?;
+    Ok(match map.remove_all(&two) {
+        Ok(count) => answered(count == 3 && is_left(&map, 4)),
+        Err(cause) => {
+            let stays = is_left(&map, map.events_issued());
+            let left = map.len();
+            let again = map
+                .remove_all(&two)
+                .is_ok_and(|count| count.saturating_add(1) == left);
+            refused(cause, stays && again && is_left(&map, 4))
+        }
+    })
+}
+
+// Removes the pairs of 2 that are left after so many events; whether that returned and told what it should.
+fn remove_rest_cdc(map: &mut Map, two: &Owned, events: usize) -> bool {
+    let left = map.len();
+    match map.remove_all_cdc(two) {
+        Ok((count, rest)) => {
+            let is_told = are_events(rest.as_slice(), &GONE[events.min(4)..]);
+            is_told && count.saturating_add(1) == left
+        }
+        Err(_) => false,
+    }
+}
+
+// The events that a failed call handed back, and those of the next, are those of an undisturbed one.
+fn remove_all_cdc(alloc: Global) -> Trial {
+    let mut map = four(alloc)?;
+    let two = Owned::new(alloc, 2)?;
+    Ok(match map.remove_all_cdc(&two) {
+        Ok((count, events)) => {
+            let is_told = count == 3 && are_events(events.as_slice(), &GONE);
+            answered(is_told && is_left(&map, 4))
+        }
+        Err(failed) => {
+            let count = failed.value.len().min(4);
+            let is_told = are_events(failed.value.as_slice(), &GONE[..count]);
+            let stays = is_told && is_left(&map, count as u64);
+            let again = remove_rest_cdc(&mut map, &two, count);
+            refused(failed.cause, stays && again && is_left(&map, 4))
         }
     })
 }

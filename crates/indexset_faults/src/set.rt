@@ -6,7 +6,7 @@ use crate::outcome::{Outcome, Trial, answered, refused};
 use crate::state::{found, has_keys};
 use indexset_core::refusal::{Refusal, Refused};
 use indexset_set::BTreeSet;
-use indexset_tests::owned::Owned;
+use indexset_tests::owned::{Owned, owned_node};
 use indexset_tests::sized::set_of;
 use indexset_tests::tagged::Tagged;
 use std::alloc::{AllocError, Global};
@@ -27,6 +27,7 @@ pub fn trial(alloc: Global, call: &str) -> Option<Trial> {
             1024,
         ))),
         "from" => Some(from(alloc)),
+        "from_sorted" => Some(from_sorted(alloc)),
         "collect" => Some(Ok(collect(alloc))),
         "extend" => Some(extend(alloc)),
         "clone" => Some(clone(alloc)),
@@ -54,6 +55,15 @@ fn made(set: Result<BTreeSet<u64>, Refusal>, keys: &[u64], size: usize) -> Outco
 fn from(alloc: Global) -> Trial {
     let values = found(vec![in alloc; 3, 1, 2, 9, 4])?;
     Ok(made(BTreeSet::from(alloc, values), &[1, 2, 3, 4, 9], 1024))
+}
+
+// A call that fails drops the keys, and hands back an empty list.
+fn from_sorted(alloc: Global) -> Trial {
+    let values = owned_node(alloc, &[1, 2, 3, 4, 5])?;
+    Ok(match BTreeSet::from_sorted(alloc, values) {
+        Ok(set) => answered(has_numbers(&set) && set.node_count() == 1),
+        Err(failed) => refused(failed.cause, failed.value.is_empty()),
+    })
 }
 
 fn collect(alloc: Global) -> Outcome {
@@ -91,8 +101,12 @@ fn owned(alloc: Global) -> Result<BTreeSet<Owned>, Refusal> {
     Ok(set)
 }
 
+fn has_numbers(set: &BTreeSet<Owned>) -> bool {
+    set.iter().map(|key| key.number()).eq(1..6)
+}
+
 fn is_owned(set: &BTreeSet<Owned>) -> bool {
-    set.iter().map(|key| key.number()).eq(1..6) && set.node_count() == 4
+    has_numbers(set) && set.node_count() == 4
 }
 
 fn clone(alloc: Global) -> Trial {
