@@ -16,10 +16,8 @@ fn all_pairs_of_a_key_go(rt: HostRuntime) -> Result<(), Fail> {
         Told::Remove(5, (3, 3, 'd'), (2, 1, 'b'), 0),
         Told::Remove(6, (3, 3, 'd'), (2, 2, 'c'), 0),
     ];
-    let gone = match map.remove_all_cdc(&2) {
-        Ok((count, events)) => count == 2 && are_events(events.as_slice(), &told),
-        Err(_) => false,
-    };
+    let (count, events) = map.remove_all_cdc(&2).map_err(|refused| refused.cause)?;
+    let gone = count == 2 && are_events(events.as_slice(), &told);
     let absent = map.remove_all(&2)?;
     let one = map.remove_all(&1)?;
     assert!(rt; gone && absent == 0 && one == 1 && map.len() == 1 && !map.is_empty());
