@@ -1,22 +1,28 @@
 -- What callers learn of a change that one equation says.
-use Rattle.std.proofs.Common.{◌≡◌, ℕ, ◌+◌, ◌/◌, ◌≤◌, true, false, List, [], length, Some, Result, Ok, Err, IfOk, OnOk, OnErr, Ordering, refl, ap, sym, ◌∙◌, subst, arith}
+use Rattle.std.proofs.Common.{◌≡◌, ℕ, ◌+◌, ◌/◌, ◌<◌, ◌≤◌, true, false, List, [], length, slice_get, Some, None, Result, Ok, Err, IfOk, OnOk, OnErr, Ordering, refl, ap, sym, ◌∙◌, subst, arith}
 use Rattle.std.specs.Cmp.{IsTotalOrder}
 use Rattle.std.proofs.lemmas.List.Elements.{length_all_zip, same_from_all_zip}
-use Rattle.indexset_core.specs.Nodes.{joined}
-use Rattle.indexset_core.specs.Order.{has_equal, keep, put}
-use Rattle.indexset_core.proofs.CallerLemmas.{has_put}
+use Rattle.std.proofs.lemmas.Option.{slice_get_within}
+use Rattle.indexset_core.specs.Nodes.{joined, node_at, IsLawful}
+use Rattle.indexset_core.specs.Order.{equal_element, has_equal, keep, put, without}
+use Rattle.indexset_core.proofs.CallerLemmas.{found_has_equal, found_rank, has_put, parted_by_item}
 use Rattle.indexset_log.specs.Clones.{IsEventClone, IsTold}
-use Rattle.indexset_log.specs.Edits.{after_put}
-use Rattle.indexset_log.specs.Joining.{IsSpaced}
+use Rattle.indexset_log.specs.Edits.{after_put, after_removal, after_taken, with_taken}
+use Rattle.indexset_log.specs.Joining.{IsSpaced, item_removed, join_after, with_joined}
+use Rattle.indexset_log.specs.Located.{located, IsFoundIn}
 use Rattle.indexset_log.specs.Replay.{IsNumberedFrom, numbered_from, replay}
-use Rattle.indexset_log.specs.Table.{checked_put_events, put_events}
+use Rattle.indexset_log.specs.Table.{checked_put_events, put_events, removal_events, taking_events}
 use Rattle.indexset_log.specs.Tree.{IsTree, Tree}
 use Rattle.indexset_log.specs.declared.change.ChangeEvent.{ChangeEvent}
 use Rattle.indexset_log.specs.declared.change.ChangeEventUnassigned.{ChangeEventUnassigned}
 use Rattle.indexset_log.proofs.Clones.{clones_numbered, event_same}
+use Rattle.indexset_log.proofs.Places.{found_at, gap_found}
 use Rattle.indexset_log.proofs.Puts.{put_contents, put_replayed}
-use Rattle.indexset_log.proofs.SpacedKept.{put_spaced}
-use Rattle.indexset_log.proofs.Theorem.{length-numbered, three_at_most}
+use Rattle.indexset_log.proofs.SpacedKept.{put_spaced, taken_spaced}
+use Rattle.indexset_log.proofs.Takes.{absent_contents, absent_events, absent_here, found_contents, found_events, some_read, taken_replay, taking_length, two_at_most}
+use Rattle.indexset_log.proofs.Theorem.{length-numbered, three_at_most, up_node}
+use Rattle.indexset_log.proofs.Ups.{ascends, lawful_ruled}
+use Rattle.indexset_log.proofs.Views.{lawful_filled, lawful_parted}
 
 -- the events of the table lead from the old tree to the new one, whose items are l
 pub record Changed {T : Type 0} (cmp : T → T → Ordering) (old new : Tree T) (l : List T) (es : List (ChangeEventUnassigned T)) : Type 0 where
@@ -85,3 +91,53 @@ module _ {T : Type 0} {cmp : T → T → Ordering} {most len : ℕ} {old new : T
   pub checked_told : (C : T → T → Type 0) (fs : List (ChangeEvent T)) → IsTold C old.next (put_events cmp old.size old.nodes v) fs → Told cmp C old new (checked_put_events cmp old.size old.nodes v) fs
   unfolding checked_put_events
   checked_told C fs clones = rw (← absent) (told C fs (put_changed o t v e) clones)
+
+-- the removal of the item at a place
+module _ {T : Type 0} (old : Tree T) (k i : ℕ) {nodes : List (List T)} {size next : ℕ} where
+  -- as the code does it, where two nodes are joined and where none are
+  pub joined_after : {j : ℕ} → join_after old.size old.nodes k i ≡ Some j → nodes ≡ with_joined (item_removed old.nodes k i) j → size ≡ old.size → next ≡ old.next + 2 → (let made : Tree T = record { nodes = nodes; size = size; next = next } in made) ≡ after_taken old k i
+  joined_after join n s c = rw join (λ i. record { nodes = n i; size = s i; next = c i })
+
+  pub lone_after : join_after old.size old.nodes k i ≡ None → nodes ≡ item_removed old.nodes k i → size ≡ old.size → next ≡ old.next + 1 → (let made : Tree T = record { nodes = nodes; size = size; next = next } in made) ≡ after_taken old k i
+  lone_after join n s c = rw join (λ i. record { nodes = n i; size = s i; next = c i })
+
+module _ {T : Type 0} {cmp : T → T → Ordering} {most len : ℕ} {old new : Tree T} (o : IsTotalOrder cmp) (t : IsTree cmp most old.nodes old.size len) where
+  pub taken_changed : (k i : ℕ) → k < length old.nodes → {x : T} → slice_get (node_at old.nodes k) i ≡ Some x → new ≡ after_taken old k i → Changed cmp old new (joined (with_taken old.size old.nodes k i)) (taking_events old.size old.nodes k i x)
+  taken_changed k i inside {x} here e =
+      let count = taking_length old.size old.nodes k i x in
+      record {
+        contents = ap (λ t. joined t.nodes) e;
+        size = ap (λ t. t.size) e;
+        next = omega (arith, ap (λ t. t.next) e, count);
+        table = taken_replay o t.lawful k i inside here old.next ∙ ap (λ t. Some t.nodes) (sym e);
+        few = omega (arith, count, two_at_most old.size old.nodes k i);
+        spaced = λ s. subst (λ t. IsSpaced (t.size / 2) t.nodes) (sym e) (taken_spaced cmp old.size t.two old.nodes k i t.lawful inside (slice_get_within (node_at old.nodes k) i x here) s);
+      }
+
+-- a removal, by where its item stands
+module _ {T : Type 0} {cmp : T → T → Ordering} (old : Tree T) where
+  pub found_after : {v : T} {k i : ℕ} → IsTotalOrder cmp → IsLawful cmp old.size old.nodes → IsFoundIn cmp old.nodes v k i → after_removal cmp old v ≡ after_taken old k i
+  unfolding after_removal
+  found_after {v = v} {k = k} {i = i} o law f =
+      let n = node_at old.nodes k in
+      let parted = parted_by_item cmp o n (ascends cmp n (up_node cmp old.nodes k (lawful_ruled cmp old.size old.nodes law))) v in
+      rw (← f.node_is, found_has_equal cmp n v i f.here, found_rank cmp n v i f.here parted) refl
+
+pub absent_after : {T : Type 0} (cmp : T → T → Ordering) (old : Tree T) (v : T) → equal_element cmp (joined old.nodes) v ≡ None → after_removal cmp old v ≡ old
+unfolding after_removal
+absent_after cmp old v none = rw (absent_here cmp old.nodes v none) refl
+
+pub unchanged : {T : Type 0} (cmp : T → T → Ordering) (old new : Tree T) → new ≡ old → Changed cmp old new (joined old.nodes) []
+unchanged cmp old new same = subst (λ t. Changed cmp old t (joined old.nodes) []) (sym same) (record { contents = refl; size = refl; next = omega arith; table = refl; few = omega arith; spaced = λ s. s })
+
+pub removal_changed : {T : Type 0} {cmp : T → T → Ordering} {most len : ℕ} {old new : Tree T} → IsTotalOrder cmp → IsTree cmp most old.nodes old.size len → (v : T) → new ≡ after_removal cmp old v → Changed cmp old new (without cmp (joined old.nodes) v) (removal_events cmp old.size old.nodes v)
+removal_changed {T = T} {cmp = cmp} {old = old} {new = new} o t v e = at (located (λ x. cmp x v) old.nodes) refl
+  where
+    at : (r : Result (ℕ × ℕ) (ℕ × ℕ)) → r ≡ located (λ x. cmp x v) old.nodes → Changed cmp old new (without cmp (joined old.nodes) v) (removal_events cmp old.size old.nodes v)
+    at (Ok p) w =
+        let found : IsFoundIn cmp old.nodes v p.0 p.1 = found_at cmp o v old.size old.nodes t.lawful (Ok p) w p refl in
+        let read = some_read (node_at old.nodes p.0) p.1 found.here.inside in
+        rw (found_events o t.lawful found read.1, ← found_contents o t.lawful found read.1) (taken_changed o t p.0 p.1 found.node_in read.1 (e ∙ found_after old o t.lawful found))
+    at (Err p) w =
+        let none = gap_found (λ x. cmp x v) old.nodes (lawful_filled cmp old.size old.nodes t.lawful) (lawful_parted cmp old.size old.nodes t.lawful o v) (Err p) w p refl in
+        rw (absent_events cmp old.nodes v none old.size, ← absent_contents cmp old.nodes v none) (unchanged cmp old new (e ∙ absent_after cmp old v none))

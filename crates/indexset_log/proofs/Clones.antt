@@ -72,9 +72,6 @@ event_same C h e f clone =
     sym (remade_same d f) ∙ ((λ i. remade d (clone.0 i) (items i)) ∙ remade_same d e)
 
 module _ {T : Type 0} (C : T → T → Type 0) (s size : ℕ) (ns : List (List T)) (k i : ℕ) (x : T) where
-  pub taken_few : (fs : List (ChangeEvent T)) → AllZip (IsEventClone C) (numbered_from s (taking_events size ns k i x)) fs → length fs ≤ 3
-  taken_few fs h = omega (arith, length_all_zip (IsEventClone C) (numbered_from s (taking_events size ns k i x)) fs h, length-numbered s (taking_events size ns k i x), taking_length size ns k i x, two_at_most size ns k i)
-
   -- the events of a removal as the code adds them
   module _ {items : List (ChangeEvent T)} (e : ChangeEventUnassigned T) (first : IsEventClone C (assigned s (taking_event (node_at ns k) i x)) (assigned s e)) where
     pub one_cloned : join_after size ns k i ≡ None → items ≡ assigned s e ∷ [] → AllZip (IsEventClone C) (numbered_from s (taking_events size ns k i x)) items

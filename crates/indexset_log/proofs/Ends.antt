@@ -14,10 +14,12 @@ use Rattle.indexset_core.specs.Nodes.{joined, node_at, IsLawful}
 use Rattle.indexset_core.specs.Order.{IsAscending, IsFoundAt, above, below, put, without}
 use Rattle.indexset_core.specs.Pairs.{pair_keys}
 use Rattle.indexset_core.proofs.CallerLemmas.{equal_read, found_put, found_without, get_in_node, length-joined-more, located_found, parted_by_item, rank-slice_get, slice_get-right}
-use Rattle.indexset_log.specs.Edits.{with_taken}
-use Rattle.indexset_log.specs.Ends.{IsItemAt, removal_events_at}
+use Rattle.indexset_log.specs.Edits.{after_removal, after_taken, with_taken}
+use Rattle.indexset_log.specs.Ends.{IsItemAt, after_removal_at, removal_events_at}
 use Rattle.indexset_log.specs.Table.{removal_events, taking_count, taking_events}
-use Rattle.indexset_log.proofs.PlaceTakes.{place_contents, place_events}
+use Rattle.indexset_log.specs.Tree.{IsTree, Tree}
+use Rattle.indexset_log.proofs.Changed.{Changed, found_after, removal_changed, unchanged}
+use Rattle.indexset_log.proofs.PlaceTakes.{found_there, place_contents, place_events}
 use Rattle.indexset_log.proofs.Takes.{removal_few, some_read, taken_replay, taking_length}
 use Rattle.indexset_log.proofs.Views.{lawful_ascends}
 
@@ -65,6 +67,30 @@ module _ {T : Type 0} {cmp : T → T → Ordering} {size : ℕ} {ns : List (List
 
   pub item_count : length (removal_events_at cmp size ns i) ≡ taking_count size ns p.0 p.1
   item_count = let there = some_read (node_at ns p.0) p.1 at.offset_in in ap (λ q. length q) (item_events there.1) ∙ taking_length size ns p.0 p.1 there.0
+
+-- the tree after it
+module _ {T : Type 0} {cmp : T → T → Ordering} (old : Tree T) where
+  pub item_after : IsTotalOrder cmp → IsLawful cmp old.size old.nodes → {p : ℕ × ℕ} {i : ℕ} → IsItemAt old.nodes p i → {x : T} → slice_get (node_at old.nodes p.0) p.1 ≡ Some x → after_removal_at cmp old i ≡ after_taken old p.0 p.1
+  unfolding after_removal_at
+  item_after o law {p = p} at {x = x} here = rw (item_there o law at here) (found_after old o law (found_there cmp o old.size old.nodes law p at.node_in x here))
+
+pub none_after : {T : Type 0} (cmp : T → T → Ordering) (old : Tree T) (i : ℕ) → joined old.nodes ≡ [] → after_removal_at cmp old i ≡ old
+unfolding after_removal_at
+none_after cmp old i none = rw none refl
+
+remove_beyond : {X : Type 0} (l : List X) (i : ℕ) → slice_get l i ≡ None → l ≡ remove l i
+remove_beyond [] zero none = refl
+remove_beyond [] (suc i) none = refl
+remove_beyond (x ∷ l) zero none = cc
+remove_beyond (x ∷ l) (suc i) none = ap (λ q. x ∷ q) (remove_beyond l i none)
+
+pub popped_changed : {T : Type 0} {cmp : T → T → Ordering} {most len : ℕ} {old new : Tree T} → IsTotalOrder cmp → IsTree cmp most old.nodes old.size len → (i : ℕ) → new ≡ after_removal_at cmp old i → Changed cmp old new (remove (joined old.nodes) i) (removal_events_at cmp old.size old.nodes i)
+unfolding after_removal_at removal_events_at
+popped_changed {T = T} {cmp = cmp} {old = old} {new = new} o t i e = at (slice_get (joined old.nodes) i) refl e
+  where
+    at : (r : Option T) → slice_get (joined old.nodes) i ≡ r → new ≡ option_map_or (after_removal cmp old) r old → Changed cmp old new (remove (joined old.nodes) i) (option_map_or (λ x. removal_events cmp old.size old.nodes x) r [])
+    at None is e = rw (← remove_beyond (joined old.nodes) i is) (unchanged cmp old new e)
+    at (Some x) is e = rw (← without_there cmp o (joined old.nodes) (lawful_ascends cmp old.size old.nodes t.lawful) i x is) (removal_changed o t x e)
 
 pub few_at : {T : Type 0} (cmp : T → T → Ordering) (size : ℕ) (ns : List (List T)) (i : ℕ) → length (removal_events_at cmp size ns i) ≤ 3
 unfolding removal_events_at

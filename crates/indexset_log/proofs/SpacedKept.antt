@@ -151,13 +151,3 @@ module _ {T : Type 0} (cmp : T → T → Ordering) (size : ℕ) (two : 2 ≤ siz
               | Some j ↦ λ some. joined_spaced (size / 2) ns k j m (omega (arith, length-remove (node_at ns k) i here)) filled (pair_from (size / 2) (set ns k m) k j some) s
             ] refl
       ] refl
-
--- a call that puts v, or is refused and changes nothing
-pub put_kept : {T A E : Type 0} (cmp : T → T → Ordering) (o : IsTotalOrder cmp) {most len : ℕ} (old new : Tree T) → IsTree cmp most old.nodes old.size len → (v : T) (r : Result A E) → OnOk r (new.nodes ≡ with_put cmp old.size old.nodes v) → OnErr r (new ≡ old) → new.size ≡ old.size → IsSpaced (old.size / 2) old.nodes → IsSpaced (new.size / 2) new.nodes
-put_kept cmp o old new t v (Ok x) made same size s = rw (size, made) (put_spaced cmp o old.size t.two old.nodes v t.lawful s)
-put_kept cmp o old new t v (Err e) made same size s = subst (λ q. IsSpaced (q.size / 2) q.nodes) (sym same) s
-
--- a call that removes the item at place i of the node at place k, or is refused and changes nothing
-pub taken_kept : {T A E : Type 0} (cmp : T → T → Ordering) {most len : ℕ} (old new : Tree T) → IsTree cmp most old.nodes old.size len → (k i : ℕ) → k < length old.nodes → i < length (node_at old.nodes k) → (r : Result A E) → OnOk r (new.nodes ≡ with_taken old.size old.nodes k i) → OnErr r (new ≡ old) → new.size ≡ old.size → IsSpaced (old.size / 2) old.nodes → IsSpaced (new.size / 2) new.nodes
-taken_kept cmp old new t k i inside here (Ok x) made same size s = rw (size, made) (taken_spaced cmp old.size t.two old.nodes k i t.lawful inside here s)
-taken_kept cmp old new t k i inside here (Err e) made same size s = subst (λ q. IsSpaced (q.size / 2) q.nodes) (sym same) s

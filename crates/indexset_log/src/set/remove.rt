@@ -1,10 +1,9 @@
 //! Calls that remove items.
 ghost use Rattle.std.specs.Prelude.{◌≡◌, ℕ, ◌+◌, ◌/◌, ◌<◌, ◌≤◌, [], length, set, remove, slice_get, Some, None, false, IfOk, OnOk, IfErr, OnErr, IsOk, IfSome};
-ghost use Rattle.std.specs.List.{AllZip};
 ghost use Rattle.indexset_core.specs.Nodes.{joined, node_at};
 ghost use Rattle.indexset_core.specs.Order.{equal_element, has_equal, without};
-ghost use Rattle.indexset_log.specs.Clones.{IsEventClone};
-ghost use Rattle.indexset_log.specs.Edits.{with_taken};
+ghost use Rattle.indexset_log.specs.Clones.{IsEventClone, IsTold};
+ghost use Rattle.indexset_log.specs.Edits.{after_removal, after_taken, with_taken};
 ghost use Rattle.indexset_log.specs.Joining.{are_small, IsSpaced, join_after, with_joined, item_removed};
 ghost use Rattle.indexset_log.specs.Nodes.{last_of};
 ghost use Rattle.indexset_log.specs.Replay.{assigned, replay, numbered_from, IsNumberedFrom};
@@ -30,10 +29,15 @@ impl<T: Ord + Clone + Drop, Node: NodeLike<T>> BTreeSet<T, Node> {
     /// assert!(rt; removed == Some(5) && events.len() == 1);
     /// ```
     pub fn remove_cdc(&mut self, value: &T) -> Result<(Option<T>, Vec<ChangeEvent<T>>), Refusal>
+        ensures tree { OnOk result (self.new ≡ after_removal T.cmp self.old value.now) }
         ensures answer { IfOk result (λ r. r.0 ≡ equal_element T.cmp (joined self.old.nodes) value.now) }
+        ensures clones { IfOk result (λ r. IsTold T.is_clone self.old.next (removal_events T.cmp self.old.size self.old.nodes value.now) r.1.items) }
+        ensures refusal { IfErr result (λ e. e ≡ refusal_for self.old.next (length (removal_events T.cmp self.old.size self.old.nodes value.now))) }
+        ensures no_event { removal_events T.cmp self.old.size self.old.nodes value.now ≡ [] → IsOk result }
+        ensures unchanged { OnErr result (self.new ≡ self.old) }
+        // What callers prove by.
         ensures contents { OnOk result (joined self.new.nodes ≡ without T.cmp (joined self.old.nodes) value.now) }
         ensures gone { OnOk result (has_equal T.cmp (joined self.new.nodes) value.now ≡ false) }
-        ensures clones { IfOk result (λ r. AllZip (IsEventClone T.is_clone) (numbered_from self.old.next (removal_events T.cmp self.old.size self.old.nodes value.now)) r.1.items) }
         ensures events { ((x y : T) → T.is_clone x y → y ≡ x) → IfOk result (λ r. r.1.items ≡ numbered_from self.old.next (removal_events T.cmp self.old.size self.old.nodes value.now)) }
         ensures numbered { IfOk result (λ r. IsNumberedFrom self.old.next r.1.items) }
         ensures replay { ((x y : T) → T.is_clone x y → y ≡ x) → IfOk result (λ r. replay T.cmp self.old.nodes r.1.items ≡ Some self.new.nodes) }
@@ -43,9 +47,6 @@ impl<T: Ord + Clone + Drop, Node: NodeLike<T>> BTreeSet<T, Node> {
         ensures spaced { IsSpaced (self.old.size / 2) self.old.nodes → IsSpaced (self.new.size / 2) self.new.nodes }
         ensures next { OnOk result (self.new.next ≡ self.old.next + length (removal_events T.cmp self.old.size self.old.nodes value.now)) }
         ensures fits { OnOk result (self.old.next + length (removal_events T.cmp self.old.size self.old.nodes value.now) ≤ u64.MAX) }
-        ensures refusal { IfErr result (λ e. e ≡ refusal_for self.old.next (length (removal_events T.cmp self.old.size self.old.nodes value.now))) }
-        ensures no_event { removal_events T.cmp self.old.size self.old.nodes value.now ≡ [] → IsOk result }
-        ensures unchanged { OnErr result (self.new ≡ self.old) }
     {
         match self.place_of(value) {
             Some((node, offset)) => {
@@ -65,9 +66,13 @@ impl<T: Ord + Clone + Drop, Node: NodeLike<T>> BTreeSet<T, Node> {
     ) -> Result<(T, Vec<ChangeEvent<T>>), Refusal>
         requires node { node < length self.old.nodes }
         requires offset { offset < length (node_at self.old.nodes node) }
+        ensures tree { OnOk result (self.new ≡ after_taken self.old node offset) }
         ensures item { IfOk result (λ r. slice_get (node_at self.old.nodes node) offset ≡ Some r.0) }
+        ensures clones { IfOk result (λ r. IsTold T.is_clone self.old.next (taking_events self.old.size self.old.nodes node offset r.0) r.1.items) }
+        ensures refusal { IfErr result (λ e. e ≡ refusal_for self.old.next (taking_count self.old.size self.old.nodes node offset)) }
+        ensures unchanged { OnErr result (self.new ≡ self.old) }
+        // What callers prove by.
         ensures nodes { OnOk result (self.new.nodes ≡ with_taken self.old.size self.old.nodes node offset) }
-        ensures clones { IfOk result (λ r. AllZip (IsEventClone T.is_clone) (numbered_from self.old.next (taking_events self.old.size self.old.nodes node offset r.0)) r.1.items) }
         ensures events { ((x y : T) → T.is_clone x y → y ≡ x) → IfOk result (λ r. r.1.items ≡ numbered_from self.old.next (taking_events self.old.size self.old.nodes node offset r.0)) }
         ensures numbered { IfOk result (λ r. IsNumberedFrom self.old.next r.1.items) }
         ensures replay { ((x y : T) → T.is_clone x y → y ≡ x) → IfOk result (λ r. replay T.cmp self.old.nodes r.1.items ≡ Some self.new.nodes) }
@@ -77,8 +82,6 @@ impl<T: Ord + Clone + Drop, Node: NodeLike<T>> BTreeSet<T, Node> {
         ensures spaced { IsSpaced (self.old.size / 2) self.old.nodes → IsSpaced (self.new.size / 2) self.new.nodes }
         ensures next { OnOk result (self.new.next ≡ self.old.next + taking_count self.old.size self.old.nodes node offset) }
         ensures fits { OnOk result (self.old.next + taking_count self.old.size self.old.nodes node offset ≤ u64.MAX) }
-        ensures refusal { IfErr result (λ e. e ≡ refusal_for self.old.next (taking_count self.old.size self.old.nodes node offset)) }
-        ensures unchanged { OnErr result (self.new ≡ self.old) }
     {
         // The nodes are lawful.
         let _nodes = &self.nodes;
@@ -93,7 +96,14 @@ impl<T: Ord + Clone + Drop, Node: NodeLike<T>> BTreeSet<T, Node> {
     /// fails with `Numbers` where they do not fit. It allocates only where it joins two nodes of a type
     /// that allocates, and else does not fail with `Memory`. A failed call changes nothing.
     pub fn remove(&mut self, value: &T) -> Result<Option<T>, Refusal>
+        ensures tree { OnOk result (self.new ≡ after_removal T.cmp self.old value.now) }
         ensures answer { IfOk result (λ item. item ≡ equal_element T.cmp (joined self.old.nodes) value.now) }
+        ensures refusal { IfErr result (λ e. e ≡ refusal_for self.old.next (length (removal_events T.cmp self.old.size self.old.nodes value.now))) }
+        ensures no_event { removal_events T.cmp self.old.size self.old.nodes value.now ≡ [] → IsOk result }
+        ensures no_memory { length (removal_events T.cmp self.old.size self.old.nodes value.now) ≤ 1 → self.old.next + length (removal_events T.cmp self.old.size self.old.nodes value.now) ≤ u64.MAX → IsOk result }
+        ensures never { Node.allocates ≡ false → self.old.next + length (removal_events T.cmp self.old.size self.old.nodes value.now) ≤ u64.MAX → IsOk result }
+        ensures unchanged { OnErr result (self.new ≡ self.old) }
+        // What callers prove by.
         ensures contents { OnOk result (joined self.new.nodes ≡ without T.cmp (joined self.old.nodes) value.now) }
         ensures gone { OnOk result (has_equal T.cmp (joined self.new.nodes) value.now ≡ false) }
         ensures replay { OnOk result (replay T.cmp self.old.nodes (numbered_from self.old.next (removal_events T.cmp self.old.size self.old.nodes value.now)) ≡ Some self.new.nodes) }
@@ -102,11 +112,6 @@ impl<T: Ord + Clone + Drop, Node: NodeLike<T>> BTreeSet<T, Node> {
         ensures spaced { IsSpaced (self.old.size / 2) self.old.nodes → IsSpaced (self.new.size / 2) self.new.nodes }
         ensures next { OnOk result (self.new.next ≡ self.old.next + length (removal_events T.cmp self.old.size self.old.nodes value.now)) }
         ensures fits { OnOk result (self.old.next + length (removal_events T.cmp self.old.size self.old.nodes value.now) ≤ u64.MAX) }
-        ensures refusal { IfErr result (λ e. e ≡ refusal_for self.old.next (length (removal_events T.cmp self.old.size self.old.nodes value.now))) }
-        ensures no_event { removal_events T.cmp self.old.size self.old.nodes value.now ≡ [] → IsOk result }
-        ensures no_memory { length (removal_events T.cmp self.old.size self.old.nodes value.now) ≤ 1 → self.old.next + length (removal_events T.cmp self.old.size self.old.nodes value.now) ≤ u64.MAX → IsOk result }
-        ensures never { Node.allocates ≡ false → self.old.next + length (removal_events T.cmp self.old.size self.old.nodes value.now) ≤ u64.MAX → IsOk result }
-        ensures unchanged { OnErr result (self.new ≡ self.old) }
     {
         // The counter fits a u64, so a call without events lacks no number.
         let _next = self.next;
@@ -122,7 +127,13 @@ impl<T: Ord + Clone + Drop, Node: NodeLike<T>> BTreeSet<T, Node> {
     pub fn remove_at(&mut self, node: usize, offset: usize) -> Result<T, Refusal>
         requires node { node < length self.old.nodes }
         requires offset { offset < length (node_at self.old.nodes node) }
+        ensures tree { OnOk result (self.new ≡ after_taken self.old node offset) }
         ensures item { IfOk result (λ item. slice_get (node_at self.old.nodes node) offset ≡ Some item) }
+        ensures refusal { IfErr result (λ e. e ≡ refusal_for self.old.next (taking_count self.old.size self.old.nodes node offset)) }
+        ensures no_memory { taking_count self.old.size self.old.nodes node offset ≡ 1 → self.old.next + 1 ≤ u64.MAX → IsOk result }
+        ensures never { Node.allocates ≡ false → self.old.next + taking_count self.old.size self.old.nodes node offset ≤ u64.MAX → IsOk result }
+        ensures unchanged { OnErr result (self.new ≡ self.old) }
+        // What callers prove by.
         ensures nodes { OnOk result (self.new.nodes ≡ with_taken self.old.size self.old.nodes node offset) }
         ensures replay { IfOk result (λ item. replay T.cmp self.old.nodes (numbered_from self.old.next (taking_events self.old.size self.old.nodes node offset item)) ≡ Some self.new.nodes) }
         ensures few { taking_count self.old.size self.old.nodes node offset ≤ 3 }
@@ -130,10 +141,6 @@ impl<T: Ord + Clone + Drop, Node: NodeLike<T>> BTreeSet<T, Node> {
         ensures spaced { IsSpaced (self.old.size / 2) self.old.nodes → IsSpaced (self.new.size / 2) self.new.nodes }
         ensures next { OnOk result (self.new.next ≡ self.old.next + taking_count self.old.size self.old.nodes node offset) }
         ensures fits { OnOk result (self.old.next + taking_count self.old.size self.old.nodes node offset ≤ u64.MAX) }
-        ensures refusal { IfErr result (λ e. e ≡ refusal_for self.old.next (taking_count self.old.size self.old.nodes node offset)) }
-        ensures no_memory { taking_count self.old.size self.old.nodes node offset ≡ 1 → self.old.next + 1 ≤ u64.MAX → IsOk result }
-        ensures never { Node.allocates ≡ false → self.old.next + taking_count self.old.size self.old.nodes node offset ≤ u64.MAX → IsOk result }
-        ensures unchanged { OnErr result (self.new ≡ self.old) }
     {
         // The nodes are lawful.
         let _nodes = &self.nodes;
@@ -210,8 +217,7 @@ impl<T: Ord + Clone + Drop, Node: NodeLike<T>> BTreeSet<T, Node> {
         requires offset { offset < length (node_at self.now.nodes node) }
         requires join { join ≡ join_after self.now.size self.now.nodes node offset }
         requires numbers { self.now.next + count_with join ≤ u64.MAX }
-        ensures clones { IfOk result (λ events. IfSome (slice_get (node_at self.now.nodes node) offset) (λ x. AllZip (IsEventClone T.is_clone) (numbered_from self.now.next (taking_events self.now.size self.now.nodes node offset x)) events.items)) }
-        ensures events { ((x y : T) → T.is_clone x y → y ≡ x) → IfOk result (λ events. IfSome (slice_get (node_at self.now.nodes node) offset) (λ x. events.items ≡ numbered_from self.now.next (taking_events self.now.size self.now.nodes node offset x))) }
+        ensures told { IfOk result (λ events. IfSome (slice_get (node_at self.now.nodes node) offset) (λ x. IsTold T.is_clone self.now.next (taking_events self.now.size self.now.nodes node offset x) events.items)) }
         ensures refusal { IfErr result (λ e. e ≡ Refusal.Memory) }
     {
         let mut log = Log::new(*self.nodes.allocator(), self.next);
@@ -230,7 +236,6 @@ impl<T: Ord + Clone + Drop, Node: NodeLike<T>> BTreeSet<T, Node> {
         requires node { node < length self.now.nodes }
         requires offset { offset < length (node_at self.now.nodes node) }
         ensures clones { (s : ℕ) → IfOk result (λ event. IfSome (slice_get (node_at self.now.nodes node) offset) (λ x. IsEventClone T.is_clone (assigned s (taking_event (node_at self.now.nodes node) offset x)) (assigned s event))) }
-        ensures event { ((x y : T) → T.is_clone x y → y ≡ x) → IfOk result (λ event. IfSome (slice_get (node_at self.now.nodes node) offset) (λ x. event ≡ taking_event (node_at self.now.nodes node) offset x)) }
         ensures refusal { IfErr result (λ e. e ≡ Refusal.Memory) }
     {
         let items = self.nodes[node].iter().as_slice();
@@ -257,7 +262,6 @@ impl<T: Ord + Clone + Drop, Node: NodeLike<T>> BTreeSet<T, Node> {
         requires offset { offset < length (node_at self.now.nodes node) }
         requires join { join_after self.now.size self.now.nodes node offset ≡ Some left }
         ensures clones { (s : ℕ) (d : T) → IfOk result (λ event. IsEventClone T.is_clone (assigned s (joining_event (item_removed self.now.nodes node offset) d left)) (assigned s event)) }
-        ensures event { ((x y : T) → T.is_clone x y → y ≡ x) → IfOk result (λ event. (d : T) → event ≡ joining_event (item_removed self.now.nodes node offset) d left) }
         ensures refusal { IfErr result (λ e. e ≡ Refusal.Memory) }
     {
         // A usize counts the nodes.
@@ -290,10 +294,8 @@ impl<T: Ord + Clone + Drop, Node: NodeLike<T>> BTreeSet<T, Node> {
         requires offset { offset < length (node_at self.old.nodes node) }
         requires join { join ≡ join_after self.old.size self.old.nodes node offset }
         requires numbers { self.old.next + count_with join ≤ u64.MAX }
+        ensures tree { OnOk result (self.new ≡ after_taken self.old node offset) }
         ensures item { IfOk result (λ item. slice_get (node_at self.old.nodes node) offset ≡ Some item) }
-        ensures nodes { OnOk result (self.new.nodes ≡ with_taken self.old.size self.old.nodes node offset) }
-        ensures size { self.new.size ≡ self.old.size }
-        ensures next { OnOk result (self.new.next ≡ self.old.next + count_with join) }
         ensures refusal { IfErr result (λ e. e ≡ Refusal.Memory) }
         ensures no_memory { join ≡ None → IsOk result }
         ensures never { Node.allocates ≡ false → IsOk result }
@@ -312,10 +314,8 @@ impl<T: Ord + Clone + Drop, Node: NodeLike<T>> BTreeSet<T, Node> {
         requires offset { offset < length (node_at self.old.nodes node) }
         requires join { join_after self.old.size self.old.nodes node offset ≡ Some left }
         requires numbers { self.old.next + 2 ≤ u64.MAX }
+        ensures tree { OnOk result (self.new ≡ after_taken self.old node offset) }
         ensures item { IfOk result (λ item. slice_get (node_at self.old.nodes node) offset ≡ Some item) }
-        ensures nodes { OnOk result (self.new.nodes ≡ with_joined (item_removed self.old.nodes node offset) left) }
-        ensures size { self.new.size ≡ self.old.size }
-        ensures next { OnOk result (self.new.next ≡ self.old.next + 2) }
         ensures refusal { IfErr result (λ e. e ≡ Refusal.Memory) }
         ensures never { Node.allocates ≡ false → IsOk result }
         ensures unchanged { OnErr result (self.new ≡ self.old) }
@@ -330,11 +330,10 @@ impl<T: Ord + Clone + Drop, Node: NodeLike<T>> BTreeSet<T, Node> {
     fn take_out(&mut self, node: usize, offset: usize) -> T
         requires node { node < length self.old.nodes }
         requires offset { offset < length (node_at self.old.nodes node) }
+        requires join { join_after self.old.size self.old.nodes node offset ≡ None }
         requires number { self.old.next < u64.MAX }
+        ensures tree { self.new ≡ after_taken self.old node offset }
         ensures item { slice_get (node_at self.old.nodes node) offset ≡ Some result }
-        ensures nodes { self.new.nodes ≡ item_removed self.old.nodes node offset }
-        ensures size { self.new.size ≡ self.old.size }
-        ensures next { self.new.next ≡ self.old.next + 1 }
     {
         self.next += 1;
         self.len -= 1;

@@ -1,14 +1,10 @@
 use Rattle.std.proofs.Common.{length, arith, ap, sym, refl, ◌∙◌}
 use Rattle.std.proofs.lemmas.Bool.{false≢true}
 use Rattle.std.proofs.lemmas.Grind.{common_steps}
-use Rattle.indexset_core.specs.Nodes.{joined}
-use Rattle.indexset_log.proofs.Ends.{few_at, item_contents, item_count, item_events, item_there, no_events_at, remove_nothing}
+use Rattle.indexset_log.proofs.Ends.{item_after, item_count, item_there, no_events_at, none_after}
 use Rattle.indexset_log.proofs.Takes.{some_taken}
 use Rattle.indexset_log.proofs.Trees.{held}
 use Rattle.indexset_log.proofs.set.BTreeSet.pop_at.Goals as goal
-
-pub returns-in_err-remove_at-in-Some-clause-few : goal.returns-in_err-remove_at-in-Some-clause-few
-returns-in_err-remove_at-in-Some-clause-few g c = few_at g.T.Ord.cmp c.args.self.now.size c.args.self.now.nodes g.i
 
 pub returns-in_err-remove_at-in-Some-clause-refusal : goal.returns-in_err-remove_at-in-Some-clause-refusal
 returns-in_err-remove_at-in-Some-clause-refusal g c =
@@ -39,16 +35,10 @@ returns-in_ok-remove_at-in-Some g c =
     let t = held g.Node.NodeLike.list c.self.inside.nodes.items c.self.view_is c.self.invariant in
     let there = rw c.in-Some.is at c.requires.1.1 in
     let done = c.in_ok-remove_at-in-Some.ensures in
-    let count = item_count g.met.T.Ord.total t.rule.lawful there in
     record {
+      tree = done.tree ∙ sym (item_after c.args.self.now g.met.T.Ord.total t.rule.lawful there done.item);
       answer = sym (item_there g.met.T.Ord.total t.rule.lawful there done.item);
-      contents = ap joined done.nodes ∙ item_contents g.met.T.Ord.total t.rule.lawful there done.item;
-      replay = rw (item_events g.met.T.Ord.total t.rule.lawful there done.item) done.replay;
-      few = few_at g.T.Ord.cmp c.args.self.now.size c.args.self.now.nodes g.i;
-      size = done.size;
-      spaced = done.spaced;
-      next = rw count done.next;
-      fits = rw count done.fits;
+      fits = rw (item_count g.met.T.Ord.total t.rule.lawful there) done.fits;
       refusal = tt;
       no_event = λ _. refl;
       no_memory = λ _ _. refl;
@@ -60,16 +50,10 @@ pub returns-in-None : goal.returns-in-None
 returns-in-None g c =
     let t = held g.Node.NodeLike.list c.self.inside.nodes.items c.self.view_is c.self.invariant in
     let none = rw c.in-None.is at c.requires.1.1 in
-    let events = no_events_at g.T.Ord.cmp c.args.self.now.size c.args.self.now.nodes g.i none in
     record {
+      tree = sym (none_after g.T.Ord.cmp c.args.self.now g.i none);
       answer = rw none refl;
-      contents = remove_nothing (joined c.args.self.now.nodes) g.i none;
-      replay = rw events refl;
-      few = few_at g.T.Ord.cmp c.args.self.now.size c.args.self.now.nodes g.i;
-      size = refl;
-      spaced = λ spaced. spaced;
-      next = rw events (omega arith);
-      fits = rw events (omega (arith, t.numbered));
+      fits = rw (no_events_at g.T.Ord.cmp c.args.self.now.size c.args.self.now.nodes g.i none) (omega (arith, t.numbered));
       refusal = tt;
       no_event = λ _. refl;
       no_memory = λ _ _. refl;

@@ -1,7 +1,6 @@
 use Rattle.std.proofs.Common.{length, arith, ap, sym, refl, ◌∙◌}
 use Rattle.std.proofs.lemmas.Grind.{common_steps}
-use Rattle.indexset_core.specs.Nodes.{joined}
-use Rattle.indexset_log.proofs.Ends.{item_contents, item_count, item_events, item_there, no_events_at, remove_nothing}
+use Rattle.indexset_log.proofs.Ends.{item_after, item_count, item_events, item_there, no_events_at, none_after}
 use Rattle.indexset_log.proofs.Takes.{some_taken}
 use Rattle.indexset_log.proofs.Trees.{held}
 use Rattle.indexset_log.proofs.set.BTreeSet.pop_at_cdc.Goals as goal
@@ -23,21 +22,11 @@ returns-in_ok-item-in-Some g c =
     let t = held g.Node.NodeLike.list c.self.inside.nodes.items c.self.view_is c.self.invariant in
     let there = rw c.in-Some.is at c.requires.1.1 in
     let done = c.in_ok-item-in-Some.ensures in
-    let events = item_events g.met.T.Ord.total t.rule.lawful there done.item in
-    let count = item_count g.met.T.Ord.total t.rule.lawful there in
     record {
+      tree = done.tree ∙ sym (item_after c.args.self.now g.met.T.Ord.total t.rule.lawful there done.item);
       answer = sym (item_there g.met.T.Ord.total t.rule.lawful there done.item);
-      contents = ap joined done.nodes ∙ item_contents g.met.T.Ord.total t.rule.lawful there done.item;
-      clones = rw events done.clones;
-      events = λ h. rw events (done.events h);
-      numbered = done.numbered;
-      replay = done.replay;
-      table = rw events done.table;
-      few = done.few;
-      size = done.size;
-      spaced = done.spaced;
-      next = rw count done.next;
-      fits = rw count done.fits;
+      told = rw (item_events g.met.T.Ord.total t.rule.lawful there done.item) done.clones;
+      fits = rw (item_count g.met.T.Ord.total t.rule.lawful there) done.fits;
       refusal = tt;
       no_event = λ _. refl;
       unchanged = tt;
@@ -49,17 +38,9 @@ returns-in-None g c =
     let none = rw c.in-None.is at c.requires.1.1 in
     let events = no_events_at g.T.Ord.cmp c.args.self.now.size c.args.self.now.nodes g.i none in
     record {
+      tree = sym (none_after g.T.Ord.cmp c.args.self.now g.i none);
       answer = rw none refl;
-      contents = remove_nothing (joined c.args.self.now.nodes) g.i none;
-      clones = rw (events, c.new.ensures.items) tt;
-      events = λ _. rw events (grind (arith, common_steps));
-      numbered = grind (arith, common_steps);
-      replay = λ _. rw c.new.ensures.items refl;
-      table = rw events refl;
-      few = rw c.new.ensures.items (omega arith);
-      size = refl;
-      spaced = λ spaced. spaced;
-      next = rw events (omega arith);
+      told = rw (events, c.new.ensures.items) tt;
       fits = rw events (omega (arith, t.numbered));
       refusal = tt;
       no_event = λ _. refl;

@@ -4,6 +4,7 @@ use Rattle.std.proofs.lemmas.Grind.{common_steps}
 use Rattle.indexset_core.specs.Nodes.{joined}
 use Rattle.indexset_core.specs.Order.{has_equal}
 use Rattle.indexset_core.proofs.CallerLemmas.{has_none}
+use Rattle.indexset_log.proofs.Changed.{absent_after, found_after}
 use Rattle.indexset_log.proofs.Takes.{found_events, found_count, found_contents, removal_few, some_taken, absent_events, absent_contents}
 use Rattle.indexset_log.proofs.Trees.{held}
 use Rattle.indexset_log.proofs.set.BTreeSet.remove.Goals as goal
@@ -40,6 +41,7 @@ returns-in_ok-remove_at-in-Some g c =
     let found = c.in-Some.ensures in
     let done = c.in_ok-remove_at-in-Some.ensures in
     record {
+      tree = done.tree ∙ sym (found_after c.args.self.now g.met.T.Ord.total t.rule.lawful found);
       answer = sym done.item ∙ found.item;
       contents = ap joined done.nodes ∙ found_contents g.met.T.Ord.total t.rule.lawful found done.item;
       gone = ap (λ l. has_equal g.T.Ord.cmp l c.args.value.now) (ap joined done.nodes ∙ found_contents g.met.T.Ord.total t.rule.lawful found done.item) ∙ has_none g.T.Ord.cmp (joined c.args.self.now.nodes) c.args.value.now;
@@ -61,6 +63,7 @@ returns-in-None g c =
     let t = held g.Node.NodeLike.list c.self.inside.nodes.items c.self.view_is c.self.invariant in
     let events = absent_events g.T.Ord.cmp c.args.self.now.nodes c.args.value.now c.in-None.ensures c.args.self.now.size in
     record {
+      tree = sym (absent_after g.T.Ord.cmp c.args.self.now c.args.value.now c.in-None.ensures);
       answer = sym c.in-None.ensures;
       contents = absent_contents g.T.Ord.cmp c.args.self.now.nodes c.args.value.now c.in-None.ensures;
       gone = ap (λ l. has_equal g.T.Ord.cmp l c.args.value.now) (absent_contents g.T.Ord.cmp c.args.self.now.nodes c.args.value.now c.in-None.ensures) ∙ has_none g.T.Ord.cmp (joined c.args.self.now.nodes) c.args.value.now;

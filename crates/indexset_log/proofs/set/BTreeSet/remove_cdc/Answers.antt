@@ -3,6 +3,7 @@ use Rattle.std.proofs.lemmas.Grind.{common_steps}
 use Rattle.indexset_core.specs.Nodes.{joined}
 use Rattle.indexset_core.specs.Order.{has_equal}
 use Rattle.indexset_core.proofs.CallerLemmas.{has_none}
+use Rattle.indexset_log.proofs.Changed.{absent_after, found_after}
 use Rattle.indexset_log.proofs.Takes.{found_events, found_count, found_contents, some_taken, absent_events, absent_contents}
 use Rattle.indexset_log.proofs.Trees.{held}
 use Rattle.indexset_log.proofs.set.BTreeSet.remove_cdc.Goals as goal
@@ -24,6 +25,7 @@ returns-in_ok-item-in-Some g c =
     let done = c.in_ok-item-in-Some.ensures in
     let count = found_count g.met.T.Ord.total t.rule.lawful found in
     record {
+      tree = done.tree ∙ sym (found_after c.args.self.now g.met.T.Ord.total t.rule.lawful found);
       answer = sym done.item ∙ found.item;
       contents = ap joined done.nodes ∙ found_contents g.met.T.Ord.total t.rule.lawful found done.item;
       gone = ap (λ l. has_equal g.T.Ord.cmp l c.args.value.now) (ap joined done.nodes ∙ found_contents g.met.T.Ord.total t.rule.lawful found done.item) ∙ has_none g.T.Ord.cmp (joined c.args.self.now.nodes) c.args.value.now;
@@ -41,6 +43,9 @@ returns-in_ok-item-in-Some g c =
       no_event = λ _. refl;
       unchanged = tt;
     }
+
+pub returns-in-None-clause-tree : goal.returns-in-None-clause-tree
+returns-in-None-clause-tree g c = sym (absent_after g.T.Ord.cmp c.args.self.now c.args.value.now c.in-None.ensures)
 
 pub returns-in-None-clause-contents : goal.returns-in-None-clause-contents
 returns-in-None-clause-contents g c = absent_contents g.T.Ord.cmp c.args.self.now.nodes c.args.value.now c.in-None.ensures
