@@ -1,5 +1,5 @@
 -- What callers learn of a change that one equation says.
-use Rattle.std.proofs.Common.{◌≡◌, ℕ, ◌+◌, ◌/◌, ◌<◌, ◌≤◌, true, false, List, [], length, slice_get, Some, None, Result, Ok, Err, IfOk, OnOk, OnErr, Ordering, refl, ap, sym, ◌∙◌, subst, arith}
+use Rattle.std.proofs.Common.{◌≡◌, ℕ, ◌+◌, ◌/◌, ◌<◌, ◌≤◌, true, false, List, [], length, slice_get, Option, Some, None, IfSome, MatchOption, Result, Ok, Err, IfOk, OnOk, OnErr, Ordering, refl, ap, sym, ◌∙◌, subst, arith}
 use Rattle.std.specs.Cmp.{IsTotalOrder}
 use Rattle.std.proofs.lemmas.List.Elements.{length_all_zip, same_from_all_zip}
 use Rattle.std.proofs.lemmas.Option.{slice_get_within}
@@ -11,7 +11,8 @@ use Rattle.indexset_log.specs.Edits.{after_put, after_removal, after_taken, with
 use Rattle.indexset_log.specs.Joining.{IsSpaced, item_removed, join_after, with_joined}
 use Rattle.indexset_log.specs.Located.{located, IsFoundIn}
 use Rattle.indexset_log.specs.Replay.{IsNumberedFrom, numbered_from, replay}
-use Rattle.indexset_log.specs.Table.{checked_put_events, put_events, removal_events, taking_events}
+use Rattle.indexset_log.specs.Table.{checked_put_events, put_events, removal_events, taking_count, taking_events}
+use Rattle.indexset_log.specs.Taking.{after_taking, events_from, item_from}
 use Rattle.indexset_log.specs.Tree.{IsTree, Tree}
 use Rattle.indexset_log.specs.declared.change.ChangeEvent.{ChangeEvent}
 use Rattle.indexset_log.specs.declared.change.ChangeEventUnassigned.{ChangeEventUnassigned}
@@ -126,6 +127,25 @@ module _ {T : Type 0} {cmp : T → T → Ordering} (old : Tree T) where
 pub absent_after : {T : Type 0} (cmp : T → T → Ordering) (old : Tree T) (v : T) → equal_element cmp (joined old.nodes) v ≡ None → after_removal cmp old v ≡ old
 unfolding after_removal
 absent_after cmp old v none = rw (absent_here cmp old.nodes v none) refl
+
+-- what goes from a place, if any
+pub record Goes {T : Type 0} (old : Tree T) (place : Option (ℕ × ℕ)) (answer : Option T) (es : List (ChangeEventUnassigned T)) (new : Tree T) : Type 0 where
+  pub inside : IfSome place (λ p. (p.0 < length old.nodes) × (p.1 < length (node_at old.nodes p.0)))
+  pub item : item_from old.nodes place ≡ answer
+  pub events : events_from old place ≡ es
+  pub after : after_taking old place ≡ new
+
+pub value_goes : {T : Type 0} {cmp : T → T → Ordering} {old : Tree T} → IsTotalOrder cmp → IsLawful cmp old.size old.nodes → (v : T) (place : Option (ℕ × ℕ)) → MatchOption place (equal_element cmp (joined old.nodes) v ≡ None) (λ p. IsFoundIn cmp old.nodes v p.0 p.1) → Goes old place (equal_element cmp (joined old.nodes) v) (removal_events cmp old.size old.nodes v) (after_removal cmp old v)
+value_goes {cmp = cmp} {old = old} o law v None none = record { inside = tt; item = sym none; events = sym (absent_events cmp old.nodes v none old.size); after = sym (absent_after cmp old v none) }
+value_goes {cmp = cmp} {old = old} o law v (Some p) found =
+    let x = some_read (node_at old.nodes p.0) p.1 found.here.inside in
+    record { inside = (found.node_in, found.here.inside); item = found.item; events = rw x.1 (sym (found_events o law found x.1)); after = sym (found_after old o law found) }
+
+-- how many events that gives
+pub events_counted : {T : Type 0} (old : Tree T) (k i : ℕ) → i < length (node_at old.nodes k) → length (events_from old (Some (k, i))) ≡ taking_count old.size old.nodes k i
+events_counted old k i here =
+    let x = some_read (node_at old.nodes k) i here in
+    rw x.1 (taking_length old.size old.nodes k i x.0)
 
 pub unchanged : {T : Type 0} (cmp : T → T → Ordering) (old new : Tree T) → new ≡ old → Changed cmp old new (joined old.nodes) []
 unchanged cmp old new same = subst (λ t. Changed cmp old t (joined old.nodes) []) (sym same) (record { contents = refl; size = refl; next = omega arith; table = refl; few = omega arith; spaced = λ s. s })

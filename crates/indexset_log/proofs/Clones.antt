@@ -1,7 +1,7 @@
 -- What clones of numbered events keep.
-use Rattle.std.proofs.Common.{◌≡◌, ℕ, ◌≤◌, ◌+◌, List, [], ◌∷◌, ◌++◌, length, get_or, refl, ap, sym, ◌∙◌, arith, Some, None, Ordering, zero, suc}
+use Rattle.std.proofs.Common.{◌≡◌, ℕ, ◌+◌, List, [], ◌∷◌, ◌++◌, get_or, refl, ap, sym, ◌∙◌, arith, Some, None, zero, suc}
 use Rattle.std.specs.List.{AllZip}
-use Rattle.std.proofs.lemmas.List.Elements.{length_all_zip, same_from_all_zip}
+use Rattle.std.proofs.lemmas.List.Elements.{same_from_all_zip}
 use Rattle.indexset_core.specs.Nodes.{node_at}
 use Rattle.indexset_core.specs.declared.pair.Pair.{Pair}
 use Rattle.indexset_log.specs.Clones.{IsEventClone, event_items, event_shape}
@@ -11,8 +11,7 @@ use Rattle.indexset_log.specs.Table.{joining_event, taking_event, taking_events}
 use Rattle.indexset_log.specs.declared.change.ChangeEvent.{ChangeEvent}
 use Rattle.indexset_log.specs.declared.change.ChangeEvent.TheVariants as numbered
 use Rattle.indexset_log.specs.declared.change.ChangeEventUnassigned.{ChangeEventUnassigned}
-use Rattle.indexset_log.proofs.Takes.{taking_length, two_at_most}
-use Rattle.indexset_log.proofs.Theorem.{length-numbered, number_on}
+use Rattle.indexset_log.proofs.Theorem.{number_on}
 
 pub zip_on : {X : Type 0} (R : X → X → Type 0) (a b p q : List X) → AllZip R a p → AllZip R b q → AllZip R (a ++ b) (p ++ q)
 zip_on R [] b [] q h k = k

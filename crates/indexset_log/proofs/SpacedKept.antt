@@ -1,5 +1,5 @@
 -- Puts and removals keep neighbours that hold more than half the node size together.
-use Rattle.std.proofs.Common.{◌≡◌, ℕ, zero, suc, ◌+◌, ◌/◌, ◌<◌, ◌≤◌, ◌⊎◌, true, false, if◌then◌else◌, List, [], ◌∷◌, ◌++◌, length, set, remove, take, drop, eqb, Some, None, Result, Ok, Err, OnOk, OnErr, Ordering, refl, sym, inl, inr, subst, arith, length-append, length-take, length-drop}
+use Rattle.std.proofs.Common.{◌≡◌, ℕ, zero, suc, ◌+◌, ◌/◌, ◌<◌, ◌≤◌, ◌⊎◌, true, false, if◌then◌else◌, List, [], ◌∷◌, ◌++◌, length, set, remove, take, drop, eqb, Some, None, Ordering, refl, sym, inl, inr, subst, arith, length-append, length-take, length-drop}
 use Rattle.std.specs.Cmp.{IsTotalOrder}
 use Rattle.std.specs.Option.{option_map_or}
 use Rattle.std.proofs.lemmas.Bool.{cases_eq, eqb-true}
@@ -13,7 +13,6 @@ use Rattle.indexset_log.specs.Edits.{with_halved, with_room, with_put, with_take
 use Rattle.indexset_log.specs.Joining.{are_small, IsSpaced, join_place, with_joined}
 use Rattle.indexset_log.specs.Nodes.{is_filled}
 use Rattle.indexset_log.specs.Table.{target}
-use Rattle.indexset_log.specs.Tree.{Tree, IsTree}
 use Rattle.indexset_log.proofs.Joins.{JoinedPair, at_pair, none_small, not_small, pair_from}
 use Rattle.indexset_log.proofs.Puts.{put_length_is}
 use Rattle.indexset_log.proofs.Rooms.{roomy}

@@ -1,5 +1,5 @@
 -- What a removal makes of lawful nodes.
-use Rattle.std.proofs.Common.{◌≡◌, ℕ, zero, suc, ◌+◌, ◌-◌, ◌/◌, ◌<◌, ◌≤◌, ◌||◌, Bool, true, false, not, if◌then◌else◌, List, [], ◌∷◌, ◌++◌, length, get_or, set, remove, filter, slice_get, eqb, Option, Some, None, is_some, Result, Ok, Err, IfOk, OnOk, Ordering, refl, ap, sym, ◌∙◌, subst, arith, append_assoc, length-append, map}
+use Rattle.std.proofs.Common.{◌≡◌, ℕ, zero, suc, ◌+◌, ◌-◌, ◌/◌, ◌<◌, ◌≤◌, ◌||◌, Bool, true, false, not, if◌then◌else◌, List, [], ◌∷◌, ◌++◌, length, get_or, set, remove, filter, slice_get, eqb, Option, Some, None, is_some, Ordering, refl, ap, sym, ◌∙◌, subst, arith, append_assoc, length-append, map}
 use Rattle.std.specs.Cmp.{IsTotalOrder}
 use Rattle.std.specs.List.{list_any}
 use Rattle.std.specs.Option.{option_map_or}
@@ -14,14 +14,12 @@ use Rattle.std.proofs.lemmas.Option.{get_or_from_slice_get, slice_get-get_or}
 use Rattle.indexset_core.specs.Nodes.{joined, node_at, IsLawful}
 use Rattle.indexset_core.specs.Order.{IsAscending, rank, has_equal, without, equal_element}
 use Rattle.indexset_core.proofs.CallerLemmas.{is_some-find, joined-append, found_has_equal, found_rank, parted_by_item, offset-le}
-use Rattle.indexset_log.specs.declared.change.ChangeEvent.{ChangeEvent}
-use Rattle.indexset_log.specs.declared.change.ChangeEventUnassigned.{ChangeEventUnassigned}
 use Rattle.indexset_log.specs.Tree.{IsTree}
 use Rattle.indexset_log.specs.Edits.{with_taken}
 use Rattle.indexset_log.specs.Located.{IsFoundIn}
 use Rattle.indexset_log.specs.Joining.{join_after, with_joined, item_removed}
 use Rattle.indexset_log.specs.Nodes.{is_filled, last_of}
-use Rattle.indexset_log.specs.Replay.{replay, replay_plain, step_plain, numbered_from, assigned}
+use Rattle.indexset_log.specs.Replay.{replay, replay_plain, step_plain, numbered_from}
 use Rattle.indexset_log.specs.Table.{count_with, joining_event, target, taking_count, taking_event, taking_events, removal_events}
 use Rattle.indexset_log.proofs.Joins.{JoinedAfter, JoinedPair, after_from, joins, pair_up}
 use Rattle.indexset_log.proofs.Ups.{last_any, last_answer, last-append, Each, each-append, each-left, each-right, each-map, Up, up-right, up-between, Ruled, parts-without, length_filled, ascends, lawful_from, lawful_ruled, lawful_bounded}

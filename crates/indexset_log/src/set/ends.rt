@@ -63,7 +63,7 @@ impl<T: Ord + Clone + Drop, Node: NodeLike<T>> BTreeSet<T, Node> {
         // The nodes are lawful.
         let _nodes = &self.nodes;
         let place = self.first_item_place();
-        self.pop_at_cdc(place)
+        self.remove_from_cdc(place)
     }
 
     /// Removes the least item, if any, and returns it. It uses up as many numbers as
@@ -90,7 +90,7 @@ impl<T: Ord + Clone + Drop, Node: NodeLike<T>> BTreeSet<T, Node> {
         // The nodes are lawful.
         let _nodes = &self.nodes;
         let place = self.first_item_place();
-        self.pop_at(place)
+        self.remove_from(place)
     }
 
     /// Removes the greatest item, if any, and returns it with the events, which are those of
@@ -119,7 +119,7 @@ impl<T: Ord + Clone + Drop, Node: NodeLike<T>> BTreeSet<T, Node> {
         // The nodes are lawful.
         let _nodes = &self.nodes;
         let place = self.last_item_place();
-        self.pop_at_cdc(place)
+        self.remove_from_cdc(place)
     }
 
     /// Removes the greatest item, if any, and returns it. It uses up as many numbers as
@@ -146,7 +146,7 @@ impl<T: Ord + Clone + Drop, Node: NodeLike<T>> BTreeSet<T, Node> {
         // The nodes are lawful.
         let _nodes = &self.nodes;
         let place = self.last_item_place();
-        self.pop_at(place)
+        self.remove_from(place)
     }
 
     // Returns the place of the first item, if any.
@@ -168,54 +168,5 @@ impl<T: Ord + Clone + Drop, Node: NodeLike<T>> BTreeSet<T, Node> {
         }
         let last = self.nodes.len() - 1;
         Some((last, self.nodes[last].len() - 1))
-    }
-
-    // Removes the item at a place, the one at position `i` of all, if any, and returns it with the
-    // events.
-    fn pop_at_cdc(
-        &mut self,
-        place: Option<(usize, usize)>,
-    ) -> Result<(Option<T>, Vec<ChangeEvent<T>>), Refusal>
-        ghost i: { ℕ }
-        requires { MatchOption place (joined self.old.nodes ≡ []) (λ p. IsItemAt self.old.nodes p i) }
-        ensures tree { OnOk result (self.new ≡ after_removal_at T.cmp self.old i) }
-        ensures answer { IfOk result (λ r. r.0 ≡ slice_get (joined self.old.nodes) i) }
-        ensures told { IfOk result (λ r. IsTold T.is_clone self.old.next (removal_events_at T.cmp self.old.size self.old.nodes i) r.1.items) }
-        ensures fits { OnOk result (self.old.next + length (removal_events_at T.cmp self.old.size self.old.nodes i) ≤ u64.MAX) }
-        ensures refusal { IfErr result (λ e. e ≡ refusal_for self.old.next (length (removal_events_at T.cmp self.old.size self.old.nodes i))) }
-        ensures no_event { removal_events_at T.cmp self.old.size self.old.nodes i ≡ [] → IsOk result }
-        ensures unchanged { OnErr result (self.new ≡ self.old) }
-    {
-        // The nodes are lawful.
-        let _nodes = &self.nodes;
-        match place {
-            Some((node, offset)) => {
-                let (item, events) = self.remove_at_cdc(node, offset)?;
-                Ok((Some(item), events))
-            }
-            None => Ok((None, Vec::new(*self.nodes.allocator()))),
-        }
-    }
-
-    // Removes the item at a place, the one at position `i` of all, if any, and returns it.
-    fn pop_at(&mut self, place: Option<(usize, usize)>) -> Result<Option<T>, Refusal>
-        ghost i: { ℕ }
-        requires { MatchOption place (joined self.old.nodes ≡ []) (λ p. IsItemAt self.old.nodes p i) }
-        ensures tree { OnOk result (self.new ≡ after_removal_at T.cmp self.old i) }
-        ensures answer { IfOk result (λ item. item ≡ slice_get (joined self.old.nodes) i) }
-        ensures fits { OnOk result (self.old.next + length (removal_events_at T.cmp self.old.size self.old.nodes i) ≤ u64.MAX) }
-        ensures refusal { IfErr result (λ e. e ≡ refusal_for self.old.next (length (removal_events_at T.cmp self.old.size self.old.nodes i))) }
-        ensures no_event { removal_events_at T.cmp self.old.size self.old.nodes i ≡ [] → IsOk result }
-        ensures no_memory { length (removal_events_at T.cmp self.old.size self.old.nodes i) ≤ 1 → self.old.next + length (removal_events_at T.cmp self.old.size self.old.nodes i) ≤ u64.MAX → IsOk result }
-        ensures never { Node.allocates ≡ false → self.old.next + length (removal_events_at T.cmp self.old.size self.old.nodes i) ≤ u64.MAX → IsOk result }
-        ensures unchanged { OnErr result (self.new ≡ self.old) }
-    {
-        // The nodes are lawful, and the counter fits a u64, so a call without events lacks no number.
-        let _nodes = &self.nodes;
-        let _next = self.next;
-        match place {
-            Some((node, offset)) => Ok(Some(self.remove_at(node, offset)?)),
-            None => Ok(None),
-        }
     }
 }

@@ -1,4 +1,4 @@
-use Rattle.std.proofs.Common.{ap, refl, ◌∙◌}
+use Rattle.std.proofs.Common.{ap, ◌∙◌}
 use Rattle.indexset_core.proofs.CallerLemmas.{value_put}
 use Rattle.indexset_core.specs.Pairs.{value_of}
 use Rattle.std.specs.Option.{option_map}
