@@ -189,9 +189,6 @@ module _ {T : Type 0} {cmp : T → T → Ordering} {size : ℕ} {ns : List (List
         let parted = parted_by_item cmp o n (ascends cmp n (up_node cmp ns k (lawful_ruled cmp size ns law))) v in
         rw (← f.node_is, found_has_equal cmp n v i f.here, found_rank cmp n v i f.here parted, get_or_from_slice_get n i x v here) refl
 
-    pub found_count : length (removal_events cmp size ns v) ≡ taking_count size ns k i
-    found_count = ap (λ q. length q) (found_events (slice_get-get_or (node_at ns k) i v f.here.inside)) ∙ taking_length size ns k i _
-
     pub found_contents : {x : T} → slice_get (node_at ns k) i ≡ Some x → joined (with_taken size ns k i) ≡ without cmp (joined ns) v
     unfolding without
     found_contents {x} here =
