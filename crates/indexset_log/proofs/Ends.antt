@@ -1,5 +1,5 @@
 -- The item at a position of lawful nodes: what its removal tells, and what is below it or above it at either end.
-use Rattle.std.proofs.Common.{◌≡◌, ℕ, zero, suc, ◌+◌, ◌-◌, ◌<◌, ◌≤◌, Bool, true, false, List, [], ◌∷◌, length, length-append, filter, take, drop, remove, slice_get, Option, Some, None, IfSome, Ordering, refl, ap, sym, ◌∙◌, arith}
+use Rattle.std.proofs.Common.{◌≡◌, ℕ, zero, suc, ◌+◌, ◌-◌, ◌<◌, ◌≤◌, Bool, true, false, List, [], ◌∷◌, length, length-append, filter, take, drop, remove, slice_get, Option, Some, None, IfSome, MatchOption, Ordering, refl, ap, sym, ◌∙◌, arith}
 use Rattle.std.specs.Borrow.{Bor}
 use Rattle.std.specs.Cmp.{IsTotalOrder}
 use Rattle.std.specs.Map.Iter.{TakesFirst, TakesLast, deref}
@@ -14,11 +14,13 @@ use Rattle.indexset_core.specs.Nodes.{joined, node_at, IsLawful}
 use Rattle.indexset_core.specs.Order.{IsAscending, IsFoundAt, above, below, put, without}
 use Rattle.indexset_core.specs.Pairs.{pair_keys}
 use Rattle.indexset_core.proofs.CallerLemmas.{equal_read, found_put, found_without, get_in_node, length-joined-more, located_found, parted_by_item, rank-slice_get, slice_get-right}
-use Rattle.indexset_log.specs.Edits.{with_taken}
-use Rattle.indexset_log.specs.Ends.{IsItemAt, removal_events_at}
-use Rattle.indexset_log.specs.Table.{removal_events, taking_count, taking_events}
-use Rattle.indexset_log.proofs.PlaceTakes.{place_contents, place_events}
-use Rattle.indexset_log.proofs.Takes.{removal_few, some_read, taken_replay, taking_length}
+use Rattle.indexset_log.specs.Edits.{after_removal}
+use Rattle.indexset_log.specs.Ends.{IsItemAt, after_removal_at, removal_events_at}
+use Rattle.indexset_log.specs.Table.{removal_events}
+use Rattle.indexset_log.specs.Tree.{IsTree, Tree}
+use Rattle.indexset_log.proofs.Changed.{Changed, Goes, found_after, removal_changed, unchanged}
+use Rattle.indexset_log.proofs.PlaceTakes.{found_there, place_events}
+use Rattle.indexset_log.proofs.Takes.{removal_few, some_read}
 use Rattle.indexset_log.proofs.Views.{lawful_ascends}
 
 module _ {T : Type 0} (cmp : T → T → Ordering) (o : IsTotalOrder cmp) (l : List T) (up : IsAscending cmp l) where
@@ -54,17 +56,32 @@ module _ {T : Type 0} {cmp : T → T → Ordering} {size : ℕ} {ns : List (List
     pub item_there : slice_get (joined ns) i ≡ Some x
     item_there = rw (← at.before) (get_in_node ns p.0 p.1 at.node_in at.offset_in ∙ here)
 
-    pub item_events : removal_events_at cmp size ns i ≡ taking_events size ns p.0 p.1 x
-    unfolding removal_events_at
-    item_events = rw item_there (place_events cmp o size ns law p at.node_in x here)
+pub position_goes : {T : Type 0} {cmp : T → T → Ordering} {old : Tree T} → IsTotalOrder cmp → IsLawful cmp old.size old.nodes → (i : ℕ) (place : Option (ℕ × ℕ)) → MatchOption place (joined old.nodes ≡ []) (λ p. IsItemAt old.nodes p i) → Goes old place (slice_get (joined old.nodes) i) (removal_events_at cmp old.size old.nodes i) (after_removal_at cmp old i)
+unfolding after_removal_at removal_events_at
+position_goes o law i None none = rw none (record { inside = tt; item = refl; events = refl; after = refl })
+position_goes {cmp = cmp} {old = old} o law i (Some p) at =
+    let x = some_read (node_at old.nodes p.0) p.1 at.offset_in in
+    let there = item_there o law at x.1 in
+    record {
+      inside = (at.node_in, at.offset_in);
+      item = x.1 ∙ sym there;
+      events = rw (x.1, there) (sym (place_events cmp o old.size old.nodes law p at.node_in x.0 x.1));
+      after = rw there (sym (found_after old o law (found_there cmp o old.size old.nodes law p at.node_in x.0 x.1)));
+    }
 
-    pub item_contents : joined (with_taken size ns p.0 p.1) ≡ remove (joined ns) i
-    item_contents =
-        place_contents cmp o size ns law p at.node_in x here 0 (with_taken size ns p.0 p.1) (taken_replay o law p.0 p.1 at.node_in here 0)
-        ∙ without_there cmp o (joined ns) (lawful_ascends cmp size ns law) i x item_there
+remove_beyond : {X : Type 0} (l : List X) (i : ℕ) → slice_get l i ≡ None → l ≡ remove l i
+remove_beyond [] zero none = refl
+remove_beyond [] (suc i) none = refl
+remove_beyond (x ∷ l) zero none = cc
+remove_beyond (x ∷ l) (suc i) none = ap (λ q. x ∷ q) (remove_beyond l i none)
 
-  pub item_count : length (removal_events_at cmp size ns i) ≡ taking_count size ns p.0 p.1
-  item_count = let there = some_read (node_at ns p.0) p.1 at.offset_in in ap (λ q. length q) (item_events there.1) ∙ taking_length size ns p.0 p.1 there.0
+pub popped_changed : {T : Type 0} {cmp : T → T → Ordering} {most len : ℕ} {old new : Tree T} → IsTotalOrder cmp → IsTree cmp most old.nodes old.size len → (i : ℕ) → new ≡ after_removal_at cmp old i → Changed cmp old new (remove (joined old.nodes) i) (removal_events_at cmp old.size old.nodes i)
+unfolding after_removal_at removal_events_at
+popped_changed {T = T} {cmp = cmp} {old = old} {new = new} o t i e = at (slice_get (joined old.nodes) i) refl e
+  where
+    at : (r : Option T) → slice_get (joined old.nodes) i ≡ r → new ≡ option_map_or (after_removal cmp old) r old → Changed cmp old new (remove (joined old.nodes) i) (option_map_or (λ x. removal_events cmp old.size old.nodes x) r [])
+    at None is e = rw (← remove_beyond (joined old.nodes) i is) (unchanged cmp old new e)
+    at (Some x) is e = rw (← without_there cmp o (joined old.nodes) (lawful_ascends cmp old.size old.nodes t.lawful) i x is) (removal_changed o t x e)
 
 pub few_at : {T : Type 0} (cmp : T → T → Ordering) (size : ℕ) (ns : List (List T)) (i : ℕ) → length (removal_events_at cmp size ns i) ≤ 3
 unfolding removal_events_at
@@ -73,16 +90,6 @@ few_at cmp size ns i =
       | None ↦ omega arith
       | Some x ↦ removal_few cmp size ns x
     ]
-
--- where there is no item
-pub no_events_at : {T : Type 0} (cmp : T → T → Ordering) (size : ℕ) (ns : List (List T)) (i : ℕ) → joined ns ≡ [] → removal_events_at cmp size ns i ≡ []
-unfolding removal_events_at
-no_events_at cmp size ns i none = rw none refl
-
-pub remove_nothing : {X : Type 0} (l : List X) (i : ℕ) → l ≡ [] → l ≡ remove l i
-remove_nothing [] zero none = refl
-remove_nothing [] (suc i) none = refl
-remove_nothing (x ∷ l) i none = cc
 
 -- what is left of a list without its first or its last item
 pub remove_first : {X : Type 0} (l : List X) → remove l 0 ≡ drop 1 l

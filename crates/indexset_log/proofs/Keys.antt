@@ -12,10 +12,12 @@ use Rattle.indexset_core.specs.Nodes.{joined, node_at, node_lengths, IsLawful}
 use Rattle.indexset_core.specs.Parted.{IsParted}
 use Rattle.indexset_core.specs.Pairs.{by_key, pair_of, without_key}
 use Rattle.indexset_core.proofs.CallerLemmas.{absent_without, equal_from, key_absent, pairs_total, parted_by_key}
-use Rattle.indexset_log.specs.Keys.{key_removal_events}
+use Rattle.indexset_log.specs.Keys.{after_key_removal, key_removal_events}
 use Rattle.indexset_log.specs.Located.{located, IsFoundIn}
-use Rattle.indexset_log.specs.Edits.{with_taken}
+use Rattle.indexset_log.specs.Edits.{after_taken, with_taken}
 use Rattle.indexset_log.specs.Table.{removal_events, taking_count, taking_events}
+use Rattle.indexset_log.specs.Tree.{Tree}
+use Rattle.indexset_log.proofs.Changed.{found_after}
 use Rattle.indexset_log.proofs.Places.{IsEnd, found_at, end_at, end_found, end_offset, end_read, gap_found, gap_position}
 use Rattle.indexset_log.proofs.Takes.{found_events, removal_few, taken_contents, taking_length}
 use Rattle.indexset_log.proofs.Views.{lawful_ascends, lawful_filled}
@@ -42,6 +44,7 @@ module _ {K V : Type 0} {cmp : K → K → Ordering} {size : ℕ} {ns : List (Li
   -- the pair x of the key goes from the place
   pub record KeyTaken (p : ℕ × ℕ) (x : Pair K V) : Type 0 where
     pub pair_is : pair_of cmp (joined ns) k ≡ Some x
+    pub found : IsFoundIn (by_key cmp) ns x p.0 p.1
     pub events : key_removal_events cmp size ns k ≡ taking_events size ns p.0 p.1 x
     pub contents : joined (with_taken size ns p.0 p.1) ≡ without_key cmp (joined ns) k
 
@@ -70,6 +73,7 @@ module _ {K V : Type 0} {cmp : K → K → Ordering} {size : ℕ} {ns : List (Li
           let pair_is = end_found answer ns filled parted_keys r e p is ∙ here in
           record {
             pair_is = pair_is;
+            found = found;
             events = rw pair_is (found_events (pairs_total cmp o) law found here);
             contents = taken_contents (pairs_total cmp o) law p.0 p.1 found.node_in here answer same;
           }
@@ -96,3 +100,13 @@ module _ {K V : Type 0} {cmp : K → K → Ordering} {size : ℕ} {ns : List (Li
       no_key =
           let none = gap_found answer ns filled parted_keys r e p is in
           record { pair_is = none; events = rw none refl; contents = sym (absent_without cmp (joined ns) k (key_absent cmp (joined ns) k none_at)) }
+
+-- the tree after the removal of the pair of a key
+module _ {K V : Type 0} {cmp : K → K → Ordering} (o : IsTotalOrder cmp) (old : Tree (Pair K V)) (law : IsLawful (by_key cmp) old.size old.nodes) (k : K) where
+  pub key_after : {p : ℕ × ℕ} {x : Pair K V} → KeyTaken o law k p x → after_key_removal cmp old k ≡ after_taken old p.0 p.1
+  unfolding after_key_removal
+  key_after taken = rw taken.pair_is (found_after old (pairs_total cmp o) law taken.found)
+
+  pub no_key_after : NoKey o law k → after_key_removal cmp old k ≡ old
+  unfolding after_key_removal
+  no_key_after none = rw none.pair_is refl

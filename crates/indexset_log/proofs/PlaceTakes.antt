@@ -39,7 +39,7 @@ module _ {T : Type 0} (cmp : T → T → Ordering) (o : IsTotalOrder cmp) (size 
   before_it = rank-slice_get cmp o (joined ns) (lawful_ascends cmp size ns law) (items_before ns p) x in_all
 
   -- a search for the item ends at its place
-  found_there : IsFoundIn cmp ns x p.0 p.1
+  pub found_there : IsFoundIn cmp ns x p.0 p.1
   found_there =
       let filled = lawful_filled cmp size ns law in
       let parted = lawful_parted cmp size ns law o x in

@@ -1,5 +1,5 @@
 -- Puts and removals keep neighbours that hold more than half the node size together.
-use Rattle.std.proofs.Common.{◌≡◌, ℕ, zero, suc, ◌+◌, ◌/◌, ◌<◌, ◌≤◌, ◌⊎◌, true, false, if◌then◌else◌, List, [], ◌∷◌, ◌++◌, length, set, remove, take, drop, eqb, Some, None, Result, Ok, Err, OnOk, OnErr, Ordering, refl, sym, inl, inr, subst, arith, length-append, length-take, length-drop}
+use Rattle.std.proofs.Common.{◌≡◌, ℕ, zero, suc, ◌+◌, ◌/◌, ◌<◌, ◌≤◌, ◌⊎◌, true, false, if◌then◌else◌, List, [], ◌∷◌, ◌++◌, length, set, remove, take, drop, eqb, Some, None, Ordering, refl, sym, inl, inr, subst, arith, length-append, length-take, length-drop}
 use Rattle.std.specs.Cmp.{IsTotalOrder}
 use Rattle.std.specs.Option.{option_map_or}
 use Rattle.std.proofs.lemmas.Bool.{cases_eq, eqb-true}
@@ -13,7 +13,6 @@ use Rattle.indexset_log.specs.Edits.{with_halved, with_room, with_put, with_take
 use Rattle.indexset_log.specs.Joining.{are_small, IsSpaced, join_place, with_joined}
 use Rattle.indexset_log.specs.Nodes.{is_filled}
 use Rattle.indexset_log.specs.Table.{target}
-use Rattle.indexset_log.specs.Tree.{Tree, IsTree}
 use Rattle.indexset_log.proofs.Joins.{JoinedPair, at_pair, none_small, not_small, pair_from}
 use Rattle.indexset_log.proofs.Puts.{put_length_is}
 use Rattle.indexset_log.proofs.Rooms.{roomy}
@@ -151,13 +150,3 @@ module _ {T : Type 0} (cmp : T → T → Ordering) (size : ℕ) (two : 2 ≤ siz
               | Some j ↦ λ some. joined_spaced (size / 2) ns k j m (omega (arith, length-remove (node_at ns k) i here)) filled (pair_from (size / 2) (set ns k m) k j some) s
             ] refl
       ] refl
-
--- a call that puts v, or is refused and changes nothing
-pub put_kept : {T A E : Type 0} (cmp : T → T → Ordering) (o : IsTotalOrder cmp) {most len : ℕ} (old new : Tree T) → IsTree cmp most old.nodes old.size len → (v : T) (r : Result A E) → OnOk r (new.nodes ≡ with_put cmp old.size old.nodes v) → OnErr r (new ≡ old) → new.size ≡ old.size → IsSpaced (old.size / 2) old.nodes → IsSpaced (new.size / 2) new.nodes
-put_kept cmp o old new t v (Ok x) made same size s = rw (size, made) (put_spaced cmp o old.size t.two old.nodes v t.lawful s)
-put_kept cmp o old new t v (Err e) made same size s = subst (λ q. IsSpaced (q.size / 2) q.nodes) (sym same) s
-
--- a call that removes the item at place i of the node at place k, or is refused and changes nothing
-pub taken_kept : {T A E : Type 0} (cmp : T → T → Ordering) {most len : ℕ} (old new : Tree T) → IsTree cmp most old.nodes old.size len → (k i : ℕ) → k < length old.nodes → i < length (node_at old.nodes k) → (r : Result A E) → OnOk r (new.nodes ≡ with_taken old.size old.nodes k i) → OnErr r (new ≡ old) → new.size ≡ old.size → IsSpaced (old.size / 2) old.nodes → IsSpaced (new.size / 2) new.nodes
-taken_kept cmp old new t k i inside here (Ok x) made same size s = rw (size, made) (taken_spaced cmp old.size t.two old.nodes k i t.lawful inside here s)
-taken_kept cmp old new t k i inside here (Err e) made same size s = subst (λ q. IsSpaced (q.size / 2) q.nodes) (sym same) s

@@ -1,5 +1,5 @@
 -- What a removal makes of lawful nodes.
-use Rattle.std.proofs.Common.{◌≡◌, ℕ, zero, suc, ◌+◌, ◌-◌, ◌/◌, ◌<◌, ◌≤◌, ◌||◌, Bool, true, false, not, if◌then◌else◌, List, [], ◌∷◌, ◌++◌, length, get_or, set, remove, filter, slice_get, eqb, Option, Some, None, is_some, Result, Ok, Err, IfOk, OnOk, Ordering, refl, ap, sym, ◌∙◌, subst, arith, append_assoc, length-append, map}
+use Rattle.std.proofs.Common.{◌≡◌, ℕ, zero, suc, ◌+◌, ◌-◌, ◌/◌, ◌<◌, ◌≤◌, ◌||◌, Bool, true, false, not, if◌then◌else◌, List, [], ◌∷◌, ◌++◌, length, get_or, set, remove, filter, slice_get, eqb, Option, Some, None, is_some, Ordering, refl, ap, sym, ◌∙◌, subst, arith, append_assoc, length-append, map}
 use Rattle.std.specs.Cmp.{IsTotalOrder}
 use Rattle.std.specs.List.{list_any}
 use Rattle.std.specs.Option.{option_map_or}
@@ -14,14 +14,12 @@ use Rattle.std.proofs.lemmas.Option.{get_or_from_slice_get, slice_get-get_or}
 use Rattle.indexset_core.specs.Nodes.{joined, node_at, IsLawful}
 use Rattle.indexset_core.specs.Order.{IsAscending, rank, has_equal, without, equal_element}
 use Rattle.indexset_core.proofs.CallerLemmas.{is_some-find, joined-append, found_has_equal, found_rank, parted_by_item, offset-le}
-use Rattle.indexset_log.specs.declared.change.ChangeEvent.{ChangeEvent}
-use Rattle.indexset_log.specs.declared.change.ChangeEventUnassigned.{ChangeEventUnassigned}
 use Rattle.indexset_log.specs.Tree.{IsTree}
 use Rattle.indexset_log.specs.Edits.{with_taken}
 use Rattle.indexset_log.specs.Located.{IsFoundIn}
 use Rattle.indexset_log.specs.Joining.{join_after, with_joined, item_removed}
 use Rattle.indexset_log.specs.Nodes.{is_filled, last_of}
-use Rattle.indexset_log.specs.Replay.{replay, replay_plain, step_plain, numbered_from, assigned}
+use Rattle.indexset_log.specs.Replay.{replay, replay_plain, step_plain, numbered_from}
 use Rattle.indexset_log.specs.Table.{count_with, joining_event, target, taking_count, taking_event, taking_events, removal_events}
 use Rattle.indexset_log.proofs.Joins.{JoinedAfter, JoinedPair, after_from, joins, pair_up}
 use Rattle.indexset_log.proofs.Ups.{last_any, last_answer, last-append, Each, each-append, each-left, each-right, each-map, Up, up-right, up-between, Ruled, parts-without, length_filled, ascends, lawful_from, lawful_ruled, lawful_bounded}
@@ -158,15 +156,8 @@ module _ {T : Type 0} {cmp : T → T → Ordering} {size : ℕ} {ns : List (List
         let left = ap (λ q. length q) (same ∙ d.left) ∙ length-append d.front d.back in
         record { lawful = lawful_from cmp size after ruled small; two = t.two; within = t.within; counted = omega (arith, t.counted, before, left) }
 
-    pub lone_tree : {most len : ℕ} → IsTree cmp most ns size len → IsTree cmp most (item_removed ns k i) size (len - 1)
-    lone_tree t = let d = did in tree_left (item_removed ns k i) d.ruled d.small refl t
-
     pub taken_tree : {most len : ℕ} → IsTree cmp most ns size len → IsTree cmp most (with_taken size ns k i) size (len - 1)
     taken_tree t = let r = out in tree_left (with_taken size ns k i) r.ruled r.small r.same t
-
-    -- the nodes where two are joined
-    pub join_tree : {most len j : ℕ} → join_after size ns k i ≡ Some j → IsTree cmp most ns size len → IsTree cmp most (with_joined (item_removed ns k i) j) size (len - 1)
-    join_tree {most = most} {len = len} e t = subst (λ q. IsTree cmp most (option_map_or (with_joined (item_removed ns k i)) q (item_removed ns k i)) size (len - 1)) e (taken_tree t)
 
     pub join_up : {j : ℕ} → JoinedAfter size ns k i j → IsAscending cmp (node_at (set ns k (remove (node_at ns k) i)) j ++ node_at (set ns k (remove (node_at ns k) i)) (j + 1))
     join_up {j = j} joins =
@@ -198,25 +189,16 @@ module _ {T : Type 0} {cmp : T → T → Ordering} {size : ℕ} {ns : List (List
         let parted = parted_by_item cmp o n (ascends cmp n (up_node cmp ns k (lawful_ruled cmp size ns law))) v in
         rw (← f.node_is, found_has_equal cmp n v i f.here, found_rank cmp n v i f.here parted, get_or_from_slice_get n i x v here) refl
 
-    pub found_count : length (removal_events cmp size ns v) ≡ taking_count size ns k i
-    found_count = ap (λ q. length q) (found_events (slice_get-get_or (node_at ns k) i v f.here.inside)) ∙ taking_length size ns k i _
-
     pub found_contents : {x : T} → slice_get (node_at ns k) i ≡ Some x → joined (with_taken size ns k i) ≡ without cmp (joined ns) v
     unfolding without
     found_contents {x} here =
         let e : cmp x v ≡ Equal = subst (λ y. cmp y v ≡ Equal) (get_or_from_slice_get (node_at ns k) i x x here) (f.here.equal x) in
         taken_contents k i f.node_in here (λ y. cmp y v) (λ j y. alike_right o x v y e j)
 
--- where a removal succeeds, its events lead to the nodes after
-pub replay_if_ok : {T E : Type 0} {cmp : T → T → Ordering} {size : ℕ} {ns : List (List T)} → IsTotalOrder cmp → IsLawful cmp size ns → (after : List (List T)) (k i s : ℕ) → k < length ns → (r : Result T E) → IfOk r (λ x. slice_get (node_at ns k) i ≡ Some x) → OnOk r (after ≡ with_taken size ns k i) → IfOk r (λ x. replay cmp ns (numbered_from s (taking_events size ns k i x)) ≡ Some after)
-replay_if_ok o law after k i s inside (Ok x) here same = rw same (taken_replay o law k i inside here s)
-replay_if_ok o law after k i s inside (Err e) here same = tt
-
 -- the removal of an item that equals none
 module _ {T : Type 0} (cmp : T → T → Ordering) (ns : List (List T)) (v : T) (none : equal_element cmp (joined ns) v ≡ None) where
-  pub absent_events : (size : ℕ) → removal_events cmp size ns v ≡ []
-  unfolding removal_events
-  absent_events size = rw (any_in (λ x. is_eq (cmp x v)) ns (target cmp ns v) (sym (is_some-find (λ x. is_eq (cmp x v)) (joined ns)) ∙ ap is_some none)) refl
+  pub absent_here : has_equal cmp (node_at ns (target cmp ns v)) v ≡ false
+  absent_here = any_in (λ x. is_eq (cmp x v)) ns (target cmp ns v) (sym (is_some-find (λ x. is_eq (cmp x v)) (joined ns)) ∙ ap is_some none)
     where
       neither : (a b : Bool) → (a || b) ≡ false → (a ≡ false) × (b ≡ false)
       neither true b h = absurd (false≢true (sym h))
@@ -226,6 +208,10 @@ module _ {T : Type 0} (cmp : T → T → Ordering) (ns : List (List T)) (v : T) 
       any_in p [] k h = refl
       any_in p (n ∷ ns) zero h = (neither _ _ (sym (list_any-append p n (joined ns)) ∙ h)).0
       any_in p (n ∷ ns) (suc k) h = any_in p ns k (neither _ _ (sym (list_any-append p n (joined ns)) ∙ h)).1
+
+  pub absent_events : (size : ℕ) → removal_events cmp size ns v ≡ []
+  unfolding removal_events
+  absent_events size = rw absent_here refl
 
   pub absent_contents : joined ns ≡ without cmp (joined ns) v
   unfolding without
@@ -242,14 +228,6 @@ pub some_read : {T : Type 0} (l : List T) (i : ℕ) → i < length l → (x : T)
 some_read [] i lt = absurd (omega arith)
 some_read (x ∷ xs) zero lt = (x, refl)
 some_read (x ∷ xs) (suc i) lt = some_read xs i (omega arith)
-
--- the events as the code adds them
-module _ {T : Type 0} (s size : ℕ) (ns : List (List T)) (k i : ℕ) (x : T) {e : ChangeEventUnassigned T} {items : List (ChangeEvent T)} (first : e ≡ taking_event (node_at ns k) i x) where
-  pub one_added : join_after size ns k i ≡ None → items ≡ assigned s e ∷ [] → items ≡ numbered_from s (taking_events size ns k i x)
-  one_added none made = made ∙ rw (first, none) refl
-
-  pub both_added : {j : ℕ} {f : ChangeEventUnassigned T} → join_after size ns k i ≡ Some j → f ≡ joining_event (item_removed ns k i) x j → items ≡ assigned s e ∷ assigned (s + 1) f ∷ [] → items ≡ numbered_from s (taking_events size ns k i x)
-  both_added some second made = made ∙ rw (first, some, second) refl
 
 -- the last of the items but one
 module _ {T : Type 0} (n : List T) (i : ℕ) (x d : T) (inside : i < length n) where

@@ -1,8 +1,10 @@
 -- Events whose items are clones of those of another event.
-use Rattle.std.specs.Prelude.{◌≡◌, List, [], ◌∷◌}
+use Rattle.std.specs.Prelude.{◌≡◌, ℕ, List, [], ◌∷◌}
 use Rattle.std.specs.List.{AllZip}
 use Rattle.indexset_log.specs.declared.change.ChangeEvent.{ChangeEvent}
 use Rattle.indexset_log.specs.declared.change.ChangeEvent.TheVariants as numbered
+use Rattle.indexset_log.specs.declared.change.ChangeEventUnassigned.{ChangeEventUnassigned}
+use Rattle.indexset_log.specs.Replay.{numbered_from}
 
 -- the items that an event holds
 abbrev pub event_items : {T : Type 0} → ChangeEvent T → List T
@@ -25,3 +27,7 @@ event_shape (numbered.MergeNodes id m w) = numbered.MergeNodes id tt tt
 -- f is e, with clones in the place of its items
 abbrev pub IsEventClone : {T : Type 0} → (T → T → Type 0) → ChangeEvent T → ChangeEvent T → Type 0
 IsEventClone C e f = (event_shape f ≡ event_shape e) × AllZip C (event_items e) (event_items f)
+
+-- what is told: the table's events, numbered from s on, with clones in the place of their items
+abbrev pub IsTold : {T : Type 0} → (T → T → Type 0) → ℕ → List (ChangeEventUnassigned T) → List (ChangeEvent T) → Type 0
+IsTold C s table events = AllZip (IsEventClone C) (numbered_from s table) events

@@ -1,11 +1,13 @@
--- The item at a position of all: where it stands, and what its removal tells.
+-- The item at a position of all: where it stands, and what its removal tells and makes.
 use Rattle.std.specs.Prelude.{◌≡◌, ℕ, ◌<◌, length, List, [], slice_get}
 use Rattle.std.specs.Option.{option_map_or}
 use Rattle.std.specs.declared.cmp.Ordering.{Ordering}
 use Rattle.indexset_core.specs.Nodes.{joined, node_at}
 use Rattle.indexset_log.specs.declared.change.ChangeEventUnassigned.{ChangeEventUnassigned}
+use Rattle.indexset_log.specs.Edits.{after_removal}
 use Rattle.indexset_log.specs.Places.{items_before}
 use Rattle.indexset_log.specs.Table.{removal_events}
+use Rattle.indexset_log.specs.Tree.{Tree}
 
 module _ {T : Type 0} where
   -- the place of the item at position i
@@ -17,3 +19,7 @@ module _ {T : Type 0} where
   -- the events of the removal of the item at position i, where there is one
   unfoldable pub removal_events_at : (T → T → Ordering) → ℕ → List (List T) → ℕ → List (ChangeEventUnassigned T)
   removal_events_at cmp size ns i = option_map_or (λ x. removal_events cmp size ns x) (slice_get (joined ns) i) []
+
+  -- the tree after that removal
+  unfoldable pub after_removal_at : (T → T → Ordering) → Tree T → ℕ → Tree T
+  after_removal_at cmp t i = option_map_or (after_removal cmp t) (slice_get (joined t.nodes) i) t

@@ -16,6 +16,7 @@ mod make;
 pub mod nodes;
 mod put;
 pub mod range;
+mod removal_log;
 mod remove;
 mod remove_range;
 mod traits;

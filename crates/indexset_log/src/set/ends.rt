@@ -1,11 +1,10 @@
 //! The first and the last item, and calls that remove them.
 ghost use Rattle.std.specs.Prelude.{◌≡◌, ◌↔◌, ℕ, ◌+◌, ◌-◌, ◌/◌, ◌<◌, ◌≤◌, [], length, drop, remove, slice_get, take, Some, None, false, IfOk, OnOk, IfErr, OnErr, IsOk, IfSome, IsSome, MatchOption};
-ghost use Rattle.std.specs.List.{AllZip};
 ghost use Rattle.std.specs.Option.{option_copied};
 ghost use Rattle.indexset_core.specs.Nodes.{joined};
 ghost use Rattle.indexset_core.specs.Order.{above, below};
-ghost use Rattle.indexset_log.specs.Clones.{IsEventClone};
-ghost use Rattle.indexset_log.specs.Ends.{IsItemAt, removal_events_at};
+ghost use Rattle.indexset_log.specs.Clones.{IsTold};
+ghost use Rattle.indexset_log.specs.Ends.{IsItemAt, after_removal_at, removal_events_at};
 ghost use Rattle.indexset_log.specs.Joining.{IsSpaced};
 ghost use Rattle.indexset_log.specs.Replay.{replay, numbered_from, IsNumberedFrom};
 ghost use Rattle.indexset_log.specs.Tree.{refusal_for};
@@ -43,9 +42,14 @@ impl<T: Ord + Clone + Drop, Node: NodeLike<T>> BTreeSet<T, Node> {
     /// with `Numbers` where the events do not fit the counter, else with `Memory`. A failed call
     /// changes nothing.
     pub fn pop_first_cdc(&mut self) -> Result<(Option<T>, Vec<ChangeEvent<T>>), Refusal>
+        ensures tree { OnOk result (self.new ≡ after_removal_at T.cmp self.old 0) }
         ensures answer { IfOk result (λ r. r.0 ≡ slice_get (joined self.old.nodes) 0) }
+        ensures clones { IfOk result (λ r. IsTold T.is_clone self.old.next (removal_events_at T.cmp self.old.size self.old.nodes 0) r.1.items) }
+        ensures refusal { IfErr result (λ e. e ≡ refusal_for self.old.next (length (removal_events_at T.cmp self.old.size self.old.nodes 0))) }
+        ensures no_event { removal_events_at T.cmp self.old.size self.old.nodes 0 ≡ [] → IsOk result }
+        ensures unchanged { OnErr result (self.new ≡ self.old) }
+        // What callers prove by.
         ensures contents { OnOk result (joined self.new.nodes ≡ drop 1 (joined self.old.nodes)) }
-        ensures clones { IfOk result (λ r. AllZip (IsEventClone T.is_clone) (numbered_from self.old.next (removal_events_at T.cmp self.old.size self.old.nodes 0)) r.1.items) }
         ensures events { ((x y : T) → T.is_clone x y → y ≡ x) → IfOk result (λ r. r.1.items ≡ numbered_from self.old.next (removal_events_at T.cmp self.old.size self.old.nodes 0)) }
         ensures numbered { IfOk result (λ r. IsNumberedFrom self.old.next r.1.items) }
         ensures replay { ((x y : T) → T.is_clone x y → y ≡ x) → IfOk result (λ r. replay T.cmp self.old.nodes r.1.items ≡ Some self.new.nodes) }
@@ -55,12 +59,11 @@ impl<T: Ord + Clone + Drop, Node: NodeLike<T>> BTreeSet<T, Node> {
         ensures spaced { IsSpaced (self.old.size / 2) self.old.nodes → IsSpaced (self.new.size / 2) self.new.nodes }
         ensures next { OnOk result (self.new.next ≡ self.old.next + length (removal_events_at T.cmp self.old.size self.old.nodes 0)) }
         ensures fits { OnOk result (self.old.next + length (removal_events_at T.cmp self.old.size self.old.nodes 0) ≤ u64.MAX) }
-        ensures refusal { IfErr result (λ e. e ≡ refusal_for self.old.next (length (removal_events_at T.cmp self.old.size self.old.nodes 0))) }
-        ensures no_event { removal_events_at T.cmp self.old.size self.old.nodes 0 ≡ [] → IsOk result }
-        ensures unchanged { OnErr result (self.new ≡ self.old) }
     {
+        // The nodes are lawful.
+        let _nodes = &self.nodes;
         let place = self.first_item_place();
-        self.pop_at_cdc(place)
+        self.remove_from_cdc(place)
     }
 
     /// Removes the least item, if any, and returns it. It uses up as many numbers as
@@ -68,7 +71,14 @@ impl<T: Ord + Clone + Drop, Node: NodeLike<T>> BTreeSet<T, Node> {
     /// joins two nodes of a type that allocates, and else does not fail with `Memory`. A failed call
     /// changes nothing.
     pub fn pop_first(&mut self) -> Result<Option<T>, Refusal>
+        ensures tree { OnOk result (self.new ≡ after_removal_at T.cmp self.old 0) }
         ensures answer { IfOk result (λ item. item ≡ slice_get (joined self.old.nodes) 0) }
+        ensures refusal { IfErr result (λ e. e ≡ refusal_for self.old.next (length (removal_events_at T.cmp self.old.size self.old.nodes 0))) }
+        ensures no_event { removal_events_at T.cmp self.old.size self.old.nodes 0 ≡ [] → IsOk result }
+        ensures no_memory { length (removal_events_at T.cmp self.old.size self.old.nodes 0) ≤ 1 → self.old.next + length (removal_events_at T.cmp self.old.size self.old.nodes 0) ≤ u64.MAX → IsOk result }
+        ensures never { Node.allocates ≡ false → self.old.next + length (removal_events_at T.cmp self.old.size self.old.nodes 0) ≤ u64.MAX → IsOk result }
+        ensures unchanged { OnErr result (self.new ≡ self.old) }
+        // What callers prove by.
         ensures contents { OnOk result (joined self.new.nodes ≡ drop 1 (joined self.old.nodes)) }
         ensures replay { OnOk result (replay T.cmp self.old.nodes (numbered_from self.old.next (removal_events_at T.cmp self.old.size self.old.nodes 0)) ≡ Some self.new.nodes) }
         ensures few { length (removal_events_at T.cmp self.old.size self.old.nodes 0) ≤ 3 }
@@ -76,14 +86,11 @@ impl<T: Ord + Clone + Drop, Node: NodeLike<T>> BTreeSet<T, Node> {
         ensures spaced { IsSpaced (self.old.size / 2) self.old.nodes → IsSpaced (self.new.size / 2) self.new.nodes }
         ensures next { OnOk result (self.new.next ≡ self.old.next + length (removal_events_at T.cmp self.old.size self.old.nodes 0)) }
         ensures fits { OnOk result (self.old.next + length (removal_events_at T.cmp self.old.size self.old.nodes 0) ≤ u64.MAX) }
-        ensures refusal { IfErr result (λ e. e ≡ refusal_for self.old.next (length (removal_events_at T.cmp self.old.size self.old.nodes 0))) }
-        ensures no_event { removal_events_at T.cmp self.old.size self.old.nodes 0 ≡ [] → IsOk result }
-        ensures no_memory { length (removal_events_at T.cmp self.old.size self.old.nodes 0) ≤ 1 → self.old.next + length (removal_events_at T.cmp self.old.size self.old.nodes 0) ≤ u64.MAX → IsOk result }
-        ensures never { Node.allocates ≡ false → self.old.next + length (removal_events_at T.cmp self.old.size self.old.nodes 0) ≤ u64.MAX → IsOk result }
-        ensures unchanged { OnErr result (self.new ≡ self.old) }
     {
+        // The nodes are lawful.
+        let _nodes = &self.nodes;
         let place = self.first_item_place();
-        self.pop_at(place)
+        self.remove_from(place)
     }
 
     /// Removes the greatest item, if any, and returns it with the events, which are those of
@@ -91,9 +98,14 @@ impl<T: Ord + Clone + Drop, Node: NodeLike<T>> BTreeSet<T, Node> {
     /// with `Numbers` where the events do not fit the counter, else with `Memory`. A failed call
     /// changes nothing.
     pub fn pop_last_cdc(&mut self) -> Result<(Option<T>, Vec<ChangeEvent<T>>), Refusal>
+        ensures tree { OnOk result (self.new ≡ after_removal_at T.cmp self.old (length (joined self.old.nodes) - 1)) }
         ensures answer { IfOk result (λ r. r.0 ≡ slice_get (joined self.old.nodes) (length (joined self.old.nodes) - 1)) }
+        ensures clones { IfOk result (λ r. IsTold T.is_clone self.old.next (removal_events_at T.cmp self.old.size self.old.nodes (length (joined self.old.nodes) - 1)) r.1.items) }
+        ensures refusal { IfErr result (λ e. e ≡ refusal_for self.old.next (length (removal_events_at T.cmp self.old.size self.old.nodes (length (joined self.old.nodes) - 1)))) }
+        ensures no_event { removal_events_at T.cmp self.old.size self.old.nodes (length (joined self.old.nodes) - 1) ≡ [] → IsOk result }
+        ensures unchanged { OnErr result (self.new ≡ self.old) }
+        // What callers prove by.
         ensures contents { OnOk result (joined self.new.nodes ≡ take (length (joined self.old.nodes) - 1) (joined self.old.nodes)) }
-        ensures clones { IfOk result (λ r. AllZip (IsEventClone T.is_clone) (numbered_from self.old.next (removal_events_at T.cmp self.old.size self.old.nodes (length (joined self.old.nodes) - 1))) r.1.items) }
         ensures events { ((x y : T) → T.is_clone x y → y ≡ x) → IfOk result (λ r. r.1.items ≡ numbered_from self.old.next (removal_events_at T.cmp self.old.size self.old.nodes (length (joined self.old.nodes) - 1))) }
         ensures numbered { IfOk result (λ r. IsNumberedFrom self.old.next r.1.items) }
         ensures replay { ((x y : T) → T.is_clone x y → y ≡ x) → IfOk result (λ r. replay T.cmp self.old.nodes r.1.items ≡ Some self.new.nodes) }
@@ -103,12 +115,11 @@ impl<T: Ord + Clone + Drop, Node: NodeLike<T>> BTreeSet<T, Node> {
         ensures spaced { IsSpaced (self.old.size / 2) self.old.nodes → IsSpaced (self.new.size / 2) self.new.nodes }
         ensures next { OnOk result (self.new.next ≡ self.old.next + length (removal_events_at T.cmp self.old.size self.old.nodes (length (joined self.old.nodes) - 1))) }
         ensures fits { OnOk result (self.old.next + length (removal_events_at T.cmp self.old.size self.old.nodes (length (joined self.old.nodes) - 1)) ≤ u64.MAX) }
-        ensures refusal { IfErr result (λ e. e ≡ refusal_for self.old.next (length (removal_events_at T.cmp self.old.size self.old.nodes (length (joined self.old.nodes) - 1)))) }
-        ensures no_event { removal_events_at T.cmp self.old.size self.old.nodes (length (joined self.old.nodes) - 1) ≡ [] → IsOk result }
-        ensures unchanged { OnErr result (self.new ≡ self.old) }
     {
+        // The nodes are lawful.
+        let _nodes = &self.nodes;
         let place = self.last_item_place();
-        self.pop_at_cdc(place)
+        self.remove_from_cdc(place)
     }
 
     /// Removes the greatest item, if any, and returns it. It uses up as many numbers as
@@ -116,7 +127,14 @@ impl<T: Ord + Clone + Drop, Node: NodeLike<T>> BTreeSet<T, Node> {
     /// joins two nodes of a type that allocates, and else does not fail with `Memory`. A failed call
     /// changes nothing.
     pub fn pop_last(&mut self) -> Result<Option<T>, Refusal>
+        ensures tree { OnOk result (self.new ≡ after_removal_at T.cmp self.old (length (joined self.old.nodes) - 1)) }
         ensures answer { IfOk result (λ item. item ≡ slice_get (joined self.old.nodes) (length (joined self.old.nodes) - 1)) }
+        ensures refusal { IfErr result (λ e. e ≡ refusal_for self.old.next (length (removal_events_at T.cmp self.old.size self.old.nodes (length (joined self.old.nodes) - 1)))) }
+        ensures no_event { removal_events_at T.cmp self.old.size self.old.nodes (length (joined self.old.nodes) - 1) ≡ [] → IsOk result }
+        ensures no_memory { length (removal_events_at T.cmp self.old.size self.old.nodes (length (joined self.old.nodes) - 1)) ≤ 1 → self.old.next + length (removal_events_at T.cmp self.old.size self.old.nodes (length (joined self.old.nodes) - 1)) ≤ u64.MAX → IsOk result }
+        ensures never { Node.allocates ≡ false → self.old.next + length (removal_events_at T.cmp self.old.size self.old.nodes (length (joined self.old.nodes) - 1)) ≤ u64.MAX → IsOk result }
+        ensures unchanged { OnErr result (self.new ≡ self.old) }
+        // What callers prove by.
         ensures contents { OnOk result (joined self.new.nodes ≡ take (length (joined self.old.nodes) - 1) (joined self.old.nodes)) }
         ensures replay { OnOk result (replay T.cmp self.old.nodes (numbered_from self.old.next (removal_events_at T.cmp self.old.size self.old.nodes (length (joined self.old.nodes) - 1))) ≡ Some self.new.nodes) }
         ensures few { length (removal_events_at T.cmp self.old.size self.old.nodes (length (joined self.old.nodes) - 1)) ≤ 3 }
@@ -124,14 +142,11 @@ impl<T: Ord + Clone + Drop, Node: NodeLike<T>> BTreeSet<T, Node> {
         ensures spaced { IsSpaced (self.old.size / 2) self.old.nodes → IsSpaced (self.new.size / 2) self.new.nodes }
         ensures next { OnOk result (self.new.next ≡ self.old.next + length (removal_events_at T.cmp self.old.size self.old.nodes (length (joined self.old.nodes) - 1))) }
         ensures fits { OnOk result (self.old.next + length (removal_events_at T.cmp self.old.size self.old.nodes (length (joined self.old.nodes) - 1)) ≤ u64.MAX) }
-        ensures refusal { IfErr result (λ e. e ≡ refusal_for self.old.next (length (removal_events_at T.cmp self.old.size self.old.nodes (length (joined self.old.nodes) - 1)))) }
-        ensures no_event { removal_events_at T.cmp self.old.size self.old.nodes (length (joined self.old.nodes) - 1) ≡ [] → IsOk result }
-        ensures no_memory { length (removal_events_at T.cmp self.old.size self.old.nodes (length (joined self.old.nodes) - 1)) ≤ 1 → self.old.next + length (removal_events_at T.cmp self.old.size self.old.nodes (length (joined self.old.nodes) - 1)) ≤ u64.MAX → IsOk result }
-        ensures never { Node.allocates ≡ false → self.old.next + length (removal_events_at T.cmp self.old.size self.old.nodes (length (joined self.old.nodes) - 1)) ≤ u64.MAX → IsOk result }
-        ensures unchanged { OnErr result (self.new ≡ self.old) }
     {
+        // The nodes are lawful.
+        let _nodes = &self.nodes;
         let place = self.last_item_place();
-        self.pop_at(place)
+        self.remove_from(place)
     }
 
     // Returns the place of the first item, if any.
@@ -153,67 +168,5 @@ impl<T: Ord + Clone + Drop, Node: NodeLike<T>> BTreeSet<T, Node> {
         }
         let last = self.nodes.len() - 1;
         Some((last, self.nodes[last].len() - 1))
-    }
-
-    // Removes the item at a place, the one at position `i` of all, if any, and returns it with the
-    // events.
-    fn pop_at_cdc(
-        &mut self,
-        place: Option<(usize, usize)>,
-    ) -> Result<(Option<T>, Vec<ChangeEvent<T>>), Refusal>
-        ghost i: { ℕ }
-        requires { MatchOption place (joined self.old.nodes ≡ []) (λ p. IsItemAt self.old.nodes p i) }
-        ensures answer { IfOk result (λ r. r.0 ≡ slice_get (joined self.old.nodes) i) }
-        ensures contents { OnOk result (joined self.new.nodes ≡ remove (joined self.old.nodes) i) }
-        ensures clones { IfOk result (λ r. AllZip (IsEventClone T.is_clone) (numbered_from self.old.next (removal_events_at T.cmp self.old.size self.old.nodes i)) r.1.items) }
-        ensures events { ((x y : T) → T.is_clone x y → y ≡ x) → IfOk result (λ r. r.1.items ≡ numbered_from self.old.next (removal_events_at T.cmp self.old.size self.old.nodes i)) }
-        ensures numbered { IfOk result (λ r. IsNumberedFrom self.old.next r.1.items) }
-        ensures replay { ((x y : T) → T.is_clone x y → y ≡ x) → IfOk result (λ r. replay T.cmp self.old.nodes r.1.items ≡ Some self.new.nodes) }
-        ensures table { OnOk result (replay T.cmp self.old.nodes (numbered_from self.old.next (removal_events_at T.cmp self.old.size self.old.nodes i)) ≡ Some self.new.nodes) }
-        ensures few { IfOk result (λ r. length r.1.items ≤ 3) }
-        ensures size { self.new.size ≡ self.old.size }
-        ensures spaced { IsSpaced (self.old.size / 2) self.old.nodes → IsSpaced (self.new.size / 2) self.new.nodes }
-        ensures next { OnOk result (self.new.next ≡ self.old.next + length (removal_events_at T.cmp self.old.size self.old.nodes i)) }
-        ensures fits { OnOk result (self.old.next + length (removal_events_at T.cmp self.old.size self.old.nodes i) ≤ u64.MAX) }
-        ensures refusal { IfErr result (λ e. e ≡ refusal_for self.old.next (length (removal_events_at T.cmp self.old.size self.old.nodes i))) }
-        ensures no_event { removal_events_at T.cmp self.old.size self.old.nodes i ≡ [] → IsOk result }
-        ensures unchanged { OnErr result (self.new ≡ self.old) }
-    {
-        // The nodes are lawful.
-        let _nodes = &self.nodes;
-        match place {
-            Some((node, offset)) => {
-                let (item, events) = self.remove_at_cdc(node, offset)?;
-                Ok((Some(item), events))
-            }
-            None => Ok((None, Vec::new(*self.nodes.allocator()))),
-        }
-    }
-
-    // Removes the item at a place, the one at position `i` of all, if any, and returns it.
-    fn pop_at(&mut self, place: Option<(usize, usize)>) -> Result<Option<T>, Refusal>
-        ghost i: { ℕ }
-        requires { MatchOption place (joined self.old.nodes ≡ []) (λ p. IsItemAt self.old.nodes p i) }
-        ensures answer { IfOk result (λ item. item ≡ slice_get (joined self.old.nodes) i) }
-        ensures contents { OnOk result (joined self.new.nodes ≡ remove (joined self.old.nodes) i) }
-        ensures replay { OnOk result (replay T.cmp self.old.nodes (numbered_from self.old.next (removal_events_at T.cmp self.old.size self.old.nodes i)) ≡ Some self.new.nodes) }
-        ensures few { length (removal_events_at T.cmp self.old.size self.old.nodes i) ≤ 3 }
-        ensures size { self.new.size ≡ self.old.size }
-        ensures spaced { IsSpaced (self.old.size / 2) self.old.nodes → IsSpaced (self.new.size / 2) self.new.nodes }
-        ensures next { OnOk result (self.new.next ≡ self.old.next + length (removal_events_at T.cmp self.old.size self.old.nodes i)) }
-        ensures fits { OnOk result (self.old.next + length (removal_events_at T.cmp self.old.size self.old.nodes i) ≤ u64.MAX) }
-        ensures refusal { IfErr result (λ e. e ≡ refusal_for self.old.next (length (removal_events_at T.cmp self.old.size self.old.nodes i))) }
-        ensures no_event { removal_events_at T.cmp self.old.size self.old.nodes i ≡ [] → IsOk result }
-        ensures no_memory { length (removal_events_at T.cmp self.old.size self.old.nodes i) ≤ 1 → self.old.next + length (removal_events_at T.cmp self.old.size self.old.nodes i) ≤ u64.MAX → IsOk result }
-        ensures never { Node.allocates ≡ false → self.old.next + length (removal_events_at T.cmp self.old.size self.old.nodes i) ≤ u64.MAX → IsOk result }
-        ensures unchanged { OnErr result (self.new ≡ self.old) }
-    {
-        // The nodes are lawful, and the counter fits a u64, so a call without events lacks no number.
-        let _nodes = &self.nodes;
-        let _next = self.next;
-        match place {
-            Some((node, offset)) => Ok(Some(self.remove_at(node, offset)?)),
-            None => Ok(None),
-        }
     }
 }

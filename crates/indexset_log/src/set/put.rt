@@ -1,11 +1,10 @@
 //! Insertion of items.
 ghost use Rattle.std.specs.Prelude.{◌≡◌, ◌+◌, ◌/◌, ◌≤◌, [], ◌++◌, length, Some, None, IfOk, OnOk, IfErr, OnErr, IsOk, IfSome, is_none, not, true};
-ghost use Rattle.std.specs.List.{AllZip};
 ghost use Rattle.indexset_core.specs.Nodes.{joined};
 ghost use Rattle.indexset_core.specs.Order.{put, keep, has_equal, equal_element};
 ghost use Rattle.indexset_log.specs.Aim.{IsAim, IsAimed, count_for, is_present};
-ghost use Rattle.indexset_log.specs.Clones.{IsEventClone};
-ghost use Rattle.indexset_log.specs.Edits.{with_put, with_checked_put};
+ghost use Rattle.indexset_log.specs.Clones.{IsTold};
+ghost use Rattle.indexset_log.specs.Edits.{after_put, after_checked_put, with_put, with_checked_put};
 ghost use Rattle.indexset_log.specs.Joining.{IsSpaced};
 ghost use Rattle.indexset_log.specs.Replay.{replay, numbered_from, IsNumberedFrom};
 ghost use Rattle.indexset_log.specs.Table.{put_events, checked_put_events};
@@ -33,24 +32,28 @@ impl<T: Ord + Clone + Drop, Node: NodeLike<T>> BTreeSet<T, Node> {
     /// assert!(rt; old.is_none() && events.as_slice() == [made].as_slice());
     /// ```
     pub fn put_cdc(&mut self, value: T) -> Result<(Option<T>, Vec<ChangeEvent<T>>), Refused<T>>
+        ensures tree { OnOk result (self.new ≡ after_put T.cmp self.old value) }
         ensures answer { IfOk result (λ r. r.0 ≡ equal_element T.cmp (joined self.old.nodes) value) }
+        ensures clones { IfOk result (λ r. IsTold T.is_clone self.old.next (put_events T.cmp self.old.size self.old.nodes value) r.1.items) }
+        ensures refusal { IfErr result (λ e. e.cause ≡ refusal_for self.old.next (length (put_events T.cmp self.old.size self.old.nodes value))) }
+        ensures given_back { IfErr result (λ e. e.value ≡ value) }
+        ensures unchanged { OnErr result (self.new ≡ self.old) }
+        // What callers prove by.
         ensures contents { OnOk result (joined self.new.nodes ≡ put T.cmp (joined self.old.nodes) value) }
         ensures there { OnOk result (has_equal T.cmp (joined self.new.nodes) value ≡ true) }
         ensures nodes { OnOk result (self.new.nodes ≡ with_put T.cmp self.old.size self.old.nodes value) }
-        ensures clones { IfOk result (λ r. AllZip (IsEventClone T.is_clone) (numbered_from self.old.next (put_events T.cmp self.old.size self.old.nodes value)) r.1.items) }
+        ensures size { self.new.size ≡ self.old.size }
+        ensures next { OnOk result (self.new.next ≡ self.old.next + length (put_events T.cmp self.old.size self.old.nodes value)) }
+        ensures fits { OnOk result (self.old.next + length (put_events T.cmp self.old.size self.old.nodes value) ≤ u64.MAX) }
         ensures events { ((x y : T) → T.is_clone x y → y ≡ x) → IfOk result (λ r. r.1.items ≡ numbered_from self.old.next (put_events T.cmp self.old.size self.old.nodes value)) }
         ensures numbered { IfOk result (λ r. IsNumberedFrom self.old.next r.1.items) }
         ensures replay { ((x y : T) → T.is_clone x y → y ≡ x) → IfOk result (λ r. replay T.cmp self.old.nodes r.1.items ≡ Some self.new.nodes) }
         ensures table { OnOk result (replay T.cmp self.old.nodes (numbered_from self.old.next (put_events T.cmp self.old.size self.old.nodes value)) ≡ Some self.new.nodes) }
         ensures few { IfOk result (λ r. length r.1.items ≤ 3) }
-        ensures size { self.new.size ≡ self.old.size }
         ensures spaced { IsSpaced (self.old.size / 2) self.old.nodes → IsSpaced (self.new.size / 2) self.new.nodes }
-        ensures next { OnOk result (self.new.next ≡ self.old.next + length (put_events T.cmp self.old.size self.old.nodes value)) }
-        ensures fits { OnOk result (self.old.next + length (put_events T.cmp self.old.size self.old.nodes value) ≤ u64.MAX) }
-        ensures refusal { IfErr result (λ e. e.cause ≡ refusal_for self.old.next (length (put_events T.cmp self.old.size self.old.nodes value))) }
-        ensures given_back { IfErr result (λ e. e.value ≡ value) }
-        ensures unchanged { OnErr result (self.new ≡ self.old) }
     {
+        // The nodes are lawful.
+        let _nodes = &self.nodes;
         let aim = self.aim(&value);
         self.put_cdc_at(aim, value)
     }
@@ -59,25 +62,28 @@ impl<T: Ord + Clone + Drop, Node: NodeLike<T>> BTreeSet<T, Node> {
     /// uses up no number, allocates nothing and changes nothing.
     #[tactic(auto, unfolding(indexset_core::specs::Order::keep, crate::specs::Edits::with_checked_put, crate::specs::Table::checked_put_events))]
     pub fn put_cdc_checked(&mut self, value: T) -> Result<Option<Vec<ChangeEvent<T>>>, Refused<T>>
+        ensures tree { OnOk result (self.new ≡ after_checked_put T.cmp self.old value) }
         ensures answer { IfOk result (λ r. is_none r ≡ has_equal T.cmp (joined self.old.nodes) value) }
-        ensures contents { OnOk result (joined self.new.nodes ≡ keep T.cmp (joined self.old.nodes) value) }
-        ensures there { OnOk result (has_equal T.cmp (joined self.new.nodes) value ≡ true) }
-        ensures nodes { OnOk result (self.new.nodes ≡ with_checked_put T.cmp self.old.size self.old.nodes value) }
-        ensures clones { IfOk result (λ r. IfSome r (λ events. AllZip (IsEventClone T.is_clone) (numbered_from self.old.next (checked_put_events T.cmp self.old.size self.old.nodes value)) events.items)) }
-        ensures events { ((x y : T) → T.is_clone x y → y ≡ x) → IfOk result (λ r. IfSome r (λ events. events.items ≡ numbered_from self.old.next (checked_put_events T.cmp self.old.size self.old.nodes value))) }
-        ensures numbered { IfOk result (λ r. IfSome r (λ events. IsNumberedFrom self.old.next events.items)) }
-        ensures replay { OnOk result (replay T.cmp self.old.nodes (numbered_from self.old.next (checked_put_events T.cmp self.old.size self.old.nodes value)) ≡ Some self.new.nodes) }
-        ensures few { IfOk result (λ r. IfSome r (λ events. length events.items ≤ 3)) }
-        ensures size { self.new.size ≡ self.old.size }
-        ensures spaced { IsSpaced (self.old.size / 2) self.old.nodes → IsSpaced (self.new.size / 2) self.new.nodes }
-        ensures next { OnOk result (self.new.next ≡ self.old.next + length (checked_put_events T.cmp self.old.size self.old.nodes value)) }
-        ensures fits { OnOk result (self.old.next + length (checked_put_events T.cmp self.old.size self.old.nodes value) ≤ u64.MAX) }
+        ensures clones { IfOk result (λ r. IfSome r (λ events. IsTold T.is_clone self.old.next (checked_put_events T.cmp self.old.size self.old.nodes value) events.items)) }
         ensures refusal { IfErr result (λ e. e.cause ≡ refusal_for self.old.next (length (checked_put_events T.cmp self.old.size self.old.nodes value))) }
         ensures no_event { has_equal T.cmp (joined self.old.nodes) value ≡ true → IsOk result }
         ensures given_back { IfErr result (λ e. e.value ≡ value) }
         ensures unchanged { OnErr result (self.new ≡ self.old) }
+        // What callers prove by.
+        ensures contents { OnOk result (joined self.new.nodes ≡ keep T.cmp (joined self.old.nodes) value) }
+        ensures there { OnOk result (has_equal T.cmp (joined self.new.nodes) value ≡ true) }
+        ensures nodes { OnOk result (self.new.nodes ≡ with_checked_put T.cmp self.old.size self.old.nodes value) }
+        ensures size { self.new.size ≡ self.old.size }
+        ensures next { OnOk result (self.new.next ≡ self.old.next + length (checked_put_events T.cmp self.old.size self.old.nodes value)) }
+        ensures fits { OnOk result (self.old.next + length (checked_put_events T.cmp self.old.size self.old.nodes value) ≤ u64.MAX) }
+        ensures events { ((x y : T) → T.is_clone x y → y ≡ x) → IfOk result (λ r. IfSome r (λ events. events.items ≡ numbered_from self.old.next (checked_put_events T.cmp self.old.size self.old.nodes value))) }
+        ensures numbered { IfOk result (λ r. IfSome r (λ events. IsNumberedFrom self.old.next events.items)) }
+        ensures replay { OnOk result (replay T.cmp self.old.nodes (numbered_from self.old.next (checked_put_events T.cmp self.old.size self.old.nodes value)) ≡ Some self.new.nodes) }
+        ensures few { IfOk result (λ r. IfSome r (λ events. length events.items ≤ 3)) }
+        ensures spaced { IsSpaced (self.old.size / 2) self.old.nodes → IsSpaced (self.new.size / 2) self.new.nodes }
     {
-        // The counter fits a u64, so a call without events lacks no number.
+        // The nodes are lawful, and the counter fits a u64, so a call without events lacks no number.
+        let _nodes = &self.nodes;
         let _next = self.next;
         let aim = self.aim(&value);
         if finds_equal(&aim) {
@@ -92,20 +98,24 @@ impl<T: Ord + Clone + Drop, Node: NodeLike<T>> BTreeSet<T, Node> {
     /// Inserts an item, or replaces an equal one. It uses up as many numbers as `put_cdc`. A failed
     /// call hands the item back and changes nothing.
     pub fn put(&mut self, value: T) -> Result<Option<T>, Refused<T>>
+        ensures tree { OnOk result (self.new ≡ after_put T.cmp self.old value) }
         ensures answer { IfOk result (λ old. old ≡ equal_element T.cmp (joined self.old.nodes) value) }
-        ensures contents { OnOk result (joined self.new.nodes ≡ put T.cmp (joined self.old.nodes) value) }
-        ensures there { OnOk result (has_equal T.cmp (joined self.new.nodes) value ≡ true) }
-        ensures nodes { OnOk result (self.new.nodes ≡ with_put T.cmp self.old.size self.old.nodes value) }
-        ensures replay { OnOk result (replay T.cmp self.old.nodes (numbered_from self.old.next (put_events T.cmp self.old.size self.old.nodes value)) ≡ Some self.new.nodes) }
-        ensures few { length (put_events T.cmp self.old.size self.old.nodes value) ≤ 3 }
-        ensures size { self.new.size ≡ self.old.size }
-        ensures spaced { IsSpaced (self.old.size / 2) self.old.nodes → IsSpaced (self.new.size / 2) self.new.nodes }
-        ensures next { OnOk result (self.new.next ≡ self.old.next + length (put_events T.cmp self.old.size self.old.nodes value)) }
-        ensures fits { OnOk result (self.old.next + length (put_events T.cmp self.old.size self.old.nodes value) ≤ u64.MAX) }
         ensures refusal { IfErr result (λ e. e.cause ≡ refusal_for self.old.next (length (put_events T.cmp self.old.size self.old.nodes value))) }
         ensures given_back { IfErr result (λ e. e.value ≡ value) }
         ensures unchanged { OnErr result (self.new ≡ self.old) }
+        // What callers prove by.
+        ensures contents { OnOk result (joined self.new.nodes ≡ put T.cmp (joined self.old.nodes) value) }
+        ensures there { OnOk result (has_equal T.cmp (joined self.new.nodes) value ≡ true) }
+        ensures nodes { OnOk result (self.new.nodes ≡ with_put T.cmp self.old.size self.old.nodes value) }
+        ensures size { self.new.size ≡ self.old.size }
+        ensures next { OnOk result (self.new.next ≡ self.old.next + length (put_events T.cmp self.old.size self.old.nodes value)) }
+        ensures fits { OnOk result (self.old.next + length (put_events T.cmp self.old.size self.old.nodes value) ≤ u64.MAX) }
+        ensures replay { OnOk result (replay T.cmp self.old.nodes (numbered_from self.old.next (put_events T.cmp self.old.size self.old.nodes value)) ≡ Some self.new.nodes) }
+        ensures few { length (put_events T.cmp self.old.size self.old.nodes value) ≤ 3 }
+        ensures spaced { IsSpaced (self.old.size / 2) self.old.nodes → IsSpaced (self.new.size / 2) self.new.nodes }
     {
+        // The nodes are lawful.
+        let _nodes = &self.nodes;
         let aim = self.aim(&value);
         self.put_at(aim, value)
     }
@@ -120,22 +130,25 @@ impl<T: Ord + Clone + Drop, Node: NodeLike<T>> BTreeSet<T, Node> {
     /// ```
     #[tactic(auto, unfolding(indexset_core::specs::Order::keep, crate::specs::Edits::with_checked_put, crate::specs::Table::checked_put_events))]
     pub fn insert(&mut self, value: T) -> Result<bool, Refused<T>>
+        ensures tree { OnOk result (self.new ≡ after_checked_put T.cmp self.old value) }
         ensures answer { IfOk result (λ r. r ≡ not (has_equal T.cmp (joined self.old.nodes) value)) }
-        ensures contents { OnOk result (joined self.new.nodes ≡ keep T.cmp (joined self.old.nodes) value) }
-        ensures there { OnOk result (has_equal T.cmp (joined self.new.nodes) value ≡ true) }
-        ensures nodes { OnOk result (self.new.nodes ≡ with_checked_put T.cmp self.old.size self.old.nodes value) }
-        ensures replay { OnOk result (replay T.cmp self.old.nodes (numbered_from self.old.next (checked_put_events T.cmp self.old.size self.old.nodes value)) ≡ Some self.new.nodes) }
-        ensures few { length (checked_put_events T.cmp self.old.size self.old.nodes value) ≤ 3 }
-        ensures size { self.new.size ≡ self.old.size }
-        ensures spaced { IsSpaced (self.old.size / 2) self.old.nodes → IsSpaced (self.new.size / 2) self.new.nodes }
-        ensures next { OnOk result (self.new.next ≡ self.old.next + length (checked_put_events T.cmp self.old.size self.old.nodes value)) }
-        ensures fits { OnOk result (self.old.next + length (checked_put_events T.cmp self.old.size self.old.nodes value) ≤ u64.MAX) }
         ensures refusal { IfErr result (λ e. e.cause ≡ refusal_for self.old.next (length (checked_put_events T.cmp self.old.size self.old.nodes value))) }
         ensures no_event { has_equal T.cmp (joined self.old.nodes) value ≡ true → IsOk result }
         ensures given_back { IfErr result (λ e. e.value ≡ value) }
         ensures unchanged { OnErr result (self.new ≡ self.old) }
+        // What callers prove by.
+        ensures contents { OnOk result (joined self.new.nodes ≡ keep T.cmp (joined self.old.nodes) value) }
+        ensures there { OnOk result (has_equal T.cmp (joined self.new.nodes) value ≡ true) }
+        ensures nodes { OnOk result (self.new.nodes ≡ with_checked_put T.cmp self.old.size self.old.nodes value) }
+        ensures size { self.new.size ≡ self.old.size }
+        ensures next { OnOk result (self.new.next ≡ self.old.next + length (checked_put_events T.cmp self.old.size self.old.nodes value)) }
+        ensures fits { OnOk result (self.old.next + length (checked_put_events T.cmp self.old.size self.old.nodes value) ≤ u64.MAX) }
+        ensures replay { OnOk result (replay T.cmp self.old.nodes (numbered_from self.old.next (checked_put_events T.cmp self.old.size self.old.nodes value)) ≡ Some self.new.nodes) }
+        ensures few { length (checked_put_events T.cmp self.old.size self.old.nodes value) ≤ 3 }
+        ensures spaced { IsSpaced (self.old.size / 2) self.old.nodes → IsSpaced (self.new.size / 2) self.new.nodes }
     {
-        // The counter fits a u64, so a call without events lacks no number.
+        // The nodes are lawful, and the counter fits a u64, so a call without events lacks no number.
+        let _nodes = &self.nodes;
         let _next = self.next;
         let aim = self.aim(&value);
         if finds_equal(&aim) {
@@ -164,26 +177,23 @@ impl<T: Ord + Clone + Drop, Node: NodeLike<T>> BTreeSet<T, Node> {
         aim: Option<Aim>,
         value: T,
     ) -> Result<(Option<T>, Vec<ChangeEvent<T>>), Refused<T>>
-        requires aim { IsAimed T.cmp self.old.size self.old.nodes value aim }
+        requires { IsAimed T.cmp self.old.size self.old.nodes value aim }
+        ensures tree { OnOk result (self.new ≡ after_put T.cmp self.old value) }
         ensures answer { IfOk result (λ r. r.0 ≡ equal_element T.cmp (joined self.old.nodes) value) }
-        ensures contents { OnOk result (joined self.new.nodes ≡ put T.cmp (joined self.old.nodes) value) }
-        ensures there { OnOk result (has_equal T.cmp (joined self.new.nodes) value ≡ true) }
-        ensures nodes { OnOk result (self.new.nodes ≡ with_put T.cmp self.old.size self.old.nodes value) }
-        ensures clones { IfOk result (λ r. AllZip (IsEventClone T.is_clone) (numbered_from self.old.next (put_events T.cmp self.old.size self.old.nodes value)) r.1.items) }
-        ensures events { ((x y : T) → T.is_clone x y → y ≡ x) → IfOk result (λ r. r.1.items ≡ numbered_from self.old.next (put_events T.cmp self.old.size self.old.nodes value)) }
-        ensures numbered { IfOk result (λ r. IsNumberedFrom self.old.next r.1.items) }
-        ensures replay { OnOk result (replay T.cmp self.old.nodes (numbered_from self.old.next (put_events T.cmp self.old.size self.old.nodes value)) ≡ Some self.new.nodes) }
-        ensures few { IfOk result (λ r. length r.1.items ≤ 3) }
-        ensures size { self.new.size ≡ self.old.size }
-        ensures spaced { IsSpaced (self.old.size / 2) self.old.nodes → IsSpaced (self.new.size / 2) self.new.nodes }
-        ensures next { OnOk result (self.new.next ≡ self.old.next + length (put_events T.cmp self.old.size self.old.nodes value)) }
+        ensures told { IfOk result (λ r. IsTold T.is_clone self.old.next (put_events T.cmp self.old.size self.old.nodes value) r.1.items) }
         ensures fits { OnOk result (self.old.next + length (put_events T.cmp self.old.size self.old.nodes value) ≤ u64.MAX) }
         ensures refusal { IfErr result (λ e. e.cause ≡ refusal_for self.old.next (length (put_events T.cmp self.old.size self.old.nodes value))) }
         ensures given_back { IfErr result (λ e. e.value ≡ value) }
         ensures unchanged { OnErr result (self.new ≡ self.old) }
     {
+        // The nodes are lawful.
+        let _nodes = &self.nodes;
+        let next = match self.next_after(&aim) {
+            Ok(next) => next,
+            Err(cause) => return Err(Refused { value, cause }),
+        };
         match self.put_log(&aim, &value) {
-            Ok(events) => match self.put_at(aim, value) {
+            Ok(events) => match self.carry_out(aim, next, value) {
                 Ok(old) => Ok((old, events)),
                 Err(refused) => Err(refused),
             },
@@ -194,14 +204,8 @@ impl<T: Ord + Clone + Drop, Node: NodeLike<T>> BTreeSet<T, Node> {
     // Inserts an item where it goes.
     fn put_at(&mut self, aim: Option<Aim>, value: T) -> Result<Option<T>, Refused<T>>
         requires { IsAimed T.cmp self.old.size self.old.nodes value aim }
+        ensures tree { OnOk result (self.new ≡ after_put T.cmp self.old value) }
         ensures answer { IfOk result (λ old. old ≡ equal_element T.cmp (joined self.old.nodes) value) }
-        ensures contents { OnOk result (joined self.new.nodes ≡ put T.cmp (joined self.old.nodes) value) }
-        ensures there { OnOk result (has_equal T.cmp (joined self.new.nodes) value ≡ true) }
-        ensures nodes { OnOk result (self.new.nodes ≡ with_put T.cmp self.old.size self.old.nodes value) }
-        ensures replay { OnOk result (replay T.cmp self.old.nodes (numbered_from self.old.next (put_events T.cmp self.old.size self.old.nodes value)) ≡ Some self.new.nodes) }
-        ensures size { self.new.size ≡ self.old.size }
-        ensures spaced { IsSpaced (self.old.size / 2) self.old.nodes → IsSpaced (self.new.size / 2) self.new.nodes }
-        ensures next { OnOk result (self.new.next ≡ self.old.next + length (put_events T.cmp self.old.size self.old.nodes value)) }
         ensures fits { OnOk result (self.old.next + length (put_events T.cmp self.old.size self.old.nodes value) ≤ u64.MAX) }
         ensures refusal { IfErr result (λ e. e.cause ≡ refusal_for self.old.next (length (put_events T.cmp self.old.size self.old.nodes value))) }
         ensures given_back { IfErr result (λ e. e.value ≡ value) }
@@ -209,55 +213,53 @@ impl<T: Ord + Clone + Drop, Node: NodeLike<T>> BTreeSet<T, Node> {
     {
         // The nodes are lawful.
         let _nodes = &self.nodes;
-        match self.check_numbers(&aim) {
-            Ok(()) => self.carry_out(aim, value),
+        match self.next_after(&aim) {
+            Ok(next) => self.carry_out(aim, next, value),
             Err(cause) => Err(Refused { value, cause }),
         }
     }
 
-    // Returns whether there are numbers for the events of a put.
-    fn check_numbers(&self, aim: &Option<Aim>) -> Result<(), Refusal>
+    // Returns the number of the next event after a put, where there are numbers for its events.
+    fn next_after(&self, aim: &Option<Aim>) -> Result<u64, Refusal>
+        ensures next { IfOk result (λ next. next ≡ self.now.next + count_for aim.now) }
         ensures fits { OnOk result (self.now.next + count_for aim.now ≤ u64.MAX) }
         ensures memory { OnOk result (refusal_for self.now.next (count_for aim.now) ≡ Refusal.Memory) }
         ensures refusal { IfErr result (λ e. e ≡ refusal_for self.now.next (count_for aim.now)) }
     {
-        if event_count(aim) > u64::MAX - self.next {
+        let count = event_count(aim);
+        if count > u64::MAX - self.next {
             return Err(Refusal::Numbers);
         }
-        Ok(())
+        Ok(self.next + count)
     }
 
     // Returns the events of a put.
     fn put_log(&self, aim: &Option<Aim>, value: &T) -> Result<Vec<ChangeEvent<T>>, Refusal>
         requires aim { IsAimed T.cmp self.now.size self.now.nodes value.now aim.now }
-        ensures clones { IfOk result (λ events. AllZip (IsEventClone T.is_clone) (numbered_from self.now.next (put_events T.cmp self.now.size self.now.nodes value.now)) events.items) }
-        ensures events { ((x y : T) → T.is_clone x y → y ≡ x) → IfOk result (λ events. events.items ≡ numbered_from self.now.next (put_events T.cmp self.now.size self.now.nodes value.now)) }
-        ensures refusal { IfErr result (λ e. e ≡ refusal_for self.now.next (length (put_events T.cmp self.now.size self.now.nodes value.now))) }
+        requires fits { self.now.next + count_for aim.now ≤ u64.MAX }
+        ensures told { IfOk result (λ events. IsTold T.is_clone self.now.next (put_events T.cmp self.now.size self.now.nodes value.now) events.items) }
+        ensures refusal { IfErr result (λ e. e ≡ Refusal.Memory) }
     {
-        // The nodes are lawful.
-        let _nodes = &self.nodes;
-        self.check_numbers(aim)?;
         match aim {
             Some(aim) => self.target_log(aim, value),
             None => self.first_log(value),
         }
     }
 
-    // Inserts an item where it goes. A failed call hands it back and changes nothing.
-    fn carry_out(&mut self, aim: Option<Aim>, value: T) -> Result<Option<T>, Refused<T>>
+    // Inserts an item where it goes: `next` is the number of the next event after it. A failed call
+    // hands the item back and changes nothing.
+    fn carry_out(&mut self, aim: Option<Aim>, next: u64, value: T) -> Result<Option<T>, Refused<T>>
         requires aim { IsAimed T.cmp self.old.size self.old.nodes value aim }
-        requires fits { self.old.next + count_for aim ≤ u64.MAX }
+        requires next { next ≡ self.old.next + count_for aim }
+        ensures tree { OnOk result (self.new ≡ after_put T.cmp self.old value) }
         ensures answer { IfOk result (λ old. old ≡ equal_element T.cmp (joined self.old.nodes) value) }
-        ensures nodes { OnOk result (self.new.nodes ≡ with_put T.cmp self.old.size self.old.nodes value) }
-        ensures size { self.new.size ≡ self.old.size }
-        ensures next { OnOk result (self.new.next ≡ self.old.next + length (put_events T.cmp self.old.size self.old.nodes value)) }
         ensures refusal { IfErr result (λ e. e.cause ≡ Refusal.Memory) }
         ensures given_back { IfErr result (λ e. e.value ≡ value) }
         ensures unchanged { OnErr result (self.new ≡ self.old) }
     {
         match aim {
-            Some(aim) => self.put_in_target(aim, value),
-            None => self.put_first(value),
+            Some(aim) => self.put_in_target(aim, next, value),
+            None => self.put_first(next, value),
         }
     }
 
@@ -282,8 +284,7 @@ impl<T: Ord + Clone + Drop, Node: NodeLike<T>> BTreeSet<T, Node> {
     fn target_log(&self, aim: &Aim, value: &T) -> Result<Vec<ChangeEvent<T>>, Refusal>
         requires aim { IsAim T.cmp self.now.size self.now.nodes value.now aim.now }
         requires fits { self.now.next + count_for (Some aim.now) ≤ u64.MAX }
-        ensures clones { IfOk result (λ events. AllZip (IsEventClone T.is_clone) (numbered_from self.now.next (put_events T.cmp self.now.size self.now.nodes value.now)) events.items) }
-        ensures events { ((x y : T) → T.is_clone x y → y ≡ x) → IfOk result (λ events. events.items ≡ numbered_from self.now.next (put_events T.cmp self.now.size self.now.nodes value.now)) }
+        ensures told { IfOk result (λ events. IsTold T.is_clone self.now.next (put_events T.cmp self.now.size self.now.nodes value.now) events.items) }
         ensures refusal { IfErr result (λ e. e ≡ Refusal.Memory) }
     {
         let mut log = Log::new(*self.nodes.allocator(), self.next);
@@ -299,13 +300,11 @@ impl<T: Ord + Clone + Drop, Node: NodeLike<T>> BTreeSet<T, Node> {
     }
 
     // Inserts an item where it goes. A failed call hands it back and changes nothing.
-    fn put_in_target(&mut self, aim: Aim, value: T) -> Result<Option<T>, Refused<T>>
+    fn put_in_target(&mut self, aim: Aim, next: u64, value: T) -> Result<Option<T>, Refused<T>>
         requires aim { IsAim T.cmp self.old.size self.old.nodes value aim }
-        requires fits { self.old.next + count_for (Some aim) ≤ u64.MAX }
+        requires next { next ≡ self.old.next + count_for (Some aim) }
+        ensures tree { OnOk result (self.new ≡ after_put T.cmp self.old value) }
         ensures answer { IfOk result (λ old. old ≡ equal_element T.cmp (joined self.old.nodes) value) }
-        ensures nodes { OnOk result (self.new.nodes ≡ with_put T.cmp self.old.size self.old.nodes value) }
-        ensures size { self.new.size ≡ self.old.size }
-        ensures next { OnOk result (self.new.next ≡ self.old.next + length (put_events T.cmp self.old.size self.old.nodes value)) }
         ensures refusal { IfErr result (λ e. e.cause ≡ Refusal.Memory) }
         ensures given_back { IfErr result (λ e. e.value ≡ value) }
         ensures unchanged { OnErr result (self.new ≡ self.old) }
@@ -318,7 +317,7 @@ impl<T: Ord + Clone + Drop, Node: NodeLike<T>> BTreeSet<T, Node> {
         }
         match make_room(&mut self.nodes, &aim) {
             Ok(place) => {
-                self.next += aim.count();
+                self.next = next;
                 self.len += aim.growth();
                 Ok(put_in(&mut self.nodes[place], aim.at, value))
             }
@@ -328,13 +327,11 @@ impl<T: Ord + Clone + Drop, Node: NodeLike<T>> BTreeSet<T, Node> {
 
     // Inserts the first item. A failed call hands it back and changes nothing.
     #[tactic(auto, unfolding(crate::specs::Edits::with_put, crate::specs::Table::put_events))]
-    fn put_first(&mut self, value: T) -> Result<Option<T>, Refused<T>>
+    fn put_first(&mut self, next: u64, value: T) -> Result<Option<T>, Refused<T>>
         requires none { self.old.nodes ≡ [] }
-        requires fits { self.old.next + 1 ≤ u64.MAX }
+        requires next { next ≡ self.old.next + 1 }
+        ensures tree { OnOk result (self.new ≡ after_put T.cmp self.old value) }
         ensures answer { IfOk result (λ old. old ≡ equal_element T.cmp (joined self.old.nodes) value) }
-        ensures nodes { OnOk result (self.new.nodes ≡ with_put T.cmp self.old.size self.old.nodes value) }
-        ensures size { self.new.size ≡ self.old.size }
-        ensures next { OnOk result (self.new.next ≡ self.old.next + length (put_events T.cmp self.old.size self.old.nodes value)) }
         ensures refusal { IfErr result (λ e. e.cause ≡ Refusal.Memory) }
         ensures given_back { IfErr result (λ e. e.value ≡ value) }
         ensures unchanged { OnErr result (self.new ≡ self.old) }
@@ -344,7 +341,7 @@ impl<T: Ord + Clone + Drop, Node: NodeLike<T>> BTreeSet<T, Node> {
                 node.insert_at(0, value);
                 self.nodes.push_reserved(node);
                 self.len = 1;
-                self.next += 1;
+                self.next = next;
                 Ok(None)
             }
             Err(cause) => Err(Refused { value, cause }),
@@ -356,8 +353,7 @@ impl<T: Ord + Clone + Drop, Node: NodeLike<T>> BTreeSet<T, Node> {
     fn first_log(&self, value: &T) -> Result<Vec<ChangeEvent<T>>, Refusal>
         requires none { self.now.nodes ≡ [] }
         requires fits { self.now.next + 1 ≤ u64.MAX }
-        ensures clones { IfOk result (λ events. AllZip (IsEventClone T.is_clone) (numbered_from self.now.next (put_events T.cmp self.now.size self.now.nodes value.now)) events.items) }
-        ensures events { ((x y : T) → T.is_clone x y → y ≡ x) → IfOk result (λ events. events.items ≡ numbered_from self.now.next (put_events T.cmp self.now.size self.now.nodes value.now)) }
+        ensures told { IfOk result (λ events. IsTold T.is_clone self.now.next (put_events T.cmp self.now.size self.now.nodes value.now) events.items) }
         ensures refusal { IfErr result (λ e. e ≡ Refusal.Memory) }
     {
         let mut log = Log::new(*self.nodes.allocator(), self.next);

@@ -1,19 +1,17 @@
 //! Calls that remove items.
 ghost use Rattle.std.specs.Prelude.{◌≡◌, ℕ, ◌+◌, ◌/◌, ◌<◌, ◌≤◌, [], length, set, remove, slice_get, Some, None, false, IfOk, OnOk, IfErr, OnErr, IsOk, IfSome};
-ghost use Rattle.std.specs.List.{AllZip};
 ghost use Rattle.indexset_core.specs.Nodes.{joined, node_at};
 ghost use Rattle.indexset_core.specs.Order.{equal_element, has_equal, without};
-ghost use Rattle.indexset_log.specs.Clones.{IsEventClone};
-ghost use Rattle.indexset_log.specs.Edits.{with_taken};
+ghost use Rattle.indexset_log.specs.Clones.{IsTold};
+ghost use Rattle.indexset_log.specs.Edits.{after_removal, after_taken, with_taken};
 ghost use Rattle.indexset_log.specs.Joining.{are_small, IsSpaced, join_after, with_joined, item_removed};
-ghost use Rattle.indexset_log.specs.Nodes.{last_of};
-ghost use Rattle.indexset_log.specs.Replay.{assigned, replay, numbered_from, IsNumberedFrom};
-ghost use Rattle.indexset_log.specs.Table.{count_with, joining_event, taking_count, taking_event, taking_events, removal_events};
+ghost use Rattle.indexset_log.specs.Replay.{replay, numbered_from, IsNumberedFrom};
+ghost use Rattle.indexset_log.specs.Table.{count_with, taking_count, taking_events, removal_events};
+ghost use Rattle.indexset_log.specs.Taking.{after_taking, events_from, item_from};
 ghost use Rattle.indexset_log.specs.Tree.{refusal_for};
 
 use super::BTreeSet;
-use crate::change::{ChangeEvent, ChangeEventUnassigned};
-use crate::log::Log;
+use crate::change::ChangeEvent;
 use crate::nodes::{fit_together, take_and_join};
 use indexset_core::node::NodeLike;
 use indexset_core::refusal::Refusal;
@@ -30,10 +28,15 @@ impl<T: Ord + Clone + Drop, Node: NodeLike<T>> BTreeSet<T, Node> {
     /// assert!(rt; removed == Some(5) && events.len() == 1);
     /// ```
     pub fn remove_cdc(&mut self, value: &T) -> Result<(Option<T>, Vec<ChangeEvent<T>>), Refusal>
+        ensures tree { OnOk result (self.new ≡ after_removal T.cmp self.old value.now) }
         ensures answer { IfOk result (λ r. r.0 ≡ equal_element T.cmp (joined self.old.nodes) value.now) }
+        ensures clones { IfOk result (λ r. IsTold T.is_clone self.old.next (removal_events T.cmp self.old.size self.old.nodes value.now) r.1.items) }
+        ensures refusal { IfErr result (λ e. e ≡ refusal_for self.old.next (length (removal_events T.cmp self.old.size self.old.nodes value.now))) }
+        ensures no_event { removal_events T.cmp self.old.size self.old.nodes value.now ≡ [] → IsOk result }
+        ensures unchanged { OnErr result (self.new ≡ self.old) }
+        // What callers prove by.
         ensures contents { OnOk result (joined self.new.nodes ≡ without T.cmp (joined self.old.nodes) value.now) }
         ensures gone { OnOk result (has_equal T.cmp (joined self.new.nodes) value.now ≡ false) }
-        ensures clones { IfOk result (λ r. AllZip (IsEventClone T.is_clone) (numbered_from self.old.next (removal_events T.cmp self.old.size self.old.nodes value.now)) r.1.items) }
         ensures events { ((x y : T) → T.is_clone x y → y ≡ x) → IfOk result (λ r. r.1.items ≡ numbered_from self.old.next (removal_events T.cmp self.old.size self.old.nodes value.now)) }
         ensures numbered { IfOk result (λ r. IsNumberedFrom self.old.next r.1.items) }
         ensures replay { ((x y : T) → T.is_clone x y → y ≡ x) → IfOk result (λ r. replay T.cmp self.old.nodes r.1.items ≡ Some self.new.nodes) }
@@ -43,17 +46,11 @@ impl<T: Ord + Clone + Drop, Node: NodeLike<T>> BTreeSet<T, Node> {
         ensures spaced { IsSpaced (self.old.size / 2) self.old.nodes → IsSpaced (self.new.size / 2) self.new.nodes }
         ensures next { OnOk result (self.new.next ≡ self.old.next + length (removal_events T.cmp self.old.size self.old.nodes value.now)) }
         ensures fits { OnOk result (self.old.next + length (removal_events T.cmp self.old.size self.old.nodes value.now) ≤ u64.MAX) }
-        ensures refusal { IfErr result (λ e. e ≡ refusal_for self.old.next (length (removal_events T.cmp self.old.size self.old.nodes value.now))) }
-        ensures no_event { removal_events T.cmp self.old.size self.old.nodes value.now ≡ [] → IsOk result }
-        ensures unchanged { OnErr result (self.new ≡ self.old) }
     {
-        match self.place_of(value) {
-            Some((node, offset)) => {
-                let (item, events) = self.remove_at_cdc(node, offset)?;
-                Ok((Some(item), events))
-            }
-            None => Ok((None, Vec::new(*self.nodes.allocator()))),
-        }
+        // The nodes are lawful.
+        let _nodes = &self.nodes;
+        let place = self.place_of(value);
+        self.remove_from_cdc(place)
     }
 
     /// Removes the item at a place, and returns it with the events. A node that is left small is joined
@@ -65,9 +62,13 @@ impl<T: Ord + Clone + Drop, Node: NodeLike<T>> BTreeSet<T, Node> {
     ) -> Result<(T, Vec<ChangeEvent<T>>), Refusal>
         requires node { node < length self.old.nodes }
         requires offset { offset < length (node_at self.old.nodes node) }
+        ensures tree { OnOk result (self.new ≡ after_taken self.old node offset) }
         ensures item { IfOk result (λ r. slice_get (node_at self.old.nodes node) offset ≡ Some r.0) }
+        ensures clones { IfOk result (λ r. IsTold T.is_clone self.old.next (taking_events self.old.size self.old.nodes node offset r.0) r.1.items) }
+        ensures refusal { IfErr result (λ e. e ≡ refusal_for self.old.next (taking_count self.old.size self.old.nodes node offset)) }
+        ensures unchanged { OnErr result (self.new ≡ self.old) }
+        // What callers prove by.
         ensures nodes { OnOk result (self.new.nodes ≡ with_taken self.old.size self.old.nodes node offset) }
-        ensures clones { IfOk result (λ r. AllZip (IsEventClone T.is_clone) (numbered_from self.old.next (taking_events self.old.size self.old.nodes node offset r.0)) r.1.items) }
         ensures events { ((x y : T) → T.is_clone x y → y ≡ x) → IfOk result (λ r. r.1.items ≡ numbered_from self.old.next (taking_events self.old.size self.old.nodes node offset r.0)) }
         ensures numbered { IfOk result (λ r. IsNumberedFrom self.old.next r.1.items) }
         ensures replay { ((x y : T) → T.is_clone x y → y ≡ x) → IfOk result (λ r. replay T.cmp self.old.nodes r.1.items ≡ Some self.new.nodes) }
@@ -77,8 +78,6 @@ impl<T: Ord + Clone + Drop, Node: NodeLike<T>> BTreeSet<T, Node> {
         ensures spaced { IsSpaced (self.old.size / 2) self.old.nodes → IsSpaced (self.new.size / 2) self.new.nodes }
         ensures next { OnOk result (self.new.next ≡ self.old.next + taking_count self.old.size self.old.nodes node offset) }
         ensures fits { OnOk result (self.old.next + taking_count self.old.size self.old.nodes node offset ≤ u64.MAX) }
-        ensures refusal { IfErr result (λ e. e ≡ refusal_for self.old.next (taking_count self.old.size self.old.nodes node offset)) }
-        ensures unchanged { OnErr result (self.new ≡ self.old) }
     {
         // The nodes are lawful.
         let _nodes = &self.nodes;
@@ -93,7 +92,14 @@ impl<T: Ord + Clone + Drop, Node: NodeLike<T>> BTreeSet<T, Node> {
     /// fails with `Numbers` where they do not fit. It allocates only where it joins two nodes of a type
     /// that allocates, and else does not fail with `Memory`. A failed call changes nothing.
     pub fn remove(&mut self, value: &T) -> Result<Option<T>, Refusal>
+        ensures tree { OnOk result (self.new ≡ after_removal T.cmp self.old value.now) }
         ensures answer { IfOk result (λ item. item ≡ equal_element T.cmp (joined self.old.nodes) value.now) }
+        ensures refusal { IfErr result (λ e. e ≡ refusal_for self.old.next (length (removal_events T.cmp self.old.size self.old.nodes value.now))) }
+        ensures no_event { removal_events T.cmp self.old.size self.old.nodes value.now ≡ [] → IsOk result }
+        ensures no_memory { length (removal_events T.cmp self.old.size self.old.nodes value.now) ≤ 1 → self.old.next + length (removal_events T.cmp self.old.size self.old.nodes value.now) ≤ u64.MAX → IsOk result }
+        ensures never { Node.allocates ≡ false → self.old.next + length (removal_events T.cmp self.old.size self.old.nodes value.now) ≤ u64.MAX → IsOk result }
+        ensures unchanged { OnErr result (self.new ≡ self.old) }
+        // What callers prove by.
         ensures contents { OnOk result (joined self.new.nodes ≡ without T.cmp (joined self.old.nodes) value.now) }
         ensures gone { OnOk result (has_equal T.cmp (joined self.new.nodes) value.now ≡ false) }
         ensures replay { OnOk result (replay T.cmp self.old.nodes (numbered_from self.old.next (removal_events T.cmp self.old.size self.old.nodes value.now)) ≡ Some self.new.nodes) }
@@ -102,18 +108,11 @@ impl<T: Ord + Clone + Drop, Node: NodeLike<T>> BTreeSet<T, Node> {
         ensures spaced { IsSpaced (self.old.size / 2) self.old.nodes → IsSpaced (self.new.size / 2) self.new.nodes }
         ensures next { OnOk result (self.new.next ≡ self.old.next + length (removal_events T.cmp self.old.size self.old.nodes value.now)) }
         ensures fits { OnOk result (self.old.next + length (removal_events T.cmp self.old.size self.old.nodes value.now) ≤ u64.MAX) }
-        ensures refusal { IfErr result (λ e. e ≡ refusal_for self.old.next (length (removal_events T.cmp self.old.size self.old.nodes value.now))) }
-        ensures no_event { removal_events T.cmp self.old.size self.old.nodes value.now ≡ [] → IsOk result }
-        ensures no_memory { length (removal_events T.cmp self.old.size self.old.nodes value.now) ≤ 1 → self.old.next + length (removal_events T.cmp self.old.size self.old.nodes value.now) ≤ u64.MAX → IsOk result }
-        ensures never { Node.allocates ≡ false → self.old.next + length (removal_events T.cmp self.old.size self.old.nodes value.now) ≤ u64.MAX → IsOk result }
-        ensures unchanged { OnErr result (self.new ≡ self.old) }
     {
-        // The counter fits a u64, so a call without events lacks no number.
-        let _next = self.next;
-        match self.place_of(value) {
-            Some((node, offset)) => Ok(Some(self.remove_at(node, offset)?)),
-            None => Ok(None),
-        }
+        // The nodes are lawful.
+        let _nodes = &self.nodes;
+        let place = self.place_of(value);
+        self.remove_from(place)
     }
 
     /// Removes the item at a place, and returns it. It uses up as many numbers as `remove_at_cdc`, and
@@ -122,7 +121,13 @@ impl<T: Ord + Clone + Drop, Node: NodeLike<T>> BTreeSet<T, Node> {
     pub fn remove_at(&mut self, node: usize, offset: usize) -> Result<T, Refusal>
         requires node { node < length self.old.nodes }
         requires offset { offset < length (node_at self.old.nodes node) }
+        ensures tree { OnOk result (self.new ≡ after_taken self.old node offset) }
         ensures item { IfOk result (λ item. slice_get (node_at self.old.nodes node) offset ≡ Some item) }
+        ensures refusal { IfErr result (λ e. e ≡ refusal_for self.old.next (taking_count self.old.size self.old.nodes node offset)) }
+        ensures no_memory { taking_count self.old.size self.old.nodes node offset ≡ 1 → self.old.next + 1 ≤ u64.MAX → IsOk result }
+        ensures never { Node.allocates ≡ false → self.old.next + taking_count self.old.size self.old.nodes node offset ≤ u64.MAX → IsOk result }
+        ensures unchanged { OnErr result (self.new ≡ self.old) }
+        // What callers prove by.
         ensures nodes { OnOk result (self.new.nodes ≡ with_taken self.old.size self.old.nodes node offset) }
         ensures replay { IfOk result (λ item. replay T.cmp self.old.nodes (numbered_from self.old.next (taking_events self.old.size self.old.nodes node offset item)) ≡ Some self.new.nodes) }
         ensures few { taking_count self.old.size self.old.nodes node offset ≤ 3 }
@@ -130,16 +135,60 @@ impl<T: Ord + Clone + Drop, Node: NodeLike<T>> BTreeSet<T, Node> {
         ensures spaced { IsSpaced (self.old.size / 2) self.old.nodes → IsSpaced (self.new.size / 2) self.new.nodes }
         ensures next { OnOk result (self.new.next ≡ self.old.next + taking_count self.old.size self.old.nodes node offset) }
         ensures fits { OnOk result (self.old.next + taking_count self.old.size self.old.nodes node offset ≤ u64.MAX) }
-        ensures refusal { IfErr result (λ e. e ≡ refusal_for self.old.next (taking_count self.old.size self.old.nodes node offset)) }
-        ensures no_memory { taking_count self.old.size self.old.nodes node offset ≡ 1 → self.old.next + 1 ≤ u64.MAX → IsOk result }
-        ensures never { Node.allocates ≡ false → self.old.next + taking_count self.old.size self.old.nodes node offset ≤ u64.MAX → IsOk result }
-        ensures unchanged { OnErr result (self.new ≡ self.old) }
     {
         // The nodes are lawful.
         let _nodes = &self.nodes;
         let join = self.join_after(node);
         self.check_removal(join)?;
         self.take(node, offset, join)
+    }
+
+    // Removes the item at a place, if any, and returns it with the events.
+    pub(super) fn remove_from_cdc(
+        &mut self,
+        place: Option<(usize, usize)>,
+    ) -> Result<(Option<T>, Vec<ChangeEvent<T>>), Refusal>
+        requires { IfSome place (λ p. (p.0 < length self.old.nodes) × (p.1 < length (node_at self.old.nodes p.0))) }
+        ensures tree { OnOk result (self.new ≡ after_taking self.old place) }
+        ensures answer { IfOk result (λ r. r.0 ≡ item_from self.old.nodes place) }
+        ensures told { IfOk result (λ r. IsTold T.is_clone self.old.next (events_from self.old place) r.1.items) }
+        ensures fits { OnOk result (self.old.next + length (events_from self.old place) ≤ u64.MAX) }
+        ensures refusal { IfErr result (λ e. e ≡ refusal_for self.old.next (length (events_from self.old place))) }
+        ensures no_event { events_from self.old place ≡ [] → IsOk result }
+        ensures unchanged { OnErr result (self.new ≡ self.old) }
+    {
+        // The counter fits a u64, so a call without events lacks no number.
+        let _next = self.next;
+        match place {
+            Some((node, offset)) => {
+                let (item, events) = self.remove_at_cdc(node, offset)?;
+                Ok((Some(item), events))
+            }
+            None => Ok((None, Vec::new(*self.nodes.allocator()))),
+        }
+    }
+
+    // Removes the item at a place, if any, and returns it.
+    pub(super) fn remove_from(
+        &mut self,
+        place: Option<(usize, usize)>,
+    ) -> Result<Option<T>, Refusal>
+        requires { IfSome place (λ p. (p.0 < length self.old.nodes) × (p.1 < length (node_at self.old.nodes p.0))) }
+        ensures tree { OnOk result (self.new ≡ after_taking self.old place) }
+        ensures answer { IfOk result (λ item. item ≡ item_from self.old.nodes place) }
+        ensures fits { OnOk result (self.old.next + length (events_from self.old place) ≤ u64.MAX) }
+        ensures refusal { IfErr result (λ e. e ≡ refusal_for self.old.next (length (events_from self.old place))) }
+        ensures no_event { events_from self.old place ≡ [] → IsOk result }
+        ensures no_memory { length (events_from self.old place) ≤ 1 → self.old.next + length (events_from self.old place) ≤ u64.MAX → IsOk result }
+        ensures never { Node.allocates ≡ false → self.old.next + length (events_from self.old place) ≤ u64.MAX → IsOk result }
+        ensures unchanged { OnErr result (self.new ≡ self.old) }
+    {
+        // The counter fits a u64, so a call without events lacks no number.
+        let _next = self.next;
+        match place {
+            Some((node, offset)) => Ok(Some(self.remove_at(node, offset)?)),
+            None => Ok(None),
+        }
     }
 
     // Returns the first of the two nodes that are joined once a node has lost an item, whichever it
@@ -199,101 +248,14 @@ impl<T: Ord + Clone + Drop, Node: NodeLike<T>> BTreeSet<T, Node> {
         Ok(())
     }
 
-    // Returns the events of a removal.
-    fn removal_log(
-        &self,
-        node: usize,
-        offset: usize,
-        join: Option<usize>,
-    ) -> Result<Vec<ChangeEvent<T>>, Refusal>
-        requires node { node < length self.now.nodes }
-        requires offset { offset < length (node_at self.now.nodes node) }
-        requires join { join ≡ join_after self.now.size self.now.nodes node offset }
-        requires numbers { self.now.next + count_with join ≤ u64.MAX }
-        ensures clones { IfOk result (λ events. IfSome (slice_get (node_at self.now.nodes node) offset) (λ x. AllZip (IsEventClone T.is_clone) (numbered_from self.now.next (taking_events self.now.size self.now.nodes node offset x)) events.items)) }
-        ensures events { ((x y : T) → T.is_clone x y → y ≡ x) → IfOk result (λ events. IfSome (slice_get (node_at self.now.nodes node) offset) (λ x. events.items ≡ numbered_from self.now.next (taking_events self.now.size self.now.nodes node offset x))) }
-        ensures refusal { IfErr result (λ e. e ≡ Refusal.Memory) }
-    {
-        let mut log = Log::new(*self.nodes.allocator(), self.next);
-        log.add(self.taking_event(node, offset)?)?;
-        match join {
-            Some(left) => {
-                log.add(self.joining_event(left, node, offset)?)?;
-                Ok(log.events)
-            }
-            None => Ok(log.events),
-        }
-    }
-
-    // Returns the event of the removal of the item at a place.
-    fn taking_event(&self, node: usize, offset: usize) -> Result<ChangeEventUnassigned<T>, Refusal>
-        requires node { node < length self.now.nodes }
-        requires offset { offset < length (node_at self.now.nodes node) }
-        ensures clones { (s : ℕ) → IfOk result (λ event. IfSome (slice_get (node_at self.now.nodes node) offset) (λ x. IsEventClone T.is_clone (assigned s (taking_event (node_at self.now.nodes node) offset x)) (assigned s event))) }
-        ensures event { ((x y : T) → T.is_clone x y → y ≡ x) → IfOk result (λ event. IfSome (slice_get (node_at self.now.nodes node) offset) (λ x. event ≡ taking_event (node_at self.now.nodes node) offset x)) }
-        ensures refusal { IfErr result (λ e. e ≡ Refusal.Memory) }
-    {
-        let items = self.nodes[node].iter().as_slice();
-        let value = items[offset].clone()?;
-        if items.len() == 1 {
-            return Ok(ChangeEventUnassigned::RemoveNode { max_value: value });
-        }
-        Ok(ChangeEventUnassigned::RemoveAt {
-            max_value: items[items.len() - 1].clone()?,
-            value,
-            index: offset,
-        })
-    }
-
-    // Returns the event of the node at `left` and the one after it that are joined once the item at
-    // a place is gone.
-    fn joining_event(
-        &self,
-        left: usize,
-        node: usize,
-        offset: usize,
-    ) -> Result<ChangeEventUnassigned<T>, Refusal>
-        requires node { node < length self.now.nodes }
-        requires offset { offset < length (node_at self.now.nodes node) }
-        requires join { join_after self.now.size self.now.nodes node offset ≡ Some left }
-        ensures clones { (s : ℕ) (d : T) → IfOk result (λ event. IsEventClone T.is_clone (assigned s (joining_event (item_removed self.now.nodes node offset) d left)) (assigned s event)) }
-        ensures event { ((x y : T) → T.is_clone x y → y ≡ x) → IfOk result (λ event. (d : T) → event ≡ joining_event (item_removed self.now.nodes node offset) d left) }
-        ensures refusal { IfErr result (λ e. e ≡ Refusal.Memory) }
-    {
-        // A usize counts the nodes.
-        let _count = self.nodes.len();
-        Ok(ChangeEventUnassigned::MergeNodes {
-            max_value: self.last_without(left, node, offset).clone()?,
-            next_max_value: self.last_without(left + 1, node, offset).clone()?,
-        })
-    }
-
-    // Returns the last item of a node once the item at a place, in a node of two or more, is gone.
-    fn last_without(&self, place: usize, node: usize, offset: usize) -> &T
-        requires place { place < length self.now.nodes }
-        requires node { node < length self.now.nodes }
-        requires offset { offset < length (node_at self.now.nodes node) }
-        requires two { 2 ≤ length (node_at self.now.nodes node) }
-        ensures { (d : T) → last_of (node_at (item_removed self.now.nodes node offset) place) d ≡ result.now }
-    {
-        let items = self.nodes[place].iter().as_slice();
-        if place == node {
-            last_but(items, offset)
-        } else {
-            &items[items.len() - 1]
-        }
-    }
-
     // Removes the item at a place, and joins the nodes named. A failed call changes nothing.
     fn take(&mut self, node: usize, offset: usize, join: Option<usize>) -> Result<T, Refusal>
         requires node { node < length self.old.nodes }
         requires offset { offset < length (node_at self.old.nodes node) }
         requires join { join ≡ join_after self.old.size self.old.nodes node offset }
         requires numbers { self.old.next + count_with join ≤ u64.MAX }
+        ensures tree { OnOk result (self.new ≡ after_taken self.old node offset) }
         ensures item { IfOk result (λ item. slice_get (node_at self.old.nodes node) offset ≡ Some item) }
-        ensures nodes { OnOk result (self.new.nodes ≡ with_taken self.old.size self.old.nodes node offset) }
-        ensures size { self.new.size ≡ self.old.size }
-        ensures next { OnOk result (self.new.next ≡ self.old.next + count_with join) }
         ensures refusal { IfErr result (λ e. e ≡ Refusal.Memory) }
         ensures no_memory { join ≡ None → IsOk result }
         ensures never { Node.allocates ≡ false → IsOk result }
@@ -312,10 +274,8 @@ impl<T: Ord + Clone + Drop, Node: NodeLike<T>> BTreeSet<T, Node> {
         requires offset { offset < length (node_at self.old.nodes node) }
         requires join { join_after self.old.size self.old.nodes node offset ≡ Some left }
         requires numbers { self.old.next + 2 ≤ u64.MAX }
+        ensures tree { OnOk result (self.new ≡ after_taken self.old node offset) }
         ensures item { IfOk result (λ item. slice_get (node_at self.old.nodes node) offset ≡ Some item) }
-        ensures nodes { OnOk result (self.new.nodes ≡ with_joined (item_removed self.old.nodes node offset) left) }
-        ensures size { self.new.size ≡ self.old.size }
-        ensures next { OnOk result (self.new.next ≡ self.old.next + 2) }
         ensures refusal { IfErr result (λ e. e ≡ Refusal.Memory) }
         ensures never { Node.allocates ≡ false → IsOk result }
         ensures unchanged { OnErr result (self.new ≡ self.old) }
@@ -330,11 +290,10 @@ impl<T: Ord + Clone + Drop, Node: NodeLike<T>> BTreeSet<T, Node> {
     fn take_out(&mut self, node: usize, offset: usize) -> T
         requires node { node < length self.old.nodes }
         requires offset { offset < length (node_at self.old.nodes node) }
+        requires join { join_after self.old.size self.old.nodes node offset ≡ None }
         requires number { self.old.next < u64.MAX }
+        ensures tree { self.new ≡ after_taken self.old node offset }
         ensures item { slice_get (node_at self.old.nodes node) offset ≡ Some result }
-        ensures nodes { self.new.nodes ≡ item_removed self.old.nodes node offset }
-        ensures size { self.new.size ≡ self.old.size }
-        ensures next { self.new.next ≡ self.old.next + 1 }
     {
         self.next += 1;
         self.len -= 1;
@@ -353,19 +312,5 @@ fn removal_count(join: Option<usize>) -> u64
     match join {
         Some(_) => 2,
         None => 1,
-    }
-}
-
-// Returns the last of the other items.
-fn last_but<T>(items: &[T], index: usize) -> &T
-    requires index { index < length items.now }
-    requires two { 2 ≤ length items.now }
-    ensures { (d : T) → last_of (remove items.now index) d ≡ result.now }
-{
-    let last = items.len() - 1;
-    if index == last {
-        &items[last - 1]
-    } else {
-        &items[last]
     }
 }

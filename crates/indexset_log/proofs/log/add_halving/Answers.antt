@@ -9,13 +9,6 @@ pub add-requires : goal.add-requires
 add-requires g c =
     omega (arith, rw (eq-eqb (length c.args.items.now) c.args.size c.if-items-size.true) at c.requires.fits)
 
-pub returns-in_ok-add-clause-events : goal.returns-in_ok-add-clause-events
-returns-in_ok-add-clause-events g c h v =
-    let n = c.args.items.now in
-    let y = c.index-items-items.result in
-    let last = read_item n (length n - 1) y (omega (arith, c.requires.some)) c.index-items-items.is in
-    rw (eq-eqb (length n) c.args.size c.if-items-size.true, last_some n v y last, ← h _ _ c.in_ok-clone.ensures.cases) c.in_ok-add.ensures.events
-
 pub returns-in_ok-add-clause-clones : goal.returns-in_ok-add-clause-clones
 returns-in_ok-add-clause-clones g c v =
     let n = c.args.items.now in

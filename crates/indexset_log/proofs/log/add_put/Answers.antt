@@ -1,9 +1,7 @@
-use Rattle.std.proofs.Common.{◌≡◌, ◌<◌, ◌-◌, [], ◌∷◌, length, get_or, cond, arith, ap, sym, refl, ◌∙◌, slice_get, Some}
+use Rattle.std.proofs.Common.{◌≡◌, ◌<◌, ◌-◌, length, get_or, cond, arith, ap, refl, ◌∙◌, slice_get, Some}
 use Rattle.std.proofs.lemmas.List.{get_or_default}
 use Rattle.indexset_core.proofs.CallerLemmas.{read_item, found_has_equal}
-use Rattle.indexset_log.specs.declared.change.ChangeEventUnassigned.TheVariants.{InsertAt, RemoveAt, CreateNode, RemoveNode}
 use Rattle.indexset_log.specs.Nodes.{last_of}
-use Rattle.indexset_log.specs.Table.{node_events}
 use Rattle.indexset_log.proofs.Puts.{gap_written, only_replaced, last_replaced, inner_replaced, node_count}
 use Rattle.indexset_log.proofs.Theorem.{last_some, on_ok_map}
 use Rattle.indexset_log.proofs.log.add_put.Goals as goal
@@ -24,68 +22,6 @@ pub add_both-requires-in-Ok-2 : goal.add_both-requires-in-Ok-2
 add_both-requires-in-Ok-2 g c =
     let found = found_has_equal g.T.Ord.cmp c.args.part.now c.args.value.now c.in-Ok-2.index (rw c.in-Ok-2.is at c.requires.found) in
     omega (arith, c.requires.fits, node_count g.T.Ord.cmp g.met.T.Ord.total c.args.value.now c.args.part.now ∙ ap (λ b. cond b 2 1) found)
-
-pub returns-in-Err-clause-events : goal.returns-in-Err-clause-events
-returns-in-Err-clause-events g c h =
-    let cmp = g.T.Ord.cmp in
-    let n = c.args.part.now in
-    let v = c.args.value.now in
-    let y = c.index-part-last.result in
-    let last : slice_get n (length n - 1) ≡ Some y = read_item n (length n - 1) y (omega (arith, c.requires.some)) c.index-part-last.is in
-    let name : c.in_ok-max_value.max_value ≡ last_of n v = h _ _ c.in_ok-max_value.ensures.cases ∙ sym (last_some n v y last) in
-    let copy : c.in_ok-copy.copy ≡ v = h _ _ c.in_ok-copy.ensures.cases in
-    let gap = rw c.in-Err.is at c.requires.gap in
-    let i = c.in-Err.index in
-    let events : node_events cmp n v ≡ InsertAt c.in_ok-max_value.max_value c.in_ok-copy.copy i ∷ [] = gap_written cmp g.met.T.Ord.total v n i gap ∙ rw (name, copy) refl in
-    rw events c.add.ensures.events
-
-pub returns-in-Ok-clause-events : goal.returns-in-Ok-clause-events
-returns-in-Ok-clause-events g c h =
-    let cmp = g.T.Ord.cmp in
-    let n = c.args.part.now in
-    let v = c.args.value.now in
-    let i = c.in-Ok.field-0 in
-    let y = c.index-part-last.result in
-    let f = rw c.in-Ok.is at c.requires.found in
-    let one : length n ≡ 1 = omega (arith, c.requires.some, c.if-last-eq0.true) in
-    let first : i ≡ length n - 1 = omega (arith, f.inside, one) in
-    let here : slice_get n i ≡ Some y = rw first (read_item n (length n - 1) y (omega (arith, c.requires.some)) c.index-part-last.is) in
-    let name : c.in_ok-max_value.max_value ≡ y = h _ _ c.in_ok-max_value.ensures.cases in
-    let copy : c.in_ok-copy.copy ≡ v = h _ _ c.in_ok-copy.ensures.cases in
-    let events : node_events cmp n v ≡ RemoveNode c.in_ok-max_value.max_value ∷ CreateNode c.in_ok-copy.copy ∷ [] = only_replaced cmp g.met.T.Ord.total v n i y c.requires.ascending f here one ∙ rw (name, copy) refl in
-    rw events c.add_both.ensures.events
-
-pub returns-in_ok-name-in-Ok-2-clause-events : goal.returns-in_ok-name-in-Ok-2-clause-events
-returns-in_ok-name-in-Ok-2-clause-events g c h =
-    let cmp = g.T.Ord.cmp in
-    let o = g.met.T.Ord.total in
-    let n = c.args.part.now in
-    let v = c.args.value.now in
-    let i = c.in-Ok-2.index in
-    let y = c.index-part-last.result in
-    let x = c.index-part-index.result in
-    let z = c.index-part-last-in-Ok-2.result in
-    let f = rw c.in-Ok-2.is at c.requires.found in
-    let some = c.requires.some in
-    let more : length n ≡ 1 → ⊥ = λ one. c.if-last-eq0.false (omega (arith, one)) in
-    let last : slice_get n (length n - 1) ≡ Some y = read_item n (length n - 1) y (omega (arith, some)) c.index-part-last.is in
-    let max : c.in_ok-max_value.max_value ≡ last_of n v = h _ _ c.in_ok-max_value.ensures.cases ∙ sym (last_some n v y last) in
-    let copy : c.in_ok-copy.copy ≡ v = h _ _ c.in_ok-copy.ensures.cases in
-    let here : slice_get n i ≡ Some x = read_item n i x f.inside c.index-part-index.is in
-    let old : c.in_ok-old-in-Ok-2.old ≡ x = h _ _ c.in_ok-old-in-Ok-2.ensures.cases in
-    let name : c.in_ok-name-in-Ok-2.name ≡ z = h _ _ c.in_ok-name-in-Ok-2.ensures.cases in
-    let events : node_events cmp n v ≡ RemoveAt c.in_ok-max_value.max_value c.in_ok-old-in-Ok-2.old i ∷ InsertAt c.in_ok-name-in-Ok-2.name c.in_ok-copy.copy i ∷ [] =
-    elim c.if-index-last.branch [
-      | then-index-last w ↦
-          let inside : i - 1 < length n = omega (arith, f.inside, some) in
-          let before : z ≡ get_or n (i - 1) v = rw w.clone-is at c.index-part-last-in-Ok-2.is ∙ get_or_default n (i - 1) z v inside in
-          last_replaced cmp o v n i x c.requires.ascending f here more (omega (arith, w.if-index-last.true, some)) ∙ rw (max, old, name, before, copy) refl
-      | else-index-last w ↦
-          let end : slice_get n (length n - 1) ≡ Some z = read_item n (length n - 1) z (omega (arith, some)) (rw w.clone-is at c.index-part-last-in-Ok-2.is) in
-          let same : z ≡ last_of n v = sym (last_some n v z end) in
-          inner_replaced cmp o v n i x c.requires.ascending f here more (λ e. w.if-index-last.false (omega (arith, e))) ∙ rw (max, old, name, same, copy) refl
-    ] in
-    rw events c.add_both-in-Ok-2.ensures.events
 
 pub returns-in-Err-clause-clones : goal.returns-in-Err-clause-clones
 returns-in-Err-clause-clones g c =

@@ -13,6 +13,7 @@ pub returns : goal.returns
 returns g c =
     let done = c.in_ok-pair.ensures in
     record {
+      tree = rw c.self.view_is at done.tree;
       answer = c.entry_of.ensures ∙ ap (option_map entry_of) (rw c.self.view_is at done.answer);
       contents = rw c.self.view_is at done.contents;
       clones = rw c.self.view_is at done.clones;

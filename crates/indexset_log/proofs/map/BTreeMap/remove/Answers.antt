@@ -1,14 +1,14 @@
-use Rattle.std.proofs.Common.{rules, ◌≡◌, ◌+◌, ◌≤◌, true, false, Some, length, IfErr, refl, arith, ap, subst, ◌∙◌}
+use Rattle.std.proofs.Common.{rules, ◌≡◌, ◌+◌, ◌≤◌, true, false, Some, length, IfErr, refl, arith, ap, subst, sym, ◌∙◌}
 use Rattle.std.below.core.specs.declared.int.u64.TheConstants.{MAX}
 use Rattle.std.proofs.lemmas.Bool.{false≢true}
 use Rattle.indexset_core.specs.Nodes.{joined}
 use Rattle.indexset_core.specs.Pairs.{by_key, has_key}
 use Rattle.indexset_core.proofs.CallerLemmas.{key_gone}
-use Rattle.indexset_log.specs.Edits.{with_taken}
+use Rattle.indexset_log.specs.Edits.{after_taken}
 use Rattle.indexset_log.specs.Replay.{numbered_from, replay}
 use Rattle.indexset_log.specs.Table.{taking_count, taking_events}
 use Rattle.indexset_log.specs.Tree.{refusal_for}
-use Rattle.indexset_log.proofs.Keys.{key_count, key_removal_few, key_taken, no_key}
+use Rattle.indexset_log.proofs.Keys.{key_after, key_count, key_removal_few, key_taken, no_key, no_key_after}
 use Rattle.indexset_log.proofs.Takes.{some_taken}
 use Rattle.indexset_log.proofs.map.BTreeMap.remove.Goals as goal
 
@@ -44,13 +44,14 @@ returns-in_ok-pair-in-Ok g c =
     let k = c.in-Ok.node in
     let i = c.in-Ok.offset in
     let item = rw c.self.view_is at done.item in
-    let nodes = subst (λ t. c.remove_at.new.self.nodes ≡ with_taken t.size t.nodes k i) c.self.view_is done.nodes in
+    let tree = subst (λ t. c.remove_at.new.self ≡ after_taken t k i) c.self.view_is done.tree in
+    let nodes = ap (λ t. t.nodes) tree in
     let replayed = subst (λ t. replay (by_key g.K.Ord.cmp) t.nodes (numbered_from t.next (taking_events t.size t.nodes k i c.in_ok-pair-in-Ok.pair)) ≡ Some c.remove_at.new.self.nodes) c.self.view_is done.replay in
-    let next = subst (λ t. c.remove_at.new.self.next ≡ t.next + taking_count t.size t.nodes k i) c.self.view_is done.next in
     let fits = subst (λ t. t.next + taking_count t.size t.nodes k i ≤ MAX) c.self.view_is done.fits in
     let taken = key_taken g.met.K.Ord.total c.locate.ensures.lawful c.args.key.now c.locate.ensures.place c.in-Ok.is item in
     let count = key_count g.met.K.Ord.total c.locate.ensures.lawful c.args.key.now c.locate.ensures.place c.in-Ok.is in
     record {
+      tree = tree ∙ sym (key_after g.met.K.Ord.total c.args.self.now c.locate.ensures.lawful c.args.key.now taken);
       answer = rw taken.pair_is refl;
       contents = ap joined nodes ∙ taken.contents;
       gone = ap (λ l. has_key g.K.Ord.cmp l c.args.key.now) (ap joined nodes ∙ taken.contents) ∙ key_gone g.K.Ord.cmp (joined c.args.self.now.nodes) c.args.key.now;
@@ -58,7 +59,7 @@ returns-in_ok-pair-in-Ok g c =
       few = key_removal_few g.K.Ord.cmp c.args.self.now.size c.args.self.now.nodes c.args.key.now;
       size = rw c.self.view_is at done.size;
       spaced = rw c.self.view_is at done.spaced;
-      next = rw count next;
+      next = rw count (ap (λ t. t.next) tree);
       fits = rw count fits;
       refusal = tt;
       no_event = λ _. refl;
@@ -71,6 +72,7 @@ pub returns-in-Err : goal.returns-in-Err
 returns-in-Err g c =
     let none = no_key g.met.K.Ord.total c.locate.ensures.lawful c.args.key.now c.locate.ensures.place c.in-Err.is in
     record {
+      tree = sym (no_key_after g.met.K.Ord.total c.args.self.now c.locate.ensures.lawful c.args.key.now none);
       answer = rw none.pair_is refl;
       contents = none.contents;
       gone = ap (λ l. has_key g.K.Ord.cmp l c.args.key.now) none.contents ∙ key_gone g.K.Ord.cmp (joined c.args.self.now.nodes) c.args.key.now;

@@ -1,4 +1,4 @@
-use Rattle.std.proofs.Common.{rules, ◌≡◌, ◌+◌, ◌≤◌, length, IfErr, Some, refl, arith, ap, subst, ◌∙◌}
+use Rattle.std.proofs.Common.{rules, ◌≡◌, ◌+◌, ◌≤◌, length, IfErr, Some, refl, arith, ap, subst, sym, ◌∙◌}
 use Rattle.std.below.core.specs.declared.int.u64.TheConstants.{MAX}
 use Rattle.std.specs.List.{AllZip}
 use Rattle.std.proofs.lemmas.Grind.{common_steps}
@@ -7,12 +7,12 @@ use Rattle.indexset_core.specs.Nodes.{joined}
 use Rattle.indexset_core.specs.Pairs.{by_key, has_key}
 use Rattle.indexset_core.proofs.CallerLemmas.{key_gone}
 use Rattle.indexset_log.specs.Clones.{IsEventClone}
-use Rattle.indexset_log.specs.Edits.{with_taken}
+use Rattle.indexset_log.specs.Edits.{after_taken}
 use Rattle.indexset_log.specs.Replay.{numbered_from, replay}
 use Rattle.indexset_log.specs.Table.{taking_count, taking_events}
 use Rattle.indexset_log.specs.Tree.{refusal_for}
 use Rattle.indexset_log.proofs.Clones.{pair_same}
-use Rattle.indexset_log.proofs.Keys.{key_count, key_taken, no_key}
+use Rattle.indexset_log.proofs.Keys.{key_after, key_count, key_taken, no_key, no_key_after}
 use Rattle.indexset_log.proofs.Takes.{some_taken}
 use Rattle.indexset_log.proofs.map.BTreeMap.remove_cdc.Goals as goal
 
@@ -32,13 +32,14 @@ returns-in_ok-pair-in-Ok g c =
     let item = rw c.self.view_is at done.item in
     let k = c.in-Ok.node in
     let i = c.in-Ok.offset in
-    let nodes = subst (λ t. c.remove_at_cdc.new.self.nodes ≡ with_taken t.size t.nodes k i) c.self.view_is done.nodes in
+    let tree = subst (λ t. c.remove_at_cdc.new.self ≡ after_taken t k i) c.self.view_is done.tree in
+    let nodes = ap (λ t. t.nodes) tree in
     let clones = subst (λ t. AllZip (IsEventClone {T = Pair g.row.K.Denot g.row.V.Denot} (λ p q. g.K.Clone.is_clone p.key q.key × g.V.Clone.is_clone p.value q.value)) (numbered_from t.next (taking_events t.size t.nodes k i c.in_ok-pair-in-Ok.pair)) c.in_ok-pair-in-Ok.events.items) c.self.view_is done.clones in
-    let next = subst (λ t. c.remove_at_cdc.new.self.next ≡ t.next + taking_count t.size t.nodes k i) c.self.view_is done.next in
     let fits = subst (λ t. t.next + taking_count t.size t.nodes k i ≤ MAX) c.self.view_is done.fits in
     let taken = key_taken g.met.K.Ord.total c.locate.ensures.lawful c.args.key.now c.locate.ensures.place c.in-Ok.is item in
     let count = key_count g.met.K.Ord.total c.locate.ensures.lawful c.args.key.now c.locate.ensures.place c.in-Ok.is in
     record {
+      tree = tree ∙ sym (key_after g.met.K.Ord.total c.args.self.now c.locate.ensures.lawful c.args.key.now taken);
       answer = rw taken.pair_is refl;
       contents = ap joined nodes ∙ taken.contents;
       gone = ap (λ l. has_key g.K.Ord.cmp l c.args.key.now) (ap joined nodes ∙ taken.contents) ∙ key_gone g.K.Ord.cmp (joined c.args.self.now.nodes) c.args.key.now;
@@ -50,35 +51,32 @@ returns-in_ok-pair-in-Ok g c =
       few = done.few;
       size = rw c.self.view_is at done.size;
       spaced = rw c.self.view_is at done.spaced;
-      next = rw count next;
+      next = rw count (ap (λ t. t.next) tree);
       fits = rw count fits;
       refusal = tt;
       no_event = λ _. refl;
       unchanged = tt;
     }
 
-pub returns-in-Err-clause-answer : goal.returns-in-Err-clause-answer
-returns-in-Err-clause-answer g c = let none = no_key g.met.K.Ord.total c.locate.ensures.lawful c.args.key.now c.locate.ensures.place c.in-Err.is in rw none.pair_is refl
-
-pub returns-in-Err-clause-contents : goal.returns-in-Err-clause-contents
-returns-in-Err-clause-contents g c = let none = no_key g.met.K.Ord.total c.locate.ensures.lawful c.args.key.now c.locate.ensures.place c.in-Err.is in none.contents
-
-pub returns-in-Err-clause-gone : goal.returns-in-Err-clause-gone
-returns-in-Err-clause-gone g c =
+pub returns-in-Err : goal.returns-in-Err
+returns-in-Err g c =
     let none = no_key g.met.K.Ord.total c.locate.ensures.lawful c.args.key.now c.locate.ensures.place c.in-Err.is in
-    ap (λ l. has_key g.K.Ord.cmp l c.args.key.now) none.contents ∙ key_gone g.K.Ord.cmp (joined c.args.self.now.nodes) c.args.key.now
-
-pub returns-in-Err-clause-events : goal.returns-in-Err-clause-events
-returns-in-Err-clause-events g c hk hv = let none = no_key g.met.K.Ord.total c.locate.ensures.lawful c.args.key.now c.locate.ensures.place c.in-Err.is in rw none.events (grind (arith, common_steps))
-
-pub returns-in-Err-clause-next : goal.returns-in-Err-clause-next
-returns-in-Err-clause-next g c = let none = no_key g.met.K.Ord.total c.locate.ensures.lawful c.args.key.now c.locate.ensures.place c.in-Err.is in rw none.events (omega arith)
-
-pub returns-in-Err-clause-fits : goal.returns-in-Err-clause-fits
-returns-in-Err-clause-fits g c = let none = no_key g.met.K.Ord.total c.locate.ensures.lawful c.args.key.now c.locate.ensures.place c.in-Err.is in rw none.events (omega (arith, c.locate.ensures.number))
-
-pub returns-in-Err-clause-clones : goal.returns-in-Err-clause-clones
-returns-in-Err-clause-clones g c = let none = no_key g.met.K.Ord.total c.locate.ensures.lawful c.args.key.now c.locate.ensures.place c.in-Err.is in rw (none.events, c.new.ensures.items) tt
-
-pub returns-in-Err-clause-table : goal.returns-in-Err-clause-table
-returns-in-Err-clause-table g c = let none = no_key g.met.K.Ord.total c.locate.ensures.lawful c.args.key.now c.locate.ensures.place c.in-Err.is in rw none.events refl
+    record {
+      tree = sym (no_key_after g.met.K.Ord.total c.args.self.now c.locate.ensures.lawful c.args.key.now none);
+      answer = rw none.pair_is refl;
+      clones = rw (none.events, c.new.ensures.items) tt;
+      refusal = tt;
+      no_event = λ _. refl;
+      unchanged = tt;
+      contents = none.contents;
+      gone = ap (λ l. has_key g.K.Ord.cmp l c.args.key.now) none.contents ∙ key_gone g.K.Ord.cmp (joined c.args.self.now.nodes) c.args.key.now;
+      events = λ hk hv. rw none.events (grind (arith, common_steps));
+      numbered = grind (arith, common_steps);
+      replay = λ _ _. rw c.new.ensures.items refl;
+      table = rw none.events refl;
+      few = rw c.new.ensures.items (omega arith);
+      size = refl;
+      spaced = λ spaced. spaced;
+      next = rw none.events (omega arith);
+      fits = rw none.events (omega (arith, c.locate.ensures.number));
+    }

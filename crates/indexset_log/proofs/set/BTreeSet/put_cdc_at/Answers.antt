@@ -1,8 +1,23 @@
-use Rattle.indexset_log.proofs.Clones.{clones_numbered, clones_few}
+use Rattle.indexset_log.proofs.Puts.{count_aimed}
+use Rattle.indexset_log.proofs.Trees.{held}
 use Rattle.indexset_log.proofs.set.BTreeSet.put_cdc_at.Goals as goal
 
-pub returns-in-Ok-put_at-clause-numbered : goal.returns-in-Ok-put_at-clause-numbered
-returns-in-Ok-put_at-clause-numbered g c = clones_numbered _ _ _ _ c.in-Ok.ensures.clones
+pub returns-in-Err-clause-refusal : goal.returns-in-Err-clause-refusal
+returns-in-Err-clause-refusal g c =
+    let t = held g.Node.NodeLike.list c.self.inside.nodes.items c.self.view_is c.self.invariant in
+    rw (count_aimed g.met.T.Ord.total t.rule c.args.value c.args.aim c.requires) c.in-Err.ensures.refusal
 
-pub returns-in-Ok-put_at-clause-few : goal.returns-in-Ok-put_at-clause-few
-returns-in-Ok-put_at-clause-few g c = clones_few _ _ _ _ _ _ _ c.in-Ok.ensures.clones
+pub returns-in-Ok-carry_out-clause-fits : goal.returns-in-Ok-carry_out-clause-fits
+returns-in-Ok-carry_out-clause-fits g c =
+    let t = held g.Node.NodeLike.list c.self.inside.nodes.items c.self.view_is c.self.invariant in
+    rw (count_aimed g.met.T.Ord.total t.rule c.args.value c.args.aim c.requires) c.in-Ok.ensures.fits
+
+pub returns-in-Err-carry_out-clause-refusal : goal.returns-in-Err-carry_out-clause-refusal
+returns-in-Err-carry_out-clause-refusal g c =
+    let t = held g.Node.NodeLike.list c.self.inside.nodes.items c.self.view_is c.self.invariant in
+    rw (count_aimed g.met.T.Ord.total t.rule c.args.value c.args.aim c.requires, c.in-Ok.ensures.memory) c.in-Err-carry_out.ensures.refusal
+
+pub returns-in-Err-put_log-clause-refusal : goal.returns-in-Err-put_log-clause-refusal
+returns-in-Err-put_log-clause-refusal g c =
+    let t = held g.Node.NodeLike.list c.self.inside.nodes.items c.self.view_is c.self.invariant in
+    rw (count_aimed g.met.T.Ord.total t.rule c.args.value c.args.aim c.requires, c.in-Ok.ensures.memory) c.in-Err-put_log.ensures.refusal

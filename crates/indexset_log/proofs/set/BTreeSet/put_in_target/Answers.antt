@@ -1,4 +1,5 @@
-use Rattle.std.proofs.Common.{arith, refl, ◌∙◌}
+use Rattle.std.proofs.Common.{◌≡◌, ◌+◌, length, arith, refl, ◌∙◌}
+use Rattle.indexset_log.specs.Table.{put_events}
 use Rattle.indexset_log.proofs.Puts.{element_is, equal_is, events_count, part_up, put_tree, spot, whole_room}
 use Rattle.indexset_log.proofs.Trees.{held}
 use Rattle.indexset_log.proofs.set.BTreeSet.put_in_target.Goals as goal
@@ -26,24 +27,22 @@ put_in-requires g c =
       room = λ e. rw c.index_mut.ensures.value (c.in-Ok.ensures.room e _);
     }
 
-pub returns-in-Ok-clause-nodes : goal.returns-in-Ok-clause-nodes
-returns-in-Ok-clause-nodes g c =
+pub returns-in-Ok-clause-tree : goal.returns-in-Ok-clause-tree
+returns-in-Ok-clause-tree g c =
     let t = held g.Node.NodeLike.list c.self.inside.nodes.items c.self.view_is c.self.invariant in
     let s = spot g.met.T.Ord.total t.rule c.requires.aim g.Node.NodeLike.list c.make_room.new.nodes.items c.in-Ok.place t.same c.in-Ok.ensures.nodes c.in-Ok.ensures.place in
-    s.made _ _ c.index_mut.ensures.value c.put_in.ensures.list
+    let nodes = s.made _ _ c.index_mut.ensures.value c.put_in.ensures.list in
+    let next : c.args.next ≡ c.args.self.now.next + length (put_events g.T.Ord.cmp c.args.self.now.size c.args.self.now.nodes c.args.value) = omega (arith, events_count g.met.T.Ord.total t.rule c.requires.aim, c.requires.next) in
+    λ i. record { nodes = nodes i; size = t.sized i; next = next i }
 
 pub invariant_of-self : goal.invariant_of-self
 invariant_of-self g c =
     let t = held g.Node.NodeLike.list c.self.inside.nodes.items c.self.view_is c.self.invariant in
-    rw (returns-in-Ok-clause-nodes g c, t.sized, c.growth-in-Ok.ensures, ← equal_is g.met.T.Ord.total t.rule c.requires.aim) (put_tree g.met.T.Ord.total t.rule c.args.value)
+    let s = spot g.met.T.Ord.total t.rule c.requires.aim g.Node.NodeLike.list c.make_room.new.nodes.items c.in-Ok.place t.same c.in-Ok.ensures.nodes c.in-Ok.ensures.place in
+    rw (s.made _ _ c.index_mut.ensures.value c.put_in.ensures.list, t.sized, c.growth-in-Ok.ensures, ← equal_is g.met.T.Ord.total t.rule c.requires.aim) (put_tree g.met.T.Ord.total t.rule c.args.value)
 
 pub returns-in-Ok-clause-answer : goal.returns-in-Ok-clause-answer
 returns-in-Ok-clause-answer g c =
     let t = held g.Node.NodeLike.list c.self.inside.nodes.items c.self.view_is c.self.invariant in
     let s = spot g.met.T.Ord.total t.rule c.requires.aim g.Node.NodeLike.list c.make_room.new.nodes.items c.in-Ok.place t.same c.in-Ok.ensures.nodes c.in-Ok.ensures.place in
     c.put_in.ensures.answer ∙ (rw (s.part _ c.index_mut.ensures.value) refl ∙ element_is g.met.T.Ord.total t.rule c.requires.aim)
-
-pub returns-in-Ok-clause-next : goal.returns-in-Ok-clause-next
-returns-in-Ok-clause-next g c =
-    let t = held g.Node.NodeLike.list c.self.inside.nodes.items c.self.view_is c.self.invariant in
-    omega (arith, events_count g.met.T.Ord.total t.rule c.requires.aim, c.count.ensures)

@@ -1,67 +1,44 @@
-use Rattle.std.proofs.Common.{length, arith, ap, sym, refl, ◌∙◌}
-use Rattle.std.proofs.lemmas.Grind.{common_steps}
+use Rattle.std.proofs.Common.{ap, ◌∙◌}
 use Rattle.indexset_core.specs.Nodes.{joined}
 use Rattle.indexset_core.specs.Order.{has_equal}
 use Rattle.indexset_core.proofs.CallerLemmas.{has_none}
-use Rattle.indexset_log.proofs.Takes.{found_events, found_count, found_contents, some_taken, absent_events, absent_contents}
+use Rattle.indexset_log.proofs.Changed.{either_way, if_ok_map, removal_changed, same_spaced, told, value_goes}
+use Rattle.indexset_log.proofs.Theorem.{on_ok_map}
 use Rattle.indexset_log.proofs.Trees.{held}
 use Rattle.indexset_log.proofs.set.BTreeSet.remove_cdc.Goals as goal
 
-pub returns-in_err-item-in-Some-clause-refusal : goal.returns-in_err-item-in-Some-clause-refusal
-returns-in_err-item-in-Some-clause-refusal g c =
+pub remove_from_cdc-requires : goal.remove_from_cdc-requires
+remove_from_cdc-requires g c =
     let t = held g.Node.NodeLike.list c.self.inside.nodes.items c.self.view_is c.self.invariant in
-    rw (found_count g.met.T.Ord.total t.rule.lawful c.in-Some.ensures) (grind (arith, common_steps))
+    let w = value_goes {old = c.args.self.now} g.met.T.Ord.total t.rule.lawful c.args.value.now c.place_of-place.result c.place_of-place.ensures in
+    w.inside
 
-pub returns-in_err-item-in-Some-clause-no_event : goal.returns-in_err-item-in-Some-clause-no_event
-returns-in_err-item-in-Some-clause-no_event g c =
+pub returns : goal.returns
+returns g c =
     let t = held g.Node.NodeLike.list c.self.inside.nodes.items c.self.view_is c.self.invariant in
-    λ none. absurd (omega (arith, found_count g.met.T.Ord.total t.rule.lawful c.in-Some.ensures, some_taken c.args.self.now.size c.args.self.now.nodes c.in-Some.node c.in-Some.offset, ap (λ q. length q) none))
-
-pub returns-in_ok-item-in-Some : goal.returns-in_ok-item-in-Some
-returns-in_ok-item-in-Some g c =
-    let t = held g.Node.NodeLike.list c.self.inside.nodes.items c.self.view_is c.self.invariant in
-    let found = c.in-Some.ensures in
-    let done = c.in_ok-item-in-Some.ensures in
-    let count = found_count g.met.T.Ord.total t.rule.lawful found in
+    let w = value_goes {old = c.args.self.now} g.met.T.Ord.total t.rule.lawful c.args.value.now c.place_of-place.result c.place_of-place.ensures in
+    let r = c.remove_from_cdc.result in
+    let done = c.remove_from_cdc.ensures in
+    let tree = on_ok_map r done.tree (λ e. e ∙ w.after) in
+    let d = on_ok_map r tree (removal_changed g.met.T.Ord.total t.rule c.args.value.now) in
+    let clones = rw w.events at done.told in
+    let s = if_ok_map r clones d (λ x clones d. told g.T.Clone.is_clone x.1.items d clones) in
     record {
-      answer = sym done.item ∙ found.item;
-      contents = ap joined done.nodes ∙ found_contents g.met.T.Ord.total t.rule.lawful found done.item;
-      gone = ap (λ l. has_equal g.T.Ord.cmp l c.args.value.now) (ap joined done.nodes ∙ found_contents g.met.T.Ord.total t.rule.lawful found done.item) ∙ has_none g.T.Ord.cmp (joined c.args.self.now.nodes) c.args.value.now;
-      clones = rw (found_events g.met.T.Ord.total t.rule.lawful found done.item) done.clones;
-      events = λ h. rw (found_events g.met.T.Ord.total t.rule.lawful found done.item) (done.events h);
-      numbered = done.numbered;
-      replay = done.replay;
-      table = rw (found_events g.met.T.Ord.total t.rule.lawful found done.item) done.table;
-      few = done.few;
-      size = done.size;
-      spaced = done.spaced;
-      next = rw count done.next;
-      fits = rw count done.fits;
-      refusal = tt;
-      no_event = λ _. refl;
-      unchanged = tt;
+      tree = tree;
+      answer = rw w.item at done.answer;
+      clones = clones;
+      refusal = rw w.events at done.refusal;
+      no_event = rw w.events at done.no_event;
+      unchanged = done.unchanged;
+      contents = on_ok_map r d (λ d. d.contents);
+      gone = on_ok_map r d (λ d. ap (λ l. has_equal g.T.Ord.cmp l c.args.value.now) d.contents ∙ has_none g.T.Ord.cmp (joined c.args.self.now.nodes) c.args.value.now);
+      events = λ h. if_ok_map r s d (λ x s d. s.events h);
+      numbered = if_ok_map r s d (λ x s d. s.numbered);
+      replay = λ h. if_ok_map r s d (λ x s d. s.replay h);
+      table = on_ok_map r d (λ d. d.table);
+      few = if_ok_map r s d (λ x s d. s.few);
+      size = either_way r d (λ d. d.size) done.unchanged (ap (λ t. t.size));
+      spaced = either_way r d (λ d. d.spaced) done.unchanged same_spaced;
+      next = on_ok_map r d (λ d. d.next);
+      fits = rw w.events at done.fits;
     }
-
-pub returns-in-None-clause-contents : goal.returns-in-None-clause-contents
-returns-in-None-clause-contents g c = absent_contents g.T.Ord.cmp c.args.self.now.nodes c.args.value.now c.in-None.ensures
-
-pub returns-in-None-clause-gone : goal.returns-in-None-clause-gone
-returns-in-None-clause-gone g c =
-    ap (λ l. has_equal g.T.Ord.cmp l c.args.value.now) (absent_contents g.T.Ord.cmp c.args.self.now.nodes c.args.value.now c.in-None.ensures) ∙ has_none g.T.Ord.cmp (joined c.args.self.now.nodes) c.args.value.now
-
-pub returns-in-None-clause-clones : goal.returns-in-None-clause-clones
-returns-in-None-clause-clones g c = rw (absent_events g.T.Ord.cmp c.args.self.now.nodes c.args.value.now c.in-None.ensures c.args.self.now.size, c.new.ensures.items) tt
-
-pub returns-in-None-clause-events : goal.returns-in-None-clause-events
-returns-in-None-clause-events g c h = rw (absent_events g.T.Ord.cmp c.args.self.now.nodes c.args.value.now c.in-None.ensures c.args.self.now.size) (grind (arith, common_steps))
-
-pub returns-in-None-clause-next : goal.returns-in-None-clause-next
-returns-in-None-clause-next g c = rw (absent_events g.T.Ord.cmp c.args.self.now.nodes c.args.value.now c.in-None.ensures c.args.self.now.size) (omega arith)
-
-pub returns-in-None-clause-fits : goal.returns-in-None-clause-fits
-returns-in-None-clause-fits g c =
-    let t = held g.Node.NodeLike.list c.self.inside.nodes.items c.self.view_is c.self.invariant in
-    rw (absent_events g.T.Ord.cmp c.args.self.now.nodes c.args.value.now c.in-None.ensures c.args.self.now.size) (omega arith)
-
-pub returns-in-None-clause-table : goal.returns-in-None-clause-table
-returns-in-None-clause-table g c = rw (absent_events g.T.Ord.cmp c.args.self.now.nodes c.args.value.now c.in-None.ensures c.args.self.now.size) refl

@@ -1,7 +1,8 @@
-use Rattle.std.proofs.Common.{arith}
+use Rattle.std.proofs.Common.{ap, arith}
 use Rattle.indexset_core.specs.Nodes.{node_at}
+use Rattle.indexset_log.proofs.Changed.{joined_after}
 use Rattle.indexset_log.proofs.Joins.{after_from, few_before}
-use Rattle.indexset_log.proofs.Takes.{join_tree, join_up, some_joined, some_read}
+use Rattle.indexset_log.proofs.Takes.{join_up, some_joined, some_read, taken_tree}
 use Rattle.indexset_log.proofs.Trees.{held}
 use Rattle.indexset_log.proofs.set.BTreeSet.take_joining.Goals as goal
 
@@ -23,9 +24,14 @@ overflow_sub-self g c =
     let t = held g.Node.NodeLike.list c.self.inside.nodes.items c.self.view_is c.self.invariant in
     omega (arith, t.rule.counted, some_joined c.args.self.now.nodes c.args.node c.args.offset c.requires.node c.requires.offset)
 
+pub returns-clause-tree : goal.returns-clause-tree
+returns-clause-tree g c =
+    let t = held g.Node.NodeLike.list c.self.inside.nodes.items c.self.view_is c.self.invariant in
+    let after = after_from c.args.self.now.size c.args.self.now.nodes c.args.node c.args.offset c.args.left c.requires.join in
+    joined_after c.args.self.now c.args.node c.args.offset c.requires.join (rw (t.same, ← after.without) at c.in_ok-item.ensures.nodes) t.sized (omega (arith, t.numbered))
+
 pub invariant_of-self-2 : goal.invariant_of-self-2
 invariant_of-self-2 g c =
     let t = held g.Node.NodeLike.list c.self.inside.nodes.items c.self.view_is c.self.invariant in
-    let after = after_from c.args.self.now.size c.args.self.now.nodes c.args.node c.args.offset c.args.left c.requires.join in
     let x = some_read (node_at c.args.self.now.nodes c.args.node) c.args.offset c.requires.offset in
-    rw (c.in_ok-item.ensures.nodes, t.same, t.sized, ← after.without) (join_tree g.met.T.Ord.total t.rule.lawful c.args.node c.args.offset c.requires.node x.1 c.requires.join t.rule)
+    rw (ap (λ t. t.nodes) (returns-clause-tree g c), t.sized) (taken_tree g.met.T.Ord.total t.rule.lawful c.args.node c.args.offset c.requires.node x.1 t.rule)

@@ -6,20 +6,6 @@ use Rattle.indexset_log.proofs.Theorem.{last_some}
 use Rattle.indexset_log.proofs.Trees.{held, node_held}
 use Rattle.indexset_log.proofs.set.BTreeSet.taking_event.Goals as goal
 
-pub returns-clause-event : goal.returns-clause-event
-returns-clause-event g c h =
-    let t = held g.Node.NodeLike.list c.self.inside.nodes.items c.self.view_is c.self.invariant in
-    let i = c.args.offset in
-    let n = node_at c.args.self.now.nodes c.args.node in
-    let held = c.as_slice-items.ensures.value ∙ (c.iter.ensures ∙ node_held t c.args.node c.requires.node c.index.ensures) in
-    let x = c.index-items-offset.result in
-    let read : slice_get n i ≡ Some x = read_item n i x c.requires.offset (rw held at c.index-items-offset.is) in
-    let value : c.in_ok-value.value ≡ x = h _ _ c.in_ok-value.ensures.cases in
-    let y = c.index-items-items.result in
-    let last : slice_get n (length n - 1) ≡ Some y = read_item n (length n - 1) y (omega (arith, c.requires.offset)) (rw held at c.index-items-items.is) in
-    let name = h _ _ c.in_ok-clone.ensures.cases in
-    rw (read, ne_eqb (length n) 1 (rw held at c.if-items-eq1.false), last_some n x y last, value, name) refl
-
 pub returns-clause-clones : goal.returns-clause-clones
 returns-clause-clones g c s =
     let t = held g.Node.NodeLike.list c.self.inside.nodes.items c.self.view_is c.self.invariant in

@@ -44,17 +44,10 @@ add_put-requires g c =
       fits = rw part (omega (arith, c.requires.fits, events_count g.met.T.Ord.total t.rule c.requires.aim, parts_length g.met.T.Ord.total t.rule c.requires.aim, next));
     }
 
-pub returns-clause-events : goal.returns-clause-events
-returns-clause-events g c h =
+pub returns-clause-told : goal.returns-clause-told
+returns-clause-told g c =
     let t = held g.Node.NodeLike.list c.self.inside.nodes.items c.self.view_is c.self.invariant in
-    let next = rw (c.new-log.ensures.next, t.numbered, t.sized, read g (goal.at.returns-clause-events g c).After-as_slice-items) at c.in_ok-add_halving.ensures.next in
-    let halving = rw (c.new-log.ensures.events, c.new-log.ensures.next, t.numbered, t.sized, read g (goal.at.returns-clause-events g c).After-as_slice-items) at (c.in_ok-add_halving.ensures.events h c.args.value.now) in
-    rw (events_numbered g.met.T.Ord.total t.rule c.requires.aim c.args.self.now.next, ← halving, ← next, ← half g (goal.at.returns-clause-events g c).After-part_of) (c.in_ok-add_put.ensures.events h)
-
-pub returns-clause-clones : goal.returns-clause-clones
-returns-clause-clones g c =
-    let t = held g.Node.NodeLike.list c.self.inside.nodes.items c.self.view_is c.self.invariant in
-    let next = rw (c.new-log.ensures.next, t.numbered, t.sized, read g (goal.at.returns-clause-clones g c).After-as_slice-items) at c.in_ok-add_halving.ensures.next in
-    let halving = rw (c.new-log.ensures.events, c.new-log.ensures.next, t.numbered, t.sized, read g (goal.at.returns-clause-clones g c).After-as_slice-items) at (c.in_ok-add_halving.ensures.clones c.args.value.now) in
+    let next = rw (c.new-log.ensures.next, t.numbered, t.sized, read g (goal.at.returns-clause-told g c).After-as_slice-items) at c.in_ok-add_halving.ensures.next in
+    let halving = rw (c.new-log.ensures.events, c.new-log.ensures.next, t.numbered, t.sized, read g (goal.at.returns-clause-told g c).After-as_slice-items) at (c.in_ok-add_halving.ensures.clones c.args.value.now) in
     let told = c.in_ok-add_put.ensures.clones in
-    rw (events_numbered g.met.T.Ord.total t.rule c.requires.aim c.args.self.now.next, ← next, ← half g (goal.at.returns-clause-clones g c).After-part_of) (rw (told.1, halving.1) (zip_on _ _ _ _ _ halving.2 told.2))
+    rw (events_numbered g.met.T.Ord.total t.rule c.requires.aim c.args.self.now.next, ← next, ← half g (goal.at.returns-clause-told g c).After-part_of) (rw (told.1, halving.1) (zip_on _ _ _ _ _ halving.2 told.2))

@@ -2,7 +2,7 @@ use Rattle.std.proofs.Common.{◌<◌, true, false, rules, refl, sym, ap, subst,
 use Rattle.std.below.core.specs.declared.int.u64.TheConstants.{MAX}
 use Rattle.std.proofs.lemmas.List.Sums.{fold-append}
 use Rattle.indexset_core.specs.declared.constants.TheConstants.{DEFAULT_INNER_SIZE}
-use Rattle.indexset_log.specs.Made.{inserted}
+use Rattle.indexset_log.specs.Edits.{after_checked_put}
 use Rattle.indexset_log.specs.Tree.{fresh}
 use Rattle.indexset_log.proofs.Trees.{ran_out}
 use Rattle.std.specs.Iterator.{Drains, YieldsThen}
@@ -33,6 +33,6 @@ returns-in_err-insert-clause-numbers g c out =
     let came = c.loop-value.yielded in
     let v = c.in-Some.value in
     let last : YieldsThen steps rest came (Some v) c.next.new.self = search rules in
-    let past : MAX < (inserted g.T.Ord.cmp c.loop-value.set v).next = ran_out _ _ ((rw out at c.from_residual.ensures.1) ∙ c.in_err-insert.ensures.refusal) in
-    let whole = fold-append (inserted g.T.Ord.cmp) (fresh DEFAULT_INNER_SIZE) came (v ∷ []) ∙ ap (λ t. inserted g.T.Ord.cmp t v) (sym c.loop-value.invariant.tree) in
+    let past : MAX < (after_checked_put g.T.Ord.cmp c.loop-value.set v).next = ran_out _ _ ((rw out at c.from_residual.ensures.1) ∙ c.in_err-insert.ensures.refusal) in
+    let whole = fold-append (after_checked_put g.T.Ord.cmp) (fresh DEFAULT_INNER_SIZE) came (v ∷ []) ∙ ap (λ t. after_checked_put g.T.Ord.cmp t v) (sym c.loop-value.invariant.tree) in
     (rest, c.into_iter-rest.ensures.into_iter_gives, (run steps rest (came ++ (v ∷ [])) false (to_item steps rest _ came v last), refl, subst (λ t. MAX < t.next) (sym whole) past))

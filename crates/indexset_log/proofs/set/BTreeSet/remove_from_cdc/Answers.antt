@@ -1,0 +1,33 @@
+use Rattle.std.proofs.Common.{length, arith, ap, sym, refl}
+use Rattle.std.proofs.lemmas.Grind.{common_steps}
+use Rattle.indexset_log.proofs.Changed.{events_counted}
+use Rattle.indexset_log.proofs.Takes.{some_taken}
+use Rattle.indexset_log.proofs.set.BTreeSet.remove_from_cdc.Goals as goal
+
+pub returns-in_err-item-in-Some-clause-refusal : goal.returns-in_err-item-in-Some-clause-refusal
+returns-in_err-item-in-Some-clause-refusal g c =
+    let here = rw c.in-Some.is at c.requires in
+    let count = events_counted c.args.self.now c.in-Some.node c.in-Some.offset here.1 in
+    rw (c.in-Some.is, count) (grind (arith, common_steps))
+
+pub returns-in_err-item-in-Some-clause-no_event : goal.returns-in_err-item-in-Some-clause-no_event
+returns-in_err-item-in-Some-clause-no_event g c =
+    let here = rw c.in-Some.is at c.requires in
+    let count = events_counted c.args.self.now c.in-Some.node c.in-Some.offset here.1 in
+    let some = some_taken c.args.self.now.size c.args.self.now.nodes c.in-Some.node c.in-Some.offset in
+    rw c.in-Some.is (λ none. absurd (omega (arith, count, some, ap (λ q. length q) none)))
+
+pub returns-in_ok-item-in-Some : goal.returns-in_ok-item-in-Some
+returns-in_ok-item-in-Some g c =
+    let here = rw c.in-Some.is at c.requires in
+    let count = events_counted c.args.self.now c.in-Some.node c.in-Some.offset here.1 in
+    let done = c.in_ok-item-in-Some.ensures in
+    record {
+      tree = rw c.in-Some.is done.tree;
+      answer = rw c.in-Some.is (sym done.item);
+      told = rw (c.in-Some.is, done.item) done.clones;
+      fits = rw (c.in-Some.is, count) done.fits;
+      refusal = tt;
+      no_event = λ _. refl;
+      unchanged = tt;
+    }
