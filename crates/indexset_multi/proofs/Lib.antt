@@ -1,5 +1,6 @@
 pub mod Below
 pub mod CallerLemmas
+pub mod Ends
 pub mod Free
 pub mod Lists
 pub mod Numbers
