@@ -1,11 +1,11 @@
-use Rattle.std.proofs.Common.{rules, ◌≡◌, ◌/◌, ◌<◌, IfErr, ap, refl, subst, sym, ◌∙◌, ◌-◌, length}
+use Rattle.std.proofs.Common.{rules, ◌≡◌, ◌<◌, IfErr, ap, refl, subst, sym, ◌∙◌, ◌-◌, length, slice_get}
 use Rattle.std.specs.Option.{option_map}
 use Rattle.std.proofs.lemmas.Bool.{false≢true}
 use Rattle.std.proofs.lemmas.List.Elements.{All-take}
 use Rattle.indexset_core.specs.Nodes.{joined}
-use Rattle.indexset_log.specs.Joining.{IsSpaced}
 use Rattle.indexset_multi.specs.Keys.{AreNumberedBelow, key_and_value}
 use Rattle.indexset_multi.proofs.Ends.{told_at}
+use Rattle.indexset_multi.proofs.Takes.{removal_tree}
 use Rattle.indexset_multi.proofs.multimap.BTreeMultiMap.pop_last.Goals as goal
 
 pub returns-in_err-pair-clause-refusal : goal.returns-in_err-pair-clause-refusal
@@ -44,20 +44,24 @@ invariant_of-self-2 g c =
 pub returns : goal.returns
 returns g c =
     let done = c.in_ok-pair.ensures in
-    let after = c.pop_last.new.self in
     let told = told_at g.K.Ord.cmp (λ t. length (joined t.nodes) - 1) c.self.view_is in
     let same : c.self.inside.set.nodes ≡ c.args.self.now.nodes = ap (λ t. t.nodes) c.self.view_is in
     let size : c.self.inside.set.size ≡ c.args.self.now.size = ap (λ t. t.size) c.self.view_is in
     let next : c.self.inside.set.next ≡ c.args.self.now.next = ap (λ t. t.next) c.self.view_is in
+    let m = c.args.self.now in
+    let replayed = rw (told, same, next) at done.replay in
+    let all = rw (told, next) at done.next in
+    let pair_next = ap (λ t. t.pair_next) c.self.view_is in
     record {
+      tree = removal_tree g.K.Ord.cmp m (slice_get (joined m.nodes) (length (joined m.nodes) - 1)) replayed (done.size ∙ size) all pair_next;
       answer = c.entry_of.ensures ∙ ap (option_map key_and_value) (rw same at done.answer);
       contents = rw same at done.contents;
-      replay = rw (told, same, next) at done.replay;
+      replay = replayed;
       few = rw told at done.few;
       size = done.size ∙ size;
-      spaced = subst (λ t. IsSpaced (t.size / 2) t.nodes → IsSpaced (after.size / 2) after.nodes) c.self.view_is done.spaced;
-      next = rw (told, next) at done.next;
-      pair_next = ap (λ t. t.pair_next) c.self.view_is;
+      spaced = rw (same, size) at done.spaced;
+      next = all;
+      pair_next = pair_next;
       fits = rw (told, next) at done.fits;
       refusal = tt;
       no_event = λ _. refl;
