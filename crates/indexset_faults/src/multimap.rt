@@ -27,6 +27,12 @@ const WITHOUT_B: [(u64, u64, char); 2] = [(1, 0, 'a'), (2, 2, 'c')];
 
 const WITHOUT_A: [(u64, u64, char); 2] = [(1, 1, 'b'), (2, 2, 'c')];
 
+/// The events of the removal of the first of three pairs, which stands in a node with the second.
+const FIRST_GONE: [Told<(u64, u64, char)>; 2] = [
+    Told::Remove(0, (1, 1, 'b'), (1, 0, 'a'), 0),
+    Told::Merge(1, (1, 1, 'b'), (2, 2, 'c')),
+];
+
 /// A pair of the key 1, and three of 2.
 const FOUR: [(u64, u64, char); 4] = [(1, 0, 'a'), (2, 1, 'b'), (2, 2, 'c'), (2, 3, 'd')];
 
@@ -47,6 +53,9 @@ pub fn trial(alloc: Global, call: &str) -> Option<Trial> {
         "remove_cdc" => Some(remove(alloc, call, &WITHOUT_B)),
         "remove_some" => Some(remove(alloc, call, &WITHOUT_A)),
         "remove_some_cdc" => Some(remove(alloc, call, &WITHOUT_A)),
+        "pop_first" => Some(pop(alloc, call, 2, &WITHOUT_A)),
+        "pop_first_cdc" => Some(pop(alloc, call, 2, &WITHOUT_A)),
+        "pop_last_cdc" => Some(pop(alloc, call, 1, &FULL[..2])),
         "remove_all" => Some(remove_all(alloc)),
         "remove_all_cdc" => Some(remove_all_cdc(alloc)),
         "attach_multi_node" => Some(attach_multi_node(alloc)),
@@ -107,54 +116,84 @@ fn node_of(alloc: Global, pairs: &[(u64, u64, char)]) -> Result<Vec<Letters>, Re
     Ok(node)
 }
 
-// The nodes of the first two pairs and of the third, which have no room to spare: without one of the
-// first they are joined.
-fn two_nodes(alloc: Global) -> Result<Map, Refusal> {
+// The first three pairs in two nodes, so many in the first, which have no room to spare: without one of
+// the two in one node they are joined.
+fn two_nodes(alloc: Global, first: usize) -> Result<Map, Refusal> {
     let mut map = BTreeMultiMap::with_maximum_node_size(alloc, 4);
-    map.attach_multi_node(node_of(alloc, &FULL[..2])?)?;
-    map.attach_multi_node(node_of(alloc, &FULL[2..3])?)?;
+    let (front, back) = FULL[..3].split_at(first.min(3));
+    map.attach_multi_node(node_of(alloc, front)?)?;
+    map.attach_multi_node(node_of(alloc, back)?)?;
     Ok(map)
 }
 
-// Whether it is the pair of 1 with this value.
-fn is_removed(pair: &Option<(Owned, char)>, letter: char) -> bool {
-    pair.as_ref().is_some_and(|pair| is_pair(pair, 1, letter))
+// Whether it is the pair of this key and this value.
+fn is_removed(pair: &Option<(Owned, char)>, key: u64, letter: char) -> bool {
+    pair.as_ref().is_some_and(|pair| is_pair(pair, key, letter))
 }
 
 // Removes the pair of 1 and b, or the first pair of 1, by a call; whether that returned and told what it
 // should.
 fn remove_by(map: &mut Map, call: &str, one: &Owned) -> Result<bool, Refusal> {
     match call {
-        "remove" => Ok(is_removed(&map.remove(one, &'b')?, 'b')),
-        "remove_some" => Ok(is_removed(&map.remove_some(one)?, 'a')),
+        "remove" => Ok(is_removed(&map.remove(one, &'b')?, 1, 'b')),
+        "remove_some" => Ok(is_removed(&map.remove_some(one)?, 1, 'a')),
         "remove_cdc" => {
             let (pair, events) = map.remove_cdc(one, &'b')?;
             let told = [
                 Told::Remove(0, (1, 1, 'b'), (1, 1, 'b'), 1),
                 Told::Merge(1, (1, 0, 'a'), (2, 2, 'c')),
             ];
-            Ok(is_removed(&pair, 'b') && are_events(events.as_slice(), &told))
+            Ok(is_removed(&pair, 1, 'b') && are_events(events.as_slice(), &told))
         }
         _ => {
             let (pair, events) = map.remove_some_cdc(one)?;
-            let told = [
-                Told::Remove(0, (1, 1, 'b'), (1, 0, 'a'), 0),
-                Told::Merge(1, (1, 1, 'b'), (2, 2, 'c')),
-            ];
-            Ok(is_removed(&pair, 'a') && are_events(events.as_slice(), &told))
+            Ok(is_removed(&pair, 1, 'a') && are_events(events.as_slice(), &FIRST_GONE))
         }
     }
 }
 
 // Whether a pair of the first node was removed by a call, and the nodes joined.
 fn remove(alloc: Global, call: &str, left: &[(u64, u64, char)]) -> Trial {
-    let mut map = two_nodes(alloc)?;
+    let mut map = two_nodes(alloc, 2)?;
     let one = Owned::new(alloc, 1)?;
     Ok(match remove_by(&mut map, call, &one) {
         Ok(is_told) => answered(is_told && holds(&map, &[left], 2)),
         Err(cause) => {
             let stays = holds(&map, &[&FULL[..2], &FULL[2..3]], 0);
             let again = remove_by(&mut map, call, &one).is_ok_and(|is_told| is_told);
+            refused(cause, stays && again && holds(&map, &[left], 2))
+        }
+    })
+}
+
+// Removes the first pair, or the last, by a call; whether that returned and told what it should.
+fn pop_by(map: &mut Map, call: &str) -> Result<bool, Refusal> {
+    match call {
+        "pop_first" => Ok(is_removed(&map.pop_first()?, 1, 'a')),
+        "pop_first_cdc" => {
+            let (pair, events) = map.pop_first_cdc()?;
+            Ok(is_removed(&pair, 1, 'a') && are_events(events.as_slice(), &FIRST_GONE))
+        }
+        _ => {
+            let (pair, events) = map.pop_last_cdc()?;
+            let told = [
+                Told::Remove(0, (2, 2, 'c'), (2, 2, 'c'), 1),
+                Told::Merge(1, (1, 0, 'a'), (1, 1, 'b')),
+            ];
+            Ok(is_removed(&pair, 2, 'c') && are_events(events.as_slice(), &told))
+        }
+    }
+}
+
+// Whether the pair at an end was removed by a call, and the nodes joined.
+fn pop(alloc: Global, call: &str, first: usize, left: &[(u64, u64, char)]) -> Trial {
+    let mut map = two_nodes(alloc, first)?;
+    Ok(match pop_by(&mut map, call) {
+        Ok(is_told) => answered(is_told && holds(&map, &[left], 2)),
+        Err(cause) => {
+            let (front, back) = FULL[..3].split_at(first.min(3));
+            let stays = holds(&map, &[front, back], 0);
+            let again = pop_by(&mut map, call).is_ok_and(|is_told| is_told);
             refused(cause, stays && again && holds(&map, &[left], 2))
         }
     })

@@ -1,6 +1,8 @@
 pub mod Below
 pub mod CallerLemmas
+pub mod Ends
 pub mod Free
+pub mod Inserts
 pub mod Lists
 pub mod Numbers
 pub mod Removals

@@ -1,6 +1,7 @@
 -- The removal of a pair by its place, as the map's contract sees it.
-use Rattle.std.proofs.Common.{◌≡◌, ℕ, zero, suc, ◌<◌, ◌≤◌, List, [], ◌∷◌, length, Option, None, Some, Ordering, slice_get, refl, ap, sym, ◌∙◌, subst, arith}
+use Rattle.std.proofs.Common.{◌≡◌, ℕ, ◌+◌, zero, suc, ◌<◌, ◌≤◌, List, [], ◌∷◌, length, Option, None, Some, Ordering, slice_get, refl, ap, sym, ◌∙◌, subst, arith}
 use Rattle.std.specs.Cmp.{IsTotalOrder}
+use Rattle.std.specs.Option.{unwrap_or}
 use Rattle.indexset_core.specs.declared.multipair.MultiPair.{MultiPair}
 use Rattle.indexset_core.specs.MultiPairs.{by_number}
 use Rattle.indexset_core.specs.Nodes.{joined, node_at, IsLawful}
@@ -10,13 +11,17 @@ use Rattle.indexset_log.specs.Table.{taking_count, taking_events}
 use Rattle.indexset_log.proofs.CallerLemmas.{place_contents, place_events, removal_few, taking_length}
 use Rattle.indexset_multi.specs.Keys.{AreNumberedBelow, without_named}
 use Rattle.indexset_multi.specs.Places.{IsItemPlace, placed_item}
-use Rattle.indexset_multi.specs.Tree.{MultiTree, pair_removal_events}
+use Rattle.indexset_multi.specs.Tree.{MultiTree, after_removal, pair_removal_events}
 use Rattle.indexset_multi.proofs.Below.{below_without}
 use Rattle.indexset_multi.proofs.Numbers.{numbers_total}
 
 pub pair_removal_few : {K V : Type 0} (cmp : K → K → Ordering) (size : ℕ) (ns : List (List (MultiPair K V))) (pair : Option (MultiPair K V)) → length (pair_removal_events cmp size ns pair) ≤ 3
 pair_removal_few cmp size ns None = omega arith
 pair_removal_few cmp size ns (Some p) = removal_few (by_number cmp) size ns p
+
+-- the map whose set is left with the nodes to which the events lead
+pub removal_tree : {K V : Type 0} (cmp : K → K → Ordering) (m : MultiTree K V) (pair : Option (MultiPair K V)) {nodes : List (List (MultiPair K V))} {size next pair_next : ℕ} → replay (by_number cmp) m.nodes (numbered_from m.next (pair_removal_events cmp m.size m.nodes pair)) ≡ Some nodes → size ≡ m.size → next ≡ m.next + length (pair_removal_events cmp m.size m.nodes pair) → pair_next ≡ m.pair_next → (let t : MultiTree K V = record { nodes = nodes; size = size; next = next; pair_next = pair_next } in t) ≡ after_removal cmp m pair
+removal_tree cmp m pair replayed size next pair_next = λ i. record { nodes = unwrap_or (sym replayed i) m.nodes; size = size i; next = next i; pair_next = pair_next i }
 
 -- clones of pairs are identical where those of keys and of values are
 pub pair_same : {K V : Type 0} {C : K → K → Type 0} {D : V → V → Type 0} → ((x y : K) → C x y → y ≡ x) → ((x y : V) → D x y → y ≡ x) → (p q : MultiPair K V) → C p.key q.key × (D p.value q.value × (q.discriminator ≡ p.discriminator)) → q ≡ p

@@ -1,4 +1,4 @@
--- What a multimap is, and what an insertion makes of it.
+-- What a multimap is, and what an insertion and a removal make of it.
 use Rattle.std.specs.Prelude.{◌≡◌, ℕ, ◌+◌, ◌==◌, ◌&&◌, length, Bool, List, [], Option, Some, is_none, if◌then◌else◌}
 use Rattle.std.below.core.specs.declared.int.u64.TheConstants.{MAX}
 use Rattle.std.specs.Option.{option_map_or, unwrap_or}
@@ -10,7 +10,8 @@ use Rattle.indexset_core.specs.MultiPairs.{by_number, numbered_pair}
 use Rattle.indexset_core.specs.Nodes.{joined}
 use Rattle.indexset_log.specs.declared.change.ChangeEventUnassigned.{ChangeEventUnassigned}
 use Rattle.indexset_log.specs.declared.change.ChangeEvent.{ChangeEvent}
-use Rattle.indexset_log.specs.Replay.{replay, IsNumberedFrom}
+use Rattle.indexset_log.specs.Edits.{with_put}
+use Rattle.indexset_log.specs.Replay.{replay, numbered_from, IsNumberedFrom}
 use Rattle.indexset_log.specs.Table.{put_events, removal_events}
 use Rattle.indexset_log.specs.Tree.{refusal_for}
 use Rattle.indexset_multi.specs.Keys.{kept_number}
@@ -25,6 +26,17 @@ pub record MultiTree (K V : Type 0) : Type 0 where
 -- the events of the removal of the pair that is named, where one is
 abbrev pub pair_removal_events : {K V : Type 0} → (K → K → Ordering) → ℕ → List (List (MultiPair K V)) → Option (MultiPair K V) → List (ChangeEventUnassigned (MultiPair K V))
 pair_removal_events cmp size ns pair = option_map_or (λ p. removal_events (by_number cmp) size ns p) pair []
+
+-- the tree after that removal: its nodes are those that the events lead to
+abbrev pub after_removal : {K V : Type 0} → (K → K → Ordering) → MultiTree K V → Option (MultiPair K V) → MultiTree K V
+after_removal cmp m pair =
+    let events = pair_removal_events cmp m.size m.nodes pair in
+    record {
+      nodes = unwrap_or (replay (by_number cmp) m.nodes (numbered_from m.next events)) m.nodes;
+      size = m.size;
+      next = m.next + length events;
+      pair_next = m.pair_next;
+    }
 
 -- the events, numbered from the first's next one, lead from its nodes to the second's, whose next number comes after them
 pub record IsLedBy {K V : Type 0} (cmp : K → K → Ordering) (m n : MultiTree K V) (events : List (ChangeEvent (MultiPair K V))) : Type 0 where
@@ -56,6 +68,15 @@ module _ {K V : Type 0} (cmp : K → K → Ordering) (eq : V → V → Bool) whe
     -- the number of the next new pair after it
     abbrev pub pair_next_after : ℕ
     pair_next_after = if takes_number then m.pair_next + 1 else m.pair_next
+
+    -- the tree after it
+    abbrev pub after_insertion : MultiTree K V
+    after_insertion = record {
+      nodes = with_put (by_number cmp) m.size m.nodes inserted_pair;
+      size = m.size;
+      next = m.next + length insertion_events;
+      pair_next = pair_next_after;
+    }
 
     -- a new number is needed, and none is left
     abbrev pub lacks_number : Bool

@@ -7,6 +7,7 @@ ghost use Rattle.indexset_log.specs.Located.{located};
 ghost use Rattle.indexset_multi.specs.Keys.{AreNumberedBelow, has_pair_of};
 
 mod attach;
+mod ends;
 mod from_nodes;
 pub mod iter;
 mod put;

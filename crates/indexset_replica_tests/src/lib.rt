@@ -18,6 +18,8 @@ mod logged_map;
 #[cfg(test)]
 mod multimap;
 #[cfg(test)]
+mod multimap_ends;
+#[cfg(test)]
 mod multimap_nodes;
 #[cfg(test)]
 mod paths;

@@ -4,14 +4,14 @@ ghost use Rattle.std.specs.List.{AllZip};
 ghost use Rattle.std.specs.Option.{option_map};
 ghost use Rattle.std.specs.Ordering.{is_eq};
 ghost use Rattle.indexset_core.specs.MultiPairs.{by_number};
-ghost use Rattle.indexset_core.specs.Nodes.{joined, IsLawful};
-ghost use Rattle.indexset_core.specs.Order.{equal_element, put};
+ghost use Rattle.indexset_core.specs.Nodes.{joined};
+ghost use Rattle.indexset_core.specs.Order.{put};
 ghost use Rattle.indexset_log.specs.Clones.{IsEventClone};
 ghost use Rattle.indexset_log.specs.Edits.{with_put};
 ghost use Rattle.indexset_log.specs.Joining.{IsSpaced};
 ghost use Rattle.indexset_log.specs.Replay.{replay, numbered_from, IsNumberedFrom};
-ghost use Rattle.indexset_multi.specs.Keys.{AreNumberedBelow, equal_pair, kept_number, pairs_of};
-ghost use Rattle.indexset_multi.specs.Tree.{insertion_events, insertion_refusal, inserted_pair, lacks_number, pair_next_after, takes_number};
+ghost use Rattle.indexset_multi.specs.Keys.{equal_pair, kept_number, pairs_of};
+ghost use Rattle.indexset_multi.specs.Tree.{after_insertion, insertion_events, insertion_refusal, inserted_pair, lacks_number, pair_next_after, takes_number};
 
 use super::BTreeMultiMap;
 use indexset_core::multipair::MultiPair;
@@ -26,36 +26,41 @@ impl<K: Ord + Clone + Drop, V: Eq + Clone + Drop, Node: NodeLike<MultiPair<K, V>
 > {
     /// Inserts a pair, and returns the events. Where the key has pairs of an equal value, the first
     /// of them is replaced in its place and keeps its number, and its value is returned. Else the
-    /// pair gets the next number and is the last of its key. Fails with `Numbers` where the events
-    /// do not fit, or where a new number is needed and none remains, else with `Memory`. A failed
+    /// pair gets the next number and is the last of its key. It makes two searches: that of `get`, whose
+    /// pairs' values it compares one by one, and one for the place. Fails with `Numbers` where the
+    /// events do not fit, or where a new number is needed and none remains, else with `Memory`. A failed
     /// call hands key and value back and changes nothing.
     pub fn insert_cdc(
         &mut self,
         key: K,
         value: V,
     ) -> Result<(Option<V>, Vec<ChangeEvent<MultiPair<K, V>>>), Refused<(K, V)>>
+        ensures tree { OnOk result (self.new ≡ after_insertion K.cmp V.eq self.old key value) }
         ensures answer { IfOk result (λ r. r.0 ≡ option_map (λ p. p.value) (equal_pair K.cmp V.eq (joined self.old.nodes) key value)) }
+        ensures clones { IfOk result (λ r. AllZip (IsEventClone (λ p q. K.is_clone p.key q.key × (V.is_clone p.value q.value × (q.discriminator ≡ p.discriminator)))) (numbered_from self.old.next (insertion_events K.cmp V.eq self.old key value)) r.1.items) }
+        ensures refusal { IfErr result (λ e. e.cause ≡ insertion_refusal K.cmp V.eq self.old key value) }
+        ensures given_back { IfErr result (λ e. e.value ≡ (key, value)) }
+        ensures unchanged { OnErr result (self.new ≡ self.old) }
+        // What callers prove by.
         ensures contents { OnOk result (joined self.new.nodes ≡ put (by_number K.cmp) (joined self.old.nodes) (inserted_pair K.cmp V.eq self.old key value)) }
         ensures there { OnOk result (equal_pair K.cmp V.eq (joined self.new.nodes) key value ≡ Some (inserted_pair K.cmp V.eq self.old key value)) }
         ensures last { OnOk result (takes_number K.cmp V.eq self.old key value ≡ true → pairs_of K.cmp (joined self.new.nodes) key ≡ pairs_of K.cmp (joined self.old.nodes) key ++ inserted_pair K.cmp V.eq self.old key value ∷ []) }
         ensures others { OnOk result ((other : K) → is_eq (K.cmp other key) ≡ false → pairs_of K.cmp (joined self.new.nodes) other ≡ pairs_of K.cmp (joined self.old.nodes) other) }
         ensures nodes { OnOk result (self.new.nodes ≡ with_put (by_number K.cmp) self.old.size self.old.nodes (inserted_pair K.cmp V.eq self.old key value)) }
-        ensures clones { IfOk result (λ r. AllZip (IsEventClone (λ p q. K.is_clone p.key q.key × (V.is_clone p.value q.value × (q.discriminator ≡ p.discriminator)))) (numbered_from self.old.next (insertion_events K.cmp V.eq self.old key value)) r.1.items) }
+        ensures size { self.new.size ≡ self.old.size }
+        ensures next { OnOk result (self.new.next ≡ self.old.next + length (insertion_events K.cmp V.eq self.old key value)) }
+        ensures pair_next { OnOk result (self.new.pair_next ≡ pair_next_after K.cmp V.eq self.old key value) }
+        ensures fits { OnOk result (self.old.next + length (insertion_events K.cmp V.eq self.old key value) ≤ u64.MAX) }
+        ensures number_left { OnOk result (lacks_number K.cmp V.eq self.old key value ≡ false) }
         ensures events { ((x y : K) → K.is_clone x y → y ≡ x) → ((x y : V) → V.is_clone x y → y ≡ x) → IfOk result (λ r. r.1.items ≡ numbered_from self.old.next (insertion_events K.cmp V.eq self.old key value)) }
         ensures numbered { IfOk result (λ r. IsNumberedFrom self.old.next r.1.items) }
         ensures replay { ((x y : K) → K.is_clone x y → y ≡ x) → ((x y : V) → V.is_clone x y → y ≡ x) → IfOk result (λ r. replay (by_number K.cmp) self.old.nodes r.1.items ≡ Some self.new.nodes) }
         ensures table { OnOk result (replay (by_number K.cmp) self.old.nodes (numbered_from self.old.next (insertion_events K.cmp V.eq self.old key value)) ≡ Some self.new.nodes) }
         ensures few { IfOk result (λ r. length r.1.items ≤ 3) }
-        ensures size { self.new.size ≡ self.old.size }
         ensures spaced { IsSpaced (self.old.size / 2) self.old.nodes → IsSpaced (self.new.size / 2) self.new.nodes }
-        ensures next { OnOk result (self.new.next ≡ self.old.next + length (insertion_events K.cmp V.eq self.old key value)) }
-        ensures pair_next { OnOk result (self.new.pair_next ≡ pair_next_after K.cmp V.eq self.old key value) }
-        ensures fits { OnOk result (self.old.next + length (insertion_events K.cmp V.eq self.old key value) ≤ u64.MAX) }
-        ensures number_left { OnOk result (lacks_number K.cmp V.eq self.old key value ≡ false) }
-        ensures refusal { IfErr result (λ e. e.cause ≡ insertion_refusal K.cmp V.eq self.old key value) }
-        ensures given_back { IfErr result (λ e. e.value ≡ (key, value)) }
-        ensures unchanged { OnErr result (self.new ≡ self.old) }
     {
+        // The contract of `node_count` says that the pairs ascend, with numbers below the next.
+        let _nodes = self.node_count();
         let (pair, pair_next) = self.pair_for(key, value)?;
         let (old, events) = self.set.put_cdc(pair)?;
         self.pair_next = pair_next;
@@ -73,45 +78,43 @@ impl<K: Ord + Clone + Drop, V: Eq + Clone + Drop, Node: NodeLike<MultiPair<K, V>
     /// assert!(rt; tags.get(&1).map(|(_, document)| *document).eq([100, 101]));
     /// ```
     pub fn insert(&mut self, key: K, value: V) -> Result<Option<V>, Refused<(K, V)>>
+        ensures tree { OnOk result (self.new ≡ after_insertion K.cmp V.eq self.old key value) }
         ensures answer { IfOk result (λ old. old ≡ option_map (λ p. p.value) (equal_pair K.cmp V.eq (joined self.old.nodes) key value)) }
+        ensures refusal { IfErr result (λ e. e.cause ≡ insertion_refusal K.cmp V.eq self.old key value) }
+        ensures given_back { IfErr result (λ e. e.value ≡ (key, value)) }
+        ensures unchanged { OnErr result (self.new ≡ self.old) }
+        // What callers prove by.
         ensures contents { OnOk result (joined self.new.nodes ≡ put (by_number K.cmp) (joined self.old.nodes) (inserted_pair K.cmp V.eq self.old key value)) }
         ensures there { OnOk result (equal_pair K.cmp V.eq (joined self.new.nodes) key value ≡ Some (inserted_pair K.cmp V.eq self.old key value)) }
         ensures last { OnOk result (takes_number K.cmp V.eq self.old key value ≡ true → pairs_of K.cmp (joined self.new.nodes) key ≡ pairs_of K.cmp (joined self.old.nodes) key ++ inserted_pair K.cmp V.eq self.old key value ∷ []) }
         ensures others { OnOk result ((other : K) → is_eq (K.cmp other key) ≡ false → pairs_of K.cmp (joined self.new.nodes) other ≡ pairs_of K.cmp (joined self.old.nodes) other) }
         ensures nodes { OnOk result (self.new.nodes ≡ with_put (by_number K.cmp) self.old.size self.old.nodes (inserted_pair K.cmp V.eq self.old key value)) }
-        ensures replay { OnOk result (replay (by_number K.cmp) self.old.nodes (numbered_from self.old.next (insertion_events K.cmp V.eq self.old key value)) ≡ Some self.new.nodes) }
-        ensures few { length (insertion_events K.cmp V.eq self.old key value) ≤ 3 }
         ensures size { self.new.size ≡ self.old.size }
-        ensures spaced { IsSpaced (self.old.size / 2) self.old.nodes → IsSpaced (self.new.size / 2) self.new.nodes }
         ensures next { OnOk result (self.new.next ≡ self.old.next + length (insertion_events K.cmp V.eq self.old key value)) }
         ensures pair_next { OnOk result (self.new.pair_next ≡ pair_next_after K.cmp V.eq self.old key value) }
         ensures fits { OnOk result (self.old.next + length (insertion_events K.cmp V.eq self.old key value) ≤ u64.MAX) }
         ensures number_left { OnOk result (lacks_number K.cmp V.eq self.old key value ≡ false) }
-        ensures refusal { IfErr result (λ e. e.cause ≡ insertion_refusal K.cmp V.eq self.old key value) }
-        ensures given_back { IfErr result (λ e. e.value ≡ (key, value)) }
-        ensures unchanged { OnErr result (self.new ≡ self.old) }
+        ensures replay { OnOk result (replay (by_number K.cmp) self.old.nodes (numbered_from self.old.next (insertion_events K.cmp V.eq self.old key value)) ≡ Some self.new.nodes) }
+        ensures few { length (insertion_events K.cmp V.eq self.old key value) ≤ 3 }
+        ensures spaced { IsSpaced (self.old.size / 2) self.old.nodes → IsSpaced (self.new.size / 2) self.new.nodes }
     {
+        // The contract of `node_count` says that the pairs ascend, with numbers below the next.
+        let _nodes = self.node_count();
         let (pair, pair_next) = self.pair_for(key, value)?;
         let old = self.set.put(pair)?;
         self.pair_next = pair_next;
-        Ok(old.map(|pair| pair.value))
+        Ok(value_in(old))
     }
 
     // Returns the pair that an insertion puts, and the number of the next new pair after it.
     fn pair_for(&self, key: K, value: V) -> Result<(MultiPair<K, V>, u64), Refused<(K, V)>>
         ensures pair { IfOk result (λ r. r.0 ≡ inserted_pair K.cmp V.eq self.now key value) }
         ensures pair_next { IfOk result (λ r. r.1 ≡ pair_next_after K.cmp V.eq self.now key value) }
-        ensures numbers { IfOk result (λ r. AreNumberedBelow r.1 (put (by_number K.cmp) (joined self.now.nodes) r.0)) }
-        ensures lawful { IsLawful (by_number K.cmp) self.now.size self.now.nodes }
-        ensures below { AreNumberedBelow self.now.pair_next (joined self.now.nodes) }
-        ensures replaced { IfOk result (λ r. equal_element (by_number K.cmp) (joined self.now.nodes) r.0 ≡ equal_pair K.cmp V.eq (joined self.now.nodes) key value) }
         ensures number_left { OnOk result (lacks_number K.cmp V.eq self.now key value ≡ false) }
         ensures refusal { OnErr result (lacks_number K.cmp V.eq self.now key value ≡ true) }
         ensures cause { IfErr result (λ e. e.cause ≡ Refusal.Numbers) }
         ensures given_back { IfErr result (λ e. e.value ≡ (key, value)) }
     {
-        // The contract of `node_count` says that the pairs ascend.
-        let _nodes = self.set.node_count();
         let number = self.pair_next;
         if let Some(kept) = self.kept_number(&key, &value) {
             return Ok((MultiPair::new(key, value, kept), number));

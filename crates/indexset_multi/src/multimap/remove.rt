@@ -11,7 +11,7 @@ ghost use Rattle.indexset_log.specs.Replay.{replay, numbered_from, IsNumberedFro
 ghost use Rattle.indexset_log.specs.Tree.{refusal_for};
 ghost use Rattle.indexset_multi.specs.Keys.{equal_pair, first_pair, key_and_value, pairs_of, without_first, without_named};
 ghost use Rattle.indexset_multi.specs.Places.{IsItemPlace, placed_item};
-ghost use Rattle.indexset_multi.specs.Tree.{pair_removal_events};
+ghost use Rattle.indexset_multi.specs.Tree.{after_removal, pair_removal_events};
 
 use super::BTreeMultiMap;
 use indexset_core::multipair::MultiPair;
@@ -32,24 +32,26 @@ impl<K: Ord + Clone + Drop, V: Eq + Clone + Drop, Node: NodeLike<MultiPair<K, V>
         &mut self,
         key: &K,
     ) -> Result<(Option<(K, V)>, Vec<ChangeEvent<MultiPair<K, V>>>), Refusal>
+        ensures tree { OnOk result (self.new ≡ after_removal K.cmp self.old (first_pair K.cmp (joined self.old.nodes) key.now)) }
         ensures answer { IfOk result (λ r. r.0 ≡ option_map key_and_value (first_pair K.cmp (joined self.old.nodes) key.now)) }
+        ensures clones { IfOk result (λ r. AllZip (IsEventClone (λ p q. K.is_clone p.key q.key × (V.is_clone p.value q.value × (q.discriminator ≡ p.discriminator)))) (numbered_from self.old.next (pair_removal_events K.cmp self.old.size self.old.nodes (first_pair K.cmp (joined self.old.nodes) key.now))) r.1.items) }
+        ensures refusal { IfErr result (λ e. e ≡ refusal_for self.old.next (length (pair_removal_events K.cmp self.old.size self.old.nodes (first_pair K.cmp (joined self.old.nodes) key.now)))) }
+        ensures no_event { pair_removal_events K.cmp self.old.size self.old.nodes (first_pair K.cmp (joined self.old.nodes) key.now) ≡ [] → IsOk result }
+        ensures unchanged { OnErr result (self.new ≡ self.old) }
+        // What callers prove by.
         ensures contents { OnOk result (joined self.new.nodes ≡ without_named K.cmp (joined self.old.nodes) (first_pair K.cmp (joined self.old.nodes) key.now)) }
         ensures gone { OnOk result (pairs_of K.cmp (joined self.new.nodes) key.now ≡ drop 1 (pairs_of K.cmp (joined self.old.nodes) key.now)) }
         ensures others { OnOk result ((other : K) → is_eq (K.cmp other key.now) ≡ false → pairs_of K.cmp (joined self.new.nodes) other ≡ pairs_of K.cmp (joined self.old.nodes) other) }
-        ensures clones { IfOk result (λ r. AllZip (IsEventClone (λ p q. K.is_clone p.key q.key × (V.is_clone p.value q.value × (q.discriminator ≡ p.discriminator)))) (numbered_from self.old.next (pair_removal_events K.cmp self.old.size self.old.nodes (first_pair K.cmp (joined self.old.nodes) key.now))) r.1.items) }
+        ensures size { self.new.size ≡ self.old.size }
+        ensures next { OnOk result (self.new.next ≡ self.old.next + length (pair_removal_events K.cmp self.old.size self.old.nodes (first_pair K.cmp (joined self.old.nodes) key.now))) }
+        ensures pair_next { self.new.pair_next ≡ self.old.pair_next }
+        ensures fits { OnOk result (self.old.next + length (pair_removal_events K.cmp self.old.size self.old.nodes (first_pair K.cmp (joined self.old.nodes) key.now)) ≤ u64.MAX) }
         ensures events { ((x y : K) → K.is_clone x y → y ≡ x) → ((x y : V) → V.is_clone x y → y ≡ x) → IfOk result (λ r. r.1.items ≡ numbered_from self.old.next (pair_removal_events K.cmp self.old.size self.old.nodes (first_pair K.cmp (joined self.old.nodes) key.now))) }
         ensures numbered { IfOk result (λ r. IsNumberedFrom self.old.next r.1.items) }
         ensures replay { ((x y : K) → K.is_clone x y → y ≡ x) → ((x y : V) → V.is_clone x y → y ≡ x) → IfOk result (λ r. replay (by_number K.cmp) self.old.nodes r.1.items ≡ Some self.new.nodes) }
         ensures table { OnOk result (replay (by_number K.cmp) self.old.nodes (numbered_from self.old.next (pair_removal_events K.cmp self.old.size self.old.nodes (first_pair K.cmp (joined self.old.nodes) key.now))) ≡ Some self.new.nodes) }
         ensures few { IfOk result (λ r. length r.1.items ≤ 3) }
-        ensures size { self.new.size ≡ self.old.size }
         ensures spaced { IsSpaced (self.old.size / 2) self.old.nodes → IsSpaced (self.new.size / 2) self.new.nodes }
-        ensures next { OnOk result (self.new.next ≡ self.old.next + length (pair_removal_events K.cmp self.old.size self.old.nodes (first_pair K.cmp (joined self.old.nodes) key.now))) }
-        ensures pair_next { self.new.pair_next ≡ self.old.pair_next }
-        ensures fits { OnOk result (self.old.next + length (pair_removal_events K.cmp self.old.size self.old.nodes (first_pair K.cmp (joined self.old.nodes) key.now)) ≤ u64.MAX) }
-        ensures refusal { IfErr result (λ e. e ≡ refusal_for self.old.next (length (pair_removal_events K.cmp self.old.size self.old.nodes (first_pair K.cmp (joined self.old.nodes) key.now)))) }
-        ensures no_event { pair_removal_events K.cmp self.old.size self.old.nodes (first_pair K.cmp (joined self.old.nodes) key.now) ≡ [] → IsOk result }
-        ensures unchanged { OnErr result (self.new ≡ self.old) }
     {
         let place = self.first_place(key);
         self.take_cdc(place)
@@ -60,22 +62,24 @@ impl<K: Ord + Clone + Drop, V: Eq + Clone + Drop, Node: NodeLike<MultiPair<K, V>
     /// two nodes of a type that allocates, and else does not fail with `Memory`. A failed call changes
     /// nothing.
     pub fn remove_some(&mut self, key: &K) -> Result<Option<(K, V)>, Refusal>
+        ensures tree { OnOk result (self.new ≡ after_removal K.cmp self.old (first_pair K.cmp (joined self.old.nodes) key.now)) }
         ensures answer { IfOk result (λ entry. entry ≡ option_map key_and_value (first_pair K.cmp (joined self.old.nodes) key.now)) }
+        ensures refusal { IfErr result (λ e. e ≡ refusal_for self.old.next (length (pair_removal_events K.cmp self.old.size self.old.nodes (first_pair K.cmp (joined self.old.nodes) key.now)))) }
+        ensures no_event { pair_removal_events K.cmp self.old.size self.old.nodes (first_pair K.cmp (joined self.old.nodes) key.now) ≡ [] → IsOk result }
+        ensures unchanged { OnErr result (self.new ≡ self.old) }
+        // What callers prove by.
         ensures contents { OnOk result (joined self.new.nodes ≡ without_named K.cmp (joined self.old.nodes) (first_pair K.cmp (joined self.old.nodes) key.now)) }
         ensures gone { OnOk result (pairs_of K.cmp (joined self.new.nodes) key.now ≡ drop 1 (pairs_of K.cmp (joined self.old.nodes) key.now)) }
         ensures others { OnOk result ((other : K) → is_eq (K.cmp other key.now) ≡ false → pairs_of K.cmp (joined self.new.nodes) other ≡ pairs_of K.cmp (joined self.old.nodes) other) }
-        ensures replay { OnOk result (replay (by_number K.cmp) self.old.nodes (numbered_from self.old.next (pair_removal_events K.cmp self.old.size self.old.nodes (first_pair K.cmp (joined self.old.nodes) key.now))) ≡ Some self.new.nodes) }
-        ensures few { length (pair_removal_events K.cmp self.old.size self.old.nodes (first_pair K.cmp (joined self.old.nodes) key.now)) ≤ 3 }
         ensures size { self.new.size ≡ self.old.size }
-        ensures spaced { IsSpaced (self.old.size / 2) self.old.nodes → IsSpaced (self.new.size / 2) self.new.nodes }
         ensures next { OnOk result (self.new.next ≡ self.old.next + length (pair_removal_events K.cmp self.old.size self.old.nodes (first_pair K.cmp (joined self.old.nodes) key.now))) }
         ensures pair_next { self.new.pair_next ≡ self.old.pair_next }
         ensures fits { OnOk result (self.old.next + length (pair_removal_events K.cmp self.old.size self.old.nodes (first_pair K.cmp (joined self.old.nodes) key.now)) ≤ u64.MAX) }
-        ensures refusal { IfErr result (λ e. e ≡ refusal_for self.old.next (length (pair_removal_events K.cmp self.old.size self.old.nodes (first_pair K.cmp (joined self.old.nodes) key.now)))) }
-        ensures no_event { pair_removal_events K.cmp self.old.size self.old.nodes (first_pair K.cmp (joined self.old.nodes) key.now) ≡ [] → IsOk result }
         ensures no_memory { length (pair_removal_events K.cmp self.old.size self.old.nodes (first_pair K.cmp (joined self.old.nodes) key.now)) ≤ 1 → self.old.next + length (pair_removal_events K.cmp self.old.size self.old.nodes (first_pair K.cmp (joined self.old.nodes) key.now)) ≤ u64.MAX → IsOk result }
         ensures never { Node.allocates ≡ false → self.old.next + length (pair_removal_events K.cmp self.old.size self.old.nodes (first_pair K.cmp (joined self.old.nodes) key.now)) ≤ u64.MAX → IsOk result }
-        ensures unchanged { OnErr result (self.new ≡ self.old) }
+        ensures replay { OnOk result (replay (by_number K.cmp) self.old.nodes (numbered_from self.old.next (pair_removal_events K.cmp self.old.size self.old.nodes (first_pair K.cmp (joined self.old.nodes) key.now))) ≡ Some self.new.nodes) }
+        ensures few { length (pair_removal_events K.cmp self.old.size self.old.nodes (first_pair K.cmp (joined self.old.nodes) key.now)) ≤ 3 }
+        ensures spaced { IsSpaced (self.old.size / 2) self.old.nodes → IsSpaced (self.new.size / 2) self.new.nodes }
     {
         let place = self.first_place(key);
         self.take(place)
@@ -90,24 +94,26 @@ impl<K: Ord + Clone + Drop, V: Eq + Clone + Drop, Node: NodeLike<MultiPair<K, V>
         key: &K,
         value: &V,
     ) -> Result<(Option<(K, V)>, Vec<ChangeEvent<MultiPair<K, V>>>), Refusal>
+        ensures tree { OnOk result (self.new ≡ after_removal K.cmp self.old (equal_pair K.cmp V.eq (joined self.old.nodes) key.now value.now)) }
         ensures answer { IfOk result (λ r. r.0 ≡ option_map key_and_value (equal_pair K.cmp V.eq (joined self.old.nodes) key.now value.now)) }
+        ensures clones { IfOk result (λ r. AllZip (IsEventClone (λ p q. K.is_clone p.key q.key × (V.is_clone p.value q.value × (q.discriminator ≡ p.discriminator)))) (numbered_from self.old.next (pair_removal_events K.cmp self.old.size self.old.nodes (equal_pair K.cmp V.eq (joined self.old.nodes) key.now value.now))) r.1.items) }
+        ensures refusal { IfErr result (λ e. e ≡ refusal_for self.old.next (length (pair_removal_events K.cmp self.old.size self.old.nodes (equal_pair K.cmp V.eq (joined self.old.nodes) key.now value.now)))) }
+        ensures no_event { pair_removal_events K.cmp self.old.size self.old.nodes (equal_pair K.cmp V.eq (joined self.old.nodes) key.now value.now) ≡ [] → IsOk result }
+        ensures unchanged { OnErr result (self.new ≡ self.old) }
+        // What callers prove by.
         ensures contents { OnOk result (joined self.new.nodes ≡ without_named K.cmp (joined self.old.nodes) (equal_pair K.cmp V.eq (joined self.old.nodes) key.now value.now)) }
         ensures gone { OnOk result (pairs_of K.cmp (joined self.new.nodes) key.now ≡ without_first (λ p. V.eq p.value value.now) (pairs_of K.cmp (joined self.old.nodes) key.now)) }
         ensures others { OnOk result ((other : K) → is_eq (K.cmp other key.now) ≡ false → pairs_of K.cmp (joined self.new.nodes) other ≡ pairs_of K.cmp (joined self.old.nodes) other) }
-        ensures clones { IfOk result (λ r. AllZip (IsEventClone (λ p q. K.is_clone p.key q.key × (V.is_clone p.value q.value × (q.discriminator ≡ p.discriminator)))) (numbered_from self.old.next (pair_removal_events K.cmp self.old.size self.old.nodes (equal_pair K.cmp V.eq (joined self.old.nodes) key.now value.now))) r.1.items) }
+        ensures size { self.new.size ≡ self.old.size }
+        ensures next { OnOk result (self.new.next ≡ self.old.next + length (pair_removal_events K.cmp self.old.size self.old.nodes (equal_pair K.cmp V.eq (joined self.old.nodes) key.now value.now))) }
+        ensures pair_next { self.new.pair_next ≡ self.old.pair_next }
+        ensures fits { OnOk result (self.old.next + length (pair_removal_events K.cmp self.old.size self.old.nodes (equal_pair K.cmp V.eq (joined self.old.nodes) key.now value.now)) ≤ u64.MAX) }
         ensures events { ((x y : K) → K.is_clone x y → y ≡ x) → ((x y : V) → V.is_clone x y → y ≡ x) → IfOk result (λ r. r.1.items ≡ numbered_from self.old.next (pair_removal_events K.cmp self.old.size self.old.nodes (equal_pair K.cmp V.eq (joined self.old.nodes) key.now value.now))) }
         ensures numbered { IfOk result (λ r. IsNumberedFrom self.old.next r.1.items) }
         ensures replay { ((x y : K) → K.is_clone x y → y ≡ x) → ((x y : V) → V.is_clone x y → y ≡ x) → IfOk result (λ r. replay (by_number K.cmp) self.old.nodes r.1.items ≡ Some self.new.nodes) }
         ensures table { OnOk result (replay (by_number K.cmp) self.old.nodes (numbered_from self.old.next (pair_removal_events K.cmp self.old.size self.old.nodes (equal_pair K.cmp V.eq (joined self.old.nodes) key.now value.now))) ≡ Some self.new.nodes) }
         ensures few { IfOk result (λ r. length r.1.items ≤ 3) }
-        ensures size { self.new.size ≡ self.old.size }
         ensures spaced { IsSpaced (self.old.size / 2) self.old.nodes → IsSpaced (self.new.size / 2) self.new.nodes }
-        ensures next { OnOk result (self.new.next ≡ self.old.next + length (pair_removal_events K.cmp self.old.size self.old.nodes (equal_pair K.cmp V.eq (joined self.old.nodes) key.now value.now))) }
-        ensures pair_next { self.new.pair_next ≡ self.old.pair_next }
-        ensures fits { OnOk result (self.old.next + length (pair_removal_events K.cmp self.old.size self.old.nodes (equal_pair K.cmp V.eq (joined self.old.nodes) key.now value.now)) ≤ u64.MAX) }
-        ensures refusal { IfErr result (λ e. e ≡ refusal_for self.old.next (length (pair_removal_events K.cmp self.old.size self.old.nodes (equal_pair K.cmp V.eq (joined self.old.nodes) key.now value.now)))) }
-        ensures no_event { pair_removal_events K.cmp self.old.size self.old.nodes (equal_pair K.cmp V.eq (joined self.old.nodes) key.now value.now) ≡ [] → IsOk result }
-        ensures unchanged { OnErr result (self.new ≡ self.old) }
     {
         let place = self.equal_place(key, value);
         self.take_cdc(place)
@@ -125,22 +131,24 @@ impl<K: Ord + Clone + Drop, V: Eq + Clone + Drop, Node: NodeLike<MultiPair<K, V>
     /// assert!(rt; removed == Some((1, 100)) && !tags.contains_key(&1));
     /// ```
     pub fn remove(&mut self, key: &K, value: &V) -> Result<Option<(K, V)>, Refusal>
+        ensures tree { OnOk result (self.new ≡ after_removal K.cmp self.old (equal_pair K.cmp V.eq (joined self.old.nodes) key.now value.now)) }
         ensures answer { IfOk result (λ entry. entry ≡ option_map key_and_value (equal_pair K.cmp V.eq (joined self.old.nodes) key.now value.now)) }
+        ensures refusal { IfErr result (λ e. e ≡ refusal_for self.old.next (length (pair_removal_events K.cmp self.old.size self.old.nodes (equal_pair K.cmp V.eq (joined self.old.nodes) key.now value.now)))) }
+        ensures no_event { pair_removal_events K.cmp self.old.size self.old.nodes (equal_pair K.cmp V.eq (joined self.old.nodes) key.now value.now) ≡ [] → IsOk result }
+        ensures unchanged { OnErr result (self.new ≡ self.old) }
+        // What callers prove by.
         ensures contents { OnOk result (joined self.new.nodes ≡ without_named K.cmp (joined self.old.nodes) (equal_pair K.cmp V.eq (joined self.old.nodes) key.now value.now)) }
         ensures gone { OnOk result (pairs_of K.cmp (joined self.new.nodes) key.now ≡ without_first (λ p. V.eq p.value value.now) (pairs_of K.cmp (joined self.old.nodes) key.now)) }
         ensures others { OnOk result ((other : K) → is_eq (K.cmp other key.now) ≡ false → pairs_of K.cmp (joined self.new.nodes) other ≡ pairs_of K.cmp (joined self.old.nodes) other) }
-        ensures replay { OnOk result (replay (by_number K.cmp) self.old.nodes (numbered_from self.old.next (pair_removal_events K.cmp self.old.size self.old.nodes (equal_pair K.cmp V.eq (joined self.old.nodes) key.now value.now))) ≡ Some self.new.nodes) }
-        ensures few { length (pair_removal_events K.cmp self.old.size self.old.nodes (equal_pair K.cmp V.eq (joined self.old.nodes) key.now value.now)) ≤ 3 }
         ensures size { self.new.size ≡ self.old.size }
-        ensures spaced { IsSpaced (self.old.size / 2) self.old.nodes → IsSpaced (self.new.size / 2) self.new.nodes }
         ensures next { OnOk result (self.new.next ≡ self.old.next + length (pair_removal_events K.cmp self.old.size self.old.nodes (equal_pair K.cmp V.eq (joined self.old.nodes) key.now value.now))) }
         ensures pair_next { self.new.pair_next ≡ self.old.pair_next }
         ensures fits { OnOk result (self.old.next + length (pair_removal_events K.cmp self.old.size self.old.nodes (equal_pair K.cmp V.eq (joined self.old.nodes) key.now value.now)) ≤ u64.MAX) }
-        ensures refusal { IfErr result (λ e. e ≡ refusal_for self.old.next (length (pair_removal_events K.cmp self.old.size self.old.nodes (equal_pair K.cmp V.eq (joined self.old.nodes) key.now value.now)))) }
-        ensures no_event { pair_removal_events K.cmp self.old.size self.old.nodes (equal_pair K.cmp V.eq (joined self.old.nodes) key.now value.now) ≡ [] → IsOk result }
         ensures no_memory { length (pair_removal_events K.cmp self.old.size self.old.nodes (equal_pair K.cmp V.eq (joined self.old.nodes) key.now value.now)) ≤ 1 → self.old.next + length (pair_removal_events K.cmp self.old.size self.old.nodes (equal_pair K.cmp V.eq (joined self.old.nodes) key.now value.now)) ≤ u64.MAX → IsOk result }
         ensures never { Node.allocates ≡ false → self.old.next + length (pair_removal_events K.cmp self.old.size self.old.nodes (equal_pair K.cmp V.eq (joined self.old.nodes) key.now value.now)) ≤ u64.MAX → IsOk result }
-        ensures unchanged { OnErr result (self.new ≡ self.old) }
+        ensures replay { OnOk result (replay (by_number K.cmp) self.old.nodes (numbered_from self.old.next (pair_removal_events K.cmp self.old.size self.old.nodes (equal_pair K.cmp V.eq (joined self.old.nodes) key.now value.now))) ≡ Some self.new.nodes) }
+        ensures few { length (pair_removal_events K.cmp self.old.size self.old.nodes (equal_pair K.cmp V.eq (joined self.old.nodes) key.now value.now)) ≤ 3 }
+        ensures spaced { IsSpaced (self.old.size / 2) self.old.nodes → IsSpaced (self.new.size / 2) self.new.nodes }
     {
         let place = self.equal_place(key, value);
         self.take(place)
@@ -170,6 +178,7 @@ impl<K: Ord + Clone + Drop, V: Eq + Clone + Drop, Node: NodeLike<MultiPair<K, V>
         place: Option<(usize, usize)>,
     ) -> Result<(Option<(K, V)>, Vec<ChangeEvent<MultiPair<K, V>>>), Refusal>
         requires place { IsItemPlace self.old.nodes place }
+        ensures tree { OnOk result (self.new ≡ after_removal K.cmp self.old (placed_item self.old.nodes place)) }
         ensures answer { IfOk result (λ r. r.0 ≡ option_map key_and_value (placed_item self.old.nodes place)) }
         ensures contents { OnOk result (joined self.new.nodes ≡ without_named K.cmp (joined self.old.nodes) (placed_item self.old.nodes place)) }
         ensures lawful { IsLawful (by_number K.cmp) self.old.size self.old.nodes }
@@ -204,11 +213,11 @@ impl<K: Ord + Clone + Drop, V: Eq + Clone + Drop, Node: NodeLike<MultiPair<K, V>
     // Removes the pair at a place, where one is given.
     fn take(&mut self, place: Option<(usize, usize)>) -> Result<Option<(K, V)>, Refusal>
         requires { IsItemPlace self.old.nodes place }
+        ensures tree { OnOk result (self.new ≡ after_removal K.cmp self.old (placed_item self.old.nodes place)) }
         ensures answer { IfOk result (λ entry. entry ≡ option_map key_and_value (placed_item self.old.nodes place)) }
         ensures contents { OnOk result (joined self.new.nodes ≡ without_named K.cmp (joined self.old.nodes) (placed_item self.old.nodes place)) }
         ensures lawful { IsLawful (by_number K.cmp) self.old.size self.old.nodes }
         ensures replay { OnOk result (replay (by_number K.cmp) self.old.nodes (numbered_from self.old.next (pair_removal_events K.cmp self.old.size self.old.nodes (placed_item self.old.nodes place))) ≡ Some self.new.nodes) }
-        ensures few { length (pair_removal_events K.cmp self.old.size self.old.nodes (placed_item self.old.nodes place)) ≤ 3 }
         ensures size { self.new.size ≡ self.old.size }
         ensures spaced { IsSpaced (self.old.size / 2) self.old.nodes → IsSpaced (self.new.size / 2) self.new.nodes }
         ensures next { OnOk result (self.new.next ≡ self.old.next + length (pair_removal_events K.cmp self.old.size self.old.nodes (placed_item self.old.nodes place))) }

@@ -1,8 +1,11 @@
-use Rattle.std.proofs.Common.{◌≡◌, ap, arith}
+use Rattle.std.proofs.Common.{◌≡◌, ◌/◌, ◌∙◌, ap, subst, arith}
+use Rattle.std.specs.Option.{option_map}
 use Rattle.std.proofs.lemmas.Grind.{common_steps}
 use Rattle.indexset_core.specs.MultiPairs.{by_number}
+use Rattle.indexset_log.specs.Joining.{IsSpaced}
 use Rattle.indexset_log.proofs.CallerLemmas.{three_at_most}
 use Rattle.indexset_multi.specs.Tree.{inserted_pair}
+use Rattle.indexset_multi.proofs.Inserts.{insertion_tree, numbered_after, replaced_pair}
 use Rattle.indexset_multi.proofs.Lists.{inserted}
 use Rattle.indexset_multi.proofs.multimap.BTreeMultiMap.insert.Goals as goal
 
@@ -13,28 +16,53 @@ returns-in_err-pair-clause-few g c =
 
 pub returns-in_err-old-clause-refusal : goal.returns-in_err-old-clause-refusal
 returns-in_err-old-clause-refusal g c =
-    let set = c.self.inside.set in
     let m = c.args.self.now in
-    let same : set.nodes ≡ m.nodes = ap (λ t. t.nodes) c.self.view_is in
-    let size : set.size ≡ m.size = ap (λ t. t.size) c.self.view_is in
-    let next : set.next ≡ m.next = ap (λ t. t.next) c.self.view_is in
+    let same : c.self.inside.set.nodes ≡ m.nodes = ap (λ t. t.nodes) c.self.view_is in
+    let size : c.self.inside.set.size ≡ m.size = ap (λ t. t.size) c.self.view_is in
+    let next : c.self.inside.set.next ≡ m.next = ap (λ t. t.next) c.self.view_is in
     let cause = rw (c.in_ok-pair.ensures.pair, same, size, next) at c.in_err-old.ensures.refusal in
     rw (c.in_ok-pair.ensures.number_left, ← cause) (grind (arith, common_steps))
 
-pub returns-clause-there : goal.returns-clause-there
-returns-clause-there g c =
-    let done = c.in_ok-pair.ensures in
-    let d = inserted g.K.Ord.cmp g.met.K.Ord.total g.V.PartialEq.eq c.args.self.now c.args.key c.args.value g.met.V.Eq.laws.refl done.lawful done.below (ap (λ m. m.nodes) c.self.view_is) done.pair c.in_ok-old.ensures.contents in
-    d.there
+pub invariant_of-self-2 : goal.invariant_of-self-2
+invariant_of-self-2 g c =
+    let m = c.args.self.now in
+    let same : c.self.inside.set.nodes ≡ m.nodes = ap (λ t. t.nodes) c.self.view_is in
+    let made = rw (c.in_ok-pair.ensures.pair, same) at c.in_ok-old.ensures.contents in
+    rw (made, c.in_ok-pair.ensures.pair_next) (numbered_after g.K.Ord.cmp g.V.PartialEq.eq m c.args.key c.args.value c.node_count-nodes.ensures.numbers)
 
-pub returns-clause-last : goal.returns-clause-last
-returns-clause-last g c =
-    let done = c.in_ok-pair.ensures in
-    let d = inserted g.K.Ord.cmp g.met.K.Ord.total g.V.PartialEq.eq c.args.self.now c.args.key c.args.value g.met.V.Eq.laws.refl done.lawful done.below (ap (λ m. m.nodes) c.self.view_is) done.pair c.in_ok-old.ensures.contents in
-    d.last
-
-pub returns-clause-others : goal.returns-clause-others
-returns-clause-others g c =
-    let done = c.in_ok-pair.ensures in
-    let d = inserted g.K.Ord.cmp g.met.K.Ord.total g.V.PartialEq.eq c.args.self.now c.args.key c.args.value g.met.V.Eq.laws.refl done.lawful done.below (ap (λ m. m.nodes) c.self.view_is) done.pair c.in_ok-old.ensures.contents in
-    d.others
+pub returns : goal.returns
+returns g c =
+    let cmp = g.K.Ord.cmp in
+    let eq = g.V.PartialEq.eq in
+    let m = c.args.self.now in
+    let k = c.args.key in
+    let w = c.args.value in
+    let same : c.self.inside.set.nodes ≡ m.nodes = ap (λ t. t.nodes) c.self.view_is in
+    let size : c.self.inside.set.size ≡ m.size = ap (λ t. t.size) c.self.view_is in
+    let next : c.self.inside.set.next ≡ m.next = ap (λ t. t.next) c.self.view_is in
+    let pair = c.in_ok-pair.ensures.pair in
+    let now = c.node_count-nodes.ensures in
+    let done = c.in_ok-old.ensures in
+    let after = c.put.new.self in
+    let answer = rw (pair, same) at done.answer in
+    let d = inserted cmp g.met.K.Ord.total eq m k w g.met.V.Eq.laws.refl now.lawful now.numbers same pair done.contents in
+    record {
+      tree = insertion_tree cmp eq m k w c.self.view_is pair done.nodes done.size done.next c.in_ok-pair.ensures.pair_next;
+      answer = c.value_in.ensures ∙ ap (λ o. option_map (λ p. p.value) o) (answer ∙ replaced_pair cmp eq m k w g.met.K.Ord.total now.lawful now.numbers);
+      refusal = tt;
+      given_back = tt;
+      unchanged = tt;
+      contents = rw (pair, same) at done.contents;
+      there = d.there;
+      last = d.last;
+      others = d.others;
+      nodes = rw (pair, same, size) at done.nodes;
+      size = done.size ∙ size;
+      next = rw (pair, same, size, next) at done.next;
+      pair_next = c.in_ok-pair.ensures.pair_next;
+      fits = rw (pair, same, size, next) at done.fits;
+      number_left = c.in_ok-pair.ensures.number_left;
+      replay = rw (pair, same, size, next) at done.replay;
+      few = rw (pair, same, size) at done.few;
+      spaced = subst (λ t. IsSpaced (t.size / 2) t.nodes → IsSpaced (after.size / 2) after.nodes) c.self.view_is done.spaced;
+    }

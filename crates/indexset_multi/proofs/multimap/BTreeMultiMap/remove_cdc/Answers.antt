@@ -24,3 +24,6 @@ returns-clause-clones g c = rw (← c.equal_place-place.ensures.pair) c.take_cdc
 
 pub returns-clause-refusal : goal.returns-clause-refusal
 returns-clause-refusal g c = rw (← c.equal_place-place.ensures.pair) c.take_cdc.ensures.refusal
+
+pub returns-clause-tree : goal.returns-clause-tree
+returns-clause-tree g c = rw (← c.equal_place-place.ensures.pair) c.take_cdc.ensures.tree
