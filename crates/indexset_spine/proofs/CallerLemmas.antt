@@ -5,4 +5,5 @@ pub use Rattle.indexset_spine.proofs.CutEdits.{node_filled}
 pub use Rattle.indexset_spine.proofs.CutLemmas.{joined-set}
 pub use Rattle.indexset_spine.proofs.EndLemmas.{end_node, end_offset}
 pub use Rattle.indexset_spine.proofs.NodeLengthLemmas.{node_lengths-inserted, node_lengths-set_joined, node_lengths-without}
+pub use Rattle.indexset_spine.proofs.PlaceLemmas.{item_place, item_spot, lengths_placed, lengths_taken_out, place_position, place_spot}
 pub use Rattle.indexset_spine.proofs.TakenLemmas.{takes_all, takes_first, takes_more, takes_none, takes_rest}
