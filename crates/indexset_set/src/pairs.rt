@@ -77,8 +77,8 @@ impl<K: Ord, V> BTreeSet<Pair<K, V>> {
         (&pair.key, &mut pair.value)
     }
 
-    // Returns a mutable reference to the value at a spot.
-    fn value_in(&mut self, spot: Spot) -> &mut V
+    /// Returns a mutable reference to the value at a spot.
+    pub fn value_in(&mut self, spot: Spot) -> &mut V
         requires { IsItemSpot self.old.nodes spot }
         ensures* writes_back { sem 𝓛 (lends_value K.row V.row K.Ord self.entry (position_of self.old.nodes spot) result) }
         ensures value { option_map (λ p. p.value) (slice_get (items self.old) (position_of self.old.nodes spot)) ≡ Some result.now }

@@ -1,6 +1,6 @@
 -- Spots, said of nodes and of the nodes' lengths.
-use Rattle.std.proofs.Common.{◌≡◌, ◌+◌, ◌<◌, List, length, ap, sym, arith}
-use Rattle.indexset_core.specs.Nodes.{node_lengths}
+use Rattle.std.proofs.Common.{◌≡◌, ◌+◌, ◌<◌, ◌≤◌, List, length, ap, sym, arith}
+use Rattle.indexset_core.specs.Nodes.{node_at, node_lengths}
 use Rattle.indexset_spine.specs.declared.spot.Spot.{Spot}
 use Rattle.indexset_spine.specs.Cut.{IsItemSpot, IsSpot, position_of, with_inserted, without_item}
 use Rattle.indexset_spine.specs.Lengths.{IsItemPlace, IsPlace, lengths_with, lengths_without, place_of}
@@ -26,6 +26,11 @@ module _ {X : Type 0} (ns : List (List X)) (s : Spot) where
   place_spot h =
       let inside : s.node < length ns = omega (arith, h.node_in, count-lengths ns) in
       record { node_in = inside; offset_in = omega (arith, h.offset_in, length-at ns s.node inside) }
+
+  pub spot_place : IsSpot ns s → (length (node_at ns s.node) ≤ s.offset → length ns ≤ s.node + 1) → IsPlace (node_lengths ns) s
+  spot_place h last =
+      let count = count-lengths ns in let long = length-at ns s.node h.node_in in
+      record { node_in = omega (arith, h.node_in, count); offset_in = omega (arith, h.offset_in, long); last = λ a. omega (arith, last (omega (arith, a, long)), count) }
 
   -- the lengths, once an item was put in there, or taken out
   pub lengths_placed : (size : _) (v : X) → IsPlace (node_lengths ns) s → node_lengths (with_inserted size ns s v) ≡ lengths_with size (node_lengths ns) (place_of (node_lengths ns) s)
