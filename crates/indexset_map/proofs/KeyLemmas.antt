@@ -1,5 +1,5 @@
 -- What a search for a key says of the pairs of a map.
-use Rattle.std.proofs.Common.{◌≡◌, ℕ, ◌<◌, Bool, true, false, if◌then◌else◌, length, List, [], ◌∷◌, arith, Ordering, Some, slice_get, refl, ap, sym, ◌∙◌}
+use Rattle.std.proofs.Common.{◌≡◌, ℕ, ◌<◌, Bool, true, false, if◌then◌else◌, length, List, [], ◌∷◌, arith, Ordering, Some, slice_get, ap, sym, ◌∙◌}
 use Rattle.std.specs.Cmp.{IsTotalOrder, on_total}
 use Rattle.std.specs.List.{AllWithin, position, remove}
 use Rattle.std.specs.Option.{option_map}
@@ -7,15 +7,15 @@ use Rattle.std.specs.Ordering.{is_eq, is_lt}
 use Rattle.std.specs.declared.cmp.Ordering.TheVariants.{Less}
 use Rattle.indexset_core.specs.declared.pair.Pair.{Pair}
 use Rattle.indexset_core.specs.Nodes.{node_lengths}
-use Rattle.indexset_spine.specs.Cut.{Cut, IsCut, items, with_inserted}
-use Rattle.indexset_core.specs.Order.{IsAscending, has_equal, keep, put}
-use Rattle.indexset_core.specs.Pairs.{pair, by_key, has_key, key_rank, put_value, value_of, without_key}
+use Rattle.indexset_spine.specs.Cut.{Cut, items}
+use Rattle.indexset_core.specs.Order.{IsAscending, has_equal}
+use Rattle.indexset_core.specs.Pairs.{pair, by_key, has_key, key_rank, value_of, without_key}
 use Rattle.indexset_core.proofs.CallerLemmas.{Parts, count_parts, front-is_lt, less_from, pairs_total, rank-slice_get, slice_get-rank_equal, found_rank, found_without, parted_by_key, key_there, key_found, key_inside, key_written, absent_without, without-pair}
 use Rattle.indexset_map.specs.Contents.{Contents, contents, with_entry, with_written, without_at, without_entry}
 use Rattle.indexset_spine.specs.Lengths.{lengths_with, lengths_without}
-use Rattle.indexset_map.proofs.ContentsLemmas.{put_new, put_there}
+use Rattle.indexset_map.proofs.ContentsLemmas.{put_there}
 use Rattle.indexset_spine.proofs.CallerLemmas.{node_lengths-without}
-use Rattle.indexset_set.specs.SetNodes.{IsWithoutAt, nodes_kept, spot_of}
+use Rattle.indexset_set.specs.SetNodes.{IsWithoutAt}
 
 module _ {K V : Type 0} (cmp : K → K → Ordering) (l : List (Pair K V)) (k : K) where
   pub key_removed : IsTotalOrder cmp → IsAscending (by_key cmp) l → (i : ℕ) → position (λ p. is_eq (cmp p.key k)) l ≡ Some i → V → IsTotalOrder (by_key {V = V} cmp) → remove l i ≡ without_key cmp l k

@@ -1,4 +1,4 @@
-use Rattle.std.proofs.Common.{◌-◌, refl, ap, arith, length, slice_get}
+use Rattle.std.proofs.Common.{refl, ap, arith, slice_get}
 use Rattle.std.specs.Option.{option_map}
 use Rattle.indexset_core.specs.Pairs.{entry_of}
 use Rattle.indexset_map.specs.Contents.{with_written, without_at}
