@@ -1,9 +1,10 @@
 //! Calls by spots: they read and edit where a search has ended, with no second search.
-ghost use Rattle.std.specs.Prelude.{◌≡◌, ◌+◌, ◌-◌, ◌≤◌, IsTrue, Some, IfOk, OnOk, IfErr, OnErr, MatchOption, insert, length, remove, slice_get};
+ghost use Rattle.std.specs.Prelude.{◌≡◌, ◌+◌, ◌-◌, ◌<◌, ◌≤◌, IsTrue, Some, IfOk, OnOk, IfErr, OnErr, MatchOption, insert, length, remove, slice_get, sum, take};
 ghost use Rattle.indexset_core.specs.Digits.{digits};
 ghost use Rattle.indexset_core.specs.Nodes.{node_lengths};
 ghost use Rattle.indexset_core.specs.Order.{IsAscending, IsGapFor};
 ghost use Rattle.indexset_spine.specs.Cut.{items, IsCut, IsItemSpot, IsSpot, position_of, with_inserted, without_item};
+ghost use Rattle.indexset_spine.specs.Lengths.{node_of};
 ghost use Rattle.indexset_set.specs.SetProbes.{FindsInOrder, IsSought};
 
 use super::BTreeSet;
@@ -56,6 +57,18 @@ impl<T: Ord> BTreeSet<T> {
         ensures { MatchOption result (length (items self.now) ≡ 0) (λ s. IsItemSpot self.now.nodes s × (position_of self.now.nodes s ≡ length (items self.now) - 1) × IsTrue s.found) }
     {
         self.spine.last_spot()
+    }
+
+    /// Returns the spot of the element at a position. It asks the index only where the element is not
+    /// in the node `near`, before which `start` elements stand. (Not in the Rust crate.)
+    pub fn spot_near(&self, near: usize, start: usize, i: usize) -> Spot
+        requires near { start ≡ sum (take near (node_lengths self.now.nodes)) }
+        requires inside { i < length (items self.now) }
+        ensures spot { IsItemSpot self.now.nodes result }
+        ensures position { position_of self.now.nodes result ≡ i }
+        ensures node { result.node ≡ node_of (node_lengths self.now.nodes) i }
+    {
+        self.spine.spot_near(near, start, i)
     }
 
     /// Returns the element at a spot. (Not in the Rust crate.)

@@ -1,11 +1,25 @@
 -- Spots, said of nodes and of the nodes' lengths.
-use Rattle.std.proofs.Common.{◌≡◌, ◌+◌, ◌<◌, ◌≤◌, List, length, ap, sym, arith}
+use Rattle.std.proofs.Common.{◌≡◌, ℕ, zero, suc, ◌+◌, ◌-◌, ◌<◌, ◌≤◌, true, false, nat_lt, if◌then◌else◌, List, [], ◌∷◌, length, slice_index, sum, take, refl, ap, sym, arith}
+use Rattle.std.proofs.lemmas.Bool.Decides.{nat_tests}
+use Rattle.std.proofs.lemmas.List.Sums.{sum_by-cons}
 use Rattle.indexset_core.specs.Nodes.{node_at, node_lengths}
 use Rattle.indexset_spine.specs.declared.spot.Spot.{Spot}
 use Rattle.indexset_spine.specs.Cut.{IsItemSpot, IsSpot, position_of, with_inserted, without_item}
-use Rattle.indexset_spine.specs.Lengths.{IsItemPlace, IsPlace, lengths_with, lengths_without, place_of}
+use Rattle.indexset_spine.specs.Lengths.{IsItemPlace, IsPlace, lengths_with, lengths_without, node_of, place_of}
 use Rattle.indexset_spine.proofs.IndexLemmas.{count-lengths, length-at, prefix-joined}
 use Rattle.indexset_spine.proofs.NodeLengthLemmas.{node_lengths-inserted, node_lengths-without}
+
+-- the node that a position is in
+pub node_of_is : (ls : List ℕ) (k i : ℕ) → k < length ls → sum (take k ls) ≤ i → i < sum (take k ls) + slice_index ls k → node_of ls i ≡ k
+node_of_is [] k i lt low high = absurd (omega arith)
+node_of_is (n ∷ ls) zero i lt low high =
+    let t : nat_lt i n ≡ true = grind (arith, nat_tests) in
+    rw t refl
+node_of_is (n ∷ ls) (suc k) i lt low high =
+    let more : sum (n ∷ take k ls) ≡ n + sum (take k ls) = sum_by-cons (λ (x : ℕ). x) n (take k ls) in
+    let l : n ≤ i = omega (arith, more, low) in
+    let t : nat_lt i n ≡ false = grind (arith, nat_tests) in
+    rw t (ap suc (node_of_is ls k (i - n) (omega arith) (omega (arith, more)) (omega (arith, more))))
 
 module _ {X : Type 0} (ns : List (List X)) (s : Spot) where
   pub place_position : place_of (node_lengths ns) s ≡ position_of ns s
@@ -31,6 +45,11 @@ module _ {X : Type 0} (ns : List (List X)) (s : Spot) where
   spot_place h last =
       let count = count-lengths ns in let long = length-at ns s.node h.node_in in
       record { node_in = omega (arith, h.node_in, count); offset_in = omega (arith, h.offset_in, long); last = λ a. omega (arith, last (omega (arith, a, long)), count) }
+
+  pub item_node : (i : ℕ) → IsItemSpot ns s → position_of ns s ≡ i → s.node ≡ node_of (node_lengths ns) i
+  item_node i h at =
+      let place = item_place h in let is = place_position in let inside = place.offset_in in
+      sym (node_of_is (node_lengths ns) s.node i place.node_in (omega (arith, at, is)) (omega (arith, at, is, inside)))
 
   -- the lengths, once an item was put in there, or taken out
   pub lengths_placed : (size : _) (v : X) → IsPlace (node_lengths ns) s → node_lengths (with_inserted size ns s v) ≡ lengths_with size (node_lengths ns) (place_of (node_lengths ns) s)
