@@ -102,7 +102,7 @@ fn insert_first(
     let item = Owned::new(alloc, 9)?;
     let start = spine.start();
     Ok(match spine.insert(start, item) {
-        Ok(()) => answered(holds(&spine, after)),
+        Ok(_) => answered(holds(&spine, after)),
         Err(failed) => {
             let stays = failed.value.number() == 9 && holds(&spine, before);
             let start = spine.start();

@@ -1,5 +1,5 @@
 -- What a search for a key says of the pairs of a map.
-use Rattle.std.proofs.Common.{◌≡◌, ℕ, ◌<◌, Bool, true, false, if◌then◌else◌, length, List, [], ◌∷◌, arith, Ordering, Some, slice_get, refl, ap, sym, ◌∙◌}
+use Rattle.std.proofs.Common.{◌≡◌, ℕ, ◌<◌, Bool, true, false, if◌then◌else◌, length, List, [], ◌∷◌, arith, Ordering, Some, slice_get, ap, sym, ◌∙◌}
 use Rattle.std.specs.Cmp.{IsTotalOrder, on_total}
 use Rattle.std.specs.List.{AllWithin, position, remove}
 use Rattle.std.specs.Option.{option_map}
@@ -7,16 +7,15 @@ use Rattle.std.specs.Ordering.{is_eq, is_lt}
 use Rattle.std.specs.declared.cmp.Ordering.TheVariants.{Less}
 use Rattle.indexset_core.specs.declared.pair.Pair.{Pair}
 use Rattle.indexset_core.specs.Nodes.{node_lengths}
-use Rattle.indexset_spine.specs.Cut.{Cut, IsCut, items, with_inserted}
-use Rattle.indexset_core.specs.Order.{IsAscending, has_equal, keep, put}
-use Rattle.indexset_core.specs.Pairs.{pair, by_key, has_key, key_rank, put_value, value_of, without_key}
+use Rattle.indexset_spine.specs.Cut.{Cut, items}
+use Rattle.indexset_core.specs.Order.{IsAscending, has_equal}
+use Rattle.indexset_core.specs.Pairs.{pair, by_key, has_key, key_rank, value_of, without_key}
 use Rattle.indexset_core.proofs.CallerLemmas.{Parts, count_parts, front-is_lt, less_from, pairs_total, rank-slice_get, slice_get-rank_equal, found_rank, found_without, parted_by_key, key_there, key_found, key_inside, key_written, absent_without, without-pair}
 use Rattle.indexset_map.specs.Contents.{Contents, contents, with_entry, with_written, without_at, without_entry}
 use Rattle.indexset_spine.specs.Lengths.{lengths_with, lengths_without}
-use Rattle.indexset_map.proofs.ContentsLemmas.{put_new, put_there}
-use Rattle.indexset_map.proofs.LengthLemmas.{node_lengths-put}
+use Rattle.indexset_map.proofs.ContentsLemmas.{put_there}
 use Rattle.indexset_spine.proofs.CallerLemmas.{node_lengths-without}
-use Rattle.indexset_set.specs.SetNodes.{IsWithoutAt, nodes_kept, spot_of}
+use Rattle.indexset_set.specs.SetNodes.{IsWithoutAt}
 
 module _ {K V : Type 0} (cmp : K → K → Ordering) (l : List (Pair K V)) (k : K) where
   pub key_removed : IsTotalOrder cmp → IsAscending (by_key cmp) l → (i : ℕ) → position (λ p. is_eq (cmp p.key k)) l ≡ Some i → V → IsTotalOrder (by_key {V = V} cmp) → remove l i ≡ without_key cmp l k
@@ -43,28 +42,6 @@ module _ {K V : Type 0} (cmp : K → K → Ordering) (o : IsTotalOrder cmp) (l :
 get_or_inside : {X : Type 0} (l : List X) (i : ℕ) → i < length l → X
 get_or_inside [] i lt = absurd (omega arith)
 get_or_inside (x ∷ l) i lt = x
-
-module _ {K V : Type 0} (cmp : K → K → Ordering) where
-  keep_new : (l : List (Pair K V)) (p : Pair K V) → has_equal (by_key cmp) l p ≡ false → keep (by_key cmp) l p ≡ put (by_key cmp) l p
-  unfolding keep
-  keep_new l p h = rw h refl
-
-  nodes_new : (s : Cut (Pair K V)) (p : Pair K V) → has_equal (by_key cmp) (items s) p ≡ false → nodes_kept (by_key cmp) s p ≡ with_inserted s.size s.nodes (spot_of (by_key cmp) s.nodes p) p
-  unfolding nodes_kept
-  nodes_new s p h = ap (λ (b : Bool). if b then s.nodes else with_inserted s.size s.nodes (spot_of (by_key cmp) s.nodes p) p) h
-
-  -- what an insert into the set does to the map
-  pub contents_put : (s t : Cut (Pair K V)) (m : Contents K V) (k : K) (v : V) → contents s ≡ m → has_key cmp m.pairs k ≡ false
-      → items t ≡ keep (by_key cmp) (items s) (pair k v) → t.nodes ≡ nodes_kept (by_key cmp) s (pair k v) → t.size ≡ s.size
-      → IsTotalOrder (by_key {V = V} cmp) → IsAscending (by_key cmp) (items s) → IsCut (node_lengths s.nodes) s.size → contents t ≡ with_entry cmp m k v
-  contents_put s t m k v e h is nodes size total up cut =
-      let none : has_key cmp (items s) k ≡ false = ap (λ (n : Contents K V). has_key cmp n.pairs k) e ∙ h in
-      let new : items t ≡ put_value cmp (items s) k v = is ∙ (keep_new (items s) (pair k v) none ∙ sym (put_new cmp (items s) k none v)) in
-      let lengths : node_lengths t.nodes ≡ lengths_with s.size (node_lengths s.nodes) (key_rank cmp (items s) k)
-      = ap node_lengths nodes ∙ (ap node_lengths (nodes_new s (pair k v) none) ∙ node_lengths-put (by_key cmp) s.size s.nodes (pair k v) total up cut) in
-      let chosen = lengths ∙ sym (ap (λ (b : Bool). if b then node_lengths s.nodes else lengths_with s.size (node_lengths s.nodes) (key_rank cmp (items s) k)) none) in
-      let same : contents t ≡ with_entry cmp (contents s) k v = λ j. record { pairs = new j; lengths = chosen j; size = size j } in
-      same ∙ ap (λ (n : Contents K V). with_entry cmp n k v) e
 
 -- what is taken out of the set is taken out of the map
 pub contents_removed : {K V : Type 0} (s t : Cut (Pair K V)) (m : Contents K V) (i : ℕ) → contents s ≡ m → items t ≡ remove (items s) i

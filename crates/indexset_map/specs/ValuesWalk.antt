@@ -13,11 +13,11 @@ use Rattle.indexset_map.specs.contracts.values_mut.ValuesMut.{the_row}
 module _ {K V : Type 0} {g : ord.Ghosts K} {g' : eq.Ghosts K} {g'' : partial.Ghosts K} where
   -- the walk over the pairs at the same positions
   abbrev pub values_walk : ValuesMut K V g g' g'' → IterMut K V g g' g''
-  values_walk s = record { map = s.map; front = s.front; back = s.back; within = s.within }
+  values_walk s = record { map = s.map; front = s.front; back = s.back; node = s.node; start = s.start; within = s.within; start_is = s.start_is }
 
   -- the walk over the values at the same positions
   abbrev pub values_of : IterMut K V g g' g'' → ValuesMut K V g g' g''
-  values_of s = record { map = s.map; front = s.front; back = s.back; within = s.within }
+  values_of s = record { map = s.map; front = s.front; back = s.back; node = s.node; start = s.start; within = s.within; start_is = s.start_is }
 
 module _ (K V : RattleType) {g : ord.Ghosts K.Denot} {g' : eq.Ghosts K.Denot} {g'' : partial.Ghosts K.Denot} (s : MutBor (ValuesMut K.Denot V.Denot g g' g'')) where
   -- once the borrow r ends, the walk is past its first value, which is the last one written through r

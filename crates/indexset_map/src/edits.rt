@@ -13,8 +13,9 @@ use std::mem;
 
 impl<K: Ord + Drop, V: Drop> BTreeMap<K, V> {
     /// Inserts a pair and returns `None`. If the key is present, keeps the stored key, replaces its
-    /// value, allocates nothing and returns the old value. Fails with `Memory`: a failed call hands
-    /// back both and changes nothing.
+    /// value, allocates nothing and returns the old value. It costs two binary searches at most, one
+    /// comparison where the key is above all keys. Fails with `Memory`: a failed call hands back
+    /// both and changes nothing.
     ///
     /// ```
     /// let mut prices = BTreeMap::new(alloc)?;
@@ -31,13 +32,12 @@ impl<K: Ord + Drop, V: Drop> BTreeMap<K, V> {
         ensures given_back { IfErr result (λ e. (e.value ≡ (key, value)) × (e.cause ≡ Refusal.Memory)) }
         ensures unchanged { OnErr result (self.new ≡ self.old) }
     {
-        match self.locate(&key) {
-            Ok(i) => Ok(Some(mem::replace(self.value_at_mut(i), value))),
-            Err(_) => {
-                self.put(key, value)?;
-                Ok(None)
-            }
+        let spot = self.spot_from_end(&key);
+        if spot.found {
+            return Ok(Some(mem::replace(self.value_in(spot), value)));
         }
+        self.put_at(spot, key, value)?;
+        Ok(None)
     }
 
     /// Removes the pair of a key and returns it, or returns `None`, by two binary searches. It
@@ -49,9 +49,11 @@ impl<K: Ord + Drop, V: Drop> BTreeMap<K, V> {
         ensures no_value { value_of K.cmp self.new.pairs key.now ≡ None }
         ensures others { (other : K) → is_eq (K.cmp other key.now) ≡ false → value_of K.cmp self.new.pairs other ≡ value_of K.cmp self.old.pairs other }
     {
-        match self.locate(key) {
-            Ok(i) => Some(self.pop_index(i)),
-            Err(_) => None,
+        let spot = self.spot(key);
+        if spot.found {
+            Some(self.take_at(spot))
+        } else {
+            None
         }
     }
 

@@ -70,6 +70,8 @@ impl<K: Ord, V> BTreeMap<K, V> {
             map: self,
             front,
             back,
+            node: 0,
+            start: 0,
         }
     }
 }

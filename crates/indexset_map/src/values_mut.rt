@@ -1,5 +1,5 @@
 //! An iterator with mutable references to the values of a map, without their keys.
-ghost use Rattle.std.specs.Prelude.{◌≡◌, ◌-◌, ◌<◌, ◌≤◌, Some, length, nat_lt, slice_get, MatchOption};
+ghost use Rattle.std.specs.Prelude.{◌≡◌, ◌-◌, ◌<◌, ◌≤◌, Some, length, nat_lt, slice_get, sum, take, MatchOption};
 ghost use Rattle.std.specs.Borrow.{sem};
 ghost use Rattle.std.specs.Option.{option_map};
 
@@ -21,7 +21,11 @@ pub struct ValuesMut<'a, K: Ord, V> {
     map: &'a mut BTreeMap<K, V>,
     front: usize,
     back: usize,
+    // The node of the value that was given last, and how many values stand before that node.
+    node: usize,
+    start: usize,
     ghost within: { back ≤ length map.now.pairs },
+    ghost start_is: { start ≡ sum (take node map.now.lengths) },
 }
 
 impl<K: Ord, V> BTreeMap<K, V> {
@@ -49,6 +53,8 @@ impl<K: Ord, V> BTreeMap<K, V> {
             map: self,
             front: 0,
             back,
+            node: 0,
+            start: 0,
         }
     }
 }
@@ -103,8 +109,11 @@ impl<'a, K: Ord, V> ValuesMut<'a, K, V> {
         ensures value { let s = values_walk self.old in option_map (λ p. p.value) (slice_get (walk_map s).now.pairs (walk_front s)) ≡ Some result.now }
     {
         let i = self.front;
+        let spot = self.map.spot_near(self.node, self.start, i);
         self.front = i + 1;
-        self.map.value_at_mut(i)
+        self.node = spot.node;
+        self.start = i - spot.offset;
+        self.map.value_in(spot)
     }
 
     /// Returns a mutable reference to the last remaining value.
@@ -114,7 +123,10 @@ impl<'a, K: Ord, V> ValuesMut<'a, K, V> {
         ensures value { let s = values_walk self.old in option_map (λ p. p.value) (slice_get (walk_map s).now.pairs (walk_back s - 1)) ≡ Some result.now }
     {
         let i = self.back - 1;
+        let spot = self.map.spot_near(self.node, self.start, i);
         self.back = i;
-        self.map.value_at_mut(i)
+        self.node = spot.node;
+        self.start = i - spot.offset;
+        self.map.value_in(spot)
     }
 }

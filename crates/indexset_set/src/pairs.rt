@@ -77,14 +77,24 @@ impl<K: Ord, V> BTreeSet<Pair<K, V>> {
         (&pair.key, &mut pair.value)
     }
 
-    // Returns a mutable reference to the value at a spot.
-    fn value_in(&mut self, spot: Spot) -> &mut V
+    /// Returns a mutable reference to the value at a spot.
+    pub fn value_in(&mut self, spot: Spot) -> &mut V
         requires { IsItemSpot self.old.nodes spot }
         ensures* writes_back { sem 𝓛 (lends_value K.row V.row K.Ord self.entry (position_of self.old.nodes spot) result) }
         ensures value { option_map (λ p. p.value) (slice_get (items self.old) (position_of self.old.nodes spot)) ≡ Some result.now }
     {
         let pair = self.spine.item_mut(spot);
         &mut pair.value
+    }
+
+    /// Returns the key at a spot with a mutable reference to its value.
+    pub fn pair_in_mut(&mut self, spot: Spot) -> (&K, &mut V)
+        requires { IsItemSpot self.old.nodes spot }
+        ensures* writes_back { sem 𝓛 (lends_pair K.row V.row K.Ord self.entry (position_of self.old.nodes spot) result) }
+        ensures value { option_map entry_of (slice_get (items self.old) (position_of self.old.nodes spot)) ≡ Some (result.0.now, result.1.now) }
+    {
+        let pair = self.spine.item_mut(spot);
+        (&pair.key, &mut pair.value)
     }
 
     // Returns a mutable reference to the value at a position.

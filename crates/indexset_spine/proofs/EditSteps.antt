@@ -28,7 +28,7 @@ module _ {A : Type 0} (ns : List A) (k : ℕ) (l r : A) (h : k < length ns) wher
       ∙ (ap (λ t. (take k ns ++ l ∷ []) ++ r ∷ t) (drop_at (take k ns ++ l ∷ []) (drop (k + 1) ns) (k + 1) long)
       ∙ append_assoc (take k ns) (l ∷ []) (r ∷ drop (k + 1) ns)))
 
-  get_left : (d : A) → get_or (splice ns k (k + 1) (l ∷ r ∷ [])) k d ≡ l
+  pub get_left : (d : A) → get_or (splice ns k (k + 1) (l ∷ r ∷ [])) k d ≡ l
   get_left d = get_or_at (take k ns) l (r ∷ drop (k + 1) ns) d k before
 
   set_left : (m : A) → slice_set (splice ns k (k + 1) (l ∷ r ∷ [])) k m ≡ splice ns k (k + 1) (m ∷ r ∷ [])

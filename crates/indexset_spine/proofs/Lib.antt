@@ -17,6 +17,7 @@ pub mod LengthLemmas
 pub mod LowbitLemmas
 pub mod NodeLengthLemmas
 pub mod PartLemmas
+pub mod PlaceLemmas
 pub mod PrefixLemmas
 pub mod RemoveSteps
 pub mod RetainSteps
@@ -24,5 +25,6 @@ pub mod RunLemmas
 pub mod SpineReads
 pub mod SplitSteps
 pub mod SpotLemmas
+pub mod StandLemmas
 pub mod TakenLemmas
 pub mod VecNodes

@@ -1,6 +1,6 @@
 //! The lengths of nodes, added up: by an index, or one by one.
-ghost use Rattle.std.specs.Prelude.{◌≡◌, ◌^◌, ◌+◌, ◌<◌, ◌≤◌, length, sum, slice_index, MatchOption};
-ghost use Rattle.indexset_core.specs.Nodes.{joined, vec_items};
+ghost use Rattle.std.specs.Prelude.{◌≡◌, ◌^◌, ◌+◌, ◌-◌, ◌<◌, ◌≤◌, IsTrue, length, sum, slice_index, MatchOption};
+ghost use Rattle.indexset_core.specs.Nodes.{joined, node_at, vec_items};
 ghost use Rattle.indexset_spine.specs.Cut.{IsSpot, position_of};
 ghost use Rattle.indexset_spine.specs.Fenwick.{prefix_sum};
 
@@ -21,6 +21,13 @@ pub(crate) fn node_and_offset(index: &Fenwick, position: usize) -> Option<(usize
     ensures { MatchOption result (sum index.now.lengths ≤ position) (λ p. (p.0 < length index.now.lengths) × (p.1 < slice_index index.now.lengths p.0) × (prefix_sum index.now.lengths p.0 + p.1 ≡ position)) }
 {
     find_in(&mut index.cells(), position)
+}
+
+/// Returns whether the item at a position is in the node `k`, before which `start` items stand.
+pub(crate) fn is_in<T>(nodes: &[Vec<T>], k: usize, start: usize, i: usize) -> bool
+    ensures { IsTrue result → (k < length nodes.now) × (start ≤ i) × (i - start < length (node_at (vec_items nodes.now) k)) }
+{
+    k < nodes.len() && start <= i && i - start < nodes[k].len()
 }
 
 /// Returns how many items the nodes hold.

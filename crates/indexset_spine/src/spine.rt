@@ -1,5 +1,5 @@
 //! A list that is cut into nodes.
-ghost use Rattle.std.specs.Prelude.{◌≡◌, ◌+◌, ◌≤◌, IsTrue, Some, length, max, slice_get, MatchOption};
+ghost use Rattle.std.specs.Prelude.{◌≡◌, ◌+◌, ◌<◌, ◌≤◌, IsTrue, Some, length, max, sum, take, slice_get, MatchOption};
 ghost use Rattle.std.specs.Option.{option_copied, option_copied_mut};
 ghost use Rattle.std.specs.Borrow.{sem};
 ghost use Rattle.std.specs.List.{between};
@@ -8,6 +8,7 @@ ghost use Rattle.indexset_core.specs.Digits.{digits};
 ghost use Rattle.indexset_core.specs.Parted.{IsParted, less_count};
 ghost use Rattle.indexset_core.specs.Nodes.{node_at, node_for, equal_at, node_lengths, vec_items};
 ghost use Rattle.indexset_spine.specs.Cut.{items, IsCut, IsSpot, IsItemSpot, position_of};
+ghost use Rattle.indexset_spine.specs.Lengths.{node_of};
 
 mod append;
 mod bounds;
@@ -205,6 +206,25 @@ impl<T> Spine<T> {
             offset,
             found: true,
         })
+    }
+
+    /// Returns the spot of the item at a position. It asks the index only where the item is not in
+    /// the node `near`, before which `start` items stand.
+    pub fn spot_near(&self, near: usize, start: usize, i: usize) -> Spot
+        requires near { start ≡ sum (take near (node_lengths self.now.nodes)) }
+        requires inside { i < length (items self.now) }
+        ensures spot { IsItemSpot self.now.nodes result }
+        ensures position { position_of self.now.nodes result ≡ i }
+        ensures node { result.node ≡ node_of (node_lengths self.now.nodes) i }
+    {
+        if lengths::is_in(self.nodes.as_slice(), near, start, i) {
+            return Spot {
+                node: near,
+                offset: i - start,
+                found: true,
+            };
+        }
+        self.spot(i).unwrap()
     }
 
     /// Returns the spot after the first `i` items.

@@ -1,8 +1,8 @@
 //! Calls that insert an item.
-ghost use Rattle.std.specs.Prelude.{◌≡◌, ◌+◌, ◌^◌, ◌<◌, ◌≤◌, IfOk, OnOk, IfErr, OnErr, IfSome, length, sum, drop, insert, slice_get, vec_len, vec_capacity};
+ghost use Rattle.std.specs.Prelude.{◌≡◌, ◌+◌, ◌^◌, ◌<◌, ◌≤◌, IsTrue, IfOk, OnOk, IfErr, OnErr, IfSome, length, sum, drop, insert, slice_get, vec_len, vec_capacity};
 ghost use Rattle.std.specs.List.{HoldsAt};
 ghost use Rattle.indexset_core.specs.Nodes.{node_at, node_lengths, vec_items};
-ghost use Rattle.indexset_spine.specs.Cut.{items, IsSpot, position_of, with_inserted, without_item, first_spot};
+ghost use Rattle.indexset_spine.specs.Cut.{items, IsItemSpot, IsSpot, position_of, with_inserted, without_item, first_spot};
 ghost use Rattle.indexset_spine.specs.Edits.{IsShortEnd, with_item_in, with_halved};
 
 use super::Spine;
@@ -13,13 +13,14 @@ use indexset_core::moves::insert_item;
 use indexset_core::refusal::{Refusal, Refused};
 
 impl<T: Drop> Spine<T> {
-    /// Inserts an item at a spot. A full node is first halved, and the item goes right where the
-    /// offset is above half its length, else left. A failed call hands back the item and changes
-    /// nothing.
-    pub fn insert(&mut self, spot: Spot, value: T) -> Result<(), Refused<T>>
+    /// Inserts an item at a spot, and returns the spot where it then stands. A full node is first
+    /// halved, and the item goes right where the offset is above half its length, else left. A
+    /// failed call hands back the item and changes nothing.
+    pub fn insert(&mut self, spot: Spot, value: T) -> Result<Spot, Refused<T>>
         requires { IsSpot self.old.nodes spot }
         ensures nodes { OnOk result (self.new.nodes ≡ with_inserted self.old.size self.old.nodes spot value) }
         ensures items { OnOk result (items self.new ≡ insert (items self.old) (position_of self.old.nodes spot) value) }
+        ensures stands { IfOk result (λ to. IsItemSpot self.new.nodes to × (position_of self.new.nodes to ≡ position_of self.old.nodes spot) × IsTrue to.found) }
         ensures size { self.new.size ≡ self.old.size }
         ensures given_back { IfErr result (λ e. (e.value ≡ value) × (e.cause ≡ Refusal.Memory)) }
         ensures unchanged { OnErr result (self.new ≡ self.old) }
@@ -34,7 +35,11 @@ impl<T: Drop> Spine<T> {
             Ok(to) => {
                 insert_in_room(&mut self.nodes, &mut self.index, to, value);
                 self.len += 1;
-                Ok(())
+                Ok(Spot {
+                    node: to.node,
+                    offset: to.offset,
+                    found: true,
+                })
             }
             Err(cause) => Err(Refused { value, cause }),
         }
@@ -91,6 +96,7 @@ pub(super) fn make_room<T>(
     ensures spot { IfOk result (λ to. IsSpot (vec_items nodes.new.items) to) }
     ensures room { IfOk result (λ to. HoldsAt (λ node. vec_len node < vec_capacity node) nodes.new.items to.node) }
     ensures nodes { IfOk result (λ to. (value : T) → with_item_in (vec_items nodes.new.items) to value ≡ with_inserted size (vec_items nodes.old.items) spot value) }
+    ensures position { IfOk result (λ to. position_of (vec_items nodes.new.items) to ≡ position_of (vec_items nodes.old.items) spot) }
     ensures end { IsShortEnd (size + 1) (vec_items nodes.old.items) spot → IfOk result (λ to. IsShortEnd size (vec_items nodes.new.items) to) }
     ensures index { index.new.lengths ≡ node_lengths (vec_items nodes.new.items) }
     ensures sum { sum index.new.lengths ≡ sum index.old.lengths }
@@ -114,6 +120,7 @@ fn halve_at<T>(nodes: &mut Vec<Vec<T>>, spot: Spot) -> Result<Spot, Refusal>
     ensures spot { IfOk result (λ to. IsSpot (vec_items nodes.new.items) to) }
     ensures room { IfOk result (λ to. HoldsAt (λ node. vec_len node < vec_capacity node) nodes.new.items to.node) }
     ensures nodes { IfOk result (λ to. (value : T) → with_item_in (vec_items nodes.new.items) to value ≡ with_inserted (length (node_at (vec_items nodes.old.items) spot.node)) (vec_items nodes.old.items) spot value) }
+    ensures position { IfOk result (λ to. position_of (vec_items nodes.new.items) to ≡ position_of (vec_items nodes.old.items) spot) }
     ensures end { IsShortEnd (spot.offset + 1) (vec_items nodes.old.items) spot → IfOk result (λ to. IsShortEnd spot.offset (vec_items nodes.new.items) to) }
     ensures halved { OnOk result (vec_items nodes.new.items ≡ with_halved (vec_items nodes.old.items) spot.node) }
     ensures refusal { IfErr result (λ e. e ≡ Refusal.Memory) }

@@ -7,46 +7,54 @@ use Rattle.indexset_map.proofs.KeyLemmas.{put_found, without_found, without_abse
 use Rattle.indexset_map.proofs.ThereLemmas.{value_there}
 use Rattle.indexset_map.proofs.BTreeMap.entry.Goals as goal
 
-pub returns-in-Ok-clause-value : goal.returns-in-Ok-clause-value
-returns-in-Ok-clause-value g c = ap (option_map (λ p. p.value)) (sym (key_pair g.K.Ord.cmp _ _ c.in-Ok.index (c.in-Ok.ensures {u = tt}).found))
+pub invariant_of-result : goal.invariant_of-result
+invariant_of-result g c =
+    let spot = c.spot-spot.ensures.spot in
+    let item = spot.item c.if-spot.true in
+    record { item = record { node_in = item.node_in; offset_in = item.offset_in }; within = key_inside g.K.Ord.cmp _ _ _ (spot.found c.if-spot.true) }
 
-pub returns-in-Ok-clause-update : goal.returns-in-Ok-clause-update
-returns-in-Ok-clause-update g c = put_found g.K.Ord.cmp c.args.self.now c.args.key c.in-Ok.index (c.in-Ok.ensures {u = tt}).found
+pub returns-then-spot-clause-value : goal.returns-then-spot-clause-value
+returns-then-spot-clause-value g c = ap (option_map (λ p. p.value)) (sym (key_pair g.K.Ord.cmp _ _ _ (c.spot-spot.ensures.spot.found c.if-spot.true)))
 
-pub invariant_of-result-in-Err : goal.invariant_of-result-in-Err
-invariant_of-result-in-Err g c = record { absent = key_absent g.K.Ord.cmp _ _ (c.in-Err.ensures {u = tt}).absent; place = (c.in-Err.ensures {u = tt}).gap }
+pub returns-then-spot-clause-update : goal.returns-then-spot-clause-update
+returns-then-spot-clause-update g c = put_found g.K.Ord.cmp c.args.self.now c.args.key _ (c.spot-spot.ensures.spot.found c.if-spot.true)
+
+pub invariant_of-result-2 : goal.invariant_of-result-2
+invariant_of-result-2 g c =
+    let spot = c.spot-spot.ensures.spot in
+    record { absent = key_absent g.K.Ord.cmp _ _ (spot.absent c.if-spot.false); place = spot.place; rank = spot.rank }
 
 pub returns-clause-value : goal.returns-clause-value
-returns-clause-value g c = sym (ap (option_map (λ p. p.value)) (key_no_pair g.K.Ord.cmp _ _ (c.in-Err.ensures {u = tt}).absent))
+returns-clause-value g c = sym (ap (option_map (λ p. p.value)) (key_no_pair g.K.Ord.cmp _ _ (c.spot-spot.ensures.spot.absent c.if-spot.false)))
 
 pub returns-clause-update : goal.returns-clause-update
 returns-clause-update g c = λ w. refl
 
-pub returns-in-Ok-clause-there : goal.returns-in-Ok-clause-there
-returns-in-Ok-clause-there g c = λ w.
-    let put = put_found g.K.Ord.cmp c.args.self.now c.args.key c.in-Ok.index (c.in-Ok.ensures {u = tt}).found w in
+pub returns-then-spot-clause-there : goal.returns-then-spot-clause-there
+returns-then-spot-clause-there g c = λ w.
+    let put = put_found g.K.Ord.cmp c.args.self.now c.args.key _ (c.spot-spot.ensures.spot.found c.if-spot.true) w in
     ap (λ m. value_of g.K.Ord.cmp m.pairs c.args.key) put ∙ value_there g.K.Ord.cmp g.met.K.Ord.total c.args.self.now.pairs c.args.key w
 
 pub returns-clause-there : goal.returns-clause-there
 returns-clause-there g c = λ w. value_there g.K.Ord.cmp g.met.K.Ord.total c.args.self.now.pairs c.args.key w
 
-pub returns-in-Ok-clause-key : goal.returns-in-Ok-clause-key
-returns-in-Ok-clause-key g c =
-    let found = (c.in-Ok.ensures {u = tt}).found in
-    shown_key c.args.self.now.pairs c.in-Ok.index c.args.key (key_inside g.K.Ord.cmp _ _ c.in-Ok.index found)
-    ∙ ap (λ o. Some (unwrap_or (option_map (λ p. p.key) o) c.args.key)) (sym (key_pair g.K.Ord.cmp _ _ c.in-Ok.index found))
+pub returns-then-spot-clause-key : goal.returns-then-spot-clause-key
+returns-then-spot-clause-key g c =
+    let found = c.spot-spot.ensures.spot.found c.if-spot.true in
+    shown_key c.args.self.now.pairs _ c.args.key (key_inside g.K.Ord.cmp _ _ _ found)
+    ∙ ap (λ o. Some (unwrap_or (option_map (λ p. p.key) o) c.args.key)) (sym (key_pair g.K.Ord.cmp _ _ _ found))
 
 pub returns-clause-key : goal.returns-clause-key
-returns-clause-key g c = sym (ap (λ o. Some (unwrap_or (option_map (λ p. p.key) o) c.args.key)) (key_no_pair g.K.Ord.cmp _ _ (c.in-Err.ensures {u = tt}).absent))
+returns-clause-key g c = sym (ap (λ o. Some (unwrap_or (option_map (λ p. p.key) o) c.args.key)) (key_no_pair g.K.Ord.cmp _ _ (c.spot-spot.ensures.spot.absent c.if-spot.false)))
 
-pub returns-in-Ok-clause-missing : goal.returns-in-Ok-clause-missing
-returns-in-Ok-clause-missing g c = sym (ap (λ (b : Bool). if b then None else Some c.args.key) (key_there g.K.Ord.cmp _ _ c.in-Ok.index (c.in-Ok.ensures {u = tt}).found))
+pub returns-then-spot-clause-missing : goal.returns-then-spot-clause-missing
+returns-then-spot-clause-missing g c = sym (ap (λ (b : Bool). if b then None else Some c.args.key) (key_there g.K.Ord.cmp _ _ _ (c.spot-spot.ensures.spot.found c.if-spot.true)))
 
 pub returns-clause-missing : goal.returns-clause-missing
-returns-clause-missing g c = sym (ap (λ (b : Bool). if b then None else Some c.args.key) (key_absent g.K.Ord.cmp _ _ (c.in-Err.ensures {u = tt}).absent))
+returns-clause-missing g c = sym (ap (λ (b : Bool). if b then None else Some c.args.key) (key_absent g.K.Ord.cmp _ _ (c.spot-spot.ensures.spot.absent c.if-spot.false)))
 
-pub returns-in-Ok-clause-removal : goal.returns-in-Ok-clause-removal
-returns-in-Ok-clause-removal g c = without_found g.K.Ord.cmp c.args.self.now c.args.key c.in-Ok.index (c.in-Ok.ensures {u = tt}).found g.met.K.Ord.total c.locate.ensures.ascending
+pub returns-then-spot-clause-removal : goal.returns-then-spot-clause-removal
+returns-then-spot-clause-removal g c = without_found g.K.Ord.cmp c.args.self.now c.args.key _ (c.spot-spot.ensures.spot.found c.if-spot.true) g.met.K.Ord.total c.spot-spot.ensures.ascending
 
 pub returns-clause-removal : goal.returns-clause-removal
-returns-clause-removal g c = sym (without_absent g.K.Ord.cmp c.args.self.now c.args.key (key_absent g.K.Ord.cmp _ _ (c.in-Err.ensures {u = tt}).absent))
+returns-clause-removal g c = sym (without_absent g.K.Ord.cmp c.args.self.now c.args.key (key_absent g.K.Ord.cmp _ _ (c.spot-spot.ensures.spot.absent c.if-spot.false)))

@@ -1,8 +1,9 @@
-use Rattle.std.proofs.Common.{◌∙◌, ◌-◌, ap, arith, refl}
-use Rattle.indexset_core.specs.Nodes.{vec_items}
+use Rattle.std.proofs.Common.{◌∙◌, ◌+◌, ◌-◌, List, ap, arith, length, refl}
+use Rattle.indexset_core.specs.Nodes.{joined, vec_items}
 use Rattle.indexset_core.proofs.CallerLemmas.{on_err}
 use Rattle.indexset_spine.proofs.AppendLemmas.{halved_end}
 use Rattle.indexset_spine.proofs.EditSteps.{IsHalved, lists_kept, right_puts, left_puts, right_room, left_room, halved_lists, half_of}
+use Rattle.indexset_spine.proofs.StandLemmas.{halved_before, halved_position}
 use Rattle.indexset_spine.proofs.spine.insert.halve_at.Given.{Over}
 use Rattle.indexset_spine.proofs.spine.insert.halve_at.Goals as goal
 use Rattle.indexset_spine.proofs.spine.insert.halve_at.Goals.{In_ok-right}
@@ -58,3 +59,16 @@ pub returns-clause-end : goal.returns-clause-end
 returns-clause-end g c =
     let cut = halved g (goal.at.returns-clause-end g c).In_ok-right in
     λ at. absurd (omega (arith, at.end, c.requires.two, c.if-half-spot.false, c.len-half.ensures, half_of cut))
+
+pub returns-then-half-spot-clause-position : goal.returns-then-half-spot-clause-position
+returns-then-half-spot-clause-position g c =
+    let cut = halved g (goal.at.returns-then-half-spot-clause-position g c).In_ok-right in
+    let half = c.len-half.ensures ∙ half_of cut in
+    rw (ap vec_items c.insert_item.ensures.items ∙ halved_lists cut)
+    (halved_position (vec_items c.args.nodes.now.items) c.args.spot.node c.args.spot.offset _ c.requires.spot.node_in half (omega (arith, c.if-half-spot.true)))
+
+pub returns-clause-position : goal.returns-clause-position
+returns-clause-position g c =
+    let cut = halved g (goal.at.returns-clause-position g c).In_ok-right in
+    rw (ap vec_items c.insert_item.ensures.items ∙ halved_lists cut)
+    (ap (λ (ms : List (List g.row.T.Denot)). length (joined ms) + c.args.spot.offset) (halved_before (vec_items c.args.nodes.now.items) c.args.spot.node c.requires.spot.node_in))

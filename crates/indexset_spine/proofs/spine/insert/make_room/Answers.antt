@@ -4,6 +4,7 @@ use Rattle.indexset_core.proofs.CallerLemmas.{on_err}
 use Rattle.indexset_spine.proofs.EditSteps.{lists_kept, room_puts, node_len, inserted_full}
 use Rattle.indexset_spine.proofs.IndexLemmas.{count-lengths, halved_keeps, halved_sum}
 use Rattle.indexset_spine.proofs.VecNodes.{length-vec_items}
+use Rattle.indexset_spine.specs.Cut.{position_of}
 use Rattle.indexset_spine.proofs.spine.insert.make_room.Goals as goal
 
 pub returns-in_err-reserve-clause-unchanged : goal.returns-in_err-reserve-clause-unchanged
@@ -78,3 +79,7 @@ returns-clause-end g c =
     λ at.
     let full : c.args.spot.offset ≡ c.args.size = omega (arith, at.end, at.short, long, c.len.ensures) in
     rw (← full) (c.in_ok-to.ensures.end record { last = at.last; end = at.end; short = omega arith })
+
+pub returns-then-len-size-clause-position : goal.returns-then-len-size-clause-position
+returns-then-len-size-clause-position g c =
+    ap (λ (ns : List (List g.row.T.Denot)). position_of ns c.args.spot) (lists_kept c.args.nodes.now.items c.args.spot.node _ c.reserve.new.self c.requires.spot.node_in c.index_mut.ensures.value c.reserve.ensures.items)
