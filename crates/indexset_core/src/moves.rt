@@ -12,6 +12,10 @@ pub fn insert_item<T>(items: &mut Vec<T>, index: usize, item: T)
     items.as_mut_slice()[index..].rotate_right(1);
 }
 
+// So many items go towards the front at once: of eight bytes each, as many as one `memmove` of
+// `rotate_left` takes.
+const PART: usize = 256;
+
 /// Removes the item at an index.
 pub fn remove_item<T>(items: &mut Vec<T>, index: usize) -> T
     requires { index < length items.old.items }
@@ -19,7 +23,13 @@ pub fn remove_item<T>(items: &mut Vec<T>, index: usize) -> T
     ensures items { items.new.items ≡ remove items.old.items index }
     ensures capacity { vec_capacity items.new ≡ vec_capacity items.old }
 {
-    items.as_mut_slice()[index..].rotate_left(1);
+    let last = items.len() - 1;
+    let mut at = index;
+    while at < last {
+        let to = at + (last - at).min(PART);
+        items.as_mut_slice()[at..to + 1].rotate_left(1);
+        at = to;
+    }
     items.take_last()
 }
 
