@@ -49,9 +49,9 @@ impl<T: Ord + Drop> FromIterator<T> for BTreeSet<T> {
     ghost from_iter_gives = { λ xs s. (items s ≡ fold (keep T.cmp) [] xs) × (s.size ≡ DEFAULT_INNER_SIZE) };
 
     fn from_iter<I: IntoIterator<Item = T>>(alloc: Global, iter: I) -> Result<Self, AllocError> {
-        let rest = iter.into_iter();
-        let mut set = BTreeSet::new(alloc).map_err(|_| AllocError)?;
-        set.extend(rest)?;
-        Ok(set)
+        match BTreeSet::from_iter(alloc, iter) {
+            Ok(set) => Ok(set),
+            Err(_) => Err(AllocError),
+        }
     }
 }
