@@ -139,8 +139,7 @@ impl<T: Ord + Drop> BTreeSet<T> {
 
     /// Returns clones of the elements in nodes as long as these, by one comparison an element, where
     /// the clones ascend, as those equal to their sources do. Else it inserts each clone in turn, as
-    /// `from_iter` does. Fails with `Memory`, and then drops the clones. Unlike `Clone::clone`, it
-    /// keeps the nodes, and fails with `Refusal`.
+    /// `from_iter` does. Fails with `Memory`, and then drops the clones.
     pub fn clone(&self) -> Result<Self, Refusal>
     where
         T: Clone,
