@@ -1,6 +1,8 @@
 //! Insertion, removal and block moves of items, in lists that have room for them.
 ghost use Rattle.std.specs.Prelude.{◌≡◌, ◌+◌, ◌-◌, ◌<◌, ◌≤◌, ◌++◌, length, take, drop, insert, remove, slice_index_or, vec_len, vec_capacity};
 
+use std::mem;
+
 /// Inserts an item at an index of a list that has room.
 pub fn insert_item<T>(items: &mut Vec<T>, index: usize, item: T)
     requires within { index ≤ length items.old.items }
@@ -12,6 +14,9 @@ pub fn insert_item<T>(items: &mut Vec<T>, index: usize, item: T)
     items.as_mut_slice()[index..].rotate_right(1);
 }
 
+// So many bytes go towards the front by one `memmove` of `rotate_left`, which moves more by a loop.
+const PART_BYTES: usize = 2048;
+
 /// Removes the item at an index.
 pub fn remove_item<T>(items: &mut Vec<T>, index: usize) -> T
     requires { index < length items.old.items }
@@ -19,7 +24,14 @@ pub fn remove_item<T>(items: &mut Vec<T>, index: usize) -> T
     ensures items { items.new.items ≡ remove items.old.items index }
     ensures capacity { vec_capacity items.new ≡ vec_capacity items.old }
 {
-    items.as_mut_slice()[index..].rotate_left(1);
+    let last = items.len() - 1;
+    let part = (PART_BYTES / mem::size_of_val(&items[..1]).max(1)).max(1);
+    let mut at = index;
+    while at < last {
+        let to = at + (last - at).min(part);
+        items.as_mut_slice()[at..to + 1].rotate_left(1);
+        at = to;
+    }
     items.take_last()
 }
 

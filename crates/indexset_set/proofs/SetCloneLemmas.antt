@@ -1,5 +1,5 @@
 -- What an ascending list is while its items are put in one by one.
-use Rattle.std.proofs.Common.{◌≡◌, ◌<◌, List, [], ◌∷◌, ◌++◌, length, get_or, sym, ap, subst, ◌∙◌, arith, length-append, append_assoc}
+use Rattle.std.proofs.Common.{◌≡◌, ◌<◌, List, [], ◌∷◌, ◌++◌, length, get_or, sym, ap, ◌∙◌, arith, length-append}
 use Rattle.std.proofs.lemmas.List.{get_or_append_left}
 use Rattle.std.proofs.lemmas.List.Edits.{insert_end}
 use Rattle.std.proofs.Math.Seq.{get_or-append_seam}
@@ -22,10 +22,3 @@ module _ {T : Type 0} (cmp : T → T → Ordering) (l : List T) (x : T) (rest : 
 
   pub keep_behind : keep cmp l x ≡ l ++ x ∷ []
   keep_behind = gap_keep cmp l x (length l) gap_behind ∙ insert_end l x
-
--- a copy that held the first items holds the next one too, once it is put in
-pub held_further : {T : Type 0} (cmp : T → T → Ordering) (all copy rest rest' : List T) (x y : T) (copy' : List T) → IsAscending cmp all → all ≡ copy ++ rest → rest ≡ x ∷ rest' → y ≡ x → copy' ≡ keep cmp copy y → all ≡ copy' ++ rest'
-held_further cmp all copy rest rest' x y copy' up parts first same added =
-    let split : all ≡ copy ++ x ∷ rest' = parts ∙ ap (λ r. copy ++ r) first in
-    let put_behind : copy' ≡ copy ++ x ∷ [] = added ∙ ap (keep cmp copy) same ∙ keep_behind cmp copy x rest' (subst (IsAscending cmp) split up) in
-    split ∙ sym (append_assoc copy (x ∷ []) rest') ∙ sym (ap (λ l. l ++ rest') put_behind)

@@ -1,5 +1,5 @@
 -- Whether the clones of ascending elements ascend, and the sets that they make.
-use Rattle.std.proofs.Common.{◌≡◌, ℕ, zero, suc, ◌+◌, ◌-◌, ◌<◌, Bool, List, [], ◌∷◌, ◌++◌, length, get_or, Ordering, Some, Result, Ok, Err, slice_get, refl, sym, ap, ◌∙◌, subst, arith, length-append, append_assoc, true, false}
+use Rattle.std.proofs.Common.{◌≡◌, ℕ, zero, suc, ◌+◌, ◌-◌, ◌<◌, ◌&&◌, Bool, List, [], ◌∷◌, ◌++◌, length, get_or, Ordering, Some, Result, Ok, Err, slice_get, refl, sym, ap, ◌∙◌, subst, arith, length-append, append_assoc, true, false}
 use Rattle.std.specs.declared.cmp.Ordering.TheVariants.{Less, Equal}
 use Rattle.std.specs.Cmp.{IsTotalOrder}
 use Rattle.std.specs.List.{AllAdjacentBelow, AllZip, IsAllAdjacentAnswer, fold}
@@ -62,6 +62,21 @@ module _ {T : Type 0} (cmp : T → T → Ordering) where
 
   pub ascends_all : (all rest : List T) (x : T) → AscendsTo all x rest → rest ≡ [] → IsAscending cmp all
   ascends_all all rest x far none = subst (IsAscending cmp) (sym (far.parts ∙ ap (λ r. far.front ++ x ∷ r) none)) far.up
+
+  -- what an answer tells of the items up to the last of those seen
+  pub record TellsTo (ascends : Bool) (all : List T) (last : T) (rest : List T) : Type 0 where
+    pub up : ascends ≡ true → AscendsTo all last rest
+    pub other : ascends ≡ false → IsAscending cmp all → ⊥
+
+  pub tells_first : (all rest : List T) (x : T) → all ≡ x ∷ rest → TellsTo true all x rest
+  tells_first all rest x first = record { up = λ _. ascends_first all rest x first; other = λ e. absurd (false≢true (sym e)) }
+
+  pub tells_next : IsTotalOrder cmp → (ascends : Bool) (all rest rest' : List T) (x y : T) → TellsTo ascends all x rest → rest ≡ y ∷ rest' → TellsTo (ascends && is_lt (cmp x y)) all y rest'
+  tells_next o false all rest rest' x y told first = record { up = λ e. absurd (false≢true e); other = λ _. told.other refl }
+  tells_next o true all rest rest' x y told first = elim (is_lt (cmp x y)) as (λ b. is_lt (cmp x y) ≡ b → TellsTo b all y rest') [
+    | true ↦ λ less. record { up = λ _. ascends_next all rest rest' x y (told.up refl) first o less; other = λ e. absurd (false≢true (sym e)) }
+    | false ↦ λ not_less. record { up = λ e. absurd (false≢true e); other = λ _. descends all rest rest' x y (told.up refl) first not_less }
+  ] refl
 
   -- a list ascends where each item is below the next
   module _ (o : IsTotalOrder cmp) (l : List T) (next : AllAdjacentBelow (λ x y. true ≡ is_lt (cmp x y)) l (length l)) where

@@ -139,8 +139,7 @@ impl<T: Ord + Drop> BTreeSet<T> {
 
     /// Returns clones of the elements in nodes as long as these, by one comparison an element, where
     /// the clones ascend, as those equal to their sources do. Else it inserts each clone in turn, as
-    /// `from_iter` does. Fails with `Memory`, and then drops the clones. Unlike `Clone::clone`, it
-    /// keeps the nodes, and fails with `Refusal`.
+    /// `from_iter` does. Fails with `Memory`, and then drops the clones.
     pub fn clone(&self) -> Result<Self, Refusal>
     where
         T: Clone,
@@ -166,7 +165,7 @@ fn is_sorted<T: Ord>(values: &[T]) -> bool
     values.is_sorted_by(|value, next| value.cmp(next).is_lt())
 }
 
-// Returns whether each item is below the next.
+// Returns whether each item is below the next. No item ends the loop, since clones seldom descend.
 fn is_ascending<T: Ord>(spine: &Spine<T>) -> bool
     ensures ascending { IsTrue result → IsAscending T.cmp (items spine.now) }
     ensures other { result ≡ false → IsAscending T.cmp (items spine.now) → ⊥ }
@@ -175,11 +174,10 @@ fn is_ascending<T: Ord>(spine: &Spine<T>) -> bool
     let Some(mut last) = rest.next() else {
         return true;
     };
+    let mut ascends = true;
     while let Some(item) = rest.next() {
-        if !last.cmp(item).is_lt() {
-            return false;
-        }
+        ascends &= last.cmp(item).is_lt();
         last = item;
     }
-    true
+    ascends
 }

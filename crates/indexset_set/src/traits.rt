@@ -19,16 +19,12 @@ impl<T: Ord + Clone> Clone for BTreeSet<T> {
     // Where clones of elements are identical to them, it is of the same elements and node size.
     ghost is_clone = { λ s copy. (((x y : T) → T.is_clone x y → y ≡ x) → items copy ≡ items s) × (copy.size ≡ s.size) };
 
-    /// Unlike the inherent `clone`, it inserts the clones in turn into new nodes, and fails with `AllocError`.
+    /// Does as the inherent `clone` does, and fails with `AllocError`.
     fn clone(&self) -> Result<BTreeSet<T>, AllocError> {
-        let alloc = *self.spine.allocator();
-        let size = self.maximum_node_size();
-        let mut copy = BTreeSet::with_maximum_node_size(alloc, size).map_err(|_| AllocError)?;
-        let mut rest = self.spine.iter();
-        while let Some(value) = rest.next() {
-            copy.insert(value.clone()?).map_err(|_| AllocError)?;
+        match BTreeSet::clone(self) {
+            Ok(copy) => Ok(copy),
+            Err(_) => Err(AllocError),
         }
-        Ok(copy)
     }
 }
 
@@ -49,9 +45,9 @@ impl<T: Ord + Drop> FromIterator<T> for BTreeSet<T> {
     ghost from_iter_gives = { λ xs s. (items s ≡ fold (keep T.cmp) [] xs) × (s.size ≡ DEFAULT_INNER_SIZE) };
 
     fn from_iter<I: IntoIterator<Item = T>>(alloc: Global, iter: I) -> Result<Self, AllocError> {
-        let rest = iter.into_iter();
-        let mut set = BTreeSet::new(alloc).map_err(|_| AllocError)?;
-        set.extend(rest)?;
-        Ok(set)
+        match BTreeSet::from_iter(alloc, iter) {
+            Ok(set) => Ok(set),
+            Err(_) => Err(AllocError),
+        }
     }
 }

@@ -28,8 +28,11 @@ impl<'a, T> Iter<'a, T> {
     }
 }
 
-/// Returns whether two iterators have as many items left, each equal to its counterpart: slice by
-/// slice, as far as both nodes reach.
+// So many items are compared before the first that differs ends the comparison.
+const BLOCK: usize = 64;
+
+/// Returns whether two iterators have as many items left, each equal to its counterpart: block by
+/// block, as far as both nodes reach.
 pub fn have_equal_items<'a, T: PartialEq>(mut left: Iter<'a, T>, mut right: Iter<'a, T>) -> bool
     ensures { result ≡ pointwise T.eq left.entry right.entry }
 {
@@ -37,13 +40,13 @@ pub fn have_equal_items<'a, T: PartialEq>(mut left: Iter<'a, T>, mut right: Iter
     loop {
         run = or_next_run(run, &mut left);
         other = or_next_run(other, &mut right);
-        let common = run.len().min(other.len());
+        let common = run.len().min(other.len()).min(BLOCK);
         if common == 0 {
             return run.len() == other.len();
         }
         let (front, rest) = run.split_at(common);
         let (other_front, other_rest) = other.split_at(common);
-        if front != other_front {
+        if !are_equal(front, other_front) {
             return false;
         }
         run = rest;
@@ -57,4 +60,17 @@ fn or_next_run<'a, T>(run: &'a [T], walk: &mut Iter<'a, T>) -> &'a [T]
     ensures some { 0 < length (run.now ++ walk.old) → 0 < length result.now }
 {
     if run.is_empty() { walk.next_run() } else { run }
+}
+
+// Returns whether each item of a block equals its counterpart. No item ends the loop, so that it
+// compiles to vector code where the items are numbers.
+fn are_equal<T: PartialEq>(left: &[T], right: &[T]) -> bool
+    requires { length left.now ≡ length right.now }
+    ensures { result ≡ pointwise T.eq left.now right.now }
+{
+    let mut same = true;
+    for i in 0..left.len() {
+        same &= left[i] == right[i];
+    }
+    same
 }

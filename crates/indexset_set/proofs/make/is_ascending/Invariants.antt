@@ -1,7 +1,7 @@
--- The items up to the last of those seen ascend, and the others are left.
+-- The answer is that of the items up to the last of those seen, and the others are left.
 use Rattle.indexset_spine.specs.Cut.{items}
-use Rattle.indexset_set.proofs.SetCopyLemmas.{AscendsTo}
+use Rattle.indexset_set.proofs.SetCopyLemmas.{TellsTo}
 use Rattle.indexset_set.proofs.make.is_ascending.Given as goal
 
 abbrev pub invariant-loop-item : goal.invariant-loop-item
-invariant-loop-item g l = AscendsTo g.T.Ord.cmp (items l.fn.spine) l.last l.rest
+invariant-loop-item g l = TellsTo g.T.Ord.cmp l.ascends (items l.fn.spine) l.last l.rest
