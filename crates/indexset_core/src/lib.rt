@@ -17,6 +17,7 @@ pub mod laws;
 pub mod moves;
 pub mod multipair;
 pub mod node;
+pub mod node_text;
 pub mod pair;
 pub mod probe;
 pub mod refusal;

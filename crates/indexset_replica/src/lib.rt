@@ -26,6 +26,7 @@ pub mod laws;
 pub mod lookup;
 mod places;
 mod range;
+mod text;
 
 use indexset_core::refusal::{Refusal, Refused};
 use indexset_log::change::ChangeEvent;

@@ -29,3 +29,5 @@ mod readme;
 mod replica;
 #[cfg(test)]
 mod snapshot;
+#[cfg(test)]
+mod text;

@@ -1,4 +1,4 @@
-//! The text of a logged map.
+//! The texts of a logged map.
 
 use super::BTreeMap;
 use indexset_core::node::NodeLike;
@@ -12,5 +12,16 @@ impl<
 > fmt::Debug for BTreeMap<K, V, Node> {
     fn fmt<W: fmt::Write>(&self, f: &mut fmt::Formatter<W>) -> fmt::Result {
         f.debug_map().entries(self.iter()).finish()
+    }
+}
+
+/// The nodes with their pairs, as in `[0:a, 2:b] [4:c]`; nothing where there is none.
+impl<
+    K: Ord + Clone + Drop + fmt::Display,
+    V: Clone + Drop + fmt::Display,
+    Node: NodeLike<Pair<K, V>>,
+> fmt::Display for BTreeMap<K, V, Node> {
+    fn fmt<W: fmt::Write>(&self, f: &mut fmt::Formatter<W>) -> fmt::Result {
+        fmt::Display::fmt(&self.set, f)
     }
 }

@@ -1,4 +1,4 @@
-//! The text of a multimap.
+//! The texts of a multimap.
 
 use super::BTreeMultiMap;
 use indexset_core::multipair::MultiPair;
@@ -12,5 +12,17 @@ impl<
 > fmt::Debug for BTreeMultiMap<K, V, Node> {
     fn fmt<W: fmt::Write>(&self, f: &mut fmt::Formatter<W>) -> fmt::Result {
         f.debug_map().entries(self.iter()).finish()
+    }
+}
+
+/// The nodes with their pairs and their numbers, as in `[0:a #0, 0:b #1] [4:c #2]`; nothing where
+/// there is none.
+impl<
+    K: Ord + Clone + Drop + fmt::Display,
+    V: Eq + Clone + Drop + fmt::Display,
+    Node: NodeLike<MultiPair<K, V>>,
+> fmt::Display for BTreeMultiMap<K, V, Node> {
+    fn fmt<W: fmt::Write>(&self, f: &mut fmt::Formatter<W>) -> fmt::Result {
+        fmt::Display::fmt(&self.set, f)
     }
 }

@@ -1,0 +1,21 @@
+//! The text of a list of nodes.
+
+use std::fmt;
+
+/// Writes the items of a node in brackets, as in `[0, 2]`, after a blank unless it is the first.
+pub fn write_node<T: fmt::Display, W: fmt::Write>(
+    f: &mut fmt::Formatter<W>,
+    is_first: bool,
+    items: &[T],
+) -> fmt::Result {
+    f.write_str(if is_first { "[" } else { " [" })?;
+    let mut is_first_item = true;
+    for item in items {
+        if !is_first_item {
+            f.write_str(", ")?;
+        }
+        is_first_item = false;
+        fmt::Display::fmt(item, f)?;
+    }
+    f.write_str("]")
+}

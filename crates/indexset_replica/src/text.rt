@@ -1,0 +1,17 @@
+//! The text of a replica.
+
+use super::Replica;
+use indexset_core::node_text::write_node;
+use std::fmt;
+
+/// The nodes with their items, as in `[0, 2] [4, 5]`; nothing where there is none.
+impl<T: Ord + Clone + Drop + fmt::Display> fmt::Display for Replica<T> {
+    fn fmt<W: fmt::Write>(&self, f: &mut fmt::Formatter<W>) -> fmt::Result {
+        let mut is_first = true;
+        for node in &self.nodes {
+            write_node(f, is_first, node.as_slice())?;
+            is_first = false;
+        }
+        Ok(())
+    }
+}
