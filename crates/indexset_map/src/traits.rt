@@ -19,7 +19,7 @@ impl<K: Ord + Clone, V: Clone> Clone for BTreeMap<K, V> {
     // Where clones of keys and values are identical to them, it is of the same pairs and node size.
     ghost is_clone = { λ m copy. (((x y : K) → K.is_clone x y → y ≡ x) → ((x y : V) → V.is_clone x y → y ≡ x) → copy.pairs ≡ m.pairs) × (copy.size ≡ m.size) };
 
-    /// Unlike the inherent `clone`, it inserts the clones in turn into new nodes, and fails with `AllocError`.
+    /// Does as the inherent `clone` does, and fails with `AllocError`.
     fn clone(&self) -> Result<BTreeMap<K, V>, AllocError> {
         let set = Clone::clone(&self.set)?;
         Ok(BTreeMap { set })
