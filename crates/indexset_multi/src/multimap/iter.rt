@@ -97,3 +97,16 @@ impl<K: Ord + Clone + Drop, V: Eq + Clone + Drop, Node: NodeLike<MultiPair<K, V>
         }
     }
 }
+
+impl<'a, K: Ord + Clone + Drop, V: Eq + Clone + Drop, Node: NodeLike<MultiPair<K, V>>> IntoIterator
+    for &'a BTreeMultiMap<K, V, Node> {
+    type Item = (&'a K, &'a V);
+
+    type IntoIter = Iter<'a, K, V, Node>;
+
+    ghost into_iter_gives = { λ m r. (r ≡ entries (joined m.now.nodes)) × ShowsInOrder (pair_shown {K = K} {V = V}) × ShowsInReverse (pair_shown {K = K} {V = V}) };
+
+    fn into_iter(self) -> Iter<'a, K, V, Node> {
+        self.iter()
+    }
+}
