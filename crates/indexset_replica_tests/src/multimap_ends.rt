@@ -120,14 +120,3 @@ fn a_new_pair_after_the_last_was_removed(rt: HostRuntime) -> Result<(), Fail> {
     assert!(rt; last == Some((3, 'f')) && numbers.eq([4, 6]));
     Ok(())
 }
-
-#[test]
-fn a_loop_over_a_multimap(rt: HostRuntime) -> Result<(), Fail> {
-    let (map, _) = six_pairs(rt.alloc())?;
-    let mut letters = Vec::new(rt.alloc());
-    for (_, letter) in &map {
-        letters.push(*letter)?;
-    }
-    assert!(rt; letters.as_slice() == ['a', 'b', 'c', 'd', 'e', 'f'].as_slice());
-    Ok(())
-}

@@ -86,7 +86,18 @@ impl<K: Ord + Clone + Drop, V: Eq + Clone + Drop, Node: NodeLike<MultiPair<K, V>
     V,
     Node,
 > {
-    /// Returns the pairs, in order.
+    /// Returns the pairs, in order. A loop over a reference to the multimap does so too.
+    ///
+    /// ```
+    /// let mut tags: multimap::BTreeMultiMap<u64, u64, Vec<MultiPair<u64, u64>>> = multimap::BTreeMultiMap::new(alloc);
+    /// tags.insert(1, 100).map_err(|refused| refused.cause)?;
+    /// tags.insert(1, 101).map_err(|refused| refused.cause)?;
+    /// let mut documents = 0u64;
+    /// for (_, document) in &tags {
+    ///     documents = documents.wrapping_add(*document);
+    /// }
+    /// assert!(rt; documents == 201 && tags.iter().len() == 2);
+    /// ```
     pub fn iter(&self) -> Iter<'_, K, V, Node>
         ensures rest { result ≡ entries (joined self.now.nodes) }
         ensures runs { ShowsInOrder (pair_shown {K = K} {V = V}) }
