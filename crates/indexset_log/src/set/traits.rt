@@ -18,7 +18,7 @@ impl<T: Ord + Clone + Drop + fmt::Debug, Node: NodeLike<T>> fmt::Debug for BTree
 /// for item in [1, 2, 3] {
 ///     tree.insert(item).map_err(|refused| refused.cause)?;
 /// }
-/// assert_eq!(rt; format!(in alloc; "{tree}")?, "[1] [2, 3]");
+/// assert_eq!(rt; format!(in alloc; "{tree}")?.as_str(), "[1] [2, 3]");
 /// ```
 impl<T: Ord + Clone + Drop + fmt::Display, Node: NodeLike<T>> fmt::Display for BTreeSet<T, Node> {
     fn fmt<W: fmt::Write>(&self, f: &mut fmt::Formatter<W>) -> fmt::Result {
