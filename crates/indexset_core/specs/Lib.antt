@@ -5,6 +5,7 @@ pub mod Nodes
 pub mod Order
 pub mod Pairs
 pub mod Parted
+pub mod Places
 pub mod Refusal
 pub mod Tally
 pub mod Text

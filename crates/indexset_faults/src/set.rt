@@ -40,6 +40,7 @@ pub fn trial(alloc: Global, call: &str) -> Option<Trial> {
         "replace into a full node" => Some(put(alloc, call, &[4, 6], 2, &[4, 5, 6])),
         "append" => Some(append(alloc)),
         "append above" => Some(append_above(alloc)),
+        "append between" => Some(append_between(alloc)),
         _ => None,
     }
 }
@@ -216,6 +217,21 @@ fn append_above(alloc: Global) -> Trial {
             let again = set.append(&mut other).is_ok() && other.is_empty();
             let stays = parted && 2 <= moved && moved < 6;
             refused(cause, stays && again && set.iter().copied().eq(0..6))
+        }
+    })
+}
+
+fn append_between(alloc: Global) -> Trial {
+    let mut set = set_of(alloc, 8, &[0, 2, 6])?;
+    let mut other = set_of(alloc, 8, &[1, 3, 5])?;
+    let told = set.append(&mut other);
+    let all = [0, 1, 2, 3, 5, 6];
+    Ok(match told {
+        Ok(()) => answered(has_keys(&set, &all, 1) && other.is_empty()),
+        Err(cause) => {
+            let stays = has_keys(&set, &[0, 2, 6], 1) && has_keys(&other, &[1, 3, 5], 1);
+            let again = set.append(&mut other).is_ok() && other.is_empty();
+            refused(cause, stays && again && has_keys(&set, &all, 1))
         }
     })
 }

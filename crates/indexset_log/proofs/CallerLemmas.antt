@@ -1,11 +1,12 @@
 -- What crates above this one may cite of its proofs.
 pub use Rattle.indexset_log.proofs.Attaches.{Attaches, ascending_answer, attaches_node, filled_first, map_insert, not_refused, refused_empty, refused_overlap, refused_unsorted}
-pub use Rattle.indexset_log.proofs.Changes.{Leads, key_removal_leads, nothing_leads, put_leads}
+pub use Rattle.indexset_log.proofs.Changed.{Changed, Told, either_way, if_ok_map, removal_changed, told, unchanged}
+pub use Rattle.indexset_log.proofs.Changes.{Leads, key_removal_leads, nothing_leads, put_leads, removal_leads}
 pub use Rattle.indexset_log.proofs.Clones.{clones_numbered, zip_on}
 pub use Rattle.indexset_log.proofs.Follows.{only_large}
 pub use Rattle.indexset_log.proofs.Joins.{at_pair, first_list, next_list, two_seen}
 pub use Rattle.indexset_log.proofs.PlaceTakes.{place_contents, place_events}
-pub use Rattle.indexset_log.proofs.Places.{IsEnd, back_turn, end_at, end_found, end_node, end_offset, gap_at, gap_found, last_before, located_end, place_le, walk_across, walk_back, walk_in, walk_none}
+pub use Rattle.indexset_log.proofs.Places.{IsEnd, end_at, end_found, end_node, end_offset, gap_at, gap_found, last_before, located_end}
 pub use Rattle.indexset_log.proofs.Puts.{halved_view}
 pub use Rattle.indexset_log.proofs.Replays.{not_reaching, over_rest, reaching}
 pub use Rattle.indexset_log.proofs.Spaced.{few_nodes}

@@ -10,7 +10,7 @@ use Rattle.indexset_core.specs.Parted.{less_count}
 use Rattle.indexset_core.proofs.CallerLemmas.{equal_read, get_in_node, places_order, rank-slice_get}
 use Rattle.indexset_log.specs.Edits.{with_taken}
 use Rattle.indexset_log.specs.Located.{located, IsFoundIn}
-use Rattle.indexset_log.specs.Places.{items_before}
+use Rattle.indexset_core.specs.Places.{items_before}
 use Rattle.indexset_log.specs.Replay.{replay, numbered_from}
 use Rattle.indexset_log.specs.Table.{taking_events, removal_events}
 use Rattle.indexset_log.proofs.Places.{end_at, end_node, end_offset, found_at, gap_at}

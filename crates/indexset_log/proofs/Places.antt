@@ -1,21 +1,20 @@
--- Where the places of a search stand, and what a walk between two places has left.
-use Rattle.std.proofs.Common.{◌≡◌, ℕ, zero, suc, ◌+◌, ◌-◌, ◌<◌, ◌≤◌, Bool, true, false, if◌then◌else◌, List, [], ◌∷◌, ◌++◌, length, map, take, drop, get_or, Result, Ok, Err, IfOk, IfErr, Ordering, Option, Some, None, is_some, slice_get, refl, ap, sym, ◌∙◌, max, subst, arith, append_assoc, length-append}
+-- Where the places of a search stand.
+use Rattle.std.proofs.Common.{◌≡◌, ℕ, suc, ◌+◌, ◌-◌, ◌<◌, ◌≤◌, Bool, true, false, if◌then◌else◌, List, [], ◌∷◌, length, take, Result, Ok, Err, IfOk, IfErr, Ordering, Option, Some, None, is_some, slice_get, refl, ap, sym, ◌∙◌, subst, arith, length-append}
 use Rattle.std.specs.Cmp.{IsTotalOrder}
 use Rattle.std.specs.List.{All, between, find, position}
 use Rattle.std.specs.Ordering.{is_lt, is_eq}
-use Rattle.std.proofs.lemmas.List.{append-nil, length-map, take-map, drop-map, take_all, take_rest}
+use Rattle.std.proofs.lemmas.List.{take_all}
 use Rattle.std.specs.Result.{result_ok}
 use Rattle.std.specs.Prelude.{MatchOption}
 use Rattle.std.proofs.lemmas.Bool.{false≢true}
 use Rattle.std.proofs.lemmas.Option.{slice_get-get_or}
 use Rattle.std.proofs.lemmas.List.Sums.{count_by-le-length}
-use Rattle.std.proofs.lemmas.List.Edits.{length-between}
 use Rattle.indexset_core.specs.Nodes.{joined, node_lengths, node_at, node_for, equal_at, IsLawful}
 use Rattle.indexset_core.specs.Order.{has_equal, equal_element}
 use Rattle.indexset_core.specs.Parted.{IsParted, less_count}
-use Rattle.indexset_core.proofs.CallerLemmas.{between_in, between_across, equal_inside, find_absent, find_position, get_in_node, is_some-find, position_absent, position_found, located_found, node_read, offset-le, length-joined-mono, length-joined-more, parted_node, place_for}
+use Rattle.indexset_core.proofs.CallerLemmas.{equal_inside, find_absent, find_position, get_in_node, is_some-find, position_absent, position_found, located_found, length-joined-more, parted_node, place_for}
 use Rattle.indexset_log.specs.Located.{located, IsFoundIn}
-use Rattle.indexset_log.specs.Places.{IsPlace, items_before}
+use Rattle.indexset_core.specs.Places.{IsPlace, items_before}
 use Rattle.indexset_log.proofs.Views.{lawful_filled, lawful_parted, equal_joined, node_inside}
 
 -- where a search ends: the place before the first item not answered Less, which the next one follows where it is answered Equal
@@ -120,91 +119,12 @@ pub found_is : {T : Type 0} (cmp : T → T → Ordering) (v : T) (ns : List (Lis
 found_is cmp v ns None h = ap is_some (sym h) ∙ is_some-find (λ x. is_eq (cmp x v)) (joined ns)
 found_is cmp v ns (Some p) h = ap is_some (sym (slice_get-get_or (node_at ns p.0) p.1 v h.here.inside) ∙ h.item) ∙ is_some-find (λ x. is_eq (cmp x v)) (joined ns)
 
--- the nodes as the code holds them: f tells the list of each
-module _ {T N : Type 0} (f : N → List T) where
-  joined-push : (ns : List N) (n : N) → joined (map f (ns ++ n ∷ [])) ≡ joined (map f ns) ++ f n
-  joined-push [] n = append-nil (f n)
-  joined-push (m ∷ ns) n = ap (λ l. f m ++ l) (joined-push ns n) ∙ sym (append_assoc (f m) (joined (map f ns)) (f n))
-
-  -- the last node becomes the back one
-  pub back_turn : (ns mid : List N) (n : N) (front back : List T) → mid ≡ ns ++ n ∷ [] → back ≡ [] → front ++ (joined (map f ns) ++ f n) ≡ front ++ (joined (map f mid) ++ back)
-  back_turn ns mid n front back e none =
-      ap (λ l. front ++ l) (sym (joined-push ns n) ∙ (ap (λ m. joined (map f m)) (sym e) ∙ (sym (append-nil (joined (map f mid))) ∙ ap (λ l. joined (map f mid) ++ l) (sym none))))
-
-  pub between-map : (ns : List N) (i j : ℕ) → map f (between i j ns) ≡ between i j (map f ns)
-  between-map ns i j = sym (ap (λ l. take (j - i) l) (drop-map f i ns) ∙ take-map f (j - i) (drop i ns))
-
 -- the place behind the last item
 pub last_before : {T : Type 0} (ns : List (List T)) (k o : ℕ) → 1 ≤ length ns → k ≡ length ns - 1 → o ≡ length (node_at ns k) → items_before ns (k, o) ≡ length (joined ns)
 last_before ns k o some last end =
     let next : k + 1 ≡ length ns = omega arith in
     let whole : take (k + 1) ns ≡ ns = take_all (k + 1) ns (omega arith) in
     omega (arith, length-joined-more ns k (omega arith), ap (λ l. length (joined l)) whole)
-
--- a place is not past the end
-pub place_le : {T : Type 0} (ns : List (List T)) (p : ℕ × ℕ) → IsPlace ns p → items_before ns p ≤ length (joined ns)
-place_le [] (zero, o) place = omega (arith, place.offset_in)
-place_le [] (suc k, o) place = absurd (omega (arith, place.node_in))
-place_le (n ∷ ns) p place = offset-le (n ∷ ns) p.0 p.1 (omega (arith, place.node_in)) place.offset_in
-
-joined-none : {T N : Type 0} (f : N → List T) (ns : List N) → length ns ≡ 0 → joined (map f ns) ≡ []
-joined-none f [] e = refl
-joined-none f (n ∷ ns) e = absurd (omega arith)
-
--- what a walk has left from one place to before another
-module _ {T N : Type 0} (f : N → List T) (ns : List N) (p q : ℕ × ℕ) (start : IsPlace (map f ns) p) (stop : IsPlace (map f ns) q) where
-  abbrev walk : List T
-  walk = between (items_before (map f ns) p) (items_before (map f ns) q) (joined (map f ns))
-
-  within : (k : ℕ) → 1 ≤ length ns → k < max 1 (length (map f ns)) → k < length ns
-  within k some lt = omega (arith, length-map ns f)
-
-  walk_nothing : items_before (map f ns) q ≤ items_before (map f ns) p → [] ≡ walk
-  walk_nothing le = let e : items_before (map f ns) q - items_before (map f ns) p ≡ 0 = omega arith in rw e refl
-
-  -- there is no node
-  pub walk_none : length ns ≡ 0 → [] ≡ walk
-  walk_none e = walk_nothing (omega (arith, place_le (map f ns) q stop, ap (λ l. length l) (joined-none f ns e)))
-
-  pub walk_fits : length walk ≤ length (joined (map f ns))
-  walk_fits = omega (arith, place_le (map f ns) q stop, length-between (joined (map f ns)) (items_before (map f ns) p) (items_before (map f ns) q) (place_le (map f ns) q stop))
-
-  module _ (some : 1 ≤ length ns) where
-    -- the second place stands in an earlier node
-    pub walk_back : q.0 < p.0 → [] ≡ walk
-    walk_back lt =
-        let inside : q.0 < length (map f ns) = omega (arith, some, stop.node_in, length-map ns f) in
-        walk_nothing (omega (arith, stop.offset_in, length-joined-more (map f ns) q.0 inside, length-joined-mono (map f ns) (q.0 + 1) p.0 (omega arith)))
-
-    -- in the same
-    pub walk_in : (n : N) → n ≡ get_or ns p.0 n → p.0 ≡ q.0 → between p.1 q.1 (f n) ++ (joined (map f []) ++ []) ≡ walk
-    walk_in n at e =
-        let inside : q.0 < length (map f ns) = omega (arith, some, stop.node_in, length-map ns f) in
-        let node : node_at (map f ns) q.0 ≡ f n = node_read f ns q.0 n (within q.0 some stop.node_in) (rw e at at) [] in
-        append-nil (between p.1 q.1 (f n)) ∙ sym (between_in (map f ns) p.0 p.1 q.0 q.1 inside stop.offset_in e ∙ ap (between p.1 q.1) node)
-
-    -- in a later one
-    module _ (m n : N) (first : m ≡ get_or ns p.0 m) (last : n ≡ get_or ns q.0 n) (lt : p.0 < q.0) where
-      abbrev front : List T
-      front = between p.1 (length (f m)) (f m)
-
-      abbrev middle : List T
-      middle = joined (map f (between (p.0 + 1) q.0 ns))
-
-      abbrev back : List T
-      back = take q.1 (f n)
-
-      pub walk_across : front ++ (middle ++ back) ≡ walk
-      walk_across =
-          let inside : q.0 < length (map f ns) = omega (arith, some, stop.node_in, length-map ns f) in
-          let opened : node_at (map f ns) p.0 ≡ f m = node_read f ns p.0 m (within p.0 some start.node_in) first [] in
-          let closed : node_at (map f ns) q.0 ≡ f n = node_read f ns q.0 n (within q.0 some stop.node_in) last [] in
-          let whole = between_across (map f ns) p.0 p.1 q.0 q.1 inside stop.offset_in lt start.offset_in in
-          rw (take_rest (f m) p.1, between-map f ns (p.0 + 1) q.0, ← opened, ← closed) (sym whole)
-
-      -- its parts have no more items than there are
-      pub parts_fit : length front + length middle + length back ≤ length (joined (map f ns))
-      parts_fit = omega (arith, walk_fits, ap (λ l. length l) walk_across, length-append front (middle ++ back), length-append middle back)
 
 -- as many nodes as items at most
 pub few_nodes : {T : Type 0} (ns : List (List T)) → All (λ n. 1 ≤ n) (node_lengths ns) → length ns ≤ length (joined ns)

@@ -5,7 +5,7 @@ use Rattle.std.specs.declared.cmp.Ordering.{Ordering}
 use Rattle.indexset_core.specs.Nodes.{joined, node_at}
 use Rattle.indexset_log.specs.declared.change.ChangeEventUnassigned.{ChangeEventUnassigned}
 use Rattle.indexset_log.specs.Edits.{after_removal}
-use Rattle.indexset_log.specs.Places.{items_before}
+use Rattle.indexset_core.specs.Places.{items_before}
 use Rattle.indexset_log.specs.Table.{removal_events}
 use Rattle.indexset_log.specs.Tree.{Tree}
 

@@ -153,18 +153,6 @@ pub(crate) fn take_and_join<T: Ord + Drop, Node: NodeLike<T>>(
     Ok(item)
 }
 
-/// Returns how many items the nodes hold.
-pub(crate) fn count_items<T: Ord + Drop, Node: NodeLike<T>>(nodes: &[Node]) -> usize
-    requires { length (joined (map Node.list nodes.now)) ≤ usize.MAX }
-    ensures { result ≡ length (joined (map Node.list nodes.now)) }
-{
-    let mut count = 0;
-    for node in nodes {
-        count += node.len();
-    }
-    count
-}
-
 /// Returns how many items the nodes have room for, up to `usize::MAX`.
 pub(crate) fn capacity_of<T: Ord + Drop, Node: NodeLike<T>>(nodes: &[Node]) -> usize
     ensures value { result ≡ min usize.MAX (sum_by Node.room nodes.now) }

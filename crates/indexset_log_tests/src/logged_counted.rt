@@ -1,4 +1,5 @@
 //! How often a call on a logged tree compares, told by keys that count.
+
 use indexset_core::multipair::MultiPair;
 use indexset_core::pair::Pair;
 use indexset_core::refusal::Refusal;
@@ -7,210 +8,246 @@ use indexset_log::set::BTreeSet;
 use indexset_multi::multimap::BTreeMultiMap;
 use indexset_replica::Replica;
 use indexset_tests::counted::Counted;
+use indexset_tests::script::{Stop, Subject, play, read, tell, tell_option};
 use std::alloc::Global;
 use std::cell::Cell;
 use std::ops::Bound::{Excluded, Included};
+use std::str::SplitWhitespace;
 use std::test::Fail;
 
-type Set<'a> = BTreeSet<Counted<'a>, Vec<Counted<'a>>>;
-
-type Map<'a> = BTreeMap<Counted<'a>, u64, Vec<Pair<Counted<'a>, u64>>>;
-
-type MultiMap<'a> = BTreeMultiMap<Counted<'a>, u64, Vec<MultiPair<Counted<'a>, u64>>>;
-
-// Many keys that count in the cell, put in from the greatest down.
-fn many(alloc: Global, asked: &Cell<u64>) -> Result<Set<'_>, Refusal> {
-    let mut set = BTreeSet::with_maximum_node_size(alloc, 1024);
-    for key in (0..10240).rev() {
-        set.insert(Counted { key, asked })?;
-    }
-    Ok(set)
+/// Trees of the keys from 10239 down to 0, put in one after another, and a copy of the set's nodes.
+#[derive(Drop)]
+struct Counts<'a> {
+    asked: &'a Cell<u64>,
+    set: BTreeSet<Counted<'a>, Vec<Counted<'a>>>,
+    map: BTreeMap<Counted<'a>, u64, Vec<Pair<Counted<'a>, u64>>>,
+    multi: BTreeMultiMap<Counted<'a>, u64, Vec<MultiPair<Counted<'a>, u64>>>,
+    replica: Replica<Counted<'a>>,
 }
 
-// The same keys, each with itself.
-fn many_pairs(alloc: Global, asked: &Cell<u64>) -> Result<Map<'_>, Refusal> {
-    let mut map = BTreeMap::with_maximum_node_size(alloc, 1024);
-    for key in (0..10240).rev() {
-        map.insert(Counted { key, asked }, key)?;
+impl<'a> Counts<'a> {
+    fn new(alloc: Global, asked: &'a Cell<u64>) -> Result<Self, Refusal> {
+        let mut set = BTreeSet::with_maximum_node_size(alloc, 1024);
+        let mut map = BTreeMap::with_maximum_node_size(alloc, 1024);
+        let mut multi = BTreeMultiMap::with_maximum_node_size(alloc, 1024);
+        for key in (0..10240).rev() {
+            set.insert(Counted { key, asked })?;
+            map.insert(Counted { key, asked }, key)?;
+            multi.insert(Counted { key, asked }, key)?;
+        }
+        Ok(Counts {
+            asked,
+            set,
+            map,
+            multi,
+            replica: Replica::new(alloc, 0),
+        })
     }
-    Ok(map)
+
+    /// Gives the replica the nodes of the set.
+    fn copy(&mut self) -> Result<(), Stop> {
+        for node in self.set.iter_nodes() {
+            self.replica.attach(node.clone()?)?;
+        }
+        Ok(())
+    }
+
+    fn call_set(&mut self, name: &str, key: u64, answer: &mut String) -> Result<(), Stop> {
+        let asked = self.asked;
+        let sought = Counted { key, asked };
+        match name {
+            "set_get" => tell_option(answer, self.set.get(&sought).map(|found| found.key)),
+            "set_contains" => tell(answer, self.set.contains(&sought)),
+            "set_range" if key < 10240 => {
+                let next = Counted {
+                    key: key + 1,
+                    asked,
+                };
+                tell(
+                    answer,
+                    self.set.range((Included(&sought), Excluded(&next))).len(),
+                )
+            }
+            "set_remove" => tell_option(answer, self.set.remove(&sought)?.map(|found| found.key)),
+            "set_insert" => tell(answer, self.set.insert(sought)?),
+            "replica_get" => tell_option(answer, self.replica.get(&sought).map(|found| found.key)),
+            "replica_contains" => tell(answer, self.replica.contains(&sought)),
+            _ => self.call_map(name, key, answer),
+        }
+    }
+
+    fn call_map(&mut self, name: &str, key: u64, answer: &mut String) -> Result<(), Stop> {
+        let asked = self.asked;
+        let sought = Counted { key, asked };
+        match name {
+            "map_get" => tell_option(answer, self.map.get(&sought).map(|pair| pair.value)),
+            "map_contains" => tell(answer, self.map.contains_key(&sought)),
+            "map_range" if key < 10240 => {
+                let next = Counted {
+                    key: key + 1,
+                    asked,
+                };
+                tell(
+                    answer,
+                    self.map.range((Included(&sought), Excluded(&next))).len(),
+                )
+            }
+            "map_remove" => tell_option(answer, self.map.remove(&sought)?.map(|pair| pair.1)),
+            "map_insert" => tell_option(answer, self.map.insert(sought, key)?),
+            _ => Err(Stop::NoCall),
+        }
+    }
+
+    fn call_multi(
+        &mut self,
+        name: &str,
+        words: &mut SplitWhitespace<'_>,
+        answer: &mut String,
+    ) -> Result<(), Stop> {
+        let key = read(words)?;
+        let asked = self.asked;
+        let sought = Counted { key, asked };
+        match name {
+            "multi_get" => tell(answer, self.multi.get(&sought).len()),
+            "multi_raw_get" => tell(answer, self.multi.raw_get(&sought).count()),
+            "multi_contains" => tell(answer, self.multi.contains_key(&sought)),
+            "multi_range" if key < 10240 => {
+                let next = Counted {
+                    key: key + 1,
+                    asked,
+                };
+                tell(
+                    answer,
+                    self.multi.range((Included(&sought), Excluded(&next))).len(),
+                )
+            }
+            "multi_remove" => {
+                let removed = self.multi.remove(&sought, &read(words)?)?;
+                tell_option(answer, removed.map(|pair| pair.1))
+            }
+            "multi_remove_some" => {
+                tell_option(answer, self.multi.remove_some(&sought)?.map(|pair| pair.1))
+            }
+            "multi_insert" => tell_option(answer, self.multi.insert(sought, read(words)?)?),
+            _ => self.call_set(name, key, answer),
+        }
+    }
 }
 
-// The same pairs, each numbered.
-fn many_numbered(alloc: Global, asked: &Cell<u64>) -> Result<MultiMap<'_>, Refusal> {
-    let mut map = BTreeMultiMap::with_maximum_node_size(alloc, 1024);
-    for key in (0..10240).rev() {
-        map.insert(Counted { key, asked }, key)?;
+impl Subject for Counts<'_> {
+    fn call(
+        &mut self,
+        name: &str,
+        words: &mut SplitWhitespace<'_>,
+        answer: &mut String,
+    ) -> Result<(), Stop> {
+        match name {
+            "set_nodes" => tell(answer, self.set.node_count()),
+            "map_nodes" => tell(answer, self.map.node_count()),
+            "multi_nodes" => tell(answer, self.multi.node_count()),
+            "replica_nodes" => tell(answer, self.replica.nodes().len()),
+            "copy" => self.copy(),
+            "within" => {
+                let most: u64 = read(words)?;
+                let name = words.next().ok_or(Stop::Word)?;
+                self.asked.set(0);
+                self.call_multi(name, words, answer)?;
+                let asked = self.asked.get();
+                if most < asked {
+                    write!(answer, " asked {asked}")?;
+                }
+                Ok(())
+            }
+            _ => self.call_multi(name, words, answer),
+        }
     }
-    Ok(map)
+}
+
+/// Plays a script of trees whose keys count.
+fn play_counts(alloc: Global, script: &str) -> Result<(), Fail> {
+    let asked = Cell::new(0);
+    let mut counts = Counts::new(alloc, &asked)?;
+    play(alloc, &mut counts, script)
 }
 
 #[test]
 fn few_comparisons_in_a_logged_set(rt: HostRuntime) -> Result<(), Fail> {
-    let asked = Cell::new(0);
-    let mut set = many(rt.alloc(), &asked)?;
-    assert_eq!(rt; set.node_count(), 19);
-    for key in [0, 5119, 10239] {
-        let sought = Counted { key, asked: &asked };
-        let next = Counted {
-            key: key + 1,
-            asked: &asked,
-        };
-        asked.set(0);
-        let found = set.get(&sought).is_some_and(|found| found.key == key);
-        let get = asked.replace(0);
-        let held = set.contains(&sought);
-        let contains = asked.replace(0);
-        let count = set.range((Included(&sought), Excluded(&next))).len();
-        let range = asked.replace(0);
-        let removed = set.remove(&sought)?;
-        let remove = asked.replace(0);
-        let inserted = set.insert(sought)?;
-        assert!(rt;
-            found && held && count == 1 && removed.is_some() && inserted,
-            "of {key}"
-        );
-        let few = get <= 17 && contains <= 17 && range <= 34 && remove <= 17;
-        assert!(rt;
-            few && asked.get() <= 17,
-            "of {key}: {get} {contains} {range} {remove}"
-        );
-    }
-    Ok(())
+    play_counts(rt.alloc(), SET)
 }
+
+const SET: &str = "
+set_nodes -> 19
+within 17 set_get 0 -> 0; within 17 set_contains 0 -> true; within 34 set_range 0 -> 1
+within 17 set_remove 0 -> 0; within 17 set_insert 0 -> true
+within 17 set_get 5119 -> 5119; within 17 set_contains 5119 -> true; within 34 set_range 5119 -> 1
+within 17 set_remove 5119 -> 5119; within 17 set_insert 5119 -> true
+within 17 set_get 10239 -> 10239; within 17 set_contains 10239 -> true; within 34 set_range 10239 -> 1
+within 17 set_remove 10239 -> 10239; within 17 set_insert 10239 -> true
+";
 
 #[test]
 fn few_comparisons_in_a_logged_map(rt: HostRuntime) -> Result<(), Fail> {
-    let asked = Cell::new(0);
-    let mut map = many_pairs(rt.alloc(), &asked)?;
-    assert_eq!(rt; map.node_count(), 19);
-    for key in [0, 5119, 10239] {
-        let sought = Counted { key, asked: &asked };
-        let next = Counted {
-            key: key + 1,
-            asked: &asked,
-        };
-        asked.set(0);
-        let found = map.get(&sought).is_some_and(|pair| pair.value == key);
-        let get = asked.replace(0);
-        let held = map.contains_key(&sought);
-        let contains = asked.replace(0);
-        let count = map.range((Included(&sought), Excluded(&next))).len();
-        let range = asked.replace(0);
-        let removed = map.remove(&sought)?;
-        let remove = asked.replace(0);
-        let old = map.insert(sought, key)?;
-        assert!(rt;
-            found && held && count == 1 && removed.is_some() && old.is_none(),
-            "of {key}"
-        );
-        let few = get <= 17 && contains <= 17 && range <= 34 && remove <= 17;
-        assert!(rt;
-            few && asked.get() <= 17,
-            "of {key}: {get} {contains} {range} {remove}"
-        );
-    }
-    Ok(())
+    play_counts(rt.alloc(), MAP)
 }
+
+const MAP: &str = "
+map_nodes -> 19
+within 17 map_get 0 -> 0; within 17 map_contains 0 -> true; within 34 map_range 0 -> 1
+within 17 map_remove 0 -> 0; within 17 map_insert 0 -> none
+within 17 map_get 5119 -> 5119; within 17 map_contains 5119 -> true; within 34 map_range 5119 -> 1
+within 17 map_remove 5119 -> 5119; within 17 map_insert 5119 -> none
+within 17 map_get 10239 -> 10239; within 17 map_contains 10239 -> true; within 34 map_range 10239 -> 1
+within 17 map_remove 10239 -> 10239; within 17 map_insert 10239 -> none
+";
 
 #[test]
 fn few_comparisons_in_a_multimap(rt: HostRuntime) -> Result<(), Fail> {
-    let asked = Cell::new(0);
-    let mut map = many_numbered(rt.alloc(), &asked)?;
-    assert_eq!(rt; map.node_count(), 19);
-    for key in [0, 5119, 10239] {
-        let sought = Counted { key, asked: &asked };
-        let next = Counted {
-            key: key + 1,
-            asked: &asked,
-        };
-        asked.set(0);
-        let values = map.get(&sought).len();
-        let get = asked.replace(0);
-        let numbers = map.raw_get(&sought).count();
-        let raw_get = asked.replace(0);
-        let held = map.contains_key(&sought);
-        let contains = asked.replace(0);
-        let count = map.range((Included(&sought), Excluded(&next))).len();
-        let range = asked.replace(0);
-        let other = map.remove(&sought, &(key + 1))?;
-        let keep = asked.replace(0);
-        let removed = map.remove(&sought, &key)?;
-        let remove = asked.replace(0);
-        let absent = map.get(&sought).len();
-        let miss = asked.replace(0);
-        let old = map.insert(sought, key)?;
-        let insert = asked.get();
-        let gone = other.is_none() && removed.is_some() && old.is_none();
-        assert!(rt;
-            values == 1 && numbers == 1 && held && count == 1 && absent == 0 && gone,
-            "of {key}"
-        );
-        let reads = get <= 17 && raw_get <= 17 && contains <= 17 && range <= 34;
-        let few = keep <= 17 && remove <= 17 && miss <= 17 && insert <= 34;
-        assert!(rt; reads && few, "of {key}: {get} {raw_get} {keep} {remove}");
-    }
-    Ok(())
+    play_counts(rt.alloc(), MULTI)
 }
+
+const MULTI: &str = "
+multi_nodes -> 19
+within 17 multi_get 0 -> 1; within 17 multi_raw_get 0 -> 1; within 17 multi_contains 0 -> true
+within 34 multi_range 0 -> 1; within 17 multi_remove 0 1 -> none; within 17 multi_remove 0 0 -> 0
+within 17 multi_get 0 -> 0; within 34 multi_insert 0 0 -> none
+within 17 multi_get 5119 -> 1; within 17 multi_raw_get 5119 -> 1; within 17 multi_contains 5119 -> true
+within 34 multi_range 5119 -> 1; within 17 multi_remove 5119 5120 -> none; within 17 multi_remove 5119 5119 -> 5119
+within 17 multi_get 5119 -> 0; within 34 multi_insert 5119 5119 -> none
+within 17 multi_get 10239 -> 1; within 17 multi_raw_get 10239 -> 1; within 17 multi_contains 10239 -> true
+within 34 multi_range 10239 -> 1; within 17 multi_remove 10239 10240 -> none; within 17 multi_remove 10239 10239 -> 10239
+within 17 multi_get 10239 -> 0; within 34 multi_insert 10239 10239 -> none
+";
 
 #[test]
 fn few_comparisons_for_a_first_pair(rt: HostRuntime) -> Result<(), Fail> {
-    let asked = Cell::new(0);
-    let mut map = many_numbered(rt.alloc(), &asked)?;
-    for key in [0, 5119, 10239] {
-        let sought = Counted { key, asked: &asked };
-        asked.set(0);
-        let some = map.remove_some(&sought)?;
-        let remove = asked.replace(0);
-        assert!(rt; some.is_some() && remove <= 17, "of {key}: {remove}");
-    }
-    Ok(())
+    play_counts(rt.alloc(), FIRST_PAIR)
 }
+
+const FIRST_PAIR: &str = "
+within 17 multi_remove_some 0 -> 0
+within 17 multi_remove_some 5119 -> 5119
+within 17 multi_remove_some 10239 -> 10239
+";
 
 #[test]
 fn few_comparisons_in_a_replica(rt: HostRuntime) -> Result<(), Fail> {
-    let asked = Cell::new(0);
-    let set = many(rt.alloc(), &asked)?;
-    let mut nodes = Vec::new(rt.alloc());
-    for node in set.iter_nodes() {
-        nodes.push(node.clone()?)?;
-    }
-    assert_eq!(rt; nodes.len(), 19);
-    let replica = Replica::from_nodes(nodes, 0)?;
-    for key in [0, 5119, 10239] {
-        let sought = Counted { key, asked: &asked };
-        asked.set(0);
-        let found = replica.get(&sought).is_some_and(|found| found.key == key);
-        let get = asked.replace(0);
-        let held = replica.contains(&sought);
-        assert!(rt;
-            found && held && get <= 17 && asked.get() <= 17,
-            "of {key}: {get}"
-        );
-    }
-    Ok(())
+    play_counts(rt.alloc(), REPLICA)
 }
 
-// The same pairs, and of the key 5119 six hundred in all.
-fn with_more(alloc: Global, asked: &Cell<u64>) -> Result<MultiMap<'_>, Refusal> {
-    let mut map = many_numbered(alloc, asked)?;
-    for value in 20_000..20_599 {
-        map.insert(Counted { key: 5119, asked }, value)?;
-    }
-    Ok(map)
-}
+const REPLICA: &str = "
+copy; replica_nodes -> 19
+within 17 replica_get 0 -> 0; within 17 replica_contains 0 -> true
+within 17 replica_get 5119 -> 5119; within 17 replica_contains 5119 -> true
+within 17 replica_get 10239 -> 10239; within 17 replica_contains 10239 -> true
+";
 
 #[test]
 fn few_comparisons_more_for_many_pairs_of_a_key(rt: HostRuntime) -> Result<(), Fail> {
-    let asked = Cell::new(0);
-    let map = with_more(rt.alloc(), &asked)?;
-    let sought = Counted {
-        key: 5119,
-        asked: &asked,
-    };
-    asked.set(0);
-    let found = map.get(&sought).len();
-    let get = asked.get();
-    assert!(rt; found == 600 && get <= 60, "{found} {get}");
-    Ok(())
+    play_counts(rt.alloc(), MANY_PAIRS)
 }
+
+// Of the key 5119 six hundred pairs in all.
+const MANY_PAIRS: &str = "
+each 20000..20599: multi_insert 5119 @ -> none
+within 60 multi_get 5119 -> 600
+";

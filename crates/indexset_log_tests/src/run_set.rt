@@ -1,66 +1,101 @@
 //! Worked examples of lists of commands to a set.
 
+use crate::commands::{Command, Reply, read_commands, tell_replies};
+use crate::play::item::read_items;
 use indexset_bench::set_run::{SetCommand, SetReply, run_set};
 use indexset_set::BTreeSet;
+use indexset_tests::script::{Stop, Subject, play, read, tell, tell_option};
+use std::alloc::Global;
+use std::str::SplitWhitespace;
 use std::test::Fail;
 
-/// Each command and its reply.
-const ROWS: [(SetCommand<u64>, SetReply<u64>); 21] = [
-    (SetCommand::Insert(20), SetReply::Flag(true)),
-    (SetCommand::Insert(30), SetReply::Flag(true)),
-    (SetCommand::Insert(10), SetReply::Flag(true)),
-    (SetCommand::Insert(40), SetReply::Flag(true)),
-    (SetCommand::Insert(30), SetReply::Flag(false)),
-    (SetCommand::Remove(20), SetReply::Flag(true)),
-    (SetCommand::Contains(20), SetReply::Flag(false)),
-    (SetCommand::Replace(50), SetReply::Item(None)),
-    (SetCommand::Replace(30), SetReply::Item(Some(30))),
-    (SetCommand::Take(30), SetReply::Item(Some(30))),
-    (SetCommand::Get(40), SetReply::Item(Some(40))),
-    (SetCommand::LowerBound(11), SetReply::Item(Some(40))),
-    (SetCommand::GetIndex(2), SetReply::Item(Some(50))),
-    (SetCommand::GetIndex(3), SetReply::Item(None)),
-    (SetCommand::First, SetReply::Item(Some(10))),
-    (SetCommand::Last, SetReply::Item(Some(50))),
-    (SetCommand::Rank(41), SetReply::Count(2)),
-    (SetCommand::Len, SetReply::Count(3)),
-    (SetCommand::PopFirst, SetReply::Item(Some(10))),
-    (SetCommand::PopLast, SetReply::Item(Some(50))),
-    (SetCommand::Get(50), SetReply::Item(None)),
-];
+impl Command for SetCommand<u64> {
+    fn of_name(name: &str, words: &mut SplitWhitespace<'_>) -> Result<Self, Stop> {
+        Ok(match name {
+            "insert" => SetCommand::Insert(read(words)?),
+            "remove" => SetCommand::Remove(read(words)?),
+            "contains" => SetCommand::Contains(read(words)?),
+            "replace" => SetCommand::Replace(read(words)?),
+            "take" => SetCommand::Take(read(words)?),
+            "get" => SetCommand::Get(read(words)?),
+            "lower_bound" => SetCommand::LowerBound(read(words)?),
+            "get_index" => SetCommand::GetIndex(read(words)?),
+            "first" => SetCommand::First,
+            "last" => SetCommand::Last,
+            "pop_first" => SetCommand::PopFirst,
+            "pop_last" => SetCommand::PopLast,
+            "rank" => SetCommand::Rank(read(words)?),
+            "len" => SetCommand::Len,
+            "clear" => SetCommand::Clear,
+            _ => return Err(Stop::Word),
+        })
+    }
+}
+
+impl Reply for SetReply<u64> {
+    fn tell_reply(self, answer: &mut String) -> Result<(), Stop> {
+        match self {
+            SetReply::Flag(is_so) => tell(answer, is_so),
+            SetReply::Item(item) => tell_option(answer, item),
+            SetReply::Count(count) => tell(answer, count),
+            SetReply::Done => tell(answer, "done"),
+        }
+    }
+}
+
+/// A set that takes lists of commands.
+#[derive(Drop)]
+struct Runs {
+    alloc: Global,
+    set: BTreeSet<u64>,
+}
+
+impl Subject for Runs {
+    fn call(
+        &mut self,
+        name: &str,
+        words: &mut SplitWhitespace<'_>,
+        answer: &mut String,
+    ) -> Result<(), Stop> {
+        match name {
+            "from" => {
+                let items = read_items(self.alloc, words)?;
+                self.set = BTreeSet::from(self.alloc, items)?;
+                Ok(())
+            }
+            "run" => {
+                let commands = read_commands(self.alloc, words)?;
+                let run = run_set(self.alloc, &mut self.set, commands);
+                tell_replies(answer, run.replies)?;
+                Ok(run.refused.map_or(Ok(()), Err)?)
+            }
+            "len" => tell(answer, self.set.len()),
+            "get_index" => tell_option(answer, self.set.get_index(read(words)?)),
+            _ => Err(Stop::NoCall),
+        }
+    }
+}
 
 #[test]
 fn each_command_once(rt: HostRuntime) -> Result<(), Fail> {
-    let mut set = BTreeSet::with_maximum_node_size(rt.alloc(), 2)?;
-    let mut commands = Vec::new(rt.alloc());
-    let mut expected = Vec::new(rt.alloc());
-    for (command, reply) in ROWS {
-        commands.push(command)?;
-        expected.push(reply)?;
-    }
-    let run = run_set(rt.alloc(), &mut set, commands);
-    let left = set.len() == 1 && set.get_index(0) == Some(&40);
-    assert!(rt; run.refused.is_none() && run.replies == expected && left);
-    Ok(())
+    let set = BTreeSet::with_maximum_node_size(rt.alloc(), 2)?;
+    let alloc = rt.alloc();
+    play(rt.alloc(), &mut Runs { alloc, set }, EACH_COMMAND)
 }
 
-#[test]
-fn clear_leaves_nothing(rt: HostRuntime) -> Result<(), Fail> {
-    let mut set = BTreeSet::from(rt.alloc(), vec![in rt.alloc(); 2u64, 1]?)?;
-    let commands = vec![in rt.alloc(); SetCommand::Clear, SetCommand::Len]?;
-    let run = run_set(rt.alloc(), &mut set, commands);
-    let expected = vec![in rt.alloc(); SetReply::Done, SetReply::Count(0)]?;
-    assert!(rt; run.refused.is_none() && run.replies == expected && set.is_empty());
-    Ok(())
-}
-
-#[test]
-fn no_commands(rt: HostRuntime) -> Result<(), Fail> {
-    let mut set = BTreeSet::from(rt.alloc(), vec![in rt.alloc(); 2u64, 1]?)?;
-    let run = run_set(rt.alloc(), &mut set, Vec::new(rt.alloc()));
-    assert!(rt; run.refused.is_none() && run.replies.is_empty() && set.len() == 2);
-    Ok(())
-}
+const EACH_COMMAND: &str = "
+run insert(20) insert(30) insert(10) insert(40) insert(30) -> true true true true false
+run remove(20) contains(20) replace(50) replace(30) take(30) -> true false none 30 30
+run get(40) lower_bound(11) get_index(2) get_index(3) first last -> 40 40 50 none 10 50
+run rank(41) len pop_first pop_last get(50) -> 2 3 10 50 none
+len -> 1; get_index 0 -> 40
+# none is left
+from 2 1
+run clear len -> done 0; len -> 0
+# no commands
+from 2 1
+run ->; len -> 2
+";
 
 #[test]
 fn a_thousand_commands(rt: HostRuntime) -> Result<(), Fail> {

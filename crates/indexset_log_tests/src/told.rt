@@ -3,7 +3,7 @@
 use indexset_core::multipair::MultiPair;
 use indexset_core::node::NodeLike;
 use indexset_core::pair::Pair;
-use indexset_log::change::{ChangeEvent, Id};
+use indexset_log::change::ChangeEvent;
 use indexset_log::set::nodes::Nodes;
 use indexset_tests::owned::Owned;
 use indexset_tests::tagged::Tagged;
@@ -28,12 +28,6 @@ pub trait Typed {
     fn plain(&self) -> Self::Plain;
 }
 
-/// An item that its plain value makes.
-pub trait Made: Typed {
-    /// The item of the plain value.
-    fn item(plain: Self::Plain) -> Self;
-}
-
 impl Typed for u64 {
     type Plain = u64;
 
@@ -42,23 +36,11 @@ impl Typed for u64 {
     }
 }
 
-impl Made for u64 {
-    fn item(plain: u64) -> u64 {
-        plain
-    }
-}
-
 impl Typed for Tagged {
     type Plain = (u64, char);
 
     fn plain(&self) -> (u64, char) {
         (self.key, self.tag)
-    }
-}
-
-impl Made for Tagged {
-    fn item((key, tag): (u64, char)) -> Tagged {
-        Tagged { key, tag }
     }
 }
 
@@ -94,12 +76,6 @@ impl Typed for Pair<u64, char> {
     }
 }
 
-impl Made for Pair<u64, char> {
-    fn item((key, value): (u64, char)) -> Pair<u64, char> {
-        Pair { key, value }
-    }
-}
-
 impl Typed for MultiPair<u64, char> {
     type Plain = (u64, u64, char);
 
@@ -108,14 +84,8 @@ impl Typed for MultiPair<u64, char> {
     }
 }
 
-impl Made for MultiPair<u64, char> {
-    fn item((key, number, value): (u64, u64, char)) -> MultiPair<u64, char> {
-        MultiPair::new(key, value, number)
-    }
-}
-
 /// The short form of an event.
-pub fn shown<T: Typed>(event: &ChangeEvent<T>) -> Told<T::Plain> {
+fn shown<T: Typed>(event: &ChangeEvent<T>) -> Told<T::Plain> {
     let id = event.id().inner();
     match event {
         ChangeEvent::InsertAt {
@@ -142,42 +112,6 @@ pub fn shown<T: Typed>(event: &ChangeEvent<T>) -> Told<T::Plain> {
             next_max_value,
             ..
         } => Told::Merge(id, max_value.plain(), next_max_value.plain()),
-    }
-}
-
-/// The event whose short form this is.
-pub fn event<T: Made>(told: Told<T::Plain>) -> ChangeEvent<T> {
-    match told {
-        Told::Create(id, last) => ChangeEvent::CreateNode {
-            event_id: Id::from(id),
-            max_value: T::item(last),
-        },
-        Told::Leave(id, last) => ChangeEvent::RemoveNode {
-            event_id: Id::from(id),
-            max_value: T::item(last),
-        },
-        Told::Insert(id, last, value, index) => ChangeEvent::InsertAt {
-            event_id: Id::from(id),
-            max_value: T::item(last),
-            value: T::item(value),
-            index,
-        },
-        Told::Remove(id, last, value, index) => ChangeEvent::RemoveAt {
-            event_id: Id::from(id),
-            max_value: T::item(last),
-            value: T::item(value),
-            index,
-        },
-        Told::Split(id, last, split_index) => ChangeEvent::SplitNode {
-            event_id: Id::from(id),
-            max_value: T::item(last),
-            split_index,
-        },
-        Told::Merge(id, last, next_last) => ChangeEvent::MergeNodes {
-            event_id: Id::from(id),
-            max_value: T::item(last),
-            next_max_value: T::item(next_last),
-        },
     }
 }
 

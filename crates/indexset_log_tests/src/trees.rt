@@ -1,27 +1,23 @@
-//! Logged sets of numbers, and where an item stands.
-ghost use Rattle.std.specs.Prelude.{◌≤◌, ◌<◌, length, IfOk};
+//! Where an item of a logged set stands.
+ghost use Rattle.std.specs.Prelude.{◌<◌, length, IfOk};
 ghost use Rattle.indexset_core.specs.Nodes.{node_at};
+ghost use Rattle.indexset_core.specs.Places.{IsPlace};
 
 use indexset_core::node::NodeLike;
 use indexset_core::probe::ByItem;
-use indexset_core::refusal::Refusal;
 use indexset_log::set::BTreeSet;
-use std::alloc::Global;
+use std::ops::Bound::Included;
 
-/// The tree of these values, inserted one after another.
-pub fn tree_of<Node: NodeLike<u64>>(
-    alloc: Global,
-    size: usize,
-    values: &[u64],
-) -> Result<BTreeSet<u64, Node>, Refusal>
-    requires two { 2 ≤ size }
-    requires within { size ≤ Node.most }
+/// The place before the first item that is not below this one.
+pub fn start_of<T: Ord + Clone + Drop, Node: NodeLike<T>>(
+    tree: &BTreeSet<T, Node>,
+    value: &T,
+) -> (usize, usize)
+    ensures { IsPlace tree.now.nodes result }
 {
-    let mut tree = BTreeSet::with_maximum_node_size(alloc, size);
-    for value in values {
-        tree.insert(*value)?;
-    }
-    Ok(tree)
+    // Tells that the nodes are lawful.
+    let _nodes = tree.node_count();
+    tree.place_from(Included(ByItem::new(value)))
 }
 
 /// Where an item stands: its node, and the place there.

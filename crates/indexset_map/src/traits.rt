@@ -46,10 +46,10 @@ impl<K: Ord + Drop, V: Drop> FromIterator<(K, V)> for BTreeMap<K, V> {
         alloc: Global,
         iter: I,
     ) -> Result<Self, AllocError> {
-        let rest = iter.into_iter();
-        let mut map = BTreeMap::new(alloc).map_err(|_| AllocError)?;
-        map.extend(rest)?;
-        Ok(map)
+        match BTreeMap::from_iter(alloc, iter) {
+            Ok(map) => Ok(map),
+            Err(_) => Err(AllocError),
+        }
     }
 }
 

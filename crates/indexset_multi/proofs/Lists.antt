@@ -32,7 +32,7 @@ not_tied Greater h = refl
 unequal : (a : Ordering) → is_eq a ≡ false → a ≡ Equal → ⊥
 unequal a e same = true≢false (sym (ap is_eq same) ∙ e)
 
-any_each : {X : Type 0} (l : List X) → Each (λ x. Unit {0}) l
+pub any_each : {X : Type 0} (l : List X) → Each (λ x. Unit {0}) l
 any_each [] = tt
 any_each (x ∷ l) = (tt, any_each l)
 

@@ -1,19 +1,28 @@
--- The removal of a pair by its place, as the map's contract sees it.
-use Rattle.std.proofs.Common.{◌≡◌, ℕ, ◌+◌, zero, suc, ◌<◌, ◌≤◌, List, [], ◌∷◌, length, Option, None, Some, Ordering, slice_get, refl, ap, sym, ◌∙◌, subst, arith}
+-- What one equation says of the removal of a pair.
+use Rattle.std.proofs.Common.{◌≡◌, ℕ, ◌+◌, ◌/◌, zero, suc, ◌<◌, ◌≤◌, List, [], ◌∷◌, length, Option, None, Some, Result, Ok, Err, OnOk, OnErr, Ordering, slice_get, refl, ap, sym, ◌∙◌, subst, arith}
 use Rattle.std.specs.Cmp.{IsTotalOrder}
 use Rattle.std.specs.Option.{unwrap_or}
 use Rattle.indexset_core.specs.declared.multipair.MultiPair.{MultiPair}
 use Rattle.indexset_core.specs.MultiPairs.{by_number}
 use Rattle.indexset_core.specs.Nodes.{joined, node_at, IsLawful}
 use Rattle.indexset_log.specs.declared.change.ChangeEventUnassigned.{ChangeEventUnassigned}
+use Rattle.indexset_log.specs.Edits.{after_taken}
+use Rattle.indexset_log.specs.Edits.{after_removal as after_item_removal}
+use Rattle.indexset_log.specs.Joining.{IsSpaced}
 use Rattle.indexset_log.specs.Replay.{replay, numbered_from}
 use Rattle.indexset_log.specs.Table.{taking_count, taking_events}
-use Rattle.indexset_log.proofs.CallerLemmas.{place_contents, place_events, removal_few, taking_length}
+use Rattle.indexset_log.specs.Tree.{IsTree, Tree}
+use Rattle.indexset_log.proofs.CallerLemmas.{Changed, Leads, nothing_leads, place_events, removal_changed, removal_few, removal_leads, taking_length, unchanged}
 use Rattle.indexset_multi.specs.Keys.{AreNumberedBelow, without_named}
 use Rattle.indexset_multi.specs.Places.{IsItemPlace, placed_item}
 use Rattle.indexset_multi.specs.Tree.{MultiTree, after_removal, pair_removal_events}
 use Rattle.indexset_multi.proofs.Below.{below_without}
+use Rattle.indexset_multi.proofs.Lists.{any_each}
 use Rattle.indexset_multi.proofs.Numbers.{numbers_total}
+
+-- the tree of the set that a multimap is
+abbrev pub set_tree : {K V : Type 0} → MultiTree K V → Tree (MultiPair K V)
+set_tree m = record { nodes = m.nodes; size = m.size; next = m.next }
 
 pub pair_removal_few : {K V : Type 0} (cmp : K → K → Ordering) (size : ℕ) (ns : List (List (MultiPair K V))) (pair : Option (MultiPair K V)) → length (pair_removal_events cmp size ns pair) ≤ 3
 pair_removal_few cmp size ns None = omega arith
@@ -32,24 +41,70 @@ some_read [] i lt = absurd (omega arith)
 some_read (x ∷ xs) zero lt = (x, refl)
 some_read (x ∷ xs) (suc i) lt = some_read xs i (omega arith)
 
+module _ {K V : Type 0} {cmp : K → K → Ordering} (o : IsTotalOrder cmp) (old : MultiTree K V) {most len : ℕ} (t : IsTree (by_number cmp) most old.nodes old.size len) where
+  -- the events lead to lawful nodes
+  pair_leads : (pair : Option (MultiPair K V)) → Leads (by_number cmp) (λ p. Unit {0}) old.size old.next old.nodes (pair_removal_events cmp old.size old.nodes pair)
+  pair_leads None = nothing_leads (by_number cmp) (numbers_total cmp o) (λ p. Unit {0}) old.size old.next t.two old.nodes t.lawful (any_each (joined old.nodes))
+  pair_leads (Some p) = removal_leads (by_number cmp) (numbers_total cmp o) (λ p. Unit {0}) old.size old.next t.two old.nodes t.lawful (any_each (joined old.nodes)) p
+
+  module _ (pair : Option (MultiPair K V)) {new : MultiTree K V} (e : new ≡ after_removal cmp old pair) where
+    pub pair_changed : Changed (by_number cmp) (set_tree old) (set_tree new) (without_named cmp (joined old.nodes) pair) (pair_removal_events cmp old.size old.nodes pair)
+    pair_changed = at pair e
+      where
+        at : (pair : Option (MultiPair K V)) → new ≡ after_removal cmp old pair → Changed (by_number cmp) (set_tree old) (set_tree new) (without_named cmp (joined old.nodes) pair) (pair_removal_events cmp old.size old.nodes pair)
+        at None e =
+            let nodes : new.nodes ≡ old.nodes = ap (λ t. t.nodes) e in
+            let size : new.size ≡ old.size = ap (λ t. t.size) e in
+            let next : new.next ≡ old.next = omega (arith, ap (λ t. t.next) e) in
+            unchanged (by_number cmp) (set_tree old) (set_tree new) (λ i. record { nodes = nodes i; size = size i; next = next i })
+        at (Some p) e =
+            let after = after_item_removal (by_number cmp) (set_tree old) p in
+            let d = removal_changed {old = set_tree old} {new = after} (numbers_total cmp o) t p refl in
+            let nodes : new.nodes ≡ after.nodes = ap (λ t. t.nodes) e ∙ ap (λ r. unwrap_or r old.nodes) d.table in
+            let size : new.size ≡ after.size = ap (λ t. t.size) e ∙ sym d.size in
+            let next : new.next ≡ after.next = ap (λ t. t.next) e ∙ sym d.next in
+            removal_changed {old = set_tree old} {new = set_tree new} (numbers_total cmp o) t p (λ i. record { nodes = nodes i; size = size i; next = next i })
+
+    pub pair_tree : IsTree (by_number cmp) most new.nodes new.size (length (joined new.nodes))
+    pair_tree =
+        let leads = pair_leads pair in
+        let nodes : new.nodes ≡ leads.after = ap (λ t. t.nodes) e ∙ ap (λ r. unwrap_or r old.nodes) leads.replayed in
+        let size : new.size ≡ old.size = ap (λ t. t.size) e in
+        record { lawful = rw (nodes, size) leads.lawful; two = rw size t.two; within = rw size t.within; counted = refl }
+
+    pub pair_below : (n : ℕ) → AreNumberedBelow n (joined old.nodes) → AreNumberedBelow n (joined new.nodes)
+    pair_below n below = let d = pair_changed in rw d.contents (at pair)
+      where
+        at : (pair : Option (MultiPair K V)) → AreNumberedBelow n (without_named cmp (joined old.nodes) pair)
+        at None = below
+        at (Some p) = below_without (by_number cmp) n (joined old.nodes) p below
+
+-- what callers learn of a call that removes the pair, or is refused and changes nothing
+pub record Removed {K V A E : Type 0} (cmp : K → K → Ordering) (old new : MultiTree K V) (pair : Option (MultiPair K V)) (r : Result A E) : Type 0 where
+  pub changed : OnOk r (Changed (by_number cmp) (set_tree old) (set_tree new) (without_named cmp (joined old.nodes) pair) (pair_removal_events cmp old.size old.nodes pair))
+  pub size : new.size ≡ old.size
+  pub pair_next : new.pair_next ≡ old.pair_next
+  pub spaced : IsSpaced (old.size / 2) old.nodes → IsSpaced (new.size / 2) new.nodes
+
+pub removed : {K V A E : Type 0} {cmp : K → K → Ordering} {most len : ℕ} {old new : MultiTree K V} → IsTotalOrder cmp → IsTree (by_number cmp) most old.nodes old.size len → (pair : Option (MultiPair K V)) (r : Result A E) → OnOk r (new ≡ after_removal cmp old pair) → OnErr r (new ≡ old) → Removed cmp old new pair r
+removed {old = old} o t pair (Ok x) e same = let d = pair_changed o old t pair e in record { changed = d; size = d.size; pair_next = ap (λ t. t.pair_next) e; spaced = d.spaced }
+removed o t pair (Err x) e same = record { changed = tt; size = ap (λ t. t.size) same; pair_next = ap (λ t. t.pair_next) same; spaced = subst (λ t. IsSpaced (t.size / 2) t.nodes) (sym same) }
+
+-- the removal of the pair at a place, as the set's contract says it
 module _ {K V : Type 0} (cmp : K → K → Ordering) where
-  -- the events that the contract names for the removal of the pair at a place
   abbrev place_removal : MultiTree K V → Option (ℕ × ℕ) → List (ChangeEventUnassigned (MultiPair K V))
   place_removal m place = pair_removal_events cmp m.size m.nodes (placed_item m.nodes place)
 
-  -- a removal from nodes ns, whose first event has the number s, made a map m hold the nodes after
-  pub record Taken (size : ℕ) (ns : List (List (MultiPair K V))) (s : ℕ) (m : MultiTree K V) (place : Option (ℕ × ℕ)) (p : ℕ × ℕ) (x : MultiPair K V) (after : List (List (MultiPair K V))) : Type 0 where
+  pub record Taken (size : ℕ) (ns : List (List (MultiPair K V))) (s pair_next : ℕ) (m : MultiTree K V) (place : Option (ℕ × ℕ)) (p : ℕ × ℕ) (x : MultiPair K V) (after : Tree (MultiPair K V)) : Type 0 where
     pub told : numbered_from s (taking_events size ns p.0 p.1 x) ≡ numbered_from m.next (place_removal m place)
-    pub replayed : replay (by_number cmp) m.nodes (numbered_from m.next (place_removal m place)) ≡ Some after
-    pub contents : joined after ≡ without_named cmp (joined m.nodes) (placed_item m.nodes place)
-    pub below : (n : ℕ) → AreNumberedBelow n (joined ns) → AreNumberedBelow n (joined after)
+    pub tree : (let t : MultiTree K V = record { nodes = after.nodes; size = after.size; next = after.next; pair_next = pair_next } in t) ≡ after_removal cmp m (placed_item m.nodes place)
 
-  module _ (o : IsTotalOrder cmp) {ns : List (List (MultiPair K V))} {size next pair_next : ℕ} {m : MultiTree K V} (seen : (let t : MultiTree K V = record { nodes = ns; size = size; next = next; pair_next = pair_next } in t) ≡ m) (law : IsLawful (by_number cmp) size ns) {place : Option (ℕ × ℕ)} {p : ℕ × ℕ} (is : place ≡ Some p) (at : IsItemPlace m.nodes place) where
-    same : ns ≡ m.nodes
-    same = ap (λ (t : MultiTree K V). t.nodes) seen
+  module _ (o : IsTotalOrder cmp) {most len : ℕ} {ns : List (List (MultiPair K V))} {size next pair_next : ℕ} {m : MultiTree K V} (seen : (let t : MultiTree K V = record { nodes = ns; size = size; next = next; pair_next = pair_next } in t) ≡ m) (rule : IsTree (by_number cmp) most m.nodes m.size len) {place : Option (ℕ × ℕ)} {p : ℕ × ℕ} (is : place ≡ Some p) (at : IsItemPlace m.nodes place) where
+    law : IsLawful (by_number cmp) size ns
+    law = subst (λ (t : MultiTree K V). IsLawful (by_number cmp) t.size t.nodes) (sym seen) rule.lawful
 
     inside : (p.0 < length ns) × (p.1 < length (node_at ns p.0))
-    inside = rw is at (rw (← same) at at)
+    inside = rw is at (subst (λ (t : MultiTree K V). IsItemPlace t.nodes place) (sym seen) at)
 
     module _ {x : MultiPair K V} (here : slice_get (node_at ns p.0) p.1 ≡ Some x) where
       item : placed_item ns place ≡ Some x
@@ -58,17 +113,16 @@ module _ {K V : Type 0} (cmp : K → K → Ordering) where
       events : pair_removal_events cmp size ns (placed_item ns place) ≡ taking_events size ns p.0 p.1 x
       events = rw item (place_events (by_number cmp) (numbers_total cmp o) size ns law p inside.0 x here)
 
-      pub taken : {after : List (List (MultiPair K V))} → replay (by_number cmp) ns (numbered_from next (taking_events size ns p.0 p.1 x)) ≡ Some after → Taken size ns next m place p x after
-      taken {after = after} h =
-          let left = place_contents (by_number cmp) (numbers_total cmp o) size ns law p inside.0 x here next after h in
-          subst (λ (t : MultiTree K V). Taken size ns next t place p x after) seen (record {
-            told = ap (numbered_from next) (sym events);
-            replayed = rw events h;
-            contents = rw item left;
-            below = λ n below. rw left (below_without (by_number cmp) n (joined ns) x below);
-          })
+      count : length (pair_removal_events cmp size ns (placed_item ns place)) ≡ taking_count size ns p.0 p.1
+      count = ap (λ l. length l) events ∙ taking_length size ns p.0 p.1 x
+
+      pub taken : {after : Tree (MultiPair K V)} → after ≡ after_taken (record { nodes = ns; size = size; next = next }) p.0 p.1 → replay (by_number cmp) ns (numbered_from next (taking_events size ns p.0 p.1 x)) ≡ Some after.nodes → Taken size ns next pair_next m place p x after
+      taken {after = after} made h = subst (λ (t : MultiTree K V). Taken size ns next pair_next t place p x after) seen (record {
+        told = ap (numbered_from next) (sym events);
+        tree = removal_tree cmp (record { nodes = ns; size = size; next = next; pair_next = pair_next }) (placed_item ns place) (rw events h) (ap (λ t. t.size) made) (ap (λ t. t.next) made ∙ ap (λ c. next + c) (sym count)) refl;
+      })
 
     pub taken_count : length (place_removal m place) ≡ taking_count size ns p.0 p.1
     taken_count =
         let there = some_read (node_at ns p.0) p.1 inside.1 in
-        subst (λ (t : MultiTree K V). length (place_removal t place) ≡ taking_count size ns p.0 p.1) seen (ap (λ l. length l) (events there.1) ∙ taking_length size ns p.0 p.1 there.0)
+        subst (λ (t : MultiTree K V). length (place_removal t place) ≡ taking_count size ns p.0 p.1) seen (count there.1)

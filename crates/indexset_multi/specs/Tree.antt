@@ -1,5 +1,5 @@
 -- What a multimap is, and what an insertion and a removal make of it.
-use Rattle.std.specs.Prelude.{◌≡◌, ℕ, ◌+◌, ◌==◌, ◌&&◌, length, Bool, List, [], Option, Some, is_none, if◌then◌else◌}
+use Rattle.std.specs.Prelude.{◌≡◌, ℕ, zero, suc, ◌+◌, ◌==◌, ◌&&◌, length, Bool, List, [], Option, Some, is_none, if◌then◌else◌}
 use Rattle.std.below.core.specs.declared.int.u64.TheConstants.{MAX}
 use Rattle.std.specs.Option.{option_map_or, unwrap_or}
 use Rattle.std.specs.declared.cmp.Ordering.{Ordering}
@@ -14,7 +14,7 @@ use Rattle.indexset_log.specs.Edits.{with_put}
 use Rattle.indexset_log.specs.Replay.{replay, numbered_from, IsNumberedFrom}
 use Rattle.indexset_log.specs.Table.{put_events, removal_events}
 use Rattle.indexset_log.specs.Tree.{refusal_for}
-use Rattle.indexset_multi.specs.Keys.{kept_number}
+use Rattle.indexset_multi.specs.Keys.{first_pair, kept_number}
 
 -- its nodes, their greatest size, the number of the next event, and that of the next new pair
 pub record MultiTree (K V : Type 0) : Type 0 where
@@ -37,6 +37,11 @@ after_removal cmp m pair =
       next = m.next + length events;
       pair_next = m.pair_next;
     }
+
+-- the tree after the first pair of the key is removed, n times
+abbrev pub after_removals : {K V : Type 0} → (K → K → Ordering) → MultiTree K V → K → ℕ → MultiTree K V
+after_removals cmp m k zero = m
+after_removals cmp m k (suc n) = let t = after_removals cmp m k n in after_removal cmp t (first_pair cmp (joined t.nodes) k)
 
 -- the events, numbered from the first's next one, lead from its nodes to the second's, whose next number comes after them
 pub record IsLedBy {K V : Type 0} (cmp : K → K → Ordering) (m n : MultiTree K V) (events : List (ChangeEvent (MultiPair K V))) : Type 0 where

@@ -4,6 +4,7 @@ ghost use Rattle.std.specs.Map.Iter.{ShowsInOrder, ShowsInReverse, deref};
 ghost use Rattle.indexset_core.specs.MultiPairs.{by_number};
 ghost use Rattle.indexset_core.specs.Nodes.{joined, IsLawful};
 ghost use Rattle.indexset_log.specs.Located.{located};
+ghost use Rattle.indexset_log.specs.Tree.{IsTree};
 ghost use Rattle.indexset_multi.specs.Keys.{AreNumberedBelow, has_pair_of};
 
 mod attach;
@@ -149,6 +150,16 @@ impl<K: Ord + Clone + Drop, V: Eq + Clone + Drop, Node: NodeLike<MultiPair<K, V>
         ensures { result ≡ has_pair_of K.cmp (joined self.now.nodes) key.now }
     {
         self.locate(key).is_ok()
+    }
+
+    // Says what holds of the nodes, and that the counter fits.
+    fn rule(&self)
+        ensures tree { IsTree (by_number K.cmp) Node.most self.now.nodes self.now.size (length (joined self.now.nodes)) }
+        ensures number { self.now.next ≤ u64.MAX }
+    {
+        let _nodes = self.set.node_count();
+        let _size = self.set.maximum_node_size();
+        let _next = self.set.events_issued();
     }
 
     // Returns where a search for a key ends.

@@ -6,7 +6,7 @@ ghost use Rattle.std.specs.Range.Bound.{bound_map};
 ghost use Rattle.indexset_core.specs.Bounds.{are_ordered, in_range, is_before, is_up_to_end};
 ghost use Rattle.indexset_core.specs.Nodes.{joined, node_lengths, IsNodeList, vec_items};
 ghost use Rattle.indexset_core.specs.Parted.{IsParted, less_count};
-ghost use Rattle.indexset_log.specs.Places.{IsPlace, items_before};
+ghost use Rattle.indexset_core.specs.Places.{IsPlace, items_before};
 
 use super::Replica;
 use super::iter::Iter;

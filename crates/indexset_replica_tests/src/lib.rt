@@ -24,6 +24,8 @@ mod multimap_nodes;
 #[cfg(test)]
 mod paths;
 #[cfg(test)]
+mod play;
+#[cfg(test)]
 mod readme;
 #[cfg(test)]
 mod replica;

@@ -1,251 +1,162 @@
 //! Worked examples of the logged map, over either node type.
 
-use indexset_core::array_node::ArrayNode;
-use indexset_core::pair::Pair;
-use indexset_core::refusal::Refused;
-use indexset_log::change::ChangeEvent;
-use indexset_log::map::BTreeMap;
-use indexset_log_tests::told::{Told, Typed, are_events, are_nodes, shown};
-use indexset_replica::Replica;
-use std::alloc::Global;
-use std::ops::Bound::{Excluded, Included, Unbounded};
+use crate::play::maps::{play_map, play_map_of_eight, play_map_of_four, play_map_of_two};
 use std::test::Fail;
-
-type Letters = Pair<u64, char>;
-
-type Map = BTreeMap<u64, char, Vec<Letters>>;
-
-// Whether a full node splits before a put over an item of the half in front.
-macro_rules! splits_and_replaces {
-    ($rt:expr, $node:ty) => {
-        let mut map: BTreeMap<u64, char, $node> = BTreeMap::with_maximum_node_size($rt.alloc(), 4);
-        for (key, value) in [(0, 'a'), (1, 'b'), (2, 'c'), (3, 'd')] {
-            map.insert(key, value)?;
-        }
-        let (old, events) = map.insert_cdc(1, 'x')?;
-        let told = [
-            Told::Split(4, (3, 'd'), 2),
-            Told::Remove(5, (1, 'b'), (1, 'b'), 1),
-            Told::Insert(6, (0, 'a'), (1, 'x'), 1),
-        ];
-        let nodes: [&[(u64, char)]; 2] = [&[(0, 'a'), (1, 'x')], &[(2, 'c'), (3, 'd')]];
-        let replaced = old == Some('b') && are_events(events.as_slice(), &told);
-        assert!($rt; replaced && are_nodes(map.iter_nodes(), &nodes));
-    };
-}
 
 #[test]
 fn a_full_node_splits_before_a_replacement(rt: HostRuntime) -> Result<(), Fail> {
-    splits_and_replaces!(rt, Vec<Letters>);
-    Ok(())
+    play_map(rt.alloc(), A_FULL_NODE)
 }
 
 #[test]
 fn a_full_node_splits_where_nodes_hold_four(rt: HostRuntime) -> Result<(), Fail> {
-    splits_and_replaces!(rt, ArrayNode<Letters, 4>);
-    Ok(())
+    play_map_of_four(rt.alloc(), A_FULL_NODE)
 }
 
 #[test]
 fn a_full_node_splits_where_nodes_hold_eight(rt: HostRuntime) -> Result<(), Fail> {
-    splits_and_replaces!(rt, ArrayNode<Letters, 8>);
-    Ok(())
+    play_map_of_eight(rt.alloc(), A_FULL_NODE)
 }
 
-// Whether a put over the only item of a half makes its node anew.
-macro_rules! splits_to_one {
-    ($rt:expr, $node:ty) => {
-        let mut map: BTreeMap<u64, char, $node> = BTreeMap::with_maximum_node_size($rt.alloc(), 2);
-        map.insert(5, 'a')?;
-        map.insert(6, 'b')?;
-        let (old, events) = map.insert_cdc(5, 'x')?;
-        let told = [
-            Told::Split(2, (6, 'b'), 1),
-            Told::Leave(3, (5, 'a')),
-            Told::Create(4, (5, 'x')),
-        ];
-        let replaced = old == Some('a') && are_events(events.as_slice(), &told);
-        assert!($rt; replaced && are_nodes(map.iter_nodes(), &[&[(5, 'x')], &[(6, 'b')]]));
-    };
-}
+// A full node splits before a put over an item of the half in front.
+const A_FULL_NODE: &str = "
+map 4
+insert 0 a -> none; insert 1 b -> none; insert 2 c -> none; insert 3 d -> none
+insert_cdc 1 x -> b, 4 split 3:d 2, 5 remove 1:b 1:b 1, 6 insert 0:a 1:x 1
+nodes -> [0:a,1:x] [2:c,3:d]
+";
 
 #[test]
 fn a_half_of_one_is_made_anew(rt: HostRuntime) -> Result<(), Fail> {
-    splits_to_one!(rt, Vec<Letters>);
-    Ok(())
+    play_map(rt.alloc(), A_HALF_OF_ONE)
 }
 
 #[test]
 fn a_half_of_one_is_made_anew_where_nodes_hold_two(rt: HostRuntime) -> Result<(), Fail> {
-    splits_to_one!(rt, ArrayNode<Letters, 2>);
-    Ok(())
+    play_map_of_two(rt.alloc(), A_HALF_OF_ONE)
 }
 
-// Whether a checked insert of a key that is there leaves a full node.
-macro_rules! leaves_a_full_node {
-    ($rt:expr, $node:ty) => {
-        let mut map: BTreeMap<u64, char, $node> = BTreeMap::with_maximum_node_size($rt.alloc(), 2);
-        let one = map.checked_insert(1, 'a')?;
-        let two = map.checked_insert(2, 'b')?;
-        let again = map.checked_insert(1, 'x')?;
-        let told = map.checked_insert_cdc(1, 'x')?;
-        let left = are_nodes(map.iter_nodes(), &[&[(1, 'a'), (2, 'b')]]) && map.events_issued() == 2;
-        assert!($rt; one.is_some() && two.is_some() && again.is_none() && told.is_none() && left);
-    };
-}
+// A put over the only item of a half makes its node anew.
+const A_HALF_OF_ONE: &str = "
+map 2
+insert 5 a -> none; insert 6 b -> none
+insert_cdc 5 x -> a, 2 split 6:b 1, 3 drop 5:a, 4 create 5:x
+nodes -> [5:x] [6:b]
+";
 
 #[test]
 fn a_checked_insert_leaves_what_is_there(rt: HostRuntime) -> Result<(), Fail> {
-    leaves_a_full_node!(rt, Vec<Letters>);
-    Ok(())
+    play_map(rt.alloc(), WHAT_IS_THERE)
 }
 
 #[test]
 fn a_checked_insert_leaves_what_is_there_where_nodes_hold_four(
     rt: HostRuntime,
 ) -> Result<(), Fail> {
-    leaves_a_full_node!(rt, ArrayNode<Letters, 4>);
-    Ok(())
+    play_map_of_four(rt.alloc(), WHAT_IS_THERE)
 }
 
-// The letters of the keys 1 to 7, in nodes of three.
-fn letters(alloc: Global) -> Result<Map, Refused<(u64, char)>> {
-    let mut map: Map = BTreeMap::with_maximum_node_size(alloc, 3);
-    for (key, value) in [
-        (1, 'a'),
-        (2, 'b'),
-        (3, 'c'),
-        (4, 'd'),
-        (5, 'e'),
-        (6, 'f'),
-        (7, 'g'),
-    ] {
-        map.insert(key, value)?;
-    }
-    Ok(map)
-}
+// A checked insert of a key that is there leaves a full node.
+const WHAT_IS_THERE: &str = "
+map 2
+checked_insert 1 a -> some; checked_insert 2 b -> some
+checked_insert 1 x -> none; checked_insert_cdc 1 x -> none
+nodes -> [1:a,2:b]; events_issued -> 2
+";
 
 #[test]
 fn ranges_of_letters(rt: HostRuntime) -> Result<(), Fail> {
-    let map = letters(rt.alloc())?;
-    let middle = map.range((Included(&3), Excluded(&5)));
-    let cut = middle.map(|(_, value)| *value).eq(['c', 'd']);
-    let end = map.range((Excluded(&5), Unbounded));
-    assert!(rt; cut && end.rev().map(|(_, value)| *value).eq(['g', 'f']));
-    Ok(())
+    play_map(rt.alloc(), RANGES)
 }
+
+const RANGES: &str = "
+map 3
+insert 1 a -> none; insert 2 b -> none; insert 3 c -> none; insert 4 d -> none
+insert 5 e -> none; insert 6 f -> none; insert 7 g -> none
+range [3 5) -> 3:c 4:d
+range_back (5 .. -> 7:g 6:f
+";
 
 #[test]
 fn walks_of_letters(rt: HostRuntime) -> Result<(), Fail> {
-    let map = letters(rt.alloc())?;
-    let forwards = map.iter().map(|(key, _)| *key).eq(1..8);
-    let backwards = map.iter().rev().map(|(key, _)| *key).eq((1..8).rev());
-    let keys = map.contains_key(&7) && !map.contains_key(&8);
-    assert!(rt; forwards && backwards && keys && map.len() == 7 && map.capacity() >= 7);
-    Ok(())
+    play_map(rt.alloc(), WALKS)
 }
+
+const WALKS: &str = "
+map 3
+insert 1 a -> none; insert 2 b -> none; insert 3 c -> none; insert 4 d -> none
+insert 5 e -> none; insert 6 f -> none; insert 7 g -> none
+items -> 1:a 2:b 3:c 4:d 5:e 6:f 7:g
+items_back -> 7:g 6:f 5:e 4:d 3:c 2:b 1:a
+contains_key 7 -> true; contains_key 8 -> false
+len -> 7; has_room_for 7 -> true
+";
 
 #[test]
 fn pairs_out_and_a_node_in(rt: HostRuntime) -> Result<(), Fail> {
-    let mut map: Map = BTreeMap::starting_at(rt.alloc(), 3, 7);
-    let made = map
-        .checked_insert_cdc(1, 'a')?
-        .unwrap_or(Vec::new(rt.alloc()));
-    let more = vec![in rt.alloc(); Pair { key: 2, value: 'b' }, Pair { key: 3, value: 'c' }]?;
-    map.attach_node(more)?;
-    let (out, events) = map.remove_cdc(&2)?;
-    let gone = out == Some((2, 'b'));
-    let told = are_events(made.as_slice(), &[Told::Create(7, (1, 'a'))])
-        && are_events(events.as_slice(), &[Told::Remove(8, (3, 'c'), (2, 'b'), 0)]);
-    let removed = map.remove(&3)?;
-    let again = map.remove(&3)?;
-    let left = are_nodes(map.iter_nodes(), &[&[(1, 'a')]]) && map.events_issued() == 10;
-    assert!(rt; gone && told && removed == Some((3, 'c')) && again.is_none() && left);
-    Ok(())
+    play_map(rt.alloc(), OUT_AND_IN)
 }
+
+const OUT_AND_IN: &str = "
+starting_at 3 7
+checked_insert_cdc 1 a -> some, 7 create 1:a
+attach_node [2:b,3:c]
+remove_cdc 2 -> 2:b, 8 remove 3:c 2:b 0
+remove 3 -> 3:c; remove 3 -> none
+nodes -> [1:a]; events_issued -> 10
+";
 
 #[test]
 fn from_nodes_goes_on_with_the_next_number(rt: HostRuntime) -> Result<(), Fail> {
-    let first = vec![in rt.alloc(); Pair { key: 0, value: 'a' }, Pair { key: 1, value: 'b' }]?;
-    let second = vec![in rt.alloc(); Pair { key: 2, value: 'c' }]?;
-    let mut map = Map::from_nodes(vec![in rt.alloc(); first, second]?, 4, 7)?;
-    let (old, events) = map.insert_cdc(1, 'x')?;
-    let told = [
-        Told::Remove(7, (1, 'b'), (1, 'b'), 1),
-        Told::Insert(8, (0, 'a'), (1, 'x'), 1),
-    ];
-    let replaced = old == Some('b') && are_events(events.as_slice(), &told);
-    let nodes = are_nodes(map.iter_nodes(), &[&[(0, 'a'), (1, 'x')], &[(2, 'c')]]);
-    assert!(rt; replaced && nodes && map.len() == 3 && map.events_issued() == 9);
-    Ok(())
+    play_map(rt.alloc(), FROM_NODES)
 }
+
+const FROM_NODES: &str = "
+from_nodes 4 7 [0:a,1:b] [2:c]
+insert_cdc 1 x -> b, 7 remove 1:b 1:b 1, 8 insert 0:a 1:x 1
+nodes -> [0:a,1:x] [2:c]; len -> 3; events_issued -> 9
+";
 
 #[test]
-fn empty_maps(rt: HostRuntime) {
-    let map: Map = BTreeMap::new(rt.alloc());
-    let none = map.iter().next().is_none() && map.iter_nodes().next().is_none();
-    assert!(rt; none && map.node_count() == 0 && map.events_issued() == 0);
-    let map: Map = BTreeMap::default(rt.alloc());
-    assert!(rt; map.len() == 0 && map.get(&1).is_none());
+fn empty_maps(rt: HostRuntime) -> Result<(), Fail> {
+    play_map(rt.alloc(), EMPTY)
 }
 
-// Whether there is one event, of this number.
-fn is_one_event(events: &[ChangeEvent<Letters>], number: u64) -> bool {
-    events.len() == 1 && events.iter().all(|event| event.id().inner() == number)
-}
+const EMPTY: &str = "
+new
+items ->; nodes ->; node_count -> 0; events_issued -> 0
+default
+len -> 0; get 1 -> none
+";
 
 #[test]
 fn a_hundred_keys_and_their_numbers(rt: HostRuntime) -> Result<(), Fail> {
-    let mut map: Map = BTreeMap::new(rt.alloc());
-    for (key, number) in (0..100).zip(0..100) {
-        let (_, events) = map.insert_cdc(key, 'a')?;
-        assert!(rt; is_one_event(events.as_slice(), number));
-    }
-    for (key, number) in (0..50).zip(100..150) {
-        let (_, events) = map.remove_cdc(&key)?;
-        assert!(rt; is_one_event(events.as_slice(), number));
-    }
-    for (key, number) in (100..125).zip(150..175) {
-        let (_, events) = map.insert_cdc(key, 'b')?;
-        assert!(rt; is_one_event(events.as_slice(), number));
-    }
-    assert!(rt; map.len() == 75 && map.events_issued() == 175);
-    Ok(())
+    play_map(rt.alloc(), A_HUNDRED)
 }
 
-// Whether a copy has the nodes of the map.
-fn is_copy(map: &Map, replica: &Replica<Letters>) -> bool {
-    let nodes = replica.nodes();
-    map.node_count() == nodes.len()
-        && map.iter_nodes().zip(nodes).all(|(node, copy)| {
-            node.len() == copy.len()
-                && node
-                    .iter()
-                    .zip(copy.iter())
-                    .all(|(pair, other)| pair.plain() == other.plain())
-        })
-}
+// Each call gives one event, of the number that is next.
+const A_HUNDRED: &str = "
+new
+each 0..100: numbers insert_cdc @ a -> none @
+each 0..10: numbers remove_cdc @ -> @:a 10@
+each 10..50: numbers remove_cdc @ -> @:a 1@
+each 0..10: numbers insert_cdc 10@ b -> none 15@
+each 0..10: numbers insert_cdc 11@ b -> none 16@
+each 0..5: numbers insert_cdc 12@ b -> none 17@
+len -> 75; events_issued -> 175
+";
 
 #[test]
 fn a_copy_follows_past_a_split(rt: HostRuntime) -> Result<(), Fail> {
-    let mut map: Map = BTreeMap::new(rt.alloc());
-    let mut replica = Replica::new(rt.alloc(), 0);
-    let mut number = 0u64;
-    let mut split = None;
-    for key in 0..1224 {
-        let (_, events) = map.insert_cdc(key, 'a')?;
-        for event in events.iter() {
-            assert!(rt; event.id().inner() == number);
-            number = number.saturating_add(1);
-            if let Told::Split(_, (last, _), index) = shown(event) {
-                assert!(rt; split.is_none());
-                split = Some((last, index));
-            }
-            replica.apply(event)?;
-        }
-        assert!(rt; is_copy(&map, &replica));
-    }
-    assert!(rt; split == Some((1023, 512)) && number == 1225);
-    assert!(rt; map.events_issued() == 1225 && replica.next() == 1225);
-    Ok(())
+    play_map(rt.alloc(), PAST_A_SPLIT)
 }
+
+// A copy applies no event but the next.
+const PAST_A_SPLIT: &str = "
+new
+each 0..1024: numbers insert_cdc @ a -> none @; is_followed -> true
+insert_cdc 1024 a -> none, 1024 split 1023:a 512, 1025 insert 1023:a 1024:a 512
+is_followed -> true
+each 1025..1224: count insert_cdc @ a -> none 1; is_followed -> true
+events_issued -> 1225; next -> 1225
+";

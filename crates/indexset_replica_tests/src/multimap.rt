@@ -1,16 +1,12 @@
 //! Worked examples of the multimap, over either node type.
-ghost use Rattle.std.specs.Prelude.{◌≤◌};
 
-use indexset_core::array_node::ArrayNode;
+use crate::play::multimaps::{play_multimap, play_multimap_of_three};
 use indexset_core::multipair::MultiPair;
 use indexset_core::node::NodeLike;
 use indexset_core::pair::Pair;
-use indexset_core::refusal::{Refusal, Refused};
 use indexset_log::change::ChangeEvent;
-use indexset_log_tests::told::{Told, are_events, are_items, are_nodes};
+use indexset_log_tests::told::{Told, are_events};
 use indexset_multi::multimap::BTreeMultiMap;
-use std::alloc::Global;
-use std::ops::Bound::{Excluded, Included, Unbounded};
 use std::test::Fail;
 
 type Letters = MultiPair<u64, char>;
@@ -19,213 +15,145 @@ type Map = BTreeMultiMap<u64, char, Vec<Letters>>;
 
 type Words = BTreeMultiMap<String, u64, Vec<MultiPair<String, u64>>>;
 
-// Seven pairs in nodes of three.
-macro_rules! seven_pairs {
-    ($rt:expr, $node:ty) => {{
-        let mut map: BTreeMultiMap<u64, char, $node> =
-            BTreeMultiMap::with_maximum_node_size($rt.alloc(), 3);
-        for (key, value) in [(1, 'a'), (1, 'b'), (2, 'c'), (2, 'd'), (3, 'e'), (4, 'f'), (4, 'g')] {
-            map.insert(key, value)?;
-        }
-        map
-    }};
-}
-
-// Whether ranges of them have the pairs between their bounds.
-macro_rules! are_ranges_of_seven {
-    ($rt:expr, $node:ty) => {
-        let map = seven_pairs!($rt, $node);
-        let middle = map.range((Included(&2), Excluded(&3)));
-        let two = middle
-            .map(|(key, value)| (*key, *value))
-            .eq([(2, 'c'), (2, 'd')]);
-        let none = map.range((Included(&5), Unbounded)).next().is_none();
-        let most = map.range((Included(&1), Excluded(&4))).rev();
-        let back = most.map(|(_, value)| *value).eq(['e', 'd', 'c', 'b', 'a']);
-        assert!($rt; two && none && back && map.get(&1).map(|(_, value)| *value).eq(['a', 'b']));
-    };
-}
-
 #[test]
 fn ranges_of_pairs(rt: HostRuntime) -> Result<(), Fail> {
-    are_ranges_of_seven!(rt, Vec<Letters>);
-    Ok(())
+    play_multimap(rt.alloc(), RANGES)
 }
 
 #[test]
 fn ranges_of_pairs_where_nodes_hold_three(rt: HostRuntime) -> Result<(), Fail> {
-    are_ranges_of_seven!(rt, ArrayNode<Letters, 3>);
-    Ok(())
+    play_multimap_of_three(rt.alloc(), RANGES)
 }
 
-// Whether one of them put in again stays in its place, and the first pair of a key is removed.
-macro_rules! are_changes_of_seven {
-    ($rt:expr, $node:ty) => {
-        let mut map = seven_pairs!($rt, $node);
-        let old = map.insert(1, 'a')?;
-        let put = old == Some('a') && map.len() == 7;
-        let out = map.remove_some(&4)?;
-        let values = map.iter().map(|(_, value)| *value);
-        assert!($rt; put && out == Some((4, 'f')) && values.eq(['a', 'b', 'c', 'd', 'e', 'g']));
-    };
-}
+const RANGES: &str = "
+map 3
+insert 1 a -> none; insert 1 b -> none; insert 2 c -> none; insert 2 d -> none
+insert 3 e -> none; insert 4 f -> none; insert 4 g -> none
+range [2 3) -> 2:c 2:d
+range [5 .. ->
+range_back [1 4) -> 3:e 2:d 2:c 1:b 1:a
+get 1 -> 1:a 1:b
+";
 
 #[test]
 fn pairs_of_a_key_stand_in_order(rt: HostRuntime) -> Result<(), Fail> {
-    are_changes_of_seven!(rt, Vec<Letters>);
-    Ok(())
+    play_multimap(rt.alloc(), IN_ORDER)
 }
 
 #[test]
 fn pairs_of_a_key_stand_in_order_where_nodes_hold_three(rt: HostRuntime) -> Result<(), Fail> {
-    are_changes_of_seven!(rt, ArrayNode<Letters, 3>);
-    Ok(())
+    play_multimap_of_three(rt.alloc(), IN_ORDER)
 }
 
-// Whether a replacement and a removal report their events.
-macro_rules! replaces_and_removes {
-    ($rt:expr, $node:ty) => {
-        let mut map: BTreeMultiMap<u64, char, $node> = BTreeMultiMap::with_maximum_node_size($rt.alloc(), 3);
-        map.insert_cdc(1, 'a')?;
-        map.insert_cdc(1, 'b')?;
-        let (old, events) = map.insert_cdc(1, 'a')?;
-        let told = [
-            Told::Remove(2, (1, 1, 'b'), (1, 0, 'a'), 0),
-            Told::Insert(3, (1, 1, 'b'), (1, 0, 'a'), 0),
-        ];
-        let replaced = old == Some('a') && are_events(events.as_slice(), &told);
-        let (out, events) = map.remove_cdc(&1, &'b')?;
-        let told = [Told::Remove(4, (1, 1, 'b'), (1, 1, 'b'), 1)];
-        let removed = out == Some((1, 'b')) && are_events(events.as_slice(), &told);
-        assert!($rt; replaced && removed && are_nodes(map.iter_nodes(), &[&[(1, 0, 'a')]]));
-    };
-}
+// A pair that is put in again stays in its place, and the first pair of a key is removed.
+const IN_ORDER: &str = "
+map 3
+insert 1 a -> none; insert 1 b -> none; insert 2 c -> none; insert 2 d -> none
+insert 3 e -> none; insert 4 f -> none; insert 4 g -> none
+insert 1 a -> a; len -> 7
+remove_some 4 -> 4:f
+items -> 1:a 1:b 2:c 2:d 3:e 4:g
+";
 
 #[test]
 fn an_equal_value_is_replaced_in_its_place(rt: HostRuntime) -> Result<(), Fail> {
-    replaces_and_removes!(rt, Vec<Letters>);
-    Ok(())
+    play_multimap(rt.alloc(), IN_ITS_PLACE)
 }
 
 #[test]
 fn an_equal_value_is_replaced_where_nodes_hold_three(rt: HostRuntime) -> Result<(), Fail> {
-    replaces_and_removes!(rt, ArrayNode<Letters, 3>);
-    Ok(())
+    play_multimap_of_three(rt.alloc(), IN_ITS_PLACE)
 }
 
-// A node of one pair.
-fn node_of<Node: NodeLike<Letters>>(alloc: Global, key: u64, number: u64) -> Result<Node, Refusal>
-    requires { 1 ≤ Node.most }
-{
-    let mut node = Node::with_capacity(alloc, 1)?;
-    node.insert(MultiPair::new(key, 'a', number))
-        .map_err(|refused| refused.cause)?;
-    Ok(node)
-}
-
-// A node whose pair has the greatest number is refused, and one below it is the last.
-macro_rules! ends_at_the_last_number {
-    ($rt:expr, $node:ty) => {
-        let mut map: BTreeMultiMap<u64, char, $node> =
-            BTreeMultiMap::with_maximum_node_size($rt.alloc(), 3);
-        let greatest = map.attach_multi_node(node_of($rt.alloc(), 1, 18446744073709551615)?);
-        let refused = greatest.is_err_and(|it| {
-            it.cause == Refusal::PairNumber
-                && are_items(it.value.iter().as_slice(), &[(1, 18446744073709551615, 'a')])
-        });
-        let none = map.node_count() == 0;
-        map.attach_multi_node(node_of($rt.alloc(), 1, 18446744073709551614)?)?;
-        let put = map.insert(2, 'b');
-        let full = put.is_err_and(|it| it.value == (2, 'b') && it.cause == Refusal::Numbers);
-        let old = map.insert(1, 'a')?;
-        let last = [(1, 18446744073709551614, 'a')];
-        assert!($rt; refused && none && full && old == Some('a'));
-        assert!($rt; are_nodes(map.iter_nodes(), &[&last]));
-    };
-}
+const IN_ITS_PLACE: &str = "
+map 3
+quietly insert_cdc 1 a -> none; quietly insert_cdc 1 b -> none
+insert_cdc 1 a -> a, 2 remove 1:b #1 1:a #0 0, 3 insert 1:b #1 1:a #0 0
+remove_cdc 1 b -> 1:b, 4 remove 1:b #1 1:b #1 1
+nodes -> [1:a #0]
+";
 
 #[test]
 fn the_last_pair_number(rt: HostRuntime) -> Result<(), Fail> {
-    ends_at_the_last_number!(rt, Vec<Letters>);
-    Ok(())
+    play_multimap(rt.alloc(), THE_LAST_PAIR_NUMBER)
 }
 
 #[test]
 fn the_last_pair_number_where_nodes_hold_three(rt: HostRuntime) -> Result<(), Fail> {
-    ends_at_the_last_number!(rt, ArrayNode<Letters, 3>);
-    Ok(())
+    play_multimap_of_three(rt.alloc(), THE_LAST_PAIR_NUMBER)
 }
 
-// Six values of one key, put into an empty multimap.
-fn put_six(map: &mut Map) -> Result<(), Refused<(u64, char)>> {
-    for value in ['a', 'b', 'c', 'd', 'e', 'f'] {
-        map.insert(1, value)?;
-    }
-    Ok(())
-}
-
-// Whether the pairs are those of the six values, in the order of their insertion.
-fn are_six(map: &Map) -> bool {
-    let values = ['a', 'b', 'c', 'd', 'e', 'f'];
-    map.iter().map(|(_, value)| *value).eq(values)
-        && map
-            .iter()
-            .rev()
-            .map(|(_, value)| *value)
-            .eq(values.iter().rev().copied())
-        && map.raw_get(&1).map(|(_, number, _)| *number).eq(0..6)
-}
+// A node whose pair has the greatest number is refused, and one below it is the last.
+const THE_LAST_PAIR_NUMBER: &str = "
+map 3
+attach [1:a #18446744073709551615] -> [1:a #18446744073709551615] refused PairNumber
+node_count -> 0
+attach [1:a #18446744073709551614]
+insert 2 b -> 2:b refused Numbers
+insert 1 a -> a
+nodes -> [1:a #18446744073709551614]
+";
 
 #[test]
 fn values_in_order_of_insertion(rt: HostRuntime) -> Result<(), Fail> {
-    let mut map: Map = BTreeMultiMap::new(rt.alloc());
-    put_six(&mut map)?;
-    let one = are_six(&map) && map.node_count() == 1 && map.events_issued() == 6;
-    let keys = map.contains_key(&1) && !map.contains_key(&2) && map.get(&2).next().is_none();
-    assert!(rt; one && keys && map.capacity() >= 6);
-    let mut map: Map = BTreeMultiMap::with_maximum_node_size(rt.alloc(), 2);
-    put_six(&mut map)?;
-    assert!(rt; are_six(&map) && map.node_count() == 5 && map.events_issued() == 10);
-    Ok(())
+    play_multimap(rt.alloc(), ORDER_OF_INSERTION)
 }
+
+const ORDER_OF_INSERTION: &str = "
+new
+insert 1 a -> none; insert 1 b -> none; insert 1 c -> none
+insert 1 d -> none; insert 1 e -> none; insert 1 f -> none
+items -> 1:a 1:b 1:c 1:d 1:e 1:f
+items_back -> 1:f 1:e 1:d 1:c 1:b 1:a
+raw_get 1 -> 1:a #0 1:b #1 1:c #2 1:d #3 1:e #4 1:f #5
+node_count -> 1; events_issued -> 6; has_room_for 6 -> true
+contains_key 1 -> true; contains_key 2 -> false; get 2 ->
+map 2
+insert 1 a -> none; insert 1 b -> none; insert 1 c -> none
+insert 1 d -> none; insert 1 e -> none; insert 1 f -> none
+items -> 1:a 1:b 1:c 1:d 1:e 1:f
+items_back -> 1:f 1:e 1:d 1:c 1:b 1:a
+raw_get 1 -> 1:a #0 1:b #1 1:c #2 1:d #3 1:e #4 1:f #5
+node_count -> 5; events_issued -> 10
+";
 
 #[test]
 fn numbers_from_the_last(rt: HostRuntime) -> Result<(), Fail> {
-    let mut map: Map = BTreeMultiMap::new(rt.alloc());
-    put_six(&mut map)?;
-    let numbers = map.raw_get(&1).rev().map(|(_, number, _)| *number);
-    assert!(rt; numbers.eq([5, 4, 3, 2, 1, 0]));
-    Ok(())
+    play_multimap(rt.alloc(), FROM_THE_LAST)
 }
+
+const FROM_THE_LAST: &str = "
+new
+insert 1 a -> none; insert 1 b -> none; insert 1 c -> none
+insert 1 d -> none; insert 1 e -> none; insert 1 f -> none
+raw_get_back 1 -> 1:f #5 1:e #4 1:d #3 1:c #2 1:b #1 1:a #0
+";
 
 #[test]
 fn values_taken_out(rt: HostRuntime) -> Result<(), Fail> {
-    let mut map: Map = BTreeMultiMap::starting_at(rt.alloc(), 4, 9);
-    put_six(&mut map)?;
-    let (out, events) = map.remove_some_cdc(&1)?;
-    let told = [Told::Remove(16, (1, 1, 'b'), (1, 0, 'a'), 0)];
-    let first = out == Some((1, 'a')) && are_events(events.as_slice(), &told);
-    let removed = map.remove(&1, &'e')?;
-    let again = map.remove(&1, &'e')?;
-    let nodes: [&[(u64, u64, char)]; 2] = [
-        &[(1, 1, 'b')],
-        &[(1, 2, 'c'), (1, 3, 'd'), (1, 5, 'f')],
-    ];
-    let left = are_nodes(map.iter_nodes(), &nodes) && map.events_issued() == 18;
-    assert!(rt; first && removed == Some((1, 'e')) && again.is_none() && left);
-    Ok(())
+    play_multimap(rt.alloc(), TAKEN_OUT)
 }
+
+const TAKEN_OUT: &str = "
+starting_at 4 9
+insert 1 a -> none; insert 1 b -> none; insert 1 c -> none
+insert 1 d -> none; insert 1 e -> none; insert 1 f -> none
+remove_some_cdc 1 -> 1:a, 16 remove 1:b #1 1:a #0 0
+remove 1 e -> 1:e; remove 1 e -> none
+nodes -> [1:b #1] [1:c #2,1:d #3,1:f #5]; events_issued -> 18
+";
 
 #[test]
 fn empty_multimaps(rt: HostRuntime) -> Result<(), Fail> {
-    let mut map: Map = BTreeMultiMap::new(rt.alloc());
-    let out = map.remove_some(&1)?;
-    assert!(rt; out.is_none() && map.node_count() == 0);
-    let map: Map = BTreeMultiMap::default(rt.alloc());
-    let none = map.iter().next().is_none() && map.iter_nodes().next().is_none();
-    assert!(rt; none && map.len() == 0);
-    Ok(())
+    play_multimap(rt.alloc(), EMPTY)
 }
+
+const EMPTY: &str = "
+new
+remove_some 1 -> none; node_count -> 0
+default
+items ->; nodes ->; len -> 0
+";
 
 #[test]
 fn numbers_tell_pairs_apart(rt: HostRuntime) -> Result<(), Fail> {

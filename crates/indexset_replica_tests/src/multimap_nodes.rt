@@ -1,160 +1,81 @@
 //! Worked examples of whole nodes that are given to a multimap.
 
-use indexset_core::multipair::MultiPair;
-use indexset_core::refusal::{Refusal, Refused};
-use indexset_log_tests::told::are_nodes;
-use indexset_multi::multimap::BTreeMultiMap;
-use std::alloc::{AllocError, Global};
+use crate::play::multimaps::play_multimap;
 use std::test::Fail;
-
-type Letters = MultiPair<u64, char>;
-
-type Map = BTreeMultiMap<u64, char, Vec<Letters>>;
-
-// A node of pairs of these keys and numbers.
-fn node_of(alloc: Global, places: &[(u64, u64)]) -> Result<Vec<Letters>, AllocError> {
-    let mut node = Vec::new(alloc);
-    for (key, number) in places {
-        node.push(MultiPair::new(*key, 'a', *number))?;
-    }
-    Ok(node)
-}
-
-// Whether pairs have these keys and numbers.
-fn are_places(node: &[Letters], places: &[(u64, u64)]) -> bool {
-    node.iter()
-        .map(|pair| (pair.key, pair.discriminator))
-        .eq(places.iter().copied())
-}
-
-fn two_nodes(
-    alloc: Global,
-    first: &[(u64, u64)],
-    second: &[(u64, u64)],
-) -> Result<Vec<Vec<Letters>>, AllocError> {
-    let mut nodes = Vec::with_capacity(alloc, 2)?;
-    nodes.push_reserved(node_of(alloc, first)?);
-    nodes.push_reserved(node_of(alloc, second)?);
-    Ok(nodes)
-}
-
-// Why two nodes are refused, where they are handed back as they were.
-fn refusal_of(
-    alloc: Global,
-    first: &[(u64, u64)],
-    second: &[(u64, u64)],
-) -> Result<Option<Refusal>, AllocError> {
-    match Map::from_nodes(two_nodes(alloc, first, second)?, 3, 0) {
-        Ok(_) => Ok(None),
-        Err(Refused { value, cause }) => match value.as_slice() {
-            [left, right] if are_places(left, first) && are_places(right, second) => {
-                Ok(Some(cause))
-            }
-            _ => Ok(None),
-        },
-    }
-}
-
-// The nodes of a multimap, copied.
-fn copied(alloc: Global, map: &Map) -> Result<Vec<Vec<Letters>>, AllocError> {
-    let mut nodes = Vec::new(alloc);
-    for node in map.iter_nodes() {
-        nodes.push(node.clone()?)?;
-    }
-    Ok(nodes)
-}
 
 #[test]
 fn from_nodes_goes_on_where_another_stopped(rt: HostRuntime) -> Result<(), Fail> {
-    let alloc = rt.alloc();
-    let mut map = Map::with_maximum_node_size(alloc, 4);
-    for (key, value) in [(1, 'a'), (1, 'b'), (2, 'c'), (1, 'd'), (2, 'e')] {
-        map.insert(key, value)?;
-    }
-    let mut next = Map::from_nodes(copied(alloc, &map)?, 4, map.events_issued())?;
-    let goes_on = next.len() == 5 && next.events_issued() == 6;
-    let old = next.insert(1, 'f')?;
-    let pairs = next.raw_get(&1).map(|(_, number, value)| (*number, *value));
-    assert!(rt; goes_on && old.is_none() && pairs.eq([(0, 'a'), (1, 'b'), (3, 'd'), (5, 'f')]));
-    Ok(())
+    play_multimap(rt.alloc(), WHERE_ANOTHER_STOPPED)
 }
+
+const WHERE_ANOTHER_STOPPED: &str = "
+map 4
+insert 1 a -> none; insert 1 b -> none; insert 2 c -> none
+insert 1 d -> none; insert 2 e -> none
+go_on 4
+len -> 5; events_issued -> 6
+insert 1 f -> none
+raw_get 1 -> 1:a #0 1:b #1 1:d #3 1:f #5
+";
 
 #[test]
 fn from_nodes_numbers_above_all_and_from_zero(rt: HostRuntime) -> Result<(), Fail> {
-    let alloc = rt.alloc();
-    let nodes = two_nodes(alloc, &[(1, 9), (2, 3)], &[(3, 5)])?;
-    let mut map = Map::from_nodes(nodes, 3, 0)?;
-    map.insert(3, 'b')?;
-    let above = map.raw_get(&3).map(|(_, number, _)| *number).eq([5, 10]);
-    let mut empty = Map::from_nodes(Vec::new(alloc), 3, 0)?;
-    empty.insert(3, 'b')?;
-    assert!(rt; above && empty.raw_get(&3).map(|(_, number, _)| *number).eq([0]));
-    Ok(())
+    play_multimap(rt.alloc(), NUMBERS_ABOVE_ALL)
 }
+
+const NUMBERS_ABOVE_ALL: &str = "
+from_nodes 3 0 [1:a #9,2:a #3] [3:a #5]
+insert 3 b -> none
+raw_get 3 -> 3:a #5 3:b #10
+from_nodes 3 0
+insert 3 b -> none
+raw_get 3 -> 3:b #0
+";
 
 #[test]
 fn from_nodes_refuses_and_hands_the_nodes_back(rt: HostRuntime) -> Result<(), Fail> {
-    let rows: [(&[(u64, u64)], &[(u64, u64)], Refusal); 5] = [
-        (
-            &[(2, 0), (1, 1), (1, 0), (0, 2)],
-            &[(3, u64::MAX)],
-            Refusal::PairNumber,
-        ),
-        (&[], &[(3, 4)], Refusal::Empty),
-        (
-            &[(2, 0), (1, 1), (1, 0), (0, 2)],
-            &[(3, 4)],
-            Refusal::TooLarge,
-        ),
-        (&[(2, 0), (1, 1)], &[(3, 4)], Refusal::Unsorted),
-        (&[(1, 0), (1, 1)], &[(1, 1), (2, 2)], Refusal::Overlaps),
-    ];
-    for (first, second, refusal) in rows {
-        assert!(rt; refusal_of(rt.alloc(), first, second)? == Some(refusal));
-    }
-    Ok(())
+    play_multimap(rt.alloc(), HANDS_NODES_BACK)
 }
 
-// Why a node is refused by a multimap of nodes of three, where it is handed back as it was and the
-// multimap, its event number and the number of its next pair stay as they were.
-fn attach_refusal(alloc: Global, places: &[(u64, u64)]) -> Result<Option<Refusal>, Fail> {
-    let mut map = Map::with_maximum_node_size(alloc, 3);
-    map.insert(5, 'a')?;
-    map.insert(6, 'b')?;
-    match map.attach_multi_node(node_of(alloc, places)?) {
-        Ok(()) => Ok(None),
-        Err(Refused { value, cause }) => {
-            let back = are_places(value.as_slice(), places);
-            let stays = are_nodes(map.iter_nodes(), &[&[(5, 0, 'a'), (6, 1, 'b')]]);
-            let events_stay = map.events_issued() == 2;
-            map.insert(6, 'c')?;
-            let numbers = map.raw_get(&6).map(|(_, number, _)| *number).eq([1, 2]);
-            if !(back && stays && events_stay && numbers) {
-                return Err(Fail::new("the node or the multimap has changed"));
-            }
-            Ok(Some(cause))
-        }
-    }
-}
+const HANDS_NODES_BACK: &str = "
+from_nodes 3 0 [2:a #0,1:a #1,1:a #0,0:a #2] [3:a #18446744073709551615] -> [2:a #0,1:a #1,1:a #0,0:a #2] [3:a #18446744073709551615] refused PairNumber
+from_nodes 3 0 [] [3:a #4] -> [] [3:a #4] refused Empty
+from_nodes 3 0 [2:a #0,1:a #1,1:a #0,0:a #2] [3:a #4] -> [2:a #0,1:a #1,1:a #0,0:a #2] [3:a #4] refused TooLarge
+from_nodes 3 0 [2:a #0,1:a #1] [3:a #4] -> [2:a #0,1:a #1] [3:a #4] refused Unsorted
+from_nodes 3 0 [1:a #0,1:a #1] [1:a #1,2:a #2] -> [1:a #0,1:a #1] [1:a #1,2:a #2] refused Overlaps
+";
 
 #[test]
 fn attaching_tells_the_first_reason(rt: HostRuntime) -> Result<(), Fail> {
-    let rows: [(&[(u64, u64)], Option<Refusal>); 9] = [
-        (&[(9, 3), (8, u64::MAX)], Some(Refusal::PairNumber)),
-        (
-            &[(7, u64::MAX), (7, 3), (8, 4), (9, 5)],
-            Some(Refusal::PairNumber),
-        ),
-        (&[], Some(Refusal::Empty)),
-        (&[(9, 3), (8, 4), (7, 5), (8, 4)], Some(Refusal::TooLarge)),
-        (&[(5, 0), (7, 3), (8, 4), (9, 5)], Some(Refusal::TooLarge)),
-        (&[(9, 3), (8, 4)], Some(Refusal::Unsorted)),
-        (&[(6, 1), (6, 0)], Some(Refusal::Unsorted)),
-        (&[(5, 1), (7, 3)], Some(Refusal::Overlaps)),
-        (&[(7, 3), (8, 4), (9, 5)], None),
-    ];
-    for (places, refusal) in rows {
-        assert!(rt; attach_refusal(rt.alloc(), places)? == refusal);
-    }
-    Ok(())
+    play_multimap(rt.alloc(), ATTACHING)
 }
+
+// What is refused leaves the multimap, its event number and the number of its next pair as they were.
+const ATTACHING: &str = "
+map 3; insert 5 a -> none; insert 6 b -> none
+attach [9:a #3,8:a #18446744073709551615] -> [9:a #3,8:a #18446744073709551615] refused PairNumber
+nodes -> [5:a #0,6:b #1]; events_issued -> 2; insert 6 c -> none; raw_get 6 -> 6:b #1 6:c #2
+map 3; insert 5 a -> none; insert 6 b -> none
+attach [7:a #18446744073709551615,7:a #3,8:a #4,9:a #5] -> [7:a #18446744073709551615,7:a #3,8:a #4,9:a #5] refused PairNumber
+nodes -> [5:a #0,6:b #1]; events_issued -> 2; insert 6 c -> none; raw_get 6 -> 6:b #1 6:c #2
+map 3; insert 5 a -> none; insert 6 b -> none
+attach [] -> [] refused Empty
+nodes -> [5:a #0,6:b #1]; events_issued -> 2; insert 6 c -> none; raw_get 6 -> 6:b #1 6:c #2
+map 3; insert 5 a -> none; insert 6 b -> none
+attach [9:a #3,8:a #4,7:a #5,8:a #4] -> [9:a #3,8:a #4,7:a #5,8:a #4] refused TooLarge
+nodes -> [5:a #0,6:b #1]; events_issued -> 2; insert 6 c -> none; raw_get 6 -> 6:b #1 6:c #2
+map 3; insert 5 a -> none; insert 6 b -> none
+attach [5:a #0,7:a #3,8:a #4,9:a #5] -> [5:a #0,7:a #3,8:a #4,9:a #5] refused TooLarge
+nodes -> [5:a #0,6:b #1]; events_issued -> 2; insert 6 c -> none; raw_get 6 -> 6:b #1 6:c #2
+map 3; insert 5 a -> none; insert 6 b -> none
+attach [9:a #3,8:a #4] -> [9:a #3,8:a #4] refused Unsorted
+nodes -> [5:a #0,6:b #1]; events_issued -> 2; insert 6 c -> none; raw_get 6 -> 6:b #1 6:c #2
+map 3; insert 5 a -> none; insert 6 b -> none
+attach [6:a #1,6:a #0] -> [6:a #1,6:a #0] refused Unsorted
+nodes -> [5:a #0,6:b #1]; events_issued -> 2; insert 6 c -> none; raw_get 6 -> 6:b #1 6:c #2
+map 3; insert 5 a -> none; insert 6 b -> none
+attach [5:a #1,7:a #3] -> [5:a #1,7:a #3] refused Overlaps
+nodes -> [5:a #0,6:b #1]; events_issued -> 2; insert 6 c -> none; raw_get 6 -> 6:b #1 6:c #2
+map 3; insert 5 a -> none; insert 6 b -> none
+attach [7:a #3,8:a #4,9:a #5]
+";

@@ -7,11 +7,13 @@ pub mod SetAppendLemmas
 pub mod SetBulkLemmas
 pub mod SetCloneLemmas
 pub mod SetCopyLemmas
+pub mod SetDrainLemmas
 pub mod SetEndLemmas
 pub mod SetNodeLemmas
 pub mod SetPairLemmas
 pub mod SetProbeLemmas
 pub mod SetRangeLemmas
+pub mod SetRunLemmas
 pub mod SetUpperLemmas
 pub mod SetValueLemmas
 pub mod SetWalkLemmas

@@ -156,30 +156,42 @@ module _ {T : Type 0} (cmp : T → T → Ordering) (size : ℕ) where
   puts_some s xs rest ms same (front, is, made) =
       (length front, rw (← same) (made ∙ ap (fold (λ ms x. nodes_put cmp (cut ms size) x) s.nodes) (sym (ap (take (length front)) is ∙ take_at front rest (length front) refl))), sym (ap (drop (length front)) is ∙ drop_at front rest (length front) refl))
 
-  -- a run behind the nodes ns, some first ones of which may have gone in, which left ms and the others
-  module _ (ns ms : List (List T)) (run others : List T) (v : T) (is : IsCut (node_lengths ns) size) (up : IsAscending cmp (joined ns ++ (run ++ v ∷ []))) where
+  -- v above the nodes ns and a run behind them
+  module _ (ns : List (List T)) (run : List T) (v : T) (is : IsCut (node_lengths ns) size) (up : IsAscending cmp (joined ns ++ (run ++ v ∷ []))) where
     run_up : IsAscending cmp ((joined ns ++ run) ++ v ∷ [])
     run_up = rw (append_assoc (joined ns) run (v ∷ [])) up
 
-    pub run_order : joined ms ++ others ≡ joined ns ++ run → IsAscending cmp (joined ms ++ (others ++ v ∷ []))
-    run_order same = rw (← append_assoc (joined ms) others (v ∷ []), same) run_up
+    pub run_kept : joined ns ++ (run ++ v ∷ []) ≡ keep cmp (joined ns ++ run) v
+    run_kept = sym (append_assoc (joined ns) run (v ∷ [])) ∙ sym (keep_behind cmp (joined ns ++ run) v [] run_up)
 
-    pub run_kept : joined ms ++ others ≡ joined ns ++ run → joined ms ++ (others ++ v ∷ []) ≡ keep cmp (joined ns ++ run) v
-    run_kept same = sym (append_assoc (joined ms) others (v ∷ [])) ∙ (ap (λ l. l ++ v ∷ []) same ∙ sym (keep_behind cmp (joined ns ++ run) v [] run_up))
-
-    pub run_nodes : with_all_last size ms others ≡ with_all_last size ns run → with_all_last size ms (others ++ v ∷ []) ≡ nodes_kept cmp (cut (with_all_last size ns run) size) v
+    pub run_nodes : with_all_last size ns (run ++ v ∷ []) ≡ nodes_kept cmp (cut (with_all_last size ns run) size) v
     unfolding with_all_last
-    run_nodes same =
-        fold-append (with_last size) ms others (v ∷ [])
-        ∙ (ap (λ z. with_last size z v) same
-        ∙ sym (kept_last (fold (with_last size) ns run) v [] (cut_all_last size ns run is) (rw (joined_all_last size ns run is) run_up)))
+    run_nodes =
+        fold-append (with_last size) ns run (v ∷ [])
+        ∙ sym (kept_last (fold (with_last size) ns run) v [] (cut_all_last size ns run is) (rw (joined_all_last size ns run is) run_up))
 
-  -- all of the run went in, and then v
-  pub run_inserted : (s : Cut T) (all ms : List (List T)) (others : List T) (v : T) → others ≡ [] → with_all_last size s.nodes others ≡ all → s.size ≡ size → ms ≡ nodes_kept cmp s v → with_all_last size ms others ≡ nodes_kept cmp (cut all size) v
+  -- all of the run went in, and then w, which is v
+  module _ (ns ms : List (List T)) (run others : List T) (v w : T) (none : others ≡ []) (moved : ms ≡ with_all_last size ns run) (same : w ≡ v) where
+    pub run_then_kept : (l : List T) → IsCut (node_lengths ns) size → l ≡ keep cmp (joined ms) w → l ++ others ≡ keep cmp (joined ns ++ run) v
+    unfolding with_all_last
+    run_then_kept l is kept =
+        ap (λ xs. l ++ xs) none ∙ (append-nil l ∙ (kept ∙ (ap (keep cmp (joined ms)) same ∙ ap (λ m. keep cmp m v) (ap joined moved ∙ joined_all_last size ns run is))))
+
+    pub run_then_nodes : (n : ℕ) (all : List (List T)) → n ≡ size → all ≡ nodes_kept cmp (cut ms n) w → with_all_last size all others ≡ nodes_kept cmp (cut (with_all_last size ns run) size) v
+    unfolding with_all_last
+    run_then_nodes n all sizes kept =
+        ap (λ xs. fold (with_last size) all xs) none
+        ∙ (kept ∙ (ap (λ i. nodes_kept cmp (cut ms i) w) sizes ∙ (ap (nodes_kept cmp (cut ms size)) same ∙ ap (λ z. nodes_kept cmp (cut z size) v) moved)))
+
+-- v behind a run, some first ones of which may have gone in
+module _ {T : Type 0} (run others : List T) (v : T) where
+  pub pushed_items : (l m : List T) → m ++ others ≡ l ++ run → m ++ (others ++ v ∷ []) ≡ l ++ (run ++ v ∷ [])
+  pushed_items l m same = sym (append_assoc m others (v ∷ [])) ∙ (ap (λ xs. xs ++ v ∷ []) same ∙ append_assoc l run (v ∷ []))
+
+  pub pushed_nodes : (size : ℕ) (ns ms : List (List T)) → with_all_last size ms others ≡ with_all_last size ns run → with_all_last size ms (others ++ v ∷ []) ≡ with_all_last size ns (run ++ v ∷ [])
   unfolding with_all_last
-  run_inserted s all ms others v none there same is =
-      let nodes : s.nodes ≡ all = sym (ap (λ xs. fold (with_last size) s.nodes xs) none) ∙ there in
-      ap (λ xs. fold (with_last size) ms xs) none ∙ (is ∙ (ap (λ ns. nodes_kept cmp (cut ns s.size) v) nodes ∙ ap (λ n. nodes_kept cmp (cut all n) v) same))
+  pushed_nodes size ns ms same =
+      fold-append (with_last size) ms others (v ∷ []) ∙ (ap (λ z. with_last size z v) same ∙ sym (fold-append (with_last size) ns run (v ∷ [])))
 
 -- a run of which nothing is left
 module _ {T : Type 0} (others : List T) (none : others ≡ []) where

@@ -107,7 +107,7 @@ impl<T: Ord + Drop> BTreeSet<T> {
     {
         let mut near = 0;
         while !self.is_below(other) {
-            near = self.put_first_of(other, near)?;
+            near = self.put_some_of(other, near)?;
         }
         self.append_above(other)
     }
@@ -139,13 +139,14 @@ impl<T: Ord + Drop> BTreeSet<T> {
         self.spine.append(&mut other.spine)
     }
 
-    // Moves the first element of another set into its place here, and returns the node near which
-    // it went. The node `near` is tried first. A failed call changes neither.
-    fn put_first_of(&mut self, other: &mut Self, near: usize) -> Result<usize, Refusal>
+    // Moves first elements of another set into their places here, as many as one node takes at once,
+    // or one, and returns the node into which they went. The node `near` is tried first. A failed
+    // call changes neither.
+    fn put_some_of(&mut self, other: &mut Self, near: usize) -> Result<usize, Refusal>
         requires some { 0 < length (items other.old) }
-        ensures ok { OnOk result (IfSome (slice_get (items other.old) 0) (λ x. items self.new ≡ put T.cmp (items self.old) x)) }
-        ensures nodes { OnOk result (IfSome (slice_get (items other.old) 0) (λ x. self.new.nodes ≡ nodes_put T.cmp self.old x)) }
-        ensures rest { OnOk result (items other.new ≡ drop 1 (items other.old)) }
+        ensures moved { OnOk result (TakesSome (put T.cmp) (items self.old) (items other.old) (items self.new) (items other.new)) }
+        ensures nodes { OnOk result (TakesSome (λ ns x. nodes_put T.cmp (cut ns self.old.size) x) self.old.nodes (items other.old) self.new.nodes (items other.new)) }
+        ensures fewer { OnOk result (length (items other.new) < length (items other.old)) }
         ensures size { self.new.size ≡ self.old.size }
         ensures other_size { other.new.size ≡ other.old.size }
         ensures refusal { IfErr result (λ e. e ≡ Refusal.Memory) }
@@ -157,6 +158,12 @@ impl<T: Ord + Drop> BTreeSet<T> {
         };
         let spot = locate_near(&self.spine, near, other.spine.item(&first));
         let node = spot.node;
+        let _count = self.spine.node_count();
+        let run = self.spine.count_inside(&spot, &other.spine);
+        if 0 < run {
+            self.spine.merge_from(node, &mut other.spine, run)?;
+            return Ok(node);
+        }
         if spot.found {
             self.spine.replace(spot, other.spine.remove(first));
             return Ok(node);

@@ -1,11 +1,11 @@
 //! Values in ascending order, gathered in a run that goes in by blocks.
-ghost use Rattle.std.specs.Prelude.{◌≡◌, [], ◌∷◌, ◌++◌, IsTrue, OnOk, IfErr};
+ghost use Rattle.std.specs.Prelude.{◌≡◌, [], ◌∷◌, ◌++◌, None, true, false, ◌<◌, IsTrue, IfOk, IfSome, OnOk, IfErr, OnErr, vec_len, vec_capacity};
 ghost use Rattle.indexset_core.specs.Order.{IsAscending, keep};
 ghost use Rattle.indexset_spine.specs.Cut.{cut, items, with_all_last};
 ghost use Rattle.indexset_set.specs.SetNodes.{nodes_kept};
 
 use super::BTreeSet;
-use indexset_core::refusal::Refusal;
+use indexset_core::refusal::{Refusal, Refused};
 
 impl<T: Ord + Drop> BTreeSet<T> {
     /// Keeps a value as `insert` does, where the values of a run are yet to go behind the elements:
@@ -20,20 +20,71 @@ impl<T: Ord + Drop> BTreeSet<T> {
         ensures refusal { IfErr result (λ e. e ≡ Refusal.Memory) }
     {
         let _count = self.node_count();
-        if !self.is_above(run.as_slice(), &value) {
-            self.take_run(run)?;
-            self.insert(value).map_err(|refused| refused.cause)?;
-            let _len = self.len();
-            return Ok(());
+        match self.join_run(run, value) {
+            Ok(None) => Ok(()),
+            Ok(Some(value)) => {
+                self.insert(value).map_err(|refused| refused.cause)?;
+                let _len = self.len();
+                Ok(())
+            }
+            Err(refused) => Err(refused.cause),
+        }
+    }
+
+    /// Puts a value that is above all behind a run, whose values are yet to go behind the elements,
+    /// and returns `None`. Any other value it returns, once it has moved the run. It makes one
+    /// comparison. Fails with `Memory`: a failed call hands the value back, and has moved a prefix
+    /// of the run. (Not in the Rust crate.)
+    pub fn join_run(&mut self, run: &mut Vec<T>, value: T) -> Result<Option<T>, Refused<T>>
+        requires order { IsAscending T.cmp (items self.old ++ run.old.items) }
+        ensures order { OnOk result (IsAscending T.cmp (items self.new ++ run.new.items)) }
+        ensures items { IfOk result (λ back. back ≡ None → items self.new ++ run.new.items ≡ items self.old ++ (run.old.items ++ value ∷ [])) }
+        ensures nodes { IfOk result (λ back. back ≡ None → with_all_last self.old.size self.new.nodes run.new.items ≡ with_all_last self.old.size self.old.nodes (run.old.items ++ value ∷ [])) }
+        ensures back { IfOk result (λ back. IfSome back (λ v. v ≡ value)) }
+        ensures emptied { IfOk result (λ back. IfSome back (λ _. run.new.items ≡ [])) }
+        ensures moved { IfOk result (λ back. IfSome back (λ _. self.new.nodes ≡ with_all_last self.old.size self.old.nodes run.old.items)) }
+        ensures size { self.new.size ≡ self.old.size }
+        ensures given_back { IfErr result (λ e. (e.value ≡ value) × (e.cause ≡ Refusal.Memory)) }
+        ensures err { OnErr result (items self.new ++ run.new.items ≡ items self.old ++ run.old.items) }
+        ensures err_nodes { OnErr result (with_all_last self.old.size self.new.nodes run.new.items ≡ with_all_last self.old.size self.old.nodes run.old.items) }
+    {
+        let _count = self.node_count();
+        let joins = self.is_above(run.as_slice(), &value);
+        match self.ready_run(run, joins) {
+            Ok(()) if joins => {
+                run.push_reserved(value);
+                Ok(None)
+            }
+            Ok(()) => {
+                let _len = self.len();
+                Ok(Some(value))
+            }
+            Err(cause) => Err(Refused { value, cause }),
+        }
+    }
+
+    // Has a run ready for a value: with room for it if it joins, else moved. A failed call has moved
+    // a prefix.
+    fn ready_run(&mut self, run: &mut Vec<T>, joins: bool) -> Result<(), Refusal>
+        requires order { IsAscending T.cmp (items self.old ++ run.old.items) }
+        ensures items { items self.new ++ run.new.items ≡ items self.old ++ run.old.items }
+        ensures nodes { with_all_last self.old.size self.new.nodes run.new.items ≡ with_all_last self.old.size self.old.nodes run.old.items }
+        ensures room { OnOk result (joins ≡ true → vec_len run.new < vec_capacity run.new) }
+        ensures emptied { OnOk result (joins ≡ false → run.new.items ≡ []) }
+        ensures size { self.new.size ≡ self.old.size }
+        ensures refusal { IfErr result (λ e. e ≡ Refusal.Memory) }
+    {
+        if !joins {
+            return self.take_run(run);
         }
         self.take_full_run(run)?;
         run.reserve(1)?;
-        run.push_reserved(value);
         Ok(())
     }
 
-    /// Moves the values of a run behind the elements. A failed call has moved a prefix.
-    pub(super) fn take_run(&mut self, run: &mut Vec<T>) -> Result<(), Refusal>
+    /// Moves the values of a run behind the elements, by blocks and with no comparison. Fails with
+    /// `Memory`: a failed call has moved a prefix. (Not in the Rust crate.)
+    pub fn take_run(&mut self, run: &mut Vec<T>) -> Result<(), Refusal>
         requires order { IsAscending T.cmp (items self.old ++ run.old.items) }
         ensures items { items self.new ++ run.new.items ≡ items self.old ++ run.old.items }
         ensures nodes { with_all_last self.old.size self.new.nodes run.new.items ≡ with_all_last self.old.size self.old.nodes run.old.items }

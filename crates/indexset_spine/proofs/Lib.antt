@@ -12,13 +12,14 @@ pub mod EditSteps
 pub mod EndLemmas
 pub mod FindLemmas
 pub mod IndexLemmas
-pub mod IterLemmas
 pub mod LengthLemmas
 pub mod LowbitLemmas
+pub mod MergeSteps
 pub mod NodeLengthLemmas
 pub mod PartLemmas
 pub mod PlaceLemmas
 pub mod PrefixLemmas
+pub mod PutLemmas
 pub mod RemoveSteps
 pub mod RetainSteps
 pub mod RunLemmas

@@ -1,12 +1,10 @@
 //! The lengths of nodes, added up: by an index, or one by one.
 ghost use Rattle.std.specs.Prelude.{◌≡◌, ◌^◌, ◌+◌, ◌-◌, ◌<◌, ◌≤◌, IsTrue, length, sum, slice_index, MatchOption};
 ghost use Rattle.indexset_core.specs.Nodes.{joined, node_at, vec_items};
-ghost use Rattle.indexset_spine.specs.Cut.{IsSpot, position_of};
 ghost use Rattle.indexset_spine.specs.Fenwick.{prefix_sum};
 
 use crate::fenwick::Fenwick;
 use crate::fenwick::sums::{find_in, prefix_in};
-use crate::spot::Spot;
 
 /// Returns the sum of the first `k` lengths.
 pub(crate) fn items_before(index: &Fenwick, k: usize) -> usize
@@ -40,18 +38,4 @@ pub(crate) fn count_items<T>(nodes: &[Vec<T>]) -> usize
         total += node.len();
     }
     total
-}
-
-/// Returns how many items stand from one spot up to another.
-pub(crate) fn distance_in<T>(nodes: &[Vec<T>], start: &Spot, end: &Spot) -> usize
-    requires start { IsSpot (vec_items nodes.now) start.now }
-    requires end { IsSpot (vec_items nodes.now) end.now }
-    requires order { position_of (vec_items nodes.now) start.now ≤ position_of (vec_items nodes.now) end.now }
-    requires fits { length (joined (vec_items nodes.now)) < 2 ^ 64 }
-    ensures { position_of (vec_items nodes.now) start.now + result ≡ position_of (vec_items nodes.now) end.now }
-{
-    if end.node < start.node {
-        return 0;
-    }
-    count_items(&nodes[start.node..end.node]) + end.offset - start.offset
 }

@@ -5,7 +5,7 @@
 //! `remove`, `replace` and `split_off` edit at a spot. [`fenwick::Fenwick`] is the index: the lengths
 //! of the nodes, summed so that a position is found by few reads, which are counted. [`iter::Iter`]
 //! and [`into_iter::IntoIter`] go through the items from both ends. It knows no order: order comes
-//! from the probe.
+//! from the probe, and in `merge_from` from the items.
 #![tactic(auto)]
 
 pub mod fenwick;
@@ -13,5 +13,6 @@ pub mod into_iter;
 pub mod iter;
 mod lengths;
 mod locate;
+mod merge;
 pub mod spine;
 pub mod spot;

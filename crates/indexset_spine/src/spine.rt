@@ -15,6 +15,7 @@ mod bounds;
 mod ends;
 mod insert;
 mod make;
+mod merge;
 mod part;
 mod remove;
 mod retain;
@@ -22,10 +23,11 @@ mod split;
 
 use crate::fenwick::Fenwick;
 use crate::into_iter::IntoIter;
-use crate::iter::Iter;
+use crate::iter::{Iter, walk_between};
 use crate::spot::Spot;
 use crate::{lengths, locate};
 use indexset_core::probe::Probe;
+use indexset_core::walk::Walk;
 use std::alloc::Global;
 use std::marker::Model;
 
@@ -296,7 +298,7 @@ impl<T> Spine<T> {
         ensures runs { ShowsInOrder (deref {X = T}) }
         ensures runs_back { ShowsInReverse (deref {X = T}) }
     {
-        Iter::over(self.nodes.as_slice(), self.len)
+        Iter::new(Walk::over(self.nodes.as_slice()), self.len)
     }
 
     /// Returns the items from position `i` up to position `j`, in order.
@@ -308,7 +310,7 @@ impl<T> Spine<T> {
         ensures runs_back { ShowsInReverse (deref {X = T}) }
     {
         let (start, end) = (self.spot_after(i), self.spot_after(j));
-        Iter::from_to(self.nodes.as_slice(), &start, &end, j - i)
+        Iter::new(walk_between(self.nodes.as_slice(), &start, &end), j - i)
     }
 
     /// Returns a mutable reference to the item at a spot.

@@ -18,6 +18,7 @@ mod probe;
 #[cfg(test)]
 mod refusal;
 pub mod scarce;
+pub mod script;
 #[cfg(test)]
 mod set;
 pub mod sized;

@@ -1,6 +1,5 @@
 //! Nodes made of values.
 ghost use Rattle.std.specs.Prelude.{◌≤◌, length, IfOk};
-ghost use Rattle.std.specs.Ordering.{nat_cmp};
 ghost use Rattle.indexset_core.specs.Order.{IsAscending};
 
 use indexset_core::node::NodeLike;
@@ -8,14 +7,18 @@ use indexset_core::refusal::Refusal;
 use std::alloc::Global;
 
 /// A node of these values, put in one after another.
-pub fn node_of<Node: NodeLike<u64>>(alloc: Global, values: &[u64]) -> Result<Node, Refusal>
+pub fn node_of<T: Ord + Clone + Drop, Node: NodeLike<T>>(
+    alloc: Global,
+    values: &[T],
+) -> Result<Node, Refusal>
     requires { length values.now ≤ Node.most }
-    ensures { IfOk result (λ node. IsAscending nat_cmp (Node.list node)) }
+    ensures { IfOk result (λ node. IsAscending T.cmp (Node.list node)) }
 {
     let mut node = Node::with_capacity(alloc, values.len())?;
     for value in values {
         if node.len() < Node::limit() {
-            node.insert(*value).map_err(|refused| refused.cause)?;
+            node.insert(value.clone()?)
+                .map_err(|refused| refused.cause)?;
         }
     }
     Ok(node)

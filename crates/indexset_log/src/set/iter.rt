@@ -1,37 +1,31 @@
 //! Iterators over a set, from both ends.
-ghost use Rattle.std.specs.Prelude.{◌≡◌, ◌+◌, ◌≤◌, length, List, map, IfSome, Some};
+ghost use Rattle.std.specs.Prelude.{◌≡◌, ◌≤◌, length, List, map, IfSome, Some};
 ghost use Rattle.std.specs.List.{between};
 ghost use Rattle.std.specs.Iterator.{UpTo, at_most};
 ghost use Rattle.std.specs.Iterator.SizeHint.{IsWithinCount};
 ghost use Rattle.std.specs.Map.Iter.{TakesFirst, TakesLast, ShowsInOrder, ShowsInReverse, deref};
 ghost use Rattle.indexset_core.specs.Nodes.{joined};
-ghost use Rattle.indexset_log.specs.Places.{IsPlace, items_before};
+ghost use Rattle.indexset_core.specs.Places.{IsPlace, items_before};
 
 use super::BTreeSet;
-use crate::nodes::count_items;
 use indexset_core::node::NodeLike;
+use indexset_core::walk::counted::CountedWalk;
+use indexset_core::walk::{ReadAny, Walk};
 use std::iter::FusedIterator;
 use std::marker::Model;
 
-/// The remaining items of a set, from both ends: those of the front node, of the nodes between, and
-/// of the back node.
+/// The remaining items of a set, from both ends.
 #[derive(Drop)]
 pub struct Iter<'a, T: Ord + Clone + Drop, Node: NodeLike<T>> {
-    front: &'a [T],
-    middle: &'a [Node],
-    back: &'a [T],
-    left: usize,
+    rest: CountedWalk<'a, T, Node, ReadAny>,
 }
 
 impl<'a, T: Ord + Clone + Drop, Node: NodeLike<T>> Model for Iter<'a, T, Node> {
-    ghost use Rattle.std.specs.Prelude.{◌≡◌, List, ◌++◌, length, map};
-    ghost use Rattle.indexset_core.specs.Nodes.{joined};
+    ghost use Rattle.std.specs.Prelude.{List};
 
     ghost Value = { List T };
 
-    ghost view = { λ a. a.front.now ++ (joined (map Node.list a.middle.now) ++ a.back.now) };
-
-    ghost invariant = { λ a. a.left ≡ length (a.front.now ++ (joined (map Node.list a.middle.now) ++ a.back.now)) };
+    ghost view = { λ a. a.rest };
 }
 
 impl<'a, T: Ord + Clone + Drop, Node: NodeLike<T>> Iter<'a, T, Node> {
@@ -41,19 +35,8 @@ impl<'a, T: Ord + Clone + Drop, Node: NodeLike<T>> Iter<'a, T, Node> {
         ensures runs { ShowsInOrder (deref {X = T}) }
         ensures runs_back { ShowsInReverse (deref {X = T}) }
     {
-        Iter::over(set.nodes.as_slice(), set.len)
-    }
-
-    // Returns the items of all nodes.
-    fn over(nodes: &'a [Node], left: usize) -> Self
-        requires { left ≡ length (joined (map Node.list nodes.now)) }
-        ensures { result ≡ joined (map Node.list nodes.now) }
-    {
         Iter {
-            front: &[],
-            middle: nodes,
-            back: &[],
-            left,
+            rest: CountedWalk::new(Walk::over(set.nodes.as_slice()), set.len),
         }
     }
 
@@ -65,27 +48,10 @@ impl<'a, T: Ord + Clone + Drop, Node: NodeLike<T>> Iter<'a, T, Node> {
         requires fits { length (joined (map Node.list nodes.now)) ≤ usize.MAX }
         ensures { result ≡ between (items_before (map Node.list nodes.now) from) (items_before (map Node.list nodes.now) to) (joined (map Node.list nodes.now)) }
     {
-        if nodes.is_empty() || from.0 > to.0 {
-            return Iter::over(&[], 0);
-        }
-        let first = nodes[from.0].iter().as_slice();
-        if from.0 == to.0 {
-            return Iter {
-                front: &first[from.1..to.1],
-                middle: &[],
-                back: &[],
-                left: to.1 - from.1,
-            };
-        }
-        let last = nodes[to.0].iter().as_slice();
-        let front = &first[from.1..];
-        let middle = &nodes[from.0 + 1..to.0];
-        let back = &last[..to.1];
+        let walk = Walk::between(nodes, from, to);
+        let left = walk.item_count();
         Iter {
-            front,
-            middle,
-            back,
-            left: front.len() + count_items(middle) + back.len(),
+            rest: CountedWalk::new(walk, left),
         }
     }
 }
@@ -98,23 +64,7 @@ impl<'a, T: Ord + Clone + Drop, Node: NodeLike<T>> Iterator for Iter<'a, T, Node
     ghost remaining = { λ s. at_most (length s) };
 
     fn next(&mut self) -> Option<&'a T> {
-        loop {
-            let front = self.front;
-            if let Some((first, rest)) = front.split_first() {
-                self.front = rest;
-                self.left -= 1;
-                return Some(first);
-            }
-            if let Some((node, rest)) = self.middle.split_first() {
-                self.front = node.iter().as_slice();
-                self.middle = rest;
-            } else if self.back.is_empty() {
-                return None;
-            } else {
-                self.front = self.back;
-                self.back = &[];
-            }
-        }
+        self.rest.next()
     }
 
     fn size_hint(&self) -> (usize, Option<usize>)
@@ -122,7 +72,7 @@ impl<'a, T: Ord + Clone + Drop, Node: NodeLike<T>> Iterator for Iter<'a, T, Node
         ensures upper { IfSome result.1 (UpTo (at_most (length self.now))) }
         ensures exact { result ≡ (length self.now, Some (length self.now)) }
     {
-        (self.left, Some(self.left))
+        self.rest.size_hint()
     }
 }
 
@@ -130,29 +80,13 @@ impl<'a, T: Ord + Clone + Drop, Node: NodeLike<T>> DoubleEndedIterator for Iter<
     ghost next_back_gives = { TakesLast deref };
 
     fn next_back(&mut self) -> Option<&'a T> {
-        loop {
-            let back = self.back;
-            if let Some((last, rest)) = back.split_last() {
-                self.back = rest;
-                self.left -= 1;
-                return Some(last);
-            }
-            if let Some((node, rest)) = self.middle.split_last() {
-                self.back = node.iter().as_slice();
-                self.middle = rest;
-            } else if self.front.is_empty() {
-                return None;
-            } else {
-                self.back = self.front;
-                self.front = &[];
-            }
-        }
+        self.rest.next_back()
     }
 }
 
 impl<'a, T: Ord + Clone + Drop, Node: NodeLike<T>> ExactSizeIterator for Iter<'a, T, Node> {
     fn len(&self) -> usize {
-        self.left
+        self.rest.len()
     }
 }
 

@@ -9,7 +9,7 @@ ghost use Rattle.indexset_core.specs.Bounds.{IfBounded, are_ordered, in_range, i
 ghost use Rattle.indexset_core.specs.Digits.{digits};
 ghost use Rattle.indexset_core.specs.Nodes.{joined, node_at};
 ghost use Rattle.indexset_core.specs.Parted.{IsParted, less_count, not_greater_count};
-ghost use Rattle.indexset_log.specs.Places.{IsPlace, items_before};
+ghost use Rattle.indexset_core.specs.Places.{IsPlace, items_before};
 
 use super::BTreeSet;
 use super::iter::Iter;

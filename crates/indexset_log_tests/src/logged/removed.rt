@@ -1,33 +1,30 @@
 //! Many items removed from a logged set.
-use super::Set;
-use crate::logged_walks::ascending;
-use std::ops::Bound;
+
+use crate::play::set::play_sizes;
 use std::test::Fail;
 
 #[test]
 fn all_items_removed_in_turn(rt: HostRuntime) -> Result<(), Fail> {
-    for size in [2, 1024] {
-        let mut tree: Set = ascending(rt.alloc(), size, 0, 2048)?;
-        assert_eq!(rt; tree.len(), 2048);
-        for value in 0..2048 {
-            assert!(rt; tree.remove(&value)?.is_some());
-            assert!(rt; !tree.contains(&value));
-        }
-        assert_eq!(rt; tree.len(), 0);
-    }
-    Ok(())
+    play_sizes(rt.alloc(), REMOVED_IN_TURN)
 }
+
+const REMOVED_IN_TURN: &str = "
+set
+each 0..2048: insert @ -> true
+len -> 2048
+each 0..2048: remove @ -> @; contains @ -> false
+len -> 0
+";
 
 #[test]
 fn ranges_taken_out_one_after_another(rt: HostRuntime) -> Result<(), Fail> {
-    for size in [2, 1024] {
-        let mut tree: Set = ascending(rt.alloc(), size, 0, 2048)?;
-        tree.remove_range((Bound::Included(&5), Bound::Excluded(&15)));
-        assert_eq!(rt; tree.len(), 2038);
-        tree.remove_range((Bound::Included(&1019), Bound::Excluded(&1029)));
-        assert_eq!(rt; tree.len(), 2028);
-        tree.remove_range((Bound::Unbounded, Bound::Excluded(&512)));
-        assert_eq!(rt; tree.len(), 1526);
-    }
-    Ok(())
+    play_sizes(rt.alloc(), RANGES_TAKEN_OUT)
 }
+
+const RANGES_TAKEN_OUT: &str = "
+set
+each 0..2048: insert @ -> true
+remove_range [5 15); len -> 2038
+remove_range [1019 1029); len -> 2028
+remove_range .. 512); len -> 1526
+";

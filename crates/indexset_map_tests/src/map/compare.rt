@@ -1,58 +1,48 @@
-//! Equality, order and hash of maps.
-use super::tens;
-use indexset_core::pair::Pair;
-use indexset_map::BTreeMap;
-use indexset_tests::sized::map_of;
-use std::cmp::Ordering;
-use std::hash::{BuildHasher, BuildHasherDefault, FoldHasher};
+//! Rows of equality, order and hash of maps.
+
+use super::maps::{play_letters, play_numbers};
 use std::test::Fail;
+
+const EQUAL_WHATEVER_THE_NODES: &str = "
+size 1024
+map 5:50 4:40 3:30 2:20 1:10 0:0
+node_count -> 1
+swap
+size 2
+map 5:50 4:40 3:30 2:20 1:10 0:0
+node_count -> 5
+eq -> true
+cmp -> Equal
+hash -> true
+";
 
 #[test]
 fn equal_whatever_the_nodes(rt: HostRuntime) -> Result<(), Fail> {
-    let small = tens(rt.alloc(), 2, 6)?;
-    let large = tens(rt.alloc(), 1024, 6)?;
-    let more = small.node_count() > large.node_count();
-    let same = small == large && small.cmp(&large) == Ordering::Equal;
-    let hashes = BuildHasherDefault::<FoldHasher>::new();
-    assert!(rt; more && same && hashes.hash_one(&small) == hashes.hash_one(&large));
-    Ok(())
+    play_numbers(rt.alloc(), EQUAL_WHATEVER_THE_NODES)
 }
 
-#[test]
-fn compared_by_keys_and_values(rt: HostRuntime) -> Result<(), Fail> {
-    for size in [2, 1024] {
-        let one = map_of(rt.alloc(), size, &[(1u64, "a")])?;
-        let other = map_of(rt.alloc(), size, &[(1u64, "b")])?;
-        let more = map_of(rt.alloc(), size, &[(1u64, "a"), (2, "a")])?;
-        let above = map_of(rt.alloc(), size, &[(2u64, "a")])?;
-        let ascend = one < other && one < more && more < other && other < above;
-        let greater = above.cmp(&one) == Ordering::Greater;
-        let less = one.partial_cmp(&more) == Some(Ordering::Less);
-        assert!(rt; ascend && greater && less && one != other);
-    }
-    Ok(())
-}
+const BY_KEYS_AND_VALUES: &str = "
+map 1:b
+swap
+map 1:a
+lt -> true
+eq -> false
+map 1:a 2:a
+lt -> true
+swap
+map 1:a
+lt -> true
+partial_cmp -> Some(Less)
+map 2:a
+swap
+map 1:b
+lt -> true
+map 1:a
+swap
+cmp -> Greater
+";
 
 #[test]
-fn values_without_an_order(rt: HostRuntime) -> Result<(), Fail> {
-    let one = BTreeMap::from(rt.alloc(), vec![in rt.alloc(); (1u64, f64::NAN)]?)?;
-    let other = BTreeMap::from(rt.alloc(), vec![in rt.alloc(); (1u64, 1.0f64)]?)?;
-    assert!(rt; one.partial_cmp(&other).is_none() && one != other);
-    Ok(())
-}
-
-#[test]
-fn pairs_by_key_alone(rt: HostRuntime) -> Result<(), Fail> {
-    let pair = Pair {
-        key: 1u64,
-        value: 'a',
-    };
-    let same = Pair { key: 1, value: 'b' };
-    let above = Pair { key: 2, value: 'a' };
-    let by_key = pair == same && pair < above && pair.cmp(&same) == Ordering::Equal;
-    let copy = pair.clone()?;
-    let hashes = BuildHasherDefault::<FoldHasher>::new();
-    let hashed = hashes.hash_one(&pair) == hashes.hash_one(&same);
-    assert!(rt; by_key && copy.value == 'a' && hashed);
-    Ok(())
+fn by_keys_and_values(rt: HostRuntime) -> Result<(), Fail> {
+    play_letters(rt.alloc(), BY_KEYS_AND_VALUES)
 }

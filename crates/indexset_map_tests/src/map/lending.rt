@@ -6,7 +6,7 @@ use indexset_core::refusal::Refusal;
 use indexset_map::BTreeMap;
 use indexset_tests::sized::map_of;
 use std::alloc::Global;
-use std::ops::{Bound, Range};
+use std::ops::Bound;
 use std::test::Fail;
 
 // The keys from 1 up to the last at 0, put in from the least up, two to a node.
@@ -32,21 +32,6 @@ fn selves(alloc: Global, size: usize, end: u64) -> Result<BTreeMap<u64, u64>, Re
 // Whether a pair that a walk lends is this key with itself.
 fn is_self(pair: Option<(&u64, &mut u64)>, key: u64) -> bool {
     pair.is_some_and(|pair| *pair.0 == key && *pair.1 == key)
-}
-
-// Whether a walk over positions lends these keys from the front, each with itself, and then none.
-fn lends(
-    map: &mut BTreeMap<u64, u64>,
-    range: (Bound<usize>, Bound<usize>),
-    keys: Range<u64>,
-) -> bool {
-    let mut walk = map.range_mut_idx(range);
-    for key in keys {
-        if !is_self(walk.next(), key) {
-            return false;
-        }
-    }
-    walk.next().is_none()
 }
 
 // Whether a walk over all lends the keys up to the end from the front, each with itself, and then none.
@@ -174,28 +159,6 @@ fn balances_over_a_range_of_names(rt: HostRuntime) -> Result<(), Fail> {
         let mut balances = map_of(rt.alloc(), size, &names)?;
         raise(&mut balances);
         assert!(rt; balances.values().copied().eq([0, 100, 100, 0]));
-    }
-    Ok(())
-}
-
-#[test]
-fn positions_to_write(rt: HostRuntime) -> Result<(), Fail> {
-    let ranges = [
-        (Bound::Unbounded, Bound::Unbounded, 0, 10),
-        (Bound::Included(1), Bound::Excluded(2), 1, 2),
-        (Bound::Included(3), Bound::Excluded(10), 3, 10),
-        (Bound::Included(0), Bound::Excluded(4), 0, 4),
-        (Bound::Included(5), Bound::Included(6), 5, 7),
-        (Bound::Included(0), Bound::Included(7), 0, 8),
-        (Bound::Included(7), Bound::Included(3), 0, 0),
-        (Bound::Excluded(usize::MAX), Bound::Unbounded, 0, 0),
-    ];
-    let mut small = selves(rt.alloc(), 2, 10)?;
-    let mut large = selves(rt.alloc(), 1024, 10)?;
-    for (start, end, first, past) in ranges {
-        let both = lends(&mut small, (start, end), first..past)
-            && lends(&mut large, (start, end), first..past);
-        assert!(rt; both);
     }
     Ok(())
 }

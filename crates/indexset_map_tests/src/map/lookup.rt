@@ -1,114 +1,79 @@
-//! Look-ups by key and by position.
-use super::{five, put, tens};
-use bytes::ByteStr;
-use indexset_core::probe::Counting;
-use indexset_map::BTreeMap;
-use indexset_text::{ByStr, OnKey};
+//! Rows of the look-ups of a map by key and by position.
+
+use super::maps::{play_letters, play_numbers};
 use std::test::Fail;
 
-#[test]
-fn every_key_of_many(rt: HostRuntime) -> Result<(), Fail> {
-    for size in [2, 1024] {
-        let mut map = BTreeMap::with_maximum_node_size(rt.alloc(), size)?;
-        for i in 0..10240u64 {
-            put(&mut map, i, i)?;
-        }
-        for i in 0..10241u64 {
-            assert!(rt; map.get(&i).copied() == (i < 10240).then_some(i));
-        }
-    }
-    Ok(())
-}
+const BY_KEY: &str = "
+map 1:a 2:b 3:c 17:d 41:e
+get 0 -> none; get_key_value 0 -> none; contains_key 0 -> false; index_of 0 -> none; rank 0 -> 0
+get 1 -> a; get_key_value 1 -> 1:a; contains_key 1 -> true; index_of 1 -> 0; rank 1 -> 0
+get 3 -> c; get_key_value 3 -> 3:c; contains_key 3 -> true; index_of 3 -> 2; rank 3 -> 2
+get 4 -> none; get_key_value 4 -> none; contains_key 4 -> false; index_of 4 -> none; rank 4 -> 3
+get 16 -> none; get_key_value 16 -> none; contains_key 16 -> false; index_of 16 -> none; rank 16 -> 3
+get 17 -> d; get_key_value 17 -> 17:d; contains_key 17 -> true; index_of 17 -> 3; rank 17 -> 3
+get 40 -> none; get_key_value 40 -> none; contains_key 40 -> false; index_of 40 -> none; rank 40 -> 4
+get 41 -> e; get_key_value 41 -> 41:e; contains_key 41 -> true; index_of 41 -> 4; rank 41 -> 4
+get 100 -> none; get_key_value 100 -> none; contains_key 100 -> false; index_of 100 -> none; rank 100 -> 5
+contains_key 2 -> true
+index 2 -> b
+";
 
 #[test]
-fn by_key_and_by_position(rt: HostRuntime) -> Result<(), Fail> {
-    for size in [2, 1024] {
-        let map = five(rt.alloc(), size)?;
-        for (key, value, rank) in [
-            (0, None, 0),
-            (1, Some("a"), 0),
-            (3, Some("c"), 2),
-            (4, None, 3),
-            (16, None, 3),
-            (17, Some("d"), 3),
-            (40, None, 4),
-            (41, Some("e"), 4),
-            (100, None, 5),
-        ] {
-            let pair = map.get_key_value(&key).map(|pair| (*pair.0, *pair.1));
-            let read = map.get(&key).copied() == value && pair == value.map(|value| (key, value));
-            let held = map.contains_key(&key) == value.is_some();
-            let placed = map.index_of(&key) == value.map(|_| rank);
-            assert!(rt;
-                read && held && placed && map.rank(&key) == rank,
-                "of {key}"
-            );
-        }
-        let fourth = map.get_index(3) == Some((&17, &"d"));
-        let none = map.get_index(5).is_none() && map.get_index(usize::MAX).is_none();
-        let first = map.first_key_value() == Some((&1, &"a"));
-        let last = map.last_key_value() == Some((&41, &"e"));
-        assert!(rt; fourth && none && first && last && map.contains_key(&2));
-        assert!(rt; map[&2] == "b");
-    }
-    Ok(())
+fn by_key(rt: HostRuntime) -> Result<(), Fail> {
+    play_letters(rt.alloc(), BY_KEY)
 }
+
+const GET: &str = "
+map
+each 0..10240: insert @:@ -> none
+each 0..10240: get @ -> @
+get 10240 -> none
+";
 
 #[test]
-fn written_by_key_and_by_position(rt: HostRuntime) -> Result<(), Fail> {
-    for size in [2, 1024] {
-        let mut map = tens(rt.alloc(), size, 5)?;
-        let no_key = map.get_mut(&9).is_none();
-        *map.get_mut(&3).ok_or("a value")? = 7;
-        let no_position = map.get_mut_index(5).is_none();
-        *map.get_mut_index(1).ok_or("a value")? = 8;
-        let written = map.values().copied().eq([0, 8, 20, 7, 40]);
-        assert!(rt; no_key && no_position && written);
-    }
-    Ok(())
+fn get(rt: HostRuntime) -> Result<(), Fail> {
+    play_numbers(rt.alloc(), GET)
 }
 
-// The value of a name, and how many comparisons its look-up makes.
-fn value_of(map: &BTreeMap<ByteStr, u64>, name: &str) -> (Option<u64>, u64) {
-    // Tells that the names ascend.
-    let _len = map.len();
-    let mut probe = Counting::new(OnKey::new(ByStr::new(name)));
-    let value = map.get_by(&mut probe).copied();
-    (value, probe.asked())
-}
-
-// Whether the stored name and the value of a name are these.
-fn has_pair(map: &BTreeMap<ByteStr, u64>, name: &str, value: Option<u64>) -> bool {
-    // Tells that the names ascend.
-    let _len = map.len();
-    match map.get_key_value_by(&mut OnKey::new(ByStr::new(name))) {
-        Some((key, held)) => key.as_str() == name && Some(*held) == value,
-        None => value.is_none(),
-    }
-}
+const GET_INDEX: &str = "
+map
+get_index 0 -> none
+map 1:a 2:b 3:c 17:d 41:e
+get_index 3 -> 17:d
+get_index 5 -> none
+get_index 18446744073709551615 -> none
+";
 
 #[test]
-fn by_borrowed_text(rt: HostRuntime) -> Result<(), Fail> {
-    let mut map = BTreeMap::with_maximum_node_size(rt.alloc(), 4)?;
-    for (name, value) in [("plums", 7), ("apples", 5), ("pears", 3)] {
-        put(&mut map, ByteStr::from_static(name), value)?;
-    }
-    for (name, value) in [
-        ("", None),
-        ("apples", Some(5)),
-        ("pear", None),
-        ("pears", Some(3)),
-        ("pearse", None),
-        ("plums", Some(7)),
-        ("quinces", None),
-    ] {
-        let (found, asked) = value_of(&map, name);
-        // One node, nodes of four, and the name that is found: 1 + 3 + 1.
-        let few = asked <= 5;
-        assert!(rt;
-            found == value && has_pair(&map, name, value) && few,
-            "of {name}: {asked}"
-        );
-    }
-    Ok(())
+fn get_index(rt: HostRuntime) -> Result<(), Fail> {
+    play_letters(rt.alloc(), GET_INDEX)
+}
+
+const FIRST_AND_LAST_KEY_VALUE: &str = "
+map
+is_empty -> true
+first_key_value -> none
+last_key_value -> none
+map 1:a 2:b 3:c 17:d 41:e
+first_key_value -> 1:a
+last_key_value -> 41:e
+";
+
+#[test]
+fn first_and_last_key_value(rt: HostRuntime) -> Result<(), Fail> {
+    play_letters(rt.alloc(), FIRST_AND_LAST_KEY_VALUE)
+}
+
+const GET_MUT: &str = "
+map 4:40 3:30 2:20 1:10 0:0
+get_mut 9 0 -> none
+get_mut 3 7 -> 30
+get_mut_index 5 0 -> none
+get_mut_index 1 8 -> 10
+all_values -> 0 8 20 7 40
+";
+
+#[test]
+fn get_mut(rt: HostRuntime) -> Result<(), Fail> {
+    play_numbers(rt.alloc(), GET_MUT)
 }

@@ -1,63 +1,132 @@
-//! Walks from either end.
-use super::{five, tens};
-use std::test::Fail;
+//! What the scripts of the map write of its pairs, cursors and walks.
 
-#[test]
-fn from_both_ends_to_the_middle(rt: HostRuntime) -> Result<(), Fail> {
-    let map = tens(rt.alloc(), 2, 3)?;
-    let mut walk = map.iter();
-    assert!(rt; walk.len() == 3);
-    let rows = [
-        (true, Some((&0, &0)), 2),
-        (false, Some((&2, &20)), 1),
-        (true, Some((&1, &10)), 0),
-        (true, None, 0),
-        (false, None, 0),
-    ];
-    for (from_front, expected, left) in rows {
-        let pair = if from_front {
-            walk.next()
-        } else {
-            walk.next_back()
-        };
-        assert!(rt; pair == expected && walk.size_hint() == (left, Some(left)));
+use indexset_map::{BTreeMap, CursorMap};
+use indexset_tests::script::{Stop, tell_option};
+use indexset_tests::walk;
+use std::fmt::Display;
+use std::ops::Bound;
+use std::str::SplitWhitespace;
+
+/// Writes a pair, or `none`.
+pub fn tell_pair<K: Display + Drop, V: Display + Drop>(
+    answer: &mut String,
+    pair: Option<(K, V)>,
+) -> Result<(), Stop> {
+    match pair {
+        Some((key, value)) => write!(answer, " {key}:{value}")?,
+        None => write!(answer, " none")?,
     }
     Ok(())
 }
 
-#[test]
-fn keys_and_values(rt: HostRuntime) -> Result<(), Fail> {
-    for size in [2, 1024] {
-        let map = five(rt.alloc(), size)?;
-        let keys = map.keys().copied().eq([1, 2, 3, 17, 41]);
-        let values = map.values().copied().eq(["a", "b", "c", "d", "e"]);
-        let last = map.keys().next_back() == Some(&41) && map.values().next_back() == Some(&"e");
-        let counted = map.keys().len() == 5 && map.values().len() == 5;
-        assert!(rt; keys && values && last && counted);
-        let mut rows = [(1, "a"), (2, "b"), (3, "c"), (17, "d"), (41, "e")].into_iter();
-        for (key, value) in &map {
-            assert!(rt; rows.next() == Some((*key, *value)));
+/// Writes the pairs of a list.
+pub fn tell_pairs<V: Display>(answer: &mut String, pairs: &[(u64, V)]) -> Result<(), Stop> {
+    for (key, value) in pairs {
+        write!(answer, " {key}:{value}")?;
+    }
+    Ok(())
+}
+
+/// What a cursor shows and where it goes, a word each.
+pub fn follow<V: Copy + Display + Drop>(
+    mut cursor: CursorMap<'_, u64, V>,
+    words: &mut SplitWhitespace<'_>,
+    answer: &mut String,
+) -> Result<(), Stop> {
+    for word in words {
+        match word.split_once('=').unwrap_or((word, "")) {
+            ("key", _) => tell_option(answer, cursor.key().copied())?,
+            ("value", _) => tell_option(answer, cursor.value().copied())?,
+            ("key_value", _) => tell_pair(answer, owned(cursor.key_value()))?,
+            ("peek_next", _) => tell_pair(answer, owned(cursor.peek_next()))?,
+            ("peek_prev", _) => tell_pair(answer, owned(cursor.peek_prev()))?,
+            ("move_next", _) => cursor.move_next(),
+            ("move_prev", _) => cursor.move_prev(),
+            ("peek_index", i) => {
+                let i = i.parse::<usize>().map_err(|_| Stop::Word)?;
+                tell_pair(answer, owned(cursor.peek_index(i)))?;
+            }
+            ("move_index", i) => {
+                cursor.move_index(i.parse::<usize>().map_err(|_| Stop::Word)?);
+            }
+            _ => return Err(Stop::Word),
         }
-        assert!(rt; rows.next().is_none());
     }
     Ok(())
 }
 
-#[test]
-fn owned_keys_and_values(rt: HostRuntime) -> Result<(), Fail> {
-    for size in [2, 1024] {
-        let map = five(rt.alloc(), size)?;
-        let mut keys = map.clone()?.into_keys();
-        let five_keys = keys.len() == 5;
-        let key_ends = (keys.next(), keys.next_back()) == (Some(1), Some(41));
-        let mut values = map.clone()?.into_values();
-        let value_ends = (values.next(), values.next_back()) == (Some("a"), Some("e"));
-        let three_values = values.size_hint() == (3, Some(3));
-        let mut entries = map.into_iter();
-        let ends = (entries.next_back(), entries.next()) == (Some((41, "e")), Some((1, "a")));
-        let three = entries.len() == 3;
-        assert!(rt; five_keys && key_ends && value_ends && three_values && ends && three);
-        assert!(rt; entries.eq([(2, "b"), (3, "c"), (17, "d")]));
+/// A pair that is lent, copied.
+pub fn owned<V: Copy>(pair: Option<(&u64, &V)>) -> Option<(u64, V)> {
+    let (key, value) = pair?;
+    Some((*key, *value))
+}
+
+/// Walks over the keys.
+pub fn walk_keys<V: Display + Drop>(
+    map: &BTreeMap<u64, V>,
+    words: &mut SplitWhitespace<'_>,
+    answer: &mut String,
+) -> Result<(), Stop> {
+    walk!(map.keys(), words, answer, tell_option)
+}
+
+/// Walks over the values.
+pub fn walk_values<V: Display + Drop>(
+    map: &BTreeMap<u64, V>,
+    words: &mut SplitWhitespace<'_>,
+    answer: &mut String,
+) -> Result<(), Stop> {
+    walk!(map.values(), words, answer, tell_option)
+}
+
+/// Walks over the keys of a map that it owns.
+pub fn walk_owned_keys<V: Display + Drop>(
+    map: BTreeMap<u64, V>,
+    words: &mut SplitWhitespace<'_>,
+    answer: &mut String,
+) -> Result<(), Stop> {
+    walk!(map.into_keys(), words, answer, tell_option)
+}
+
+/// Walks over the values of a map that it owns.
+pub fn walk_owned_values<V: Display + Drop>(
+    map: BTreeMap<u64, V>,
+    words: &mut SplitWhitespace<'_>,
+    answer: &mut String,
+) -> Result<(), Stop> {
+    walk!(map.into_values(), words, answer, tell_option)
+}
+
+/// Walks over the pairs.
+pub fn walk_all<V: Display + Drop>(
+    map: &BTreeMap<u64, V>,
+    words: &mut SplitWhitespace<'_>,
+    answer: &mut String,
+) -> Result<(), Stop> {
+    walk!(map.iter(), words, answer, tell_pair)
+}
+
+/// Walks over the pairs of a map that it owns.
+pub fn walk_owned<V: Display + Drop>(
+    map: BTreeMap<u64, V>,
+    words: &mut SplitWhitespace<'_>,
+    answer: &mut String,
+) -> Result<(), Stop> {
+    walk!(map.into_iter(), words, answer, tell_pair)
+}
+
+/// Writes the pairs that a walk over positions lends.
+pub fn lend<V: Copy + Display + Drop>(
+    map: &mut BTreeMap<u64, V>,
+    range: (Bound<usize>, Bound<usize>),
+    answer: &mut String,
+) -> Result<(), Stop> {
+    let mut walk = map.range_mut_idx(range);
+    for _ in 0..walk.len() {
+        if let Some((key, value)) = walk.next() {
+            let value = *value;
+            write!(answer, " {key}:{value}")?;
+        }
     }
     Ok(())
 }

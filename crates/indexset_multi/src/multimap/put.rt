@@ -1,5 +1,5 @@
 //! Insertion of pairs.
-ghost use Rattle.std.specs.Prelude.{◌≡◌, ◌+◌, ◌/◌, ◌≤◌, [], ◌∷◌, ◌++◌, true, false, length, Some, IfOk, OnOk, IfErr, OnErr};
+ghost use Rattle.std.specs.Prelude.{◌≡◌, ◌+◌, ◌/◌, ◌≤◌, [], ◌∷◌, ◌++◌, true, false, is_err, length, Some, IfOk, OnOk, IfErr, OnErr};
 ghost use Rattle.std.specs.List.{AllZip};
 ghost use Rattle.std.specs.Option.{option_map};
 ghost use Rattle.std.specs.Ordering.{is_eq};
@@ -108,10 +108,8 @@ impl<K: Ord + Clone + Drop, V: Eq + Clone + Drop, Node: NodeLike<MultiPair<K, V>
 
     // Returns the pair that an insertion puts, and the number of the next new pair after it.
     fn pair_for(&self, key: K, value: V) -> Result<(MultiPair<K, V>, u64), Refused<(K, V)>>
-        ensures pair { IfOk result (λ r. r.0 ≡ inserted_pair K.cmp V.eq self.now key value) }
-        ensures pair_next { IfOk result (λ r. r.1 ≡ pair_next_after K.cmp V.eq self.now key value) }
-        ensures number_left { OnOk result (lacks_number K.cmp V.eq self.now key value ≡ false) }
-        ensures refusal { OnErr result (lacks_number K.cmp V.eq self.now key value ≡ true) }
+        ensures answer { IfOk result (λ r. r ≡ (inserted_pair K.cmp V.eq self.now key value, pair_next_after K.cmp V.eq self.now key value)) }
+        ensures refusal { is_err result ≡ lacks_number K.cmp V.eq self.now key value }
         ensures cause { IfErr result (λ e. e.cause ≡ Refusal.Numbers) }
         ensures given_back { IfErr result (λ e. e.value ≡ (key, value)) }
     {

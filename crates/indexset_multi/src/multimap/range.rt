@@ -8,7 +8,7 @@ ghost use Rattle.std.specs.Range.Bound.{bound_map};
 ghost use Rattle.indexset_core.specs.Bounds.{are_ordered};
 ghost use Rattle.indexset_core.specs.Nodes.{joined};
 ghost use Rattle.indexset_core.specs.Pairs.{pair_shown};
-ghost use Rattle.indexset_log.specs.Places.{IsPlace, items_before};
+ghost use Rattle.indexset_core.specs.Places.{IsPlace, items_before};
 ghost use Rattle.indexset_multi.specs.Keys.{entries, number_shown, pairs_between, pairs_of};
 
 use super::BTreeMultiMap;

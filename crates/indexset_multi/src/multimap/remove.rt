@@ -4,11 +4,11 @@ ghost use Rattle.std.specs.List.{AllZip};
 ghost use Rattle.std.specs.Option.{option_map};
 ghost use Rattle.std.specs.Ordering.{is_eq};
 ghost use Rattle.indexset_core.specs.MultiPairs.{by_number};
-ghost use Rattle.indexset_core.specs.Nodes.{joined, IsLawful};
-ghost use Rattle.indexset_log.specs.Clones.{IsEventClone};
+ghost use Rattle.indexset_core.specs.Nodes.{joined};
+ghost use Rattle.indexset_log.specs.Clones.{IsEventClone, IsTold};
 ghost use Rattle.indexset_log.specs.Joining.{IsSpaced};
 ghost use Rattle.indexset_log.specs.Replay.{replay, numbered_from, IsNumberedFrom};
-ghost use Rattle.indexset_log.specs.Tree.{refusal_for};
+ghost use Rattle.indexset_log.specs.Tree.{IsTree, refusal_for};
 ghost use Rattle.indexset_multi.specs.Keys.{equal_pair, first_pair, key_and_value, pairs_of, without_first, without_named};
 ghost use Rattle.indexset_multi.specs.Places.{IsItemPlace, placed_item};
 ghost use Rattle.indexset_multi.specs.Tree.{after_removal, pair_removal_events};
@@ -177,30 +177,17 @@ impl<K: Ord + Clone + Drop, V: Eq + Clone + Drop, Node: NodeLike<MultiPair<K, V>
         &mut self,
         place: Option<(usize, usize)>,
     ) -> Result<(Option<(K, V)>, Vec<ChangeEvent<MultiPair<K, V>>>), Refusal>
-        requires place { IsItemPlace self.old.nodes place }
+        requires { IsItemPlace self.old.nodes place }
         ensures tree { OnOk result (self.new ≡ after_removal K.cmp self.old (placed_item self.old.nodes place)) }
         ensures answer { IfOk result (λ r. r.0 ≡ option_map key_and_value (placed_item self.old.nodes place)) }
-        ensures contents { OnOk result (joined self.new.nodes ≡ without_named K.cmp (joined self.old.nodes) (placed_item self.old.nodes place)) }
-        ensures lawful { IsLawful (by_number K.cmp) self.old.size self.old.nodes }
-        ensures clones { IfOk result (λ r. AllZip (IsEventClone (λ p q. K.is_clone p.key q.key × (V.is_clone p.value q.value × (q.discriminator ≡ p.discriminator)))) (numbered_from self.old.next (pair_removal_events K.cmp self.old.size self.old.nodes (placed_item self.old.nodes place))) r.1.items) }
-        ensures events { ((x y : K) → K.is_clone x y → y ≡ x) → ((x y : V) → V.is_clone x y → y ≡ x) → IfOk result (λ r. r.1.items ≡ numbered_from self.old.next (pair_removal_events K.cmp self.old.size self.old.nodes (placed_item self.old.nodes place))) }
-        ensures numbered { IfOk result (λ r. IsNumberedFrom self.old.next r.1.items) }
-        ensures replay { ((x y : K) → K.is_clone x y → y ≡ x) → ((x y : V) → V.is_clone x y → y ≡ x) → IfOk result (λ r. replay (by_number K.cmp) self.old.nodes r.1.items ≡ Some self.new.nodes) }
-        ensures table { OnOk result (replay (by_number K.cmp) self.old.nodes (numbered_from self.old.next (pair_removal_events K.cmp self.old.size self.old.nodes (placed_item self.old.nodes place))) ≡ Some self.new.nodes) }
-        ensures few { IfOk result (λ r. length r.1.items ≤ 3) }
-        ensures size { self.new.size ≡ self.old.size }
-        ensures spaced { IsSpaced (self.old.size / 2) self.old.nodes → IsSpaced (self.new.size / 2) self.new.nodes }
-        ensures next { OnOk result (self.new.next ≡ self.old.next + length (pair_removal_events K.cmp self.old.size self.old.nodes (placed_item self.old.nodes place))) }
-        ensures pair_next { self.new.pair_next ≡ self.old.pair_next }
+        ensures told { IfOk result (λ r. IsTold (λ p q. K.is_clone p.key q.key × (V.is_clone p.value q.value × (q.discriminator ≡ p.discriminator))) self.old.next (pair_removal_events K.cmp self.old.size self.old.nodes (placed_item self.old.nodes place)) r.1.items) }
         ensures fits { OnOk result (self.old.next + length (pair_removal_events K.cmp self.old.size self.old.nodes (placed_item self.old.nodes place)) ≤ u64.MAX) }
         ensures refusal { IfErr result (λ e. e ≡ refusal_for self.old.next (length (pair_removal_events K.cmp self.old.size self.old.nodes (placed_item self.old.nodes place)))) }
         ensures no_event { pair_removal_events K.cmp self.old.size self.old.nodes (placed_item self.old.nodes place) ≡ [] → IsOk result }
         ensures unchanged { OnErr result (self.new ≡ self.old) }
+        ensures rule { IsTree (by_number K.cmp) Node.most self.old.nodes self.old.size (length (joined self.old.nodes)) }
     {
-        // The contracts of these say that the nodes are lawful, and that size and counter fit.
-        let _nodes = self.set.node_count();
-        let _size = self.set.maximum_node_size();
-        let _next = self.set.events_issued();
+        self.rule();
         match place {
             Some((node, offset)) => {
                 let (pair, events) = self.set.remove_at_cdc(node, offset)?;
@@ -215,24 +202,15 @@ impl<K: Ord + Clone + Drop, V: Eq + Clone + Drop, Node: NodeLike<MultiPair<K, V>
         requires { IsItemPlace self.old.nodes place }
         ensures tree { OnOk result (self.new ≡ after_removal K.cmp self.old (placed_item self.old.nodes place)) }
         ensures answer { IfOk result (λ entry. entry ≡ option_map key_and_value (placed_item self.old.nodes place)) }
-        ensures contents { OnOk result (joined self.new.nodes ≡ without_named K.cmp (joined self.old.nodes) (placed_item self.old.nodes place)) }
-        ensures lawful { IsLawful (by_number K.cmp) self.old.size self.old.nodes }
-        ensures replay { OnOk result (replay (by_number K.cmp) self.old.nodes (numbered_from self.old.next (pair_removal_events K.cmp self.old.size self.old.nodes (placed_item self.old.nodes place))) ≡ Some self.new.nodes) }
-        ensures size { self.new.size ≡ self.old.size }
-        ensures spaced { IsSpaced (self.old.size / 2) self.old.nodes → IsSpaced (self.new.size / 2) self.new.nodes }
-        ensures next { OnOk result (self.new.next ≡ self.old.next + length (pair_removal_events K.cmp self.old.size self.old.nodes (placed_item self.old.nodes place))) }
-        ensures pair_next { self.new.pair_next ≡ self.old.pair_next }
         ensures fits { OnOk result (self.old.next + length (pair_removal_events K.cmp self.old.size self.old.nodes (placed_item self.old.nodes place)) ≤ u64.MAX) }
         ensures refusal { IfErr result (λ e. e ≡ refusal_for self.old.next (length (pair_removal_events K.cmp self.old.size self.old.nodes (placed_item self.old.nodes place)))) }
         ensures no_event { pair_removal_events K.cmp self.old.size self.old.nodes (placed_item self.old.nodes place) ≡ [] → IsOk result }
         ensures no_memory { length (pair_removal_events K.cmp self.old.size self.old.nodes (placed_item self.old.nodes place)) ≤ 1 → self.old.next + length (pair_removal_events K.cmp self.old.size self.old.nodes (placed_item self.old.nodes place)) ≤ u64.MAX → IsOk result }
         ensures never { Node.allocates ≡ false → self.old.next + length (pair_removal_events K.cmp self.old.size self.old.nodes (placed_item self.old.nodes place)) ≤ u64.MAX → IsOk result }
         ensures unchanged { OnErr result (self.new ≡ self.old) }
+        ensures rule { IsTree (by_number K.cmp) Node.most self.old.nodes self.old.size (length (joined self.old.nodes)) }
     {
-        // The contracts of these say that the nodes are lawful, and that size and counter fit.
-        let _nodes = self.set.node_count();
-        let _size = self.set.maximum_node_size();
-        let _next = self.set.events_issued();
+        self.rule();
         match place {
             Some((node, offset)) => {
                 let pair = self.set.remove_at(node, offset)?;

@@ -4,8 +4,8 @@ ghost use Rattle.std.specs.Ordering.{is_eq};
 ghost use Rattle.indexset_core.specs.Nodes.{joined};
 ghost use Rattle.indexset_log.specs.Joining.{IsSpaced};
 ghost use Rattle.indexset_log.specs.Tree.{refusal_for};
-ghost use Rattle.indexset_multi.specs.Keys.{first_pair, pairs_of, without_key, without_named};
-ghost use Rattle.indexset_multi.specs.Tree.{IsLedBy, IsLedTo, MultiTree, pair_removal_events};
+ghost use Rattle.indexset_multi.specs.Keys.{first_pair, pairs_of, without_key};
+ghost use Rattle.indexset_multi.specs.Tree.{IsLedBy, IsLedTo, MultiTree, after_removal, after_removals, pair_removal_events};
 
 use super::BTreeMultiMap;
 use indexset_core::moves::move_tail;
@@ -23,6 +23,7 @@ impl<K: Ord + Clone + Drop, V: Eq + Clone + Drop, Node: NodeLike<MultiPair<K, V>
     /// many they were. Fails where one of these removals does: the pairs before it are gone, and it and
     /// those after it stay. (Not in the Rust crate.)
     pub fn remove_all(&mut self, key: &K) -> Result<usize, Refusal>
+        ensures tree { self.new ≡ after_removals K.cmp self.old key.now (length (pairs_of K.cmp (joined self.old.nodes) key.now) - length (pairs_of K.cmp (joined self.new.nodes) key.now)) }
         ensures count { IfOk result (λ n. n ≡ length (pairs_of K.cmp (joined self.old.nodes) key.now)) }
         ensures contents { OnOk result (joined self.new.nodes ≡ without_key K.cmp (joined self.old.nodes) key.now) }
         ensures gone { OnOk result (pairs_of K.cmp (joined self.new.nodes) key.now ≡ []) }
@@ -35,8 +36,9 @@ impl<K: Ord + Clone + Drop, V: Eq + Clone + Drop, Node: NodeLike<MultiPair<K, V>
         ensures pair_next { self.new.pair_next ≡ self.old.pair_next }
         ensures refusal { IfErr result (λ e. e ≡ refusal_for self.new.next (length (pair_removal_events K.cmp self.new.size self.new.nodes (first_pair K.cmp (joined self.new.nodes) key.now)))) }
     {
-        // The number of pairs fits.
-        let _len = self.set.len();
+        // What holds of the nodes at first, and that the number of pairs fits.
+        self.rule();
+        let _len = self.len();
         let mut count = 0;
         while let Some(_) = self.remove_some(key)? {
             count += 1;
@@ -55,6 +57,7 @@ impl<K: Ord + Clone + Drop, V: Eq + Clone + Drop, Node: NodeLike<MultiPair<K, V>
         (usize, Vec<ChangeEvent<MultiPair<K, V>>>),
         Refused<Vec<ChangeEvent<MultiPair<K, V>>>>,
     >
+        ensures tree { self.new ≡ after_removals K.cmp self.old key.now (length (pairs_of K.cmp (joined self.old.nodes) key.now) - length (pairs_of K.cmp (joined self.new.nodes) key.now)) }
         ensures count { IfOk result (λ r. r.0 ≡ length (pairs_of K.cmp (joined self.old.nodes) key.now)) }
         ensures contents { OnOk result (joined self.new.nodes ≡ without_key K.cmp (joined self.old.nodes) key.now) }
         ensures gone { OnOk result (pairs_of K.cmp (joined self.new.nodes) key.now ≡ []) }
@@ -67,8 +70,9 @@ impl<K: Ord + Clone + Drop, V: Eq + Clone + Drop, Node: NodeLike<MultiPair<K, V>
         ensures spaced { IsSpaced (self.old.size / 2) self.old.nodes → IsSpaced (self.new.size / 2) self.new.nodes }
         ensures pair_next { self.new.pair_next ≡ self.old.pair_next }
     {
-        // The number of pairs fits.
-        let _len = self.set.len();
+        // What holds of the nodes at first, and that the number of pairs fits.
+        self.rule();
+        let _len = self.len();
         let mut count = 0;
         let mut events = Vec::new(*self.set.allocator());
         loop {
@@ -92,14 +96,9 @@ impl<K: Ord + Clone + Drop, V: Eq + Clone + Drop, Node: NodeLike<MultiPair<K, V>
         key: &K,
         events: &mut Vec<ChangeEvent<MultiPair<K, V>>>,
     ) -> Result<bool, Refusal>
+        ensures tree { OnOk result (self.new ≡ after_removal K.cmp self.old (first_pair K.cmp (joined self.old.nodes) key.now)) }
         ensures found { IfOk result (λ found. found ≡ is_some (first_pair K.cmp (joined self.old.nodes) key.now)) }
-        ensures contents { OnOk result (joined self.new.nodes ≡ without_named K.cmp (joined self.old.nodes) (first_pair K.cmp (joined self.old.nodes) key.now)) }
-        ensures gone { OnOk result (pairs_of K.cmp (joined self.new.nodes) key.now ≡ drop 1 (pairs_of K.cmp (joined self.old.nodes) key.now)) }
-        ensures others { OnOk result ((other : K) → is_eq (K.cmp other key.now) ≡ false → pairs_of K.cmp (joined self.new.nodes) other ≡ pairs_of K.cmp (joined self.old.nodes) other) }
         ensures replay { ((x y : K) → K.is_clone x y → y ≡ x) → ((x y : V) → V.is_clone x y → y ≡ x) → (m : MultiTree K V) → IsLedBy K.cmp m self.old events.old.items → IsLedBy K.cmp m self.new events.new.items }
-        ensures size { self.new.size ≡ self.old.size }
-        ensures spaced { IsSpaced (self.old.size / 2) self.old.nodes → IsSpaced (self.new.size / 2) self.new.nodes }
-        ensures pair_next { self.new.pair_next ≡ self.old.pair_next }
         ensures unchanged { OnErr result (self.new ≡ self.old) }
     {
         // There is room for the events before the pair goes.

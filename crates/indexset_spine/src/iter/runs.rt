@@ -1,32 +1,8 @@
-//! An iterator by runs, the items that stand in one node, and two iterators compared by them.
+//! Two iterators compared by runs, the items that stand in one node.
 ghost use Rattle.std.specs.Prelude.{◌≡◌, ◌<◌, ◌++◌, length};
 ghost use Rattle.std.specs.Cmp.Lexicographic.{pointwise};
 
 use super::Iter;
-
-impl<'a, T> Iter<'a, T> {
-    /// Returns the remaining items of the front node, or of the next that has items; none only at
-    /// the end.
-    fn next_run(&mut self) -> &'a [T]
-        ensures taken { self.old ≡ result.now ++ self.new }
-        ensures some { 0 < length self.old → 0 < length result.now }
-    {
-        let mut run = self.front;
-        self.front = &[];
-        while run.is_empty()
-            && let Some((node, rest)) = self.middle.split_first()
-        {
-            run = node.as_slice();
-            self.middle = rest;
-        }
-        if run.is_empty() {
-            run = self.back;
-            self.back = &[];
-        }
-        self.left -= run.len();
-        run
-    }
-}
 
 // So many items are compared before the first that differs ends the comparison.
 const BLOCK: usize = 64;

@@ -5,8 +5,7 @@ ghost use Rattle.std.specs.Map.Iter.{ShowsInOrder, ShowsInReverse, deref};
 ghost use Rattle.indexset_spine.specs.Cut.{items, IsSpot, end_spot, position_of};
 
 use super::Spine;
-use crate::iter::Iter;
-use crate::lengths;
+use crate::iter::{Iter, walk_between};
 use crate::spot::Spot;
 
 impl<T> Spine<T> {
@@ -48,7 +47,8 @@ impl<T> Spine<T> {
     {
         // The sum of all lengths fits, so each sum of some does.
         let _len = self.len;
-        let nodes = self.nodes.as_slice();
-        Iter::from_to(nodes, start, end, lengths::distance_in(nodes, start, end))
+        let walk = walk_between(self.nodes.as_slice(), start, end);
+        let left = walk.item_count();
+        Iter::new(walk, left)
     }
 }

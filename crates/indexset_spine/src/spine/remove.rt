@@ -52,7 +52,7 @@ fn take_out<T: Drop>(nodes: &mut Vec<Vec<T>>, index: &mut Fenwick, spot: Spot) -
 }
 
 // Removes a node if it is empty and not the only one. The index stays that of the nodes.
-fn drop_indexed_if_empty<T: Drop>(nodes: &mut Vec<Vec<T>>, index: &mut Fenwick, k: usize)
+pub(super) fn drop_indexed_if_empty<T: Drop>(nodes: &mut Vec<Vec<T>>, index: &mut Fenwick, k: usize)
     requires node { k < length (vec_items nodes.old.items) }
     requires index { index.old.lengths ≡ node_lengths (vec_items nodes.old.items) }
     ensures nodes { vec_items nodes.new.items ≡ without_emptied (vec_items nodes.old.items) k }

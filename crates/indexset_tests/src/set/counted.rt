@@ -1,6 +1,7 @@
-//! How often a call compares, told by keys that count, and how often `retain_pairs` asks.
+//! How often a call compares, told by keys that count, and how often `retain` and `retain_pairs` ask.
 use super::add;
 use crate::counted::Counted;
+use crate::sized::set_of;
 use indexset_core::pair::Pair;
 use indexset_core::refusal::Refusal;
 use indexset_set::BTreeSet;
@@ -113,5 +114,18 @@ fn retain_pairs_asks_once_a_pair(rt: HostRuntime) -> Result<(), Fail> {
     });
     let kept = set.iter().map(|pair| (pair.key, pair.value));
     assert!(rt; asked == 7 && kept.eq([(1, 1), (3, 3), (5, 5), (7, 7)]));
+    Ok(())
+}
+
+#[test]
+fn every_second_kept(rt: HostRuntime) -> Result<(), Fail> {
+    let mut set = set_of(rt.alloc(), 2, &[1u64, 2, 3, 4, 5, 6, 7])?;
+    let mut asked = 0u64;
+    set.retain(|_| {
+        asked = asked.wrapping_add(1);
+        asked % 2 == 1
+    });
+    let kept = set.iter().copied().eq([1, 3, 5, 7]);
+    assert!(rt; asked == 7 && kept && set.node_count() == 4);
     Ok(())
 }

@@ -1,6 +1,7 @@
 //! Elements that are equal and differ.
 
 use super::add;
+use crate::sized::set_of;
 use crate::tagged::Tagged;
 use indexset_set::BTreeSet;
 use std::test::Fail;
@@ -19,6 +20,23 @@ fn insert_keeps_and_replace_puts(rt: HostRuntime) -> Result<(), Fail> {
         let held = set.get(&old).map(|x| x.tag) == Some('b') && set.len() == 1;
         let taken = set.take(&old).map(|x| x.tag) == Some('b');
         assert!(rt; is_new && !is_new_again && kept && replaced && held && taken);
+    }
+    Ok(())
+}
+
+#[test]
+fn equal_ones_of_the_first(rt: HostRuntime) -> Result<(), Fail> {
+    for size in [2, 1024] {
+        let [p, q] = ['p', 'q'].map(|tag| Tagged { key: 1, tag });
+        let mut left = set_of(rt.alloc(), size, &[p])?;
+        let mut right = set_of(rt.alloc(), size, &[q])?;
+        let union = left.union(&right).map(|x| x.tag).eq(['p']);
+        let both = left.intersection(&right).map(|x| x.tag).eq(['p']);
+        let difference = left.difference(&right).next().is_none();
+        let either = left.symmetric_difference(&right).next().is_none();
+        left.append(&mut right)?;
+        let moved = left.iter().map(|x| x.tag).eq(['q']) && right.is_empty();
+        assert!(rt; union && both && difference && either && moved);
     }
     Ok(())
 }

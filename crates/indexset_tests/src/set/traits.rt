@@ -22,15 +22,6 @@ fn a_struct_with_a_set_derives(rt: HostRuntime) -> Result<(), Fail> {
 }
 
 #[test]
-fn collects_and_extends(rt: HostRuntime) -> Result<(), Fail> {
-    let mut set: BTreeSet<u64> = (3..6u64).collect(rt.alloc())?;
-    set.extend(1..4u64)?;
-    let text = format!(in rt.alloc(); "{:?}", set.iter())?;
-    assert!(rt; text.as_str() == "[1, 2, 3, 4, 5]");
-    Ok(())
-}
-
-#[test]
 fn walks_have_texts(rt: HostRuntime) -> Result<(), Fail> {
     let left: BTreeSet<u64> = (0..3u64).collect(rt.alloc())?;
     let right: BTreeSet<u64> = (1..4u64).collect(rt.alloc())?;

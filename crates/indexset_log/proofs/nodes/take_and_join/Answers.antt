@@ -27,6 +27,21 @@ remove_at-item-requires g c =
     let first = first_list list c.args.nodes.now.items c.args.left c.requires.place c.index_mut-first.ensures.value c.in_ok-reserve.ensures.list c.remove-next.ensures.items c.index_mut-first-2.ensures.value in
     rw first.1 (rw c.if-node-left.true at c.requires.offset)
 
+pub remove_at-item-requires-else-node-left : goal.remove_at-item-requires-else-node-left
+remove_at-item-requires-else-node-left g c =
+    let list = g.Node.NodeLike.list in
+    let next = next_list list c.args.nodes.now.items c.args.left c.requires.place c.index_mut-first.ensures.value c.in_ok-reserve.ensures.list c.remove-next.ensures.value in
+    let place = one_after c.args.node c.args.left c.requires.node c.if-node-left.false in
+    rw next (rw place at c.requires.offset)
+
+pub reserve-requires : goal.reserve-requires
+reserve-requires g c =
+    let list = g.Node.NodeLike.list in
+    let items = c.args.nodes.now.items in
+    let more = node_is list items (map list items) (c.args.left + 1) c.index.result.now refl c.requires.place c.index.ensures in
+    let first = node_is list items (map list items) c.args.left c.index_mut-first.result.now refl (omega (arith, c.requires.place)) c.index_mut-first.ensures.value in
+    omega (arith, c.requires.most, c.len-more.ensures.value, ap (λ l. length l) more, ap (λ l. length l) first)
+
 pub absorb-requires-clause-room : goal.absorb-requires-clause-room
 absorb-requires-clause-room g c =
     let list = g.Node.NodeLike.list in
@@ -87,4 +102,16 @@ returns-clause-nodes g c =
       | else-node-left w ↦
           let place = one_after c.args.node j c.requires.node w.if-node-left.false in
           rw (c.remove-next.ensures.items, place) (two.next_made c.absorb.new.self (remove (node_at ns (j + 1)) c.args.offset) (c.absorb.ensures.list ∙ rw (w.first-is, w.next-is, w.remove_at-item-else-node-left.ensures.list, first.1, next) refl))
+    ]
+
+pub returns-clause-item : goal.returns-clause-item
+returns-clause-item g c =
+    let list = g.Node.NodeLike.list in
+    let items = c.args.nodes.now.items in
+    let j = c.args.left in
+    let first = first_list list items j c.requires.place c.index_mut-first.ensures.value c.in_ok-reserve.ensures.list c.remove-next.ensures.items c.index_mut-first-2.ensures.value in
+    let next = next_list list items j c.requires.place c.index_mut-first.ensures.value c.in_ok-reserve.ensures.list c.remove-next.ensures.value in
+    elim c.if-node-left.branch [
+      | then-node-left w ↦ rw (w.item-is, w.if-node-left.true) (rw first.1 at w.remove_at-item.ensures.value)
+      | else-node-left w ↦ rw (w.item-is, one_after c.args.node j c.requires.node w.if-node-left.false) (rw next at w.remove_at-item-else-node-left.ensures.value)
     ]

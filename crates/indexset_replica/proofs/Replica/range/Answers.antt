@@ -6,7 +6,7 @@ use Rattle.std_collections.proofs.IterRuns.{shows_in_order, shows_in_reverse}
 use Rattle.indexset_core.specs.Bounds.{in_range}
 use Rattle.indexset_core.specs.Nodes.{joined, vec_items, IsNodeList}
 use Rattle.indexset_core.proofs.CallerLemmas.{range_is, range_order}
-use Rattle.indexset_log.specs.Places.{items_before}
+use Rattle.indexset_core.specs.Places.{items_before}
 use Rattle.indexset_replica.proofs.Replica.range.Given.{Over}
 use Rattle.indexset_replica.proofs.Replica.range.Goals.{After-place_to-to}
 use Rattle.indexset_replica.proofs.Replica.range.Goals as goal

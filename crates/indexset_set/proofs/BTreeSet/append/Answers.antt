@@ -1,12 +1,10 @@
-use Rattle.std.proofs.Common.{◌≡◌, ◌<◌, ◌∙◌, length, refl, rules}
+use Rattle.std.proofs.Common.{◌∙◌, refl}
 use Rattle.std.proofs.lemmas.Result.{on_ok_weaker}
-use Rattle.std.specs.Option.{IfSome}
-use Rattle.std.specs.List.{slice_get}
 use Rattle.indexset_core.specs.Order.{put}
 use Rattle.indexset_core.proofs.CallerLemmas.{on_err}
 use Rattle.indexset_spine.specs.Cut.{cut, items}
 use Rattle.indexset_spine.specs.Edits.{TakesSome}
-use Rattle.indexset_spine.proofs.CallerLemmas.{takes_first, takes_more}
+use Rattle.indexset_spine.proofs.CallerLemmas.{takes_more}
 use Rattle.indexset_set.specs.SetNodes.{nodes_put}
 use Rattle.indexset_set.proofs.SetAppendLemmas.{nodes_all, puts_some}
 use Rattle.indexset_set.proofs.SetBulkLemmas.{moved_all, moves_some}
@@ -26,14 +24,10 @@ returns-in_err-near-clause-err_nodes g c =
 
 pub loop-self-preserved : goal.loop-self-preserved
 loop-self-preserved g c =
-    let some : 0 < length (items c.loop-self.other) = search rules in
     let step = c.in_ok-near.ensures in
-    let nodes : IfSome (slice_get (items c.loop-self.other) 0) (λ x. c.put_first_of.new.self.nodes ≡ nodes_put g.T.Ord.cmp (cut c.loop-self.self.nodes c.loop-self.self.size) x) = step.nodes in
     record {
-      moved = takes_more (put g.T.Ord.cmp) _ _ _ _ _ _ c.loop-self.invariant.moved (takes_first (put g.T.Ord.cmp) _ _ _ _ some step.ok step.rest);
-      nodes =
-          takes_more (λ ns x. nodes_put g.T.Ord.cmp (cut ns c.args.self.now.size) x) _ _ _ _ _ _ c.loop-self.invariant.nodes
-          (takes_first (λ ns x. nodes_put g.T.Ord.cmp (cut ns c.args.self.now.size) x) _ _ _ _ some (rw c.loop-self.invariant.size at nodes) step.rest);
+      moved = takes_more (put g.T.Ord.cmp) _ _ _ _ _ _ c.loop-self.invariant.moved step.moved;
+      nodes = takes_more (λ ns x. nodes_put g.T.Ord.cmp (cut ns c.args.self.now.size) x) _ _ _ _ _ _ c.loop-self.invariant.nodes (rw c.loop-self.invariant.size at step.nodes);
       size = step.size ∙ c.loop-self.invariant.size;
       other_size = step.other_size ∙ c.loop-self.invariant.other_size;
     }

@@ -1,6 +1,5 @@
-use Rattle.std.specs.Ordering.{nat_cmp}
 use Rattle.indexset_core.specs.Order.{IsAscending}
 use Rattle.indexset_tests.proofs.nodes.node_of.Given as goal
 
 abbrev pub invariant-loop-value : goal.invariant-loop-value
-invariant-loop-value g l = IsAscending nat_cmp (g.Node.NodeLike.list l.node)
+invariant-loop-value g l = IsAscending g.T.Ord.cmp (g.Node.NodeLike.list l.node)

@@ -5,7 +5,7 @@ use Rattle.std_collections.proofs.IterRuns.{shows_in_order, shows_in_reverse}
 use Rattle.indexset_core.specs.Nodes.{joined}
 use Rattle.indexset_core.specs.Pairs.{by_key, pair_shown, pairs_within}
 use Rattle.indexset_core.proofs.CallerLemmas.{each_bounded, key_range_is, key_range_order, probed_before, probed_up_to}
-use Rattle.indexset_log.specs.Places.{items_before}
+use Rattle.indexset_core.specs.Places.{items_before}
 use Rattle.indexset_log.proofs.Keys.{parted_keys}
 use Rattle.indexset_log.proofs.Views.{lawful_ascends}
 use Rattle.indexset_log.proofs.map.BTreeMap.range.Given.{Over}

@@ -4,7 +4,7 @@ use Rattle.indexset_core.specs.Parted.{not_greater_count}
 use Rattle.indexset_core.proofs.CallerLemmas.{parted_node}
 use Rattle.indexset_log.proofs.Runs.{at_most_all, before, ends_here, ends_inside, few_far, few_near, reaches, whole}
 use Rattle.indexset_log.proofs.Trees.{held, node_held}
-use Rattle.indexset_log.proofs.Views.{node_some}
+use Rattle.indexset_log.proofs.Views.{lawful_filled, node_some}
 use Rattle.indexset_log.proofs.set.BTreeSet.end_from.Given.{Over}
 use Rattle.indexset_log.proofs.set.BTreeSet.end_from.Goals.{After-as_slice-2, After-as_slice-items, After-last_started-last, After-run_end, After-run_end-end}
 use Rattle.indexset_log.proofs.set.BTreeSet.end_from.Goals as goal
@@ -38,6 +38,19 @@ returns-then-end-items-clause-before g c =
     let end = end_is g at.After-run_end-end is in
     let some = begun g at.After-as_slice-items in
     rw end (ends_inside (g.P.Probe.answer c.args.probe.now) c.args.self.now.nodes c.requires.parted c.args.node c.requires.node (omega (arith, some)) (omega (arith, end, c.if-end-items.true, ap (λ l. length l) is)))
+
+pub last_started-last-requires-clause-filled : goal.last_started-last-requires-clause-filled
+last_started-last-requires-clause-filled g c = rw c.as_slice.ensures.value (lawful_filled g.T.Ord.cmp c.self.inside.size _ c.self.invariant.lawful)
+
+pub last_started-last-requires-clause-parted : goal.last_started-last-requires-clause-parted
+last_started-last-requires-clause-parted g c =
+    let t = held g.Node.NodeLike.list c.self.inside.nodes.items c.self.view_is c.self.invariant in
+    rw (c.as_slice.ensures.value, t.same, c.run_end-end.ensures.fixed) c.requires.parted
+
+pub last_started-last-requires-clause-started : goal.last_started-last-requires-clause-started
+last_started-last-requires-clause-started g c =
+    let t = held g.Node.NodeLike.list c.self.inside.nodes.items c.self.view_is c.self.invariant in
+    rw (c.as_slice.ensures.value, t.same, c.run_end-end.ensures.fixed) (omega (arith, c.requires.started))
 
 -- the last node that begins before the end
 record Last (g : Over) (c : After-last_started-last g) : Type 0 where

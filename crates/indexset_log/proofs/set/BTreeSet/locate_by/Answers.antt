@@ -29,6 +29,11 @@ few g c =
 pub node_by-node-requires-clause-filled : goal.node_by-node-requires-clause-filled
 node_by-node-requires-clause-filled g c = rw c.as_slice.ensures.value (lawful_filled g.T.Ord.cmp c.self.inside.size _ c.self.invariant.lawful)
 
+pub node_by-node-requires-clause-parted : goal.node_by-node-requires-clause-parted
+node_by-node-requires-clause-parted g c =
+    let t = held g.Node.NodeLike.list c.self.inside.nodes.items c.self.view_is c.self.invariant in
+    rw (c.as_slice.ensures.value, t.same) c.requires
+
 pub first_not_less-offset-requires : goal.first_not_less-offset-requires
 first_not_less-offset-requires g c =
     let r = read g (goal.at.first_not_less-offset-requires g c).After-index-items in

@@ -5,10 +5,16 @@ use Rattle.indexset_core.specs.Nodes.{node_at, node_for}
 use Rattle.indexset_log.specs.Replay.{reaches}
 use Rattle.indexset_log.proofs.Attaches.{min_place_past, min_place_here}
 use Rattle.indexset_log.proofs.Trees.{held}
-use Rattle.indexset_log.proofs.Views.{ends_at, never_none, lawful_filled}
+use Rattle.indexset_log.proofs.Views.{ends_at, never_none, lawful_filled, lawful_parted}
 use Rattle.indexset_log.proofs.set.BTreeSet.nodes_below.Given.{Over}
 use Rattle.indexset_log.proofs.set.BTreeSet.nodes_below.Goals.{After-index, In-Some}
 use Rattle.indexset_log.proofs.set.BTreeSet.nodes_below.Goals as goal
+
+pub node_by-node-requires-clause-filled : goal.node_by-node-requires-clause-filled
+node_by-node-requires-clause-filled g c = rw c.as_slice.ensures.value (lawful_filled g.T.Ord.cmp c.self.inside.size _ c.self.invariant.lawful)
+
+pub node_by-node-requires-clause-parted : goal.node_by-node-requires-clause-parted
+node_by-node-requires-clause-parted g c = rw (c.new.ensures, c.as_slice.ensures.value) (lawful_parted g.T.Ord.cmp c.self.inside.size _ c.self.invariant.lawful g.met.T.Ord.total c.args.value.now)
 
 -- where the search ends
 found : (g : Over) (c : After-index g) → (c.node_by-node.result ≡ node_for (λ x. g.T.Ord.cmp x c.args.value.now) c.args.self.now.nodes) × (1 ≤ length c.args.self.now.nodes) × (c.node_by-node.result < length c.self.inside.nodes.items)

@@ -1,6 +1,6 @@
 use Rattle.std.proofs.Common.{◌-◌, ◌≡◌, ◌+◌, ◌<◌, ◌≤◌, length}
 use Rattle.indexset_core.specs.Nodes.{node_at}
-use Rattle.indexset_log.specs.Places.{items_before}
+use Rattle.indexset_core.specs.Places.{items_before}
 use Rattle.indexset_log.proofs.set.BTreeSet.place_ahead.Given as goal
 
 abbrev pub invariant-loop-offset : goal.invariant-loop-offset

@@ -4,7 +4,7 @@ use Rattle.indexset_core.specs.Digits.{digits}
 use Rattle.indexset_core.specs.Nodes.{equal_at, joined, node_at, node_for}
 use Rattle.indexset_core.specs.Parted.{less_count}
 use Rattle.indexset_core.proofs.CallerLemmas.{digits-mono, equal_inside, parted_node, place_for}
-use Rattle.indexset_log.specs.Places.{items_before}
+use Rattle.indexset_core.specs.Places.{items_before}
 use Rattle.indexset_log.proofs.Runs.{equal_goes_on, none_equal}
 use Rattle.indexset_log.proofs.Trees.{held, node_held}
 use Rattle.indexset_log.proofs.Views.{equal_joined, lawful_filled, lawful_small}
@@ -59,6 +59,14 @@ found g c r =
       fixed = near.fixed ∙ c.node_by-node.ensures.fixed;
       few = omega (arith, c.node_by-node.ensures.few, near.few, ap (λ l. digits (length l)) r.is, digits-mono _ _ small, ap (λ l. digits (length l)) c.as_slice.ensures.value, ap digits t.many);
     }
+
+pub node_by-node-requires-clause-filled : goal.node_by-node-requires-clause-filled
+node_by-node-requires-clause-filled g c = rw c.as_slice.ensures.value (lawful_filled g.T.Ord.cmp c.self.inside.size _ c.self.invariant.lawful)
+
+pub node_by-node-requires-clause-parted : goal.node_by-node-requires-clause-parted
+node_by-node-requires-clause-parted g c =
+    let t = held g.Node.NodeLike.list c.self.inside.nodes.items c.self.view_is c.self.invariant in
+    rw (c.as_slice.ensures.value, t.same) c.requires
 
 pub first_not_less_near-offset-requires : goal.first_not_less_near-offset-requires
 first_not_less_near-offset-requires g c =

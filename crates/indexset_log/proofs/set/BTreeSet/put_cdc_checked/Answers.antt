@@ -1,8 +1,9 @@
-use Rattle.std.proofs.Common.{◌∙◌}
+use Rattle.std.proofs.Common.{rules, refl, ap, sym, ◌∙◌}
 use Rattle.indexset_core.specs.Nodes.{joined}
 use Rattle.indexset_core.specs.Order.{keep}
 use Rattle.indexset_log.specs.Table.{checked_put_events}
 use Rattle.indexset_log.proofs.Changed.{Changed, Told, checked_changed, checked_told, keep_there}
+use Rattle.indexset_log.proofs.Checked.{absent_events, absent_tree, there_contents, there_events, there_tree}
 use Rattle.indexset_log.proofs.Trees.{held}
 use Rattle.indexset_log.proofs.set.BTreeSet.put_cdc_checked.Given.{Over}
 use Rattle.indexset_log.proofs.set.BTreeSet.put_cdc_checked.Goals.{Joined-put_cdc_at-2}
@@ -19,23 +20,57 @@ tells g c =
     let t = held g.Node.NodeLike.list c.self.inside.nodes.items c.self.view_is c.self.invariant in
     checked_told g.met.T.Ord.total t.rule c.args.value (c.if-finds_equal.ensures ∙ c.aim-aim.ensures.present) c.in-Ok.ensures.tree g.T.Clone.is_clone c.in-Ok.events.items c.in-Ok.ensures.told
 
-pub returns-in-Ok-clause-contents : goal.returns-in-Ok-clause-contents
-returns-in-Ok-clause-contents g c = let d = made g c in d.contents
+-- an equal item is there
+pub returns-then-finds_equal : goal.returns-then-finds_equal
+returns-then-finds_equal g c =
+    let there = c.if-finds_equal.ensures ∙ c.aim-aim.ensures.present in
+    let none = there_events g.T.Ord.cmp c.args.self.now c.args.value there in
+    let tree = there_tree g.T.Ord.cmp c.args.self.now c.args.value there in
+    record {
+      tree = tree;
+      answer = there;
+      clones = tt;
+      refusal = tt;
+      no_event = λ _. refl;
+      given_back = tt;
+      unchanged = tt;
+      contents = there_contents g.T.Ord.cmp c.args.self.now c.args.value there;
+      there = sym there;
+      nodes = ap (λ t. t.nodes) tree;
+      size = refl;
+      next = ap (λ t. t.next) tree;
+      fits = rw none (search rules);
+      events = λ _. tt;
+      numbered = tt;
+      replay = rw none refl;
+      few = tt;
+      spaced = λ s. s;
+    }
 
-pub returns-in-Ok-clause-there : goal.returns-in-Ok-clause-there
-returns-in-Ok-clause-there g c = let d = made g c in keep_there g.met.T.Ord.total (joined c.args.self.now.nodes) c.args.value (c.if-finds_equal.ensures ∙ c.aim-aim.ensures.present) d.contents
-
-pub returns-in-Ok-clause-events : goal.returns-in-Ok-clause-events
-returns-in-Ok-clause-events g c = let s = tells g c in s.events
-
-pub returns-in-Ok-clause-numbered : goal.returns-in-Ok-clause-numbered
-returns-in-Ok-clause-numbered g c = let s = tells g c in s.numbered
-
-pub returns-in-Ok-clause-replay : goal.returns-in-Ok-clause-replay
-returns-in-Ok-clause-replay g c = let d = made g c in d.table
-
-pub returns-in-Ok-clause-few : goal.returns-in-Ok-clause-few
-returns-in-Ok-clause-few g c = let s = tells g c in s.few
-
-pub returns-in-Ok-clause-spaced : goal.returns-in-Ok-clause-spaced
-returns-in-Ok-clause-spaced g c = let d = made g c in d.spaced
+pub returns-in-Ok : goal.returns-in-Ok
+returns-in-Ok g c =
+    let d = made g c in
+    let s = tells g c in
+    let absent = c.if-finds_equal.ensures ∙ c.aim-aim.ensures.present in
+    let tree = c.in-Ok.ensures.tree ∙ sym (absent_tree g.T.Ord.cmp c.args.self.now c.args.value absent) in
+    let events = absent_events g.T.Ord.cmp c.args.self.now c.args.value absent in
+    record {
+      tree = tree;
+      answer = absent;
+      clones = rw events c.in-Ok.ensures.told;
+      refusal = tt;
+      no_event = λ _. refl;
+      given_back = tt;
+      unchanged = tt;
+      contents = d.contents;
+      there = keep_there g.met.T.Ord.total (joined c.args.self.now.nodes) c.args.value absent d.contents;
+      nodes = ap (λ t. t.nodes) tree;
+      size = d.size;
+      next = d.next;
+      fits = rw events c.in-Ok.ensures.fits;
+      events = s.events;
+      numbered = s.numbered;
+      replay = d.table;
+      few = s.few;
+      spaced = d.spaced;
+    }

@@ -4,7 +4,7 @@ use Rattle.std.specs.Range.Bound.{bound_map}
 use Rattle.indexset_core.specs.Bounds.{in_range}
 use Rattle.indexset_core.specs.Nodes.{joined}
 use Rattle.indexset_core.proofs.CallerLemmas.{each_bounded, probed_before, probed_up_to, range_order, range_is}
-use Rattle.indexset_log.specs.Places.{items_before}
+use Rattle.indexset_core.specs.Places.{items_before}
 use Rattle.indexset_log.proofs.Trees.{held}
 use Rattle.indexset_log.proofs.Views.{lawful_ascends, lawful_parted}
 use Rattle.indexset_log.proofs.set.BTreeSet.range.Given.{Over}

@@ -34,3 +34,23 @@ pub invariant_of-self-2 : goal.invariant_of-self-2
 invariant_of-self-2 g c =
     let t = held g.Node.NodeLike.list c.self.inside.nodes.items c.self.view_is c.self.invariant in
     rw (ap (λ t. t.nodes) (returns-clause-tree g c), t.sized) (taken_tree g.met.T.Ord.total t.rule.lawful c.args.node c.args.offset c.requires.node (rw (node_held t c.args.node c.requires.node c.index_mut.ensures.value) at c.remove_at-2.ensures.value) t.rule)
+
+pub remove_at-requires : goal.remove_at-requires
+remove_at-requires g c =
+    let t = held g.Node.NodeLike.list c.self.inside.nodes.items c.self.view_is c.self.invariant in
+    rw (node_held t c.args.node c.requires.node c.remove-emptied.ensures.value) c.requires.offset
+
+pub remove_at-requires-2 : goal.remove_at-requires-2
+remove_at-requires-2 g c =
+    let t = held g.Node.NodeLike.list c.self.inside.nodes.items c.self.view_is c.self.invariant in
+    rw (node_held t c.args.node c.requires.node c.index_mut.ensures.value) c.requires.offset
+
+pub returns-then-len-eq1-clause-item : goal.returns-then-len-eq1-clause-item
+returns-then-len-eq1-clause-item g c =
+    let t = held g.Node.NodeLike.list c.self.inside.nodes.items c.self.view_is c.self.invariant in
+    rw (node_held t c.args.node c.requires.node c.remove-emptied.ensures.value) at c.remove_at.ensures.value
+
+pub returns-clause-item : goal.returns-clause-item
+returns-clause-item g c =
+    let t = held g.Node.NodeLike.list c.self.inside.nodes.items c.self.view_is c.self.invariant in
+    rw (node_held t c.args.node c.requires.node c.index_mut.ensures.value) at c.remove_at-2.ensures.value

@@ -1,4 +1,4 @@
-use Rattle.std.proofs.Common.{◌≡◌, ◌/◌, ◌∙◌, ap, subst, arith}
+use Rattle.std.proofs.Common.{◌≡◌, ◌/◌, ◌∙◌, ap, sym, subst, arith}
 use Rattle.std.specs.Option.{option_map}
 use Rattle.std.proofs.lemmas.Grind.{common_steps}
 use Rattle.indexset_log.specs.Joining.{IsSpaced}
@@ -13,15 +13,15 @@ returns-in_err-old-clause-refusal g c =
     let same : c.self.inside.set.nodes ≡ m.nodes = ap (λ t. t.nodes) c.self.view_is in
     let size : c.self.inside.set.size ≡ m.size = ap (λ t. t.size) c.self.view_is in
     let next : c.self.inside.set.next ≡ m.next = ap (λ t. t.next) c.self.view_is in
-    let cause = rw (c.in_ok-pair.ensures.pair, same, size, next) at c.in_err-old.ensures.refusal in
-    rw (c.in_ok-pair.ensures.number_left, ← cause) (grind (arith, common_steps))
+    let cause = rw (ap (λ q. q.0) c.in_ok-pair.ensures.answer, same, size, next) at c.in_err-old.ensures.refusal in
+    rw (← c.in_ok-pair.ensures.refusal, ← cause) (grind (arith, common_steps))
 
 pub invariant_of-self-2 : goal.invariant_of-self-2
 invariant_of-self-2 g c =
     let m = c.args.self.now in
     let same : c.self.inside.set.nodes ≡ m.nodes = ap (λ t. t.nodes) c.self.view_is in
-    let made = rw (c.in_ok-pair.ensures.pair, same) at c.in_ok-old.ensures.contents in
-    rw (made, c.in_ok-pair.ensures.pair_next) (numbered_after g.K.Ord.cmp g.V.PartialEq.eq m c.args.key c.args.value c.node_count-nodes.ensures.numbers)
+    let made = rw (ap (λ q. q.0) c.in_ok-pair.ensures.answer, same) at c.in_ok-old.ensures.contents in
+    rw (made, ap (λ q. q.1) c.in_ok-pair.ensures.answer) (numbered_after g.K.Ord.cmp g.V.PartialEq.eq m c.args.key c.args.value c.node_count-nodes.ensures.numbers)
 
 pub returns : goal.returns
 returns g c =
@@ -33,14 +33,14 @@ returns g c =
     let same : c.self.inside.set.nodes ≡ m.nodes = ap (λ t. t.nodes) c.self.view_is in
     let size : c.self.inside.set.size ≡ m.size = ap (λ t. t.size) c.self.view_is in
     let next : c.self.inside.set.next ≡ m.next = ap (λ t. t.next) c.self.view_is in
-    let pair = c.in_ok-pair.ensures.pair in
+    let pair = ap (λ q. q.0) c.in_ok-pair.ensures.answer in
     let now = c.node_count-nodes.ensures in
     let done = c.in_ok-old.ensures in
     let after = c.put_cdc.new.self in
     let answer = rw (pair, same) at done.answer in
     let d = inserted cmp g.met.K.Ord.total eq m k w g.met.V.Eq.laws.refl now.lawful now.numbers same pair done.contents in
     record {
-      tree = insertion_tree cmp eq m k w c.self.view_is pair done.nodes done.size done.next c.in_ok-pair.ensures.pair_next;
+      tree = insertion_tree cmp eq m k w c.self.view_is pair done.nodes done.size done.next (ap (λ q. q.1) c.in_ok-pair.ensures.answer);
       answer = c.value_in.ensures ∙ ap (λ o. option_map (λ p. p.value) o) (answer ∙ replaced_pair cmp eq m k w g.met.K.Ord.total now.lawful now.numbers);
       clones = rw (pair, same, size, next) at done.clones;
       refusal = tt;
@@ -53,9 +53,9 @@ returns g c =
       nodes = rw (pair, same, size) at done.nodes;
       size = done.size ∙ size;
       next = rw (pair, same, size, next) at done.next;
-      pair_next = c.in_ok-pair.ensures.pair_next;
+      pair_next = ap (λ q. q.1) c.in_ok-pair.ensures.answer;
       fits = rw (pair, same, size, next) at done.fits;
-      number_left = c.in_ok-pair.ensures.number_left;
+      number_left = sym c.in_ok-pair.ensures.refusal;
       events = λ hk hv. rw (pair, same, size, next) at (done.events (pair_same hk hv));
       numbered = rw next at done.numbered;
       replay = λ hk hv. rw same at (done.replay (pair_same hk hv));

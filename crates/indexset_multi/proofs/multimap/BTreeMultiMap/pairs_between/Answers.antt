@@ -3,7 +3,7 @@ use Rattle.std.specs.List.{between}
 use Rattle.std.specs.Range.Bound.{bound_map}
 use Rattle.indexset_core.specs.Nodes.{joined}
 use Rattle.indexset_core.proofs.CallerLemmas.{each_bounded, keyed_range_is, keyed_range_order, probed_before, probed_up_to}
-use Rattle.indexset_log.specs.Places.{items_before}
+use Rattle.indexset_core.specs.Places.{items_before}
 use Rattle.indexset_multi.specs.Keys.{pairs_between}
 use Rattle.indexset_multi.proofs.Searches.{lawful_keys}
 use Rattle.indexset_multi.proofs.multimap.BTreeMultiMap.pairs_between.Given.{Over}

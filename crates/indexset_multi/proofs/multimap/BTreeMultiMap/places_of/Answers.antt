@@ -3,7 +3,7 @@ use Rattle.std.specs.List.{between}
 use Rattle.std.specs.declared.ops.Bound.TheVariants.{Included}
 use Rattle.indexset_core.specs.Nodes.{joined}
 use Rattle.indexset_core.proofs.CallerLemmas.{keyed_range_is, keyed_range_order}
-use Rattle.indexset_log.specs.Places.{items_before}
+use Rattle.indexset_core.specs.Places.{items_before}
 use Rattle.indexset_multi.specs.Keys.{pairs_of}
 use Rattle.indexset_multi.proofs.Numbers.{between_one, one_ordered}
 use Rattle.indexset_multi.proofs.Searches.{lawful_keys}

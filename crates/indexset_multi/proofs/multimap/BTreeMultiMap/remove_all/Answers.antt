@@ -1,72 +1,90 @@
-use Rattle.std.proofs.Common.{◌≡◌, drop, length, length-drop, refl, ap, ◌∙◌, arith}
+use Rattle.std.proofs.Common.{rules, ◌≡◌, ◌+◌, ◌-◌, ◌<◌, true, false, is_some, length, refl, ap, sym, subst, ◌∙◌, arith}
 use Rattle.indexset_core.specs.Nodes.{joined}
-use Rattle.indexset_multi.specs.Keys.{first_pair, pairs_of, without_key}
-use Rattle.indexset_multi.specs.Tree.{pair_removal_events}
-use Rattle.indexset_multi.proofs.Lists.{rest_left_first}
-use Rattle.indexset_multi.proofs.Removals.{all_kept, all_removed, drop_one, found_one, kept_as_is, led_further, led_nowhere, led_once, removed_fit}
+use Rattle.indexset_multi.specs.Keys.{first_pair, key_and_value, pairs_of}
+use Rattle.indexset_multi.proofs.Removals.{all_kept, all_removed, left_is, more_left, none_left, now_gone, one_more, removed_fit, some_mapped, stays, tree_is}
 use Rattle.indexset_multi.proofs.multimap.BTreeMultiMap.remove_all.Goals as goal
 
 pub loop-count-init : goal.loop-count-init
-loop-count-init g c = record {
-  gone = refl;
-  within = omega arith;
-  rest = refl;
-  others = λ other ne. refl;
-  led = led_nowhere g.K.Ord.cmp c.args.self.now;
-  size = refl;
-  spaced = λ s. s;
-  pair_next = refl;
-}
+loop-count-init g c = record { tree = refl; within = omega arith }
 
 pub overflow_add-count : goal.overflow_add-count
 overflow_add-count g c =
     let cmp = g.K.Ord.cmp in
+    let k = c.args.key.now in
+    let old = c.args.self.now in
     let at = c.loop-count in
-    let old = joined c.args.self.now.nodes in
-    let same : c.self.inside.set.nodes ≡ c.args.self.now.nodes = ap (λ m. m.nodes) c.self.view_is in
-    let one = found_one cmp c.args.key.now old (joined at.self.nodes) at.count at.invariant.gone c.in-Some.field-0 (rw c.in-Some.is at c.in_ok-remove_some.ensures.answer) in
-    let len : c.len-len.result ≡ length old = c.len-len.ensures ∙ ap (λ ns. length (joined ns)) same in
-    record { fits = omega (arith, one.1, len, removed_fit cmp c.args.key.now old (joined at.self.nodes) at.count at.invariant.gone, c.len-len.type_inv) }
+    let found : is_some (first_pair cmp (joined at.self.nodes) k) ≡ true = sym (ap is_some (rw c.in-Some.is at c.in_ok-remove_some.ensures.answer) ∙ some_mapped key_and_value (first_pair cmp (joined at.self.nodes) k)) in
+    let one = more_left g.met.K.Ord.total old c.rule.ensures.tree k at.count at.invariant.tree found in
+    record { fits = omega (arith, one, c.len-len.ensures, removed_fit cmp (joined old.nodes) k, c.len-len.type_inv) }
 
 pub loop-count-smaller-in-Some : goal.loop-count-smaller-in-Some
 loop-count-smaller-in-Some g c =
     let cmp = g.K.Ord.cmp in
+    let k = c.args.key.now in
+    let old = c.args.self.now in
     let at = c.loop-count in
-    let one = found_one cmp c.args.key.now (joined c.args.self.now.nodes) (joined at.self.nodes) at.count at.invariant.gone c.in-Some.field-0 (rw c.in-Some.is at c.in_ok-remove_some.ensures.answer) in
-    omega (arith, one.0, ap (λ l. length l) c.in_ok-remove_some.ensures.gone, length-drop 1 (pairs_of cmp (joined at.self.nodes) c.args.key.now))
+    let found : is_some (first_pair cmp (joined at.self.nodes) k) ≡ true = sym (ap is_some (rw c.in-Some.is at c.in_ok-remove_some.ensures.answer) ∙ some_mapped key_and_value (first_pair cmp (joined at.self.nodes) k)) in
+    let one = more_left g.met.K.Ord.total old c.rule.ensures.tree k at.count at.invariant.tree found in
+    let all = length (pairs_of cmp (joined old.nodes) k) in
+    let less : all - (at.count + 1) < all - at.count = omega (arith, one) in
+    less
 
 pub loop-count-preserved-in-Some : goal.loop-count-preserved-in-Some
 loop-count-preserved-in-Some g c =
     let cmp = g.K.Ord.cmp in
     let k = c.args.key.now in
+    let old = c.args.self.now in
     let at = c.loop-count in
-    let inv = at.invariant in
-    let done = c.in_ok-remove_some.ensures in
-    let old = joined c.args.self.now.nodes in
-    let one = found_one cmp k old (joined at.self.nodes) at.count inv.gone c.in-Some.field-0 (rw c.in-Some.is at done.answer) in
+    let found : is_some (first_pair cmp (joined at.self.nodes) k) ≡ true = sym (ap is_some (rw c.in-Some.is at c.in_ok-remove_some.ensures.answer) ∙ some_mapped key_and_value (first_pair cmp (joined at.self.nodes) k)) in
     record {
-      gone = done.gone ∙ (ap (λ l. drop 1 l) inv.gone ∙ drop_one (pairs_of cmp old k) at.count);
-      within = one.1;
-      rest = ap (λ l. without_key cmp l k) done.contents ∙ (rest_left_first cmp g.met.K.Ord.total k (joined at.self.nodes) ∙ inv.rest);
-      others = λ other ne. done.others other ne ∙ inv.others other ne;
-      led = led_further cmp c.args.self.now at.self c.remove_some.new.self inv.led (led_once cmp at.self c.remove_some.new.self (pair_removal_events cmp at.self.size at.self.nodes (first_pair cmp (joined at.self.nodes) k)) done.replay done.next);
-      size = c.remove_some.ensures.size ∙ inv.size;
-      spaced = λ s. c.remove_some.ensures.spaced (inv.spaced s);
-      pair_next = c.remove_some.ensures.pair_next ∙ inv.pair_next;
+      tree = one_more g.met.K.Ord.total old c.rule.ensures.tree k at.count at.invariant.tree c.in_ok-remove_some.ensures.tree;
+      within = more_left g.met.K.Ord.total old c.rule.ensures.tree k at.count at.invariant.tree found;
     }
 
-pub returns-clause-count : goal.returns-clause-count
-returns-clause-count g c =
-    let at = c.loop-count in
-    all_removed g.K.Ord.cmp c.args.key.now (joined c.args.self.now.nodes) (joined at.self.nodes) at.count at.invariant.gone at.invariant.within (rw c.in_default.is at c.in_ok-remove_some.ensures.answer)
-
-pub returns-clause-contents : goal.returns-clause-contents
-returns-clause-contents g c =
+pub returns : goal.returns
+returns g c =
     let cmp = g.K.Ord.cmp in
     let k = c.args.key.now in
+    let old = c.args.self.now in
     let at = c.loop-count in
-    let old = joined c.args.self.now.nodes in
-    let none = rw c.in_default.is at c.in_ok-remove_some.ensures.answer in
-    c.in_ok-remove_some.ensures.contents
-    ∙ (kept_as_is cmp k old (joined at.self.nodes) at.count at.invariant.gone none
-    ∙ all_kept cmp k old (joined at.self.nodes) at.count at.invariant.gone at.invariant.rest none)
+    let none : is_some (first_pair cmp (joined at.self.nodes) k) ≡ false = sym (ap is_some (rw c.in_default.is at c.in_ok-remove_some.ensures.answer) ∙ some_mapped key_and_value (first_pair cmp (joined at.self.nodes) k)) in
+    let same = stays g.met.K.Ord.total old c.rule.ensures.tree k at.count at.invariant.tree at.invariant.within none c.in_ok-remove_some.ensures.tree in
+    let is = same ∙ at.invariant.tree in
+    let gone = subst (λ m. is_some (first_pair cmp (joined m.nodes) k) ≡ false) (sym same) none in
+    let d = now_gone g.met.K.Ord.total old c.rule.ensures.tree k at.count is in
+    record {
+      tree = tree_is g.met.K.Ord.total old c.rule.ensures.tree k at.count is at.invariant.within;
+      count = all_removed g.met.K.Ord.total old c.rule.ensures.tree k at.count is at.invariant.within gone;
+      contents = all_kept g.met.K.Ord.total old c.rule.ensures.tree k at.count is at.invariant.within gone;
+      gone = none_left g.met.K.Ord.total old c.rule.ensures.tree k at.count is at.invariant.within gone;
+      left = left_is g.met.K.Ord.total old c.rule.ensures.tree k at.count is at.invariant.within;
+      rest = d.rest;
+      others = d.others;
+      replay = d.led;
+      size = d.size;
+      spaced = d.spaced;
+      pair_next = d.pair_next;
+      refusal = tt;
+    }
+
+pub returns-in_err-remove_some : goal.returns-in_err-remove_some
+returns-in_err-remove_some g c =
+    let old = c.args.self.now in
+    let k = c.args.key.now in
+    let at = c.loop-count in
+    let is = c.in_err-remove_some.ensures.unchanged ∙ at.invariant.tree in
+    let d = now_gone g.met.K.Ord.total old c.rule.ensures.tree k at.count is in
+    record {
+      tree = tree_is g.met.K.Ord.total old c.rule.ensures.tree k at.count is at.invariant.within;
+      count = search rules;
+      contents = search rules;
+      gone = search rules;
+      left = left_is g.met.K.Ord.total old c.rule.ensures.tree k at.count is at.invariant.within;
+      rest = d.rest;
+      others = d.others;
+      replay = d.led;
+      size = d.size;
+      spaced = d.spaced;
+      pair_next = d.pair_next;
+      refusal = search rules;
+    }

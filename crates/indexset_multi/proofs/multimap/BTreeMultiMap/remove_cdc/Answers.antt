@@ -1,29 +1,45 @@
 use Rattle.std.proofs.Common.{ap, ◌∙◌}
 use Rattle.indexset_core.specs.MultiPairs.{by_number}
 use Rattle.indexset_core.specs.Nodes.{joined}
-use Rattle.indexset_log.proofs.CallerLemmas.{lawful_ascends, on_ok_map}
-use Rattle.indexset_multi.specs.Keys.{pairs_of, without_named}
+use Rattle.indexset_log.proofs.CallerLemmas.{if_ok_map, lawful_ascends, on_ok_map, told}
+use Rattle.indexset_multi.specs.Keys.{equal_pair, pairs_of}
 use Rattle.indexset_multi.proofs.Lists.{others_left, pair_gone}
+use Rattle.indexset_multi.proofs.Takes.{pair_same, removed}
 use Rattle.indexset_multi.proofs.multimap.BTreeMultiMap.remove_cdc.Goals as goal
 
-pub returns-clause-gone : goal.returns-clause-gone
-returns-clause-gone g c =
+pub returns : goal.returns
+returns g c =
     let cmp = g.K.Ord.cmp in
+    let o = g.met.K.Ord.total in
     let m = c.args.self.now in
-    let up = lawful_ascends (by_number cmp) m.size m.nodes c.take_cdc.ensures.lawful in
-    on_ok_map c.take_cdc.result c.take_cdc.ensures.contents (λ left. ap (λ l. pairs_of cmp l c.args.key.now) (left ∙ ap (without_named cmp (joined m.nodes)) c.equal_place-place.ensures.pair) ∙ pair_gone cmp g.met.K.Ord.total c.args.key.now (λ p. g.V.PartialEq.eq p.value c.args.value.now) (joined m.nodes) up)
-
-pub returns-clause-others : goal.returns-clause-others
-returns-clause-others g c =
-    let cmp = g.K.Ord.cmp in
-    let l = joined c.args.self.now.nodes in
-    on_ok_map c.take_cdc.result c.take_cdc.ensures.contents (λ left other ne. ap (λ l. pairs_of cmp l other) (left ∙ ap (without_named cmp l) c.equal_place-place.ensures.pair) ∙ others_left cmp g.met.K.Ord.total c.args.key.now (λ p. g.V.PartialEq.eq p.value c.args.value.now) l other ne)
-
-pub returns-clause-clones : goal.returns-clause-clones
-returns-clause-clones g c = rw (← c.equal_place-place.ensures.pair) c.take_cdc.ensures.clones
-
-pub returns-clause-refusal : goal.returns-clause-refusal
-returns-clause-refusal g c = rw (← c.equal_place-place.ensures.pair) c.take_cdc.ensures.refusal
-
-pub returns-clause-tree : goal.returns-clause-tree
-returns-clause-tree g c = rw (← c.equal_place-place.ensures.pair) c.take_cdc.ensures.tree
+    let l = joined m.nodes in
+    let k = c.args.key.now in
+    let is = c.equal_place-place.ensures.pair in
+    let r = c.take_cdc.result in
+    let done = c.take_cdc.ensures in
+    let tree = rw is at done.tree in
+    let d = removed o done.rule (equal_pair cmp g.V.PartialEq.eq l k c.args.value.now) r tree done.unchanged in
+    let clones = rw is at done.told in
+    let s = if_ok_map r clones d.changed (λ x clones d. told _ x.1.items d clones) in
+    let up = lawful_ascends (by_number cmp) m.size m.nodes done.rule.lawful in
+    record {
+      tree = tree;
+      answer = rw is at done.answer;
+      clones = clones;
+      refusal = rw is at done.refusal;
+      no_event = rw is at done.no_event;
+      unchanged = done.unchanged;
+      contents = on_ok_map r d.changed (λ d. d.contents);
+      gone = on_ok_map r d.changed (λ d. ap (λ l. pairs_of cmp l k) d.contents ∙ pair_gone cmp o k (λ p. g.V.PartialEq.eq p.value c.args.value.now) l up);
+      others = on_ok_map r d.changed (λ d other ne. ap (λ l. pairs_of cmp l other) d.contents ∙ others_left cmp o k (λ p. g.V.PartialEq.eq p.value c.args.value.now) l other ne);
+      size = d.size;
+      next = on_ok_map r d.changed (λ d. d.next);
+      pair_next = d.pair_next;
+      fits = rw is at done.fits;
+      events = λ hk hv. if_ok_map r s d.changed (λ x s d. s.events (pair_same hk hv));
+      numbered = if_ok_map r s d.changed (λ x s d. s.numbered);
+      replay = λ hk hv. if_ok_map r s d.changed (λ x s d. s.replay (pair_same hk hv));
+      table = on_ok_map r d.changed (λ d. d.table);
+      few = if_ok_map r s d.changed (λ x s d. s.few);
+      spaced = d.spaced;
+    }

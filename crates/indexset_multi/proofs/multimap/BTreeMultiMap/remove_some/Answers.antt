@@ -2,28 +2,40 @@ use Rattle.std.proofs.Common.{ap, ◌∙◌}
 use Rattle.indexset_core.specs.MultiPairs.{by_number}
 use Rattle.indexset_core.specs.Nodes.{joined}
 use Rattle.indexset_log.proofs.CallerLemmas.{lawful_ascends, on_ok_map}
-use Rattle.indexset_multi.specs.Keys.{first_pair, pairs_of, without_named}
+use Rattle.indexset_multi.specs.Keys.{first_pair, pairs_of}
 use Rattle.indexset_multi.proofs.Lists.{first_pair_gone, others_left_first}
-use Rattle.indexset_multi.proofs.Takes.{pair_removal_few}
+use Rattle.indexset_multi.proofs.Takes.{pair_removal_few, removed}
 use Rattle.indexset_multi.proofs.multimap.BTreeMultiMap.remove_some.Goals as goal
 
-pub returns-clause-gone : goal.returns-clause-gone
-returns-clause-gone g c =
+pub returns : goal.returns
+returns g c =
     let cmp = g.K.Ord.cmp in
+    let o = g.met.K.Ord.total in
     let m = c.args.self.now in
-    let up = lawful_ascends (by_number cmp) m.size m.nodes c.take.ensures.lawful in
-    on_ok_map c.take.result c.take.ensures.contents (λ left. ap (λ l. pairs_of cmp l c.args.key.now) (left ∙ ap (without_named cmp (joined m.nodes)) c.first_place-place.ensures.pair) ∙ first_pair_gone cmp g.met.K.Ord.total c.args.key.now (joined m.nodes) up)
-
-pub returns-clause-others : goal.returns-clause-others
-returns-clause-others g c =
-    let cmp = g.K.Ord.cmp in
-    let l = joined c.args.self.now.nodes in
-    on_ok_map c.take.result c.take.ensures.contents (λ left other ne. ap (λ l. pairs_of cmp l other) (left ∙ ap (without_named cmp l) c.first_place-place.ensures.pair) ∙ others_left_first cmp g.met.K.Ord.total c.args.key.now l other ne)
-
-pub returns-clause-tree : goal.returns-clause-tree
-returns-clause-tree g c = rw (← c.first_place-place.ensures.pair) c.take.ensures.tree
-
-pub returns-clause-few : goal.returns-clause-few
-returns-clause-few g c =
-    let m = c.args.self.now in
-    pair_removal_few g.K.Ord.cmp m.size m.nodes (first_pair g.K.Ord.cmp (joined m.nodes) c.args.key.now)
+    let l = joined m.nodes in
+    let k = c.args.key.now in
+    let is = c.first_place-place.ensures.pair in
+    let r = c.take.result in
+    let done = c.take.ensures in
+    let tree = rw is at done.tree in
+    let d = removed o done.rule (first_pair cmp l k) r tree done.unchanged in
+    let up = lawful_ascends (by_number cmp) m.size m.nodes done.rule.lawful in
+    record {
+      tree = tree;
+      answer = rw is at done.answer;
+      refusal = rw is at done.refusal;
+      no_event = rw is at done.no_event;
+      unchanged = done.unchanged;
+      contents = on_ok_map r d.changed (λ d. d.contents);
+      gone = on_ok_map r d.changed (λ d. ap (λ l. pairs_of cmp l k) d.contents ∙ first_pair_gone cmp o k l up);
+      others = on_ok_map r d.changed (λ d other ne. ap (λ l. pairs_of cmp l other) d.contents ∙ others_left_first cmp o k l other ne);
+      size = d.size;
+      next = on_ok_map r d.changed (λ d. d.next);
+      pair_next = d.pair_next;
+      fits = rw is at done.fits;
+      no_memory = rw is at done.no_memory;
+      never = rw is at done.never;
+      replay = on_ok_map r d.changed (λ d. d.table);
+      few = pair_removal_few cmp m.size m.nodes (first_pair cmp l k);
+      spaced = d.spaced;
+    }

@@ -11,5 +11,5 @@ returns-clause-runs g c = shows_in_order deref
 pub returns-clause-runs_back : goal.returns-clause-runs_back
 returns-clause-runs_back g c = shows_in_reverse deref
 
-pub over-requires : goal.over-requires
-over-requires g c = rw c.as_slice.ensures.value (c.self.invariant.is_spine.total_is ∙ sym (length-joined (vec_items c.self.inside.nodes.items)))
+pub new-requires : goal.new-requires
+new-requires g c = rw (c.over.ensures, c.as_slice.ensures.value) (c.self.invariant.is_spine.total_is ∙ sym (length-joined (vec_items c.self.inside.nodes.items)))

@@ -1,8 +1,9 @@
-use Rattle.std.proofs.Common.{arith, ap, length}
+use Rattle.std.proofs.Common.{arith, sym, ◌∙◌}
 use Rattle.std.specs.Map.Iter.{deref}
 use Rattle.std_collections.proofs.IterRuns.{shows_in_order, shows_in_reverse}
-use Rattle.indexset_spine.specs.Cut.{items}
-use Rattle.indexset_spine.proofs.CutLemmas.{spine_len}
+use Rattle.indexset_core.specs.Nodes.{joined, vec_items}
+use Rattle.indexset_core.proofs.CallerLemmas.{between_le, length-joined}
+use Rattle.indexset_spine.specs.Cut.{position_of}
 use Rattle.indexset_spine.proofs.spine.Spine.iter_from_to.Goals as goal
 
 pub returns-clause-runs : goal.returns-clause-runs
@@ -11,6 +12,8 @@ returns-clause-runs g c = shows_in_order deref
 pub returns-clause-runs_back : goal.returns-clause-runs_back
 returns-clause-runs_back g c = shows_in_reverse deref
 
-pub distance_in-requires-clause-fits : goal.distance_in-requires-clause-fits
-distance_in-requires-clause-fits g c =
-    rw c.as_slice-nodes.ensures.value (omega (arith, spine_len _ _ _ _ c.self.view_is c.self.invariant.is_spine, ap (λ t. length (items t)) c.self.view_is))
+pub item_count-left-requires : goal.item_count-left-requires
+item_count-left-requires g c =
+    let ns = vec_items c.self.inside.nodes.items in
+    rw (c.walk_between-walk.ensures, c.as_slice.ensures.value)
+    (omega (arith, between_le (joined ns) (position_of ns c.args.start.now) (position_of ns c.args.end.now), c.self.invariant.is_spine.total_is ∙ sym (length-joined ns)))

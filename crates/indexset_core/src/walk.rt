@@ -1,0 +1,217 @@
+//! A walk over the items of nodes, from both ends.
+ghost use Rattle.std.specs.Prelude.{◌≡◌, ◌<◌, ◌≤◌, ◌++◌, List, IfSome, length, map};
+ghost use Rattle.std.specs.List.{between};
+ghost use Rattle.std.specs.Iterator.{UpTo, at_most};
+ghost use Rattle.std.specs.Iterator.SizeHint.{IsWithinCount};
+ghost use Rattle.std.specs.Map.Iter.{TakesFirst, TakesLast, deref};
+ghost use Rattle.indexset_core.specs.Nodes.{joined};
+ghost use Rattle.indexset_core.specs.Places.{IsPlace, items_before};
+
+pub mod counted;
+
+use crate::node::NodeLike;
+use std::alloc::AllocError;
+use std::iter::FusedIterator;
+use std::marker::{Model, PhantomData};
+
+/// How a walk reads the items of a node: one way for `Vec`s of any items, one for nodes.
+pub trait ReadNode<T, Node> {
+    /// The items, in order.
+    ghost list: { Node → List T };
+
+    /// Returns the items.
+    fn items_of(node: &Node) -> &[T]
+        ensures { result.now ≡ list node.now };
+}
+
+/// Reads a `Vec`.
+pub struct ReadVec;
+
+impl<T> ReadNode<T, Vec<T>> for ReadVec {
+    ghost list = { λ v. v.items };
+
+    fn items_of(node: &Vec<T>) -> &[T] {
+        node.as_slice()
+    }
+}
+
+/// Reads a node of any type.
+pub struct ReadAny;
+
+impl<T: Ord + Drop, Node: NodeLike<T>> ReadNode<T, Node> for ReadAny {
+    ghost list = { Node.list };
+
+    fn items_of(node: &Node) -> &[T] {
+        node.iter().as_slice()
+    }
+}
+
+/// The remaining items: those of the front node, of the nodes between, and of the back node.
+#[derive(Drop)]
+pub struct Walk<'a, T, Node, R: ReadNode<T, Node>> {
+    front: &'a [T],
+    middle: &'a [Node],
+    back: &'a [T],
+    read: PhantomData<R>,
+}
+
+impl<'a, T, Node, R: ReadNode<T, Node>> Model for Walk<'a, T, Node, R> {
+    ghost use Rattle.std.specs.Prelude.{List, ◌++◌, map};
+    ghost use Rattle.indexset_core.specs.Nodes.{joined};
+
+    ghost Value = { List T };
+
+    ghost view = { λ a. a.front.now ++ (joined (map R.list a.middle.now) ++ a.back.now) };
+}
+
+impl<'a, T, Node, R: ReadNode<T, Node>> Walk<'a, T, Node, R> {
+    /// Returns the items of all nodes.
+    pub fn over(nodes: &'a [Node]) -> Self
+        ensures { result ≡ joined (map R.list nodes.now) }
+    {
+        Walk {
+            front: &[],
+            middle: nodes,
+            back: &[],
+            read: PhantomData,
+        }
+    }
+
+    /// Returns the items from one place, a node and an offset, to before another.
+    pub fn between(nodes: &'a [Node], from: (usize, usize), to: (usize, usize)) -> Self
+        requires from { IsPlace (map R.list nodes.now) from }
+        requires to { IsPlace (map R.list nodes.now) to }
+        requires order { items_before (map R.list nodes.now) from ≤ items_before (map R.list nodes.now) to }
+        ensures { result ≡ between (items_before (map R.list nodes.now) from) (items_before (map R.list nodes.now) to) (joined (map R.list nodes.now)) }
+    {
+        if nodes.is_empty() || from.0 > to.0 {
+            return Walk::over(&[]);
+        }
+        let first = R::items_of(&nodes[from.0]);
+        if from.0 == to.0 {
+            return Walk {
+                front: &first[from.1..to.1],
+                middle: &[],
+                back: &[],
+                read: PhantomData,
+            };
+        }
+        let last = R::items_of(&nodes[to.0]);
+        Walk {
+            front: &first[from.1..],
+            middle: &nodes[from.0 + 1..to.0],
+            back: &last[..to.1],
+            read: PhantomData,
+        }
+    }
+
+    /// Returns the remaining items of the front node, or of the next that has items; none only at
+    /// the end.
+    pub fn next_run(&mut self) -> &'a [T]
+        ensures taken { self.old ≡ result.now ++ self.new }
+        ensures some { 0 < length self.old → 0 < length result.now }
+    {
+        let mut run = self.front;
+        self.front = &[];
+        while run.is_empty()
+            && let Some((node, rest)) = self.middle.split_first()
+        {
+            run = R::items_of(node);
+            self.middle = rest;
+        }
+        if run.is_empty() {
+            run = self.back;
+            self.back = &[];
+        }
+        run
+    }
+
+    /// Returns how many items remain, by adding up the lengths of the nodes.
+    pub fn item_count(&self) -> usize
+        requires { length self.now ≤ usize.MAX }
+        ensures { result ≡ length self.now }
+    {
+        let middle = self.middle;
+        let mut count = 0;
+        for node in middle {
+            count += R::items_of(node).len();
+        }
+        self.front.len() + count + self.back.len()
+    }
+}
+
+impl<'a, T, Node, R: ReadNode<T, Node>> Iterator for Walk<'a, T, Node, R> {
+    type Item = &'a T;
+
+    ghost next_gives = { TakesFirst deref };
+
+    ghost remaining = { λ rest. at_most (length rest) };
+
+    fn next(&mut self) -> Option<&'a T> {
+        loop {
+            let front = self.front;
+            if let Some((first, rest)) = front.split_first() {
+                self.front = rest;
+                return Some(first);
+            }
+            if let Some((node, rest)) = self.middle.split_first() {
+                self.front = R::items_of(node);
+                self.middle = rest;
+            } else if self.back.is_empty() {
+                return None;
+            } else {
+                self.front = self.back;
+                self.back = &[];
+            }
+        }
+    }
+
+    fn size_hint(&self) -> (usize, Option<usize>)
+        ensures lower { IsWithinCount result.0 (at_most (length self.now)) }
+        ensures upper { IfSome result.1 (UpTo (at_most (length self.now))) }
+    {
+        (0, None)
+    }
+}
+
+impl<'a, T, Node, R: ReadNode<T, Node>> DoubleEndedIterator for Walk<'a, T, Node, R> {
+    ghost next_back_gives = { TakesLast deref };
+
+    fn next_back(&mut self) -> Option<&'a T> {
+        loop {
+            let back = self.back;
+            if let Some((last, rest)) = back.split_last() {
+                self.back = rest;
+                return Some(last);
+            }
+            if let Some((node, rest)) = self.middle.split_last() {
+                self.back = R::items_of(node);
+                self.middle = rest;
+            } else if self.front.is_empty() {
+                return None;
+            } else {
+                self.back = self.front;
+                self.front = &[];
+            }
+        }
+    }
+}
+
+impl<'a, T, Node, R: ReadNode<T, Node>> FusedIterator for Walk<'a, T, Node, R> {}
+
+impl<'a, T, Node, R: ReadNode<T, Node>> Clone for Walk<'a, T, Node, R> {
+    ghost use Rattle.std.specs.Prelude.{◌≡◌, ⊤};
+
+    ghost is_clone = { λ walk copy. copy ≡ walk };
+
+    ghost is_infallible = { λ _. ⊤ };
+
+    fn clone(&self) -> Result<Self, AllocError> {
+        Ok(Walk {
+            front: self.front,
+            middle: self.middle,
+            back: self.back,
+            read: PhantomData,
+        })
+    }
+}

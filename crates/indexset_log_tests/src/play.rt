@@ -1,0 +1,6 @@
+//! Scripts of the logged family.
+
+pub mod copy;
+pub mod item;
+pub mod node;
+pub mod set;

@@ -1,0 +1,52 @@
+//! Look-ups by borrowed text.
+use super::put;
+use bytes::ByteStr;
+use indexset_core::probe::Counting;
+use indexset_map::BTreeMap;
+use indexset_text::{ByStr, OnKey};
+use std::test::Fail;
+
+// The value of a name, and how many comparisons its look-up makes.
+fn value_of(map: &BTreeMap<ByteStr, u64>, name: &str) -> (Option<u64>, u64) {
+    // Tells that the names ascend.
+    let _len = map.len();
+    let mut probe = Counting::new(OnKey::new(ByStr::new(name)));
+    let value = map.get_by(&mut probe).copied();
+    (value, probe.asked())
+}
+
+// Whether the stored name and the value of a name are these.
+fn has_pair(map: &BTreeMap<ByteStr, u64>, name: &str, value: Option<u64>) -> bool {
+    // Tells that the names ascend.
+    let _len = map.len();
+    match map.get_key_value_by(&mut OnKey::new(ByStr::new(name))) {
+        Some((key, held)) => key.as_str() == name && Some(*held) == value,
+        None => value.is_none(),
+    }
+}
+
+#[test]
+fn by_borrowed_text(rt: HostRuntime) -> Result<(), Fail> {
+    let mut map = BTreeMap::with_maximum_node_size(rt.alloc(), 4)?;
+    for (name, value) in [("plums", 7), ("apples", 5), ("pears", 3)] {
+        put(&mut map, ByteStr::from_static(name), value)?;
+    }
+    for (name, value) in [
+        ("", None),
+        ("apples", Some(5)),
+        ("pear", None),
+        ("pears", Some(3)),
+        ("pearse", None),
+        ("plums", Some(7)),
+        ("quinces", None),
+    ] {
+        let (found, asked) = value_of(&map, name);
+        // One node, nodes of four, and the name that is found: 1 + 3 + 1.
+        let few = asked <= 5;
+        assert!(rt;
+            found == value && has_pair(&map, name, value) && few,
+            "of {name}: {asked}"
+        );
+    }
+    Ok(())
+}

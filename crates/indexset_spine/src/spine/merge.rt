@@ -1,0 +1,76 @@
+//! Items of another spine merged into a node.
+ghost use Rattle.std.specs.Prelude.{◌≡◌, ◌+◌, ◌-◌, ◌<◌, ◌≤◌, OnOk, IfErr, OnErr, length, take, drop, slice_set};
+ghost use Rattle.std.specs.List.{All, HoldsAt, fold};
+ghost use Rattle.std.specs.declared.cmp.Ordering.TheVariants.{Less};
+ghost use Rattle.indexset_core.specs.Nodes.{node_at};
+ghost use Rattle.indexset_core.specs.Order.{IsAscending, put};
+ghost use Rattle.indexset_spine.specs.Cut.{items, IsSpot};
+
+use super::Spine;
+use super::remove::drop_indexed_if_empty;
+use crate::merge::{count_below_last, merge_first};
+use crate::spot::Spot;
+use indexset_core::refusal::Refusal;
+
+// A merge goes through the items from the spot on: where there are more of them for each item that
+// is merged in, single insertions are as fast.
+const FEW: usize = 16;
+
+impl<T: Ord + Drop> Spine<T> {
+    /// Returns how many first items of another spine may be merged into the node of a spot: all are
+    /// below its last item, and it has room for them. It returns 0 where they are few beside the
+    /// items from the spot on.
+    pub fn count_inside(&self, spot: &Spot, other: &Spine<T>) -> usize
+        requires spot { IsSpot self.now.nodes spot.now }
+        requires order { IsAscending T.cmp (items other.now) }
+        ensures below { All (λ x. HoldsAt (λ l. T.cmp x l ≡ Less) (node_at self.now.nodes spot.now.node) (length (node_at self.now.nodes spot.now.node) - 1)) (take result (items other.now)) }
+        ensures room { length (node_at self.now.nodes spot.now.node) + result ≤ self.now.size }
+        ensures within { result ≤ length (node_at other.now.nodes 0) }
+    {
+        let _count = other.node_count();
+        let node = self.nodes[spot.node].as_slice();
+        let from = other.nodes[0].as_slice();
+        let count = count_below_last(node, from, self.size - node.len());
+        if count.saturating_mul(FEW) < node.len() - spot.offset {
+            return 0;
+        }
+        count
+    }
+
+    /// Moves first items of another spine into a node, each where it belongs, replacing any equal
+    /// one. A failed call changes neither.
+    pub fn merge_from(
+        &mut self,
+        node: usize,
+        other: &mut Spine<T>,
+        count: usize,
+    ) -> Result<(), Refusal>
+        requires node { node < length self.old.nodes }
+        requires some { 0 < count }
+        requires room { length (node_at self.old.nodes node) + count ≤ self.old.size }
+        requires within { count ≤ length (node_at other.old.nodes 0) }
+        requires order { IsAscending T.cmp (items self.old) }
+        requires other_order { IsAscending T.cmp (items other.old) }
+        ensures nodes { OnOk result (self.new.nodes ≡ slice_set self.old.nodes node (fold (put T.cmp) (node_at self.old.nodes node) (take count (items other.old)))) }
+        ensures rest { OnOk result (items other.new ≡ drop count (items other.old)) }
+        ensures size { self.new.size ≡ self.old.size }
+        ensures other_size { other.new.size ≡ other.old.size }
+        ensures refusal { IfErr result (λ e. e ≡ Refusal.Memory) }
+        ensures unchanged { OnErr result (self.new ≡ self.old) }
+        ensures other_unchanged { OnErr result (other.new ≡ other.old) }
+    {
+        if usize::MAX - self.len < count {
+            return Err(Refusal::Memory);
+        }
+        let _count = other.node_count();
+        let before = self.nodes[node].len();
+        merge_first(&mut self.nodes[node], &mut other.nodes[0], count)?;
+        let more = self.nodes[node].len() - before;
+        self.index.add(node, more);
+        self.len += more;
+        other.index.sub(0, count);
+        other.len -= count;
+        drop_indexed_if_empty(&mut other.nodes, &mut other.index, 0);
+        Ok(())
+    }
+}
