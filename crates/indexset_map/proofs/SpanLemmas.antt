@@ -6,10 +6,12 @@ use Rattle.std.specs.declared.ops.Bound.TheVariants.{Included, Excluded, Unbound
 use Rattle.std.specs.List.{AllWithin, between, count_by, position_or_len}
 use Rattle.std.specs.Ordering.{is_le, is_lt}
 use Rattle.indexset_core.specs.declared.pair.Pair.{Pair}
-use Rattle.indexset_core.specs.Bounds.{is_before, is_from_start, is_up_to_end, is_within}
+use Rattle.indexset_core.specs.Bounds.{IfBounded, is_before, is_from_start, is_up_to_end, is_within}
 use Rattle.indexset_core.specs.Order.{IsAscending}
 use Rattle.indexset_core.specs.Pairs.{by_key}
-use Rattle.indexset_core.proofs.CallerLemmas.{Parts, count_parted, count_parts, front-is_le, front-is_lt, not_before, parted_by_key}
+use Rattle.indexset_core.proofs.CallerLemmas.{Parts, count_parted, count_parts, each_bounded, front-is_le, front-is_lt, not_before, parted_by_key}
+use Rattle.indexset_set.specs.SetProbes.{FindsInOrder}
+use Rattle.indexset_set.proofs.CallerLemmas.{in_order}
 use Rattle.indexset_map.specs.Walk.{IsSpan}
 
 and_no : (a : Bool) → (a && false) ≡ false
@@ -81,6 +83,10 @@ module _ {K V : Type 0} (cmp : K → K → Ordering) where
         let inside = (up_to_parts end).inside in
         let there : position_or_len (λ p. not (is_up_to_end cmp end p.key)) l ≡ count_by (λ p. is_up_to_end cmp end p.key) l = first_passing (λ p. is_up_to_end cmp end p.key) l _ (up_to_parts end) in
         omega (arith, inside, there, t, len, clip)
+
+    -- the probe of a bound finds the keys in order
+    pub keys_bounded : (b : Bound (K × ℕ)) → IfBounded (λ q. FindsInOrder (λ p. cmp p.key q.0) l) b
+    keys_bounded b = each_bounded (λ (q : K × ℕ). FindsInOrder (λ p. cmp p.key q.0) l) (λ q. in_order (λ p. cmp p.key q.0) l (parted_by_key cmp o l up q.0)) b
 
     -- the keys between two bounds are one span
     key_span : (start end : Bound K) → IsSpan (λ p. is_within cmp start end p.key) l (min (count_by (λ p. is_before cmp start p.key) l) (count_by (λ p. is_up_to_end cmp end p.key) l)) (count_by (λ p. is_up_to_end cmp end p.key) l)

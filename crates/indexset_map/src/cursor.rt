@@ -9,6 +9,7 @@ ghost use Rattle.indexset_set.specs.SetCursor.{item_at, one_back, one_on, standi
 
 use super::BTreeMap;
 use indexset_core::pair::Pair;
+use indexset_core::probe::ByKey;
 use indexset_set::Cursor;
 use std::marker::Model;
 use std::ops::Bound;
@@ -51,11 +52,11 @@ impl<K: Ord, V> BTreeMap<K, V> {
         ensures pairs { result.list ≡ self.now.pairs }
         ensures position { result.position ≡ position_or_len (λ p. is_from_start K.cmp (bound_map (λ k. k.now) bound.entry) p.key) self.now.pairs }
     {
-        // A map says here that its keys ascend.
-        let _len = self.len();
-        let i = self.start_position(bound);
+        // The pairs ascend, as in `locate`.
+        let _len = self.set.len();
+        let start = bound.map(ByKey::new);
         CursorMap {
-            cursor: self.set.cursor_at(i),
+            cursor: self.set.cursor_from(start),
         }
     }
 
@@ -71,11 +72,12 @@ impl<K: Ord, V> BTreeMap<K, V> {
         ensures pairs { result.list ≡ self.now.pairs }
         ensures position { result.position ≡ position_or_len (λ p. not (is_up_to_end K.cmp (bound_map (λ k. k.now) bound.entry) p.key)) self.now.pairs }
     {
-        // A map says here that its keys ascend.
-        let _len = self.len();
-        let i = self.end_position(bound);
-        let cursor = self.set.cursor_at(i);
-        CursorMap { cursor }
+        // The pairs ascend, as in `locate`.
+        let _len = self.set.len();
+        let end = bound.map(ByKey::new);
+        CursorMap {
+            cursor: self.set.cursor_past(end),
+        }
     }
 }
 

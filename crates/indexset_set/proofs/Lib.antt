@@ -7,6 +7,7 @@ pub mod SetAppendLemmas
 pub mod SetBulkLemmas
 pub mod SetCloneLemmas
 pub mod SetCopyLemmas
+pub mod SetCursorLemmas
 pub mod SetDrainLemmas
 pub mod SetEndLemmas
 pub mod SetNodeLemmas

@@ -1,11 +1,17 @@
 //! A cursor that stands at a position of a set, or at its end place.
 ghost use Rattle.std.specs.Prelude.{◌≡◌, ◌+◌, ◌-◌, ◌≤◌, ◌==◌, None, length, min, slice_get, if◌then◌else◌};
+ghost use Rattle.std.specs.List.{count_by};
 ghost use Rattle.std.specs.Option.{option_copied};
-ghost use Rattle.indexset_spine.specs.Cut.{items};
+ghost use Rattle.indexset_core.specs.Bounds.{IfBounded, is_before, is_up_to_end};
+ghost use Rattle.indexset_spine.specs.Cut.{IsSpot, items, position_of};
 ghost use Rattle.indexset_set.specs.SetCursor.{item_at, one_back, one_on, standing_at};
+ghost use Rattle.indexset_set.specs.SetProbes.{FindsInOrder};
 
 use super::BTreeSet;
+use indexset_core::probe::Probe;
+use indexset_spine::spot::Spot;
 use std::marker::Model;
+use std::ops::Bound;
 
 /// A position of a set from 0 to the length, which is the end place, where there is no element.
 ///
@@ -17,15 +23,20 @@ use std::marker::Model;
 /// ```
 ///
 /// A cursor goes round: one on from the end place is the first position, and one back from there is
-/// the end place.
+/// the end place. Within a node it asks the index nothing.
 #[derive(Drop)]
 pub struct Cursor<'a, T: Ord> {
     set: &'a BTreeSet<T>,
     position: usize,
+    // The node of the element where the cursor stood last, and how many elements stand before that
+    // node.
+    node: usize,
+    start: usize,
 }
 
 impl<'a, T: Ord> Model for Cursor<'a, T> {
-    ghost use Rattle.std.specs.Prelude.{◌≤◌, length};
+    ghost use Rattle.std.specs.Prelude.{◌≡◌, ◌≤◌, length, sum, take};
+    ghost use Rattle.indexset_core.specs.Nodes.{node_lengths};
     ghost use Rattle.indexset_spine.specs.Cut.{items};
     ghost use Rattle.indexset_set.specs.SetCursor.{Standing, standing_code};
 
@@ -33,7 +44,7 @@ impl<'a, T: Ord> Model for Cursor<'a, T> {
 
     ghost view = { λ c. record { list = items c.set.now; position = c.position } };
 
-    ghost invariant = { λ c. c.position ≤ length (items c.set.now) };
+    ghost invariant = { λ c. (c.position ≤ length (items c.set.now)) × (c.start ≡ sum (take c.node (node_lengths c.set.now.nodes))) };
 }
 
 impl<T: Ord> BTreeSet<T> {
@@ -41,9 +52,45 @@ impl<T: Ord> BTreeSet<T> {
     pub fn cursor_at(&self, i: usize) -> Cursor<'_, T>
         ensures { result ≡ standing_at (items self.now) i }
     {
+        let mut cursor = Cursor {
+            set: self,
+            position: 0,
+            node: 0,
+            start: 0,
+        };
+        cursor.move_index(i);
+        cursor
+    }
+
+    /// Returns a cursor at the first element that is not before the start, a bound on what a probe
+    /// seeks, or at the end place where there is none. (Not in the Rust crate.)
+    pub fn cursor_from<P: Probe<T> + Drop>(&self, start: Bound<P>) -> Cursor<'_, T>
+        requires { IfBounded (λ p. FindsInOrder (P.answer p) (items self.now)) start }
+        ensures { result ≡ standing_at (items self.now) (count_by (is_before (λ x p. P.answer p x) start) (items self.now)) }
+    {
+        self.cursor_in(self.spine.start_of(start))
+    }
+
+    /// Returns a cursor at the first element that is past the end, a bound on what a probe seeks, or
+    /// at the end place where there is none. (Not in the Rust crate.)
+    pub fn cursor_past<P: Probe<T> + Drop>(&self, end: Bound<P>) -> Cursor<'_, T>
+        requires { IfBounded (λ p. FindsInOrder (P.answer p) (items self.now)) end }
+        ensures { result ≡ standing_at (items self.now) (count_by (is_up_to_end (λ x p. P.answer p x) end) (items self.now)) }
+    {
+        self.cursor_in(self.spine.end_of(end))
+    }
+
+    // Returns a cursor at a spot.
+    fn cursor_in(&self, spot: Spot) -> Cursor<'_, T>
+        requires { IsSpot self.now.nodes spot }
+        ensures { result ≡ standing_at (items self.now) (position_of self.now.nodes spot) }
+    {
+        let position = self.spine.position(&spot);
         Cursor {
             set: self,
-            position: i.min(self.len()),
+            position,
+            node: spot.node,
+            start: position - spot.offset,
         }
     }
 }
@@ -53,32 +100,33 @@ impl<'a, T: Ord> Cursor<'a, T> {
     pub fn move_next(&mut self)
         ensures { self.new ≡ one_on self.old }
     {
-        self.position = self.next_position();
+        self.stand_at(self.next_position());
     }
 
     /// Goes one back, and from the first position to the end place.
     pub fn move_prev(&mut self)
         ensures { self.new ≡ one_back self.old }
     {
-        self.position = if self.position == 0 {
-            self.set.len()
-        } else {
-            self.position - 1
+        let before = match self.position.checked_sub(1) {
+            Some(before) => before,
+            None => self.set.len(),
         };
+        self.stand_at(before);
     }
 
     /// Goes to a position, or to the end place where there is none.
     pub fn move_index(&mut self, i: usize)
         ensures { self.new ≡ standing_at self.old.list i }
     {
-        self.position = i.min(self.set.len());
+        let at = i.min(self.set.len());
+        self.stand_at(at);
     }
 
     /// Returns the element at the position, and none at the end place.
     pub fn item(&self) -> Option<&'a T>
         ensures { option_copied result ≡ item_at self.now }
     {
-        self.set.get_index(self.position)
+        self.element_at(self.position)
     }
 
     /// Returns the element that `move_next` would go to: at the end place the first, or `None`
@@ -86,7 +134,7 @@ impl<'a, T: Ord> Cursor<'a, T> {
     pub fn peek_next(&self) -> Option<&'a T>
         ensures { option_copied result ≡ item_at (one_on self.now) }
     {
-        self.set.get_index(self.next_position())
+        self.element_at(self.next_position())
     }
 
     /// Returns the element before, and none at the first position.
@@ -94,19 +142,44 @@ impl<'a, T: Ord> Cursor<'a, T> {
         ensures { option_copied result ≡ (if self.now.position == 0 then None else slice_get self.now.list (self.now.position - 1)) }
     {
         let before = self.position.checked_sub(1)?;
-        self.set.get_index(before)
+        self.element_at(before)
     }
 
     /// Returns the element at another position, or `None` where there is none. The cursor stays.
     pub fn peek_index(&self, i: usize) -> Option<&'a T>
         ensures { option_copied result ≡ slice_get self.now.list i }
     {
-        self.set.get_index(i)
+        self.element_at(i)
+    }
+
+    // Stands at a position, which may be the end place.
+    fn stand_at(&mut self, i: usize)
+        requires { i ≤ length self.old.list }
+        ensures { self.new ≡ record { list = self.old.list; position = i } }
+    {
+        if i < self.set.len() {
+            let spot = self.set.spot_near(self.node, self.start, i);
+            self.node = spot.node;
+            self.start = i - spot.offset;
+        }
+        self.position = i;
+    }
+
+    // Returns the element at a position, or none where there is none.
+    fn element_at(&self, i: usize) -> Option<&'a T>
+        ensures { option_copied result ≡ slice_get self.now.list i }
+    {
+        if i >= self.set.len() {
+            return None;
+        }
+        let spot = self.set.spot_near(self.node, self.start, i);
+        Some(self.set.element(&spot))
     }
 
     // One on, and from the end place the first position.
     fn next_position(&self) -> usize
-        ensures { result ≡ (one_on self.now).position }
+        ensures value { result ≡ (one_on self.now).position }
+        ensures inside { result ≤ length self.now.list }
     {
         if self.position == self.set.len() {
             0

@@ -1,15 +1,11 @@
-use Rattle.std.proofs.Common.{◌∙◌, ℕ}
+use Rattle.std.proofs.Common.{◌∙◌}
 use Rattle.indexset_spine.specs.Cut.{items}
-use Rattle.indexset_core.proofs.CallerLemmas.{each_bounded, parted_by_key, probed_up_to}
-use Rattle.indexset_set.proofs.CallerLemmas.{in_order}
-use Rattle.indexset_set.specs.SetProbes.{FindsInOrder}
+use Rattle.indexset_core.proofs.CallerLemmas.{probed_up_to}
+use Rattle.indexset_map.proofs.SpanLemmas.{keys_bounded}
 use Rattle.indexset_map.proofs.BTreeMap.end_position.Goals as goal
 
 pub count_up_to-requires : goal.count_up_to-requires
-count_up_to-requires g c =
-    let l = items c.self.inside.set in
-    each_bounded (λ (q : g.row.K.Denot × ℕ). FindsInOrder (λ p. g.K.Ord.cmp p.key q.0) l)
-    (λ q. in_order (λ p. g.K.Ord.cmp p.key q.0) l (parted_by_key g.K.Ord.cmp g.met.K.Ord.total l c.len-len.ensures.ascending q.0)) c.map.result
+count_up_to-requires g c = keys_bounded g.K.Ord.cmp g.met.K.Ord.total (items c.self.inside.set) c.len-len.ensures.ascending c.map.result
 
 pub returns : goal.returns
 returns g c =

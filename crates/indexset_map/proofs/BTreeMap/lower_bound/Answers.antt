@@ -1,9 +1,14 @@
-use Rattle.std.proofs.Common.{length, ap}
-use Rattle.indexset_map.specs.Contents.{Contents}
-use Rattle.indexset_map.proofs.SpanLemmas.{first_from}
+use Rattle.std.proofs.Common.{refl, ap}
+use Rattle.indexset_spine.specs.Cut.{items}
+use Rattle.indexset_core.proofs.CallerLemmas.{probed_before}
+use Rattle.indexset_map.proofs.SpanLemmas.{first_from, keys_bounded}
 use Rattle.indexset_map.proofs.BTreeMap.lower_bound.Goals as goal
+
+pub cursor_from-requires : goal.cursor_from-requires
+cursor_from-requires g c = keys_bounded g.K.Ord.cmp g.met.K.Ord.total (items c.self.inside.set) c.len-len.ensures.ascending c.map-start.result
 
 pub returns-clause-position : goal.returns-clause-position
 returns-clause-position g c =
-    let long = ap (λ (m : Contents g.row.K.Denot g.row.V.Denot). length m.pairs) c.self.view_is in
-    first_from g.K.Ord.cmp g.met.K.Ord.total c.args.self.now.pairs c.len-len.ensures.ascending _ _ c.start_position-i.result _ c.start_position-i.ensures long (ap (λ s. s.position) c.cursor_at.ensures)
+    let l = items c.self.inside.set in
+    let count = probed_before g.K.Ord.cmp (λ k. k.now) (λ p. p.key) l c.args.bound c.map-start.result c.map-start.ensures in
+    rw (← c.self.view_is) (first_from g.K.Ord.cmp g.met.K.Ord.total l c.len-len.ensures.ascending _ _ _ _ count refl (ap (λ s. s.position) c.cursor_from.ensures))

@@ -1,9 +1,14 @@
-use Rattle.std.proofs.Common.{length, ap}
-use Rattle.indexset_map.specs.Contents.{Contents}
-use Rattle.indexset_map.proofs.SpanLemmas.{first_past}
+use Rattle.std.proofs.Common.{refl, ap}
+use Rattle.indexset_spine.specs.Cut.{items}
+use Rattle.indexset_core.proofs.CallerLemmas.{probed_up_to}
+use Rattle.indexset_map.proofs.SpanLemmas.{first_past, keys_bounded}
 use Rattle.indexset_map.proofs.BTreeMap.upper_bound.Goals as goal
+
+pub cursor_past-requires : goal.cursor_past-requires
+cursor_past-requires g c = keys_bounded g.K.Ord.cmp g.met.K.Ord.total (items c.self.inside.set) c.len-len.ensures.ascending c.map-end.result
 
 pub returns-clause-position : goal.returns-clause-position
 returns-clause-position g c =
-    let long = ap (λ (m : Contents g.row.K.Denot g.row.V.Denot). length m.pairs) c.self.view_is in
-    first_past g.K.Ord.cmp g.met.K.Ord.total c.args.self.now.pairs c.len-len.ensures.ascending _ _ c.end_position-i.result _ c.end_position-i.ensures long (ap (λ s. s.position) c.cursor_at-cursor.ensures)
+    let l = items c.self.inside.set in
+    let count = probed_up_to g.K.Ord.cmp (λ k. k.now) (λ p. p.key) l c.args.bound c.map-end.result c.map-end.ensures in
+    rw (← c.self.view_is) (first_past g.K.Ord.cmp g.met.K.Ord.total l c.len-len.ensures.ascending _ _ _ _ count refl (ap (λ s. s.position) c.cursor_past.ensures))

@@ -1,0 +1,7 @@
+use Rattle.indexset_spine.specs.Cut.{items}
+use Rattle.indexset_set.proofs.SetProbeLemmas.{bound_parted}
+use Rattle.indexset_set.proofs.BTreeSet.cursor_past.Goals as goal
+
+pub end_of-requires : goal.end_of-requires
+end_of-requires g c =
+    bound_parted g.P.Probe.answer (items c.self.inside.spine) c.args.end (rw (← c.self.view_is) at c.requires)
