@@ -19,6 +19,10 @@ COLOURS = ["#1f4e9c", "#c2571a", "#3f8f3f", "#8a3f8f"]
 WIDTH, HEIGHT, LEFT, TOP, COLUMNS = 300, 200, 52, 30, 3
 
 
+def unit(nanoseconds):
+    return f"{nanoseconds / 1000:g} µs" if nanoseconds >= 1000 else f"{nanoseconds:g} ns"
+
+
 def panel(what, lines, x0, y0):
     """`lines`: of each library its points, (keys, nanoseconds)."""
     keys = [k for points in lines for k, _ in points]
@@ -32,7 +36,7 @@ def panel(what, lines, x0, y0):
     for power in range(low, high + 1):
         at = y(10**power)
         out.append(f'<line x1="{x0 + LEFT}" x2="{x0 + WIDTH - 16}" y1="{at:.1f}" y2="{at:.1f}" stroke="#ddd"/>')
-        out.append(f'<text x="{x0 + LEFT - 4}" y="{at + 4:.1f}" text-anchor="end">{10**power:g} ns</text>')
+        out.append(f'<text x="{x0 + LEFT - 4}" y="{at + 4:.1f}" text-anchor="end">{unit(10**power)}</text>')
     for k in sorted(set(keys)):
         out.append(f'<text x="{x(k):.1f}" y="{y0 + HEIGHT - 10}" text-anchor="middle">1e{round(math.log10(k))}</text>')
     for points, colour in zip(lines, COLOURS):
