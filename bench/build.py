@@ -80,6 +80,14 @@ def pb_ds():
     return made if ran("g++", "-O2", "-std=c++17", "-o", str(made), str(HERE / "pb_ds.cpp")) else "did not build"
 
 
+def program(name):
+    """A program of the repository, or None where it is not built: `rt run` in its folder builds it."""
+    made = TOP / f"crates/indexset_{name}/out/indexset_{name}"
+    if not made.exists():
+        print(f"indexset_{name} is left out: `rt run` in its folder builds it")
+    return made if made.exists() else None
+
+
 def built():
     """The programs by name, ours first."""
     OUT.mkdir(exist_ok=True)
