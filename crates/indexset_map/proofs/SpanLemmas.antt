@@ -102,6 +102,10 @@ module _ {K V : Type 0} (cmp : K → K → Ordering) where
         let first : i ≡ min (count_by (λ p. is_before cmp start p.key) l) (count_by (λ p. is_up_to_end cmp end p.key) l) = omega (arith, f, a, last) in
         rw (first, last) (key_span start end)
 
+    -- the same where a walk goes from the one count to the other
+    pub key_places : (start end : Bound K) (i from to : ℕ) → from ≡ count_by (λ p. is_before cmp start p.key) l → to ≡ count_by (λ p. is_up_to_end cmp end p.key) l → i ≡ min from to → IsSpan (λ p. is_within cmp start end p.key) l i to
+    key_places start end i from to f t a = let inside = (up_to_parts end).inside in key_walk start end i to from to f t (omega (arith, inside, t)) a
+
 -- the items of a span are those that pass, and a function of them is one where the test passes
 module _ {X : Type 0} (r : X → Bool) (l : List X) (i j : ℕ) (s : IsSpan r l i j) where
   end_is : i + (j - i) ≡ j

@@ -6,11 +6,13 @@ ghost use Rattle.std.specs.Range.Bound.{bound_map};
 ghost use Rattle.indexset_core.specs.Bounds.{are_ordered, in_positions, is_before, is_up_to_end};
 ghost use Rattle.indexset_core.specs.Order.{IsAscending};
 ghost use Rattle.indexset_core.specs.Pairs.{by_key, pair_shown, pairs_within};
+ghost use Rattle.indexset_spine.specs.Lengths.{place_of};
 
 use super::BTreeMap;
 use super::iter::IterMap;
 use indexset_core::probe::ByKey;
 use indexset_set::Bounds;
+use indexset_spine::spot::Spot;
 use std::ops::Bound;
 
 /// The remaining pairs of a part of a map, from both ends.
@@ -54,14 +56,16 @@ impl<K: Ord, V> BTreeMap<K, V> {
         IterMap::of(self.set.range_idx(range))
     }
 
-    // Returns the first position whose key is not before the start, or the length where there is
-    // none.
-    pub(super) fn start_position(&self, start: Bound<&K>) -> usize
-        ensures { result ≡ count_by (λ p. is_before K.cmp (bound_map (λ k. k.now) start.entry) p.key) self.now.pairs }
+    // Returns the spot after the pairs before the start, and how many these are.
+    pub(super) fn start_spot(&self, start: Bound<&K>) -> (Spot, usize)
+        ensures place { result.1 ≡ place_of self.now.lengths result.0 }
+        ensures position { result.1 ≡ count_by (λ p. is_before K.cmp (bound_map (λ k. k.now) start.entry) p.key) self.now.pairs }
     {
         // The pairs ascend, as in `locate`.
         let _len = self.set.len();
-        self.set.count_before(start.map(ByKey::new))
+        let spot = self.set.start_of(start.map(ByKey::new));
+        let position = self.set.position(&spot);
+        (spot, position)
     }
 
     // Returns the first position whose key is past the end, or the length where there is none.

@@ -48,9 +48,15 @@ impl<K: Ord, V> BTreeMap<K, V> {
     {
         // A map says here that its keys ascend, so the two positions cut out the range.
         let _len = self.len();
-        let from = self.start_position(start);
-        let to = self.end_position(end);
-        self.range_mut_idx((Bound::Included(from), Bound::Excluded(to)))
+        let (spot, from) = self.start_spot(start);
+        let back = self.end_position(end);
+        IterMut {
+            map: self,
+            front: from.min(back),
+            back,
+            node: spot.node,
+            start: from - spot.offset,
+        }
     }
 
     /// Returns the pairs at the positions that satisfy both bounds, in order, with mutable

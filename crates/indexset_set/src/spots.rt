@@ -1,5 +1,7 @@
 //! Calls by spots: they read and edit where a search has ended, with no second search.
 ghost use Rattle.std.specs.Prelude.{◌≡◌, ◌+◌, ◌-◌, ◌<◌, ◌≤◌, IsTrue, Some, IfOk, OnOk, IfErr, OnErr, MatchOption, insert, length, remove, slice_get, sum, take};
+ghost use Rattle.std.specs.List.{count_by};
+ghost use Rattle.indexset_core.specs.Bounds.{IfBounded, is_before};
 ghost use Rattle.indexset_core.specs.Digits.{digits};
 ghost use Rattle.indexset_core.specs.Nodes.{node_lengths};
 ghost use Rattle.indexset_core.specs.Order.{IsAscending, IsGapFor};
@@ -11,6 +13,7 @@ use super::BTreeSet;
 use indexset_core::probe::Probe;
 use indexset_core::refusal::{Refusal, Refused};
 use indexset_spine::spot::Spot;
+use std::ops::Bound;
 
 impl<T: Ord> BTreeSet<T> {
     /// Returns the spot of the first element that the probe finds Equal, or where one would go. It
@@ -57,6 +60,24 @@ impl<T: Ord> BTreeSet<T> {
         ensures { MatchOption result (length (items self.now) ≡ 0) (λ s. IsItemSpot self.now.nodes s × (position_of self.now.nodes s ≡ length (items self.now) - 1) × IsTrue s.found) }
     {
         self.spine.last_spot()
+    }
+
+    /// Returns the spot after the elements before the start, a bound on what a probe seeks. (Not in
+    /// the Rust crate.)
+    pub fn start_of<P: Probe<T> + Drop>(&self, start: Bound<P>) -> Spot
+        requires { IfBounded (λ p. FindsInOrder (P.answer p) (items self.now)) start }
+        ensures spot { IsSpot self.now.nodes result }
+        ensures position { position_of self.now.nodes result ≡ count_by (is_before (λ x p. P.answer p x) start) (items self.now) }
+    {
+        self.spine.start_of(start)
+    }
+
+    /// Returns how many elements stand before a spot. (Not in the Rust crate.)
+    pub fn position(&self, spot: &Spot) -> usize
+        requires { IsSpot self.now.nodes spot.now }
+        ensures { result ≡ position_of self.now.nodes spot.now }
+    {
+        self.spine.position(spot)
     }
 
     /// Returns the spot of the element at a position. It asks the index only where the element is not
