@@ -3,6 +3,7 @@ mod LogLemmas
 mod MultiLemmas
 pub mod PairLemmas
 mod ReplicaLemmas
+mod StatusLemmas
 mod TextBoxes
 pub mod TextLemmas
 mod TextWrittenLemmas

@@ -1,5 +1,8 @@
 -- The values of a key in a multimap.
-use Rattle.std.proofs.Common.{◌≡◌, ℕ, ◌++◌, ◌||◌, List, [], ◌∷◌, true, None, is_none, is_some, nat_eq, refl, ap, sym, ◌∙◌}
+use Rattle.std.proofs.Common.{◌≡◌, ℕ, ◌+◌, ◌++◌, ◌||◌, List, [], ◌∷◌, length, Bool, true, false, Option, Some, None, is_none, is_some, nat_eq, refl, ap, sym, ◌∙◌, arith}
+use Rattle.std.proofs.lemmas.Option.{none-some, same_Some}
+use Rattle.std.proofs.Math.Logic.{◌⊎◌, inr}
+use Rattle.std.specs.Prelude.{if◌then◌else◌}
 use Rattle.std.specs.List.{list_any}
 use Rattle.std.specs.Option.{option_map, unwrap_or}
 use Rattle.std.specs.Ordering.{nat_cmp}
@@ -9,8 +12,12 @@ use Rattle.indexset_core.specs.MultiPairs.{numbered_pair}
 use Rattle.indexset_core.specs.Nodes.{joined}
 use Rattle.indexset_core.specs.Pairs.{pair_values}
 use Rattle.indexset_core.proofs.CallerLemmas.{is_some-find}
-use Rattle.indexset_multi.specs.Keys.{entries, equal_pair, pairs_of}
-use Rattle.indexset_multi.specs.Tree.{MultiTree, inserted_pair, takes_number}
+use Rattle.indexset_multi.specs.Keys.{entries, equal_pair, key_and_value, pairs_of}
+use Rattle.indexset_core.specs.declared.refusal.Refusal.{Refusal}
+use Rattle.indexset_core.specs.declared.refusal.Refusal.TheVariants as refusals
+use Rattle.indexset_log.specs.Tree.{refusal_for}
+use Rattle.indexset_multi.specs.Tree.{MultiTree, after_removal, inserted_pair, insertion_events, insertion_refusal, lacks_number, takes_number}
+use Rattle.indexset_c.proofs.StatusLemmas.{for_events}
 
 any_entry : (w : ℕ) (l : List (MultiPair ℕ ℕ)) → list_any (λ (p : Pair ℕ ℕ). nat_eq p.value w) (entries l) ≡ list_any (λ p. nat_eq p.value w) l
 any_entry w [] = refl
@@ -32,3 +39,28 @@ module _ (m : MultiTree ℕ ℕ) (k w : ℕ) (none : equal_pair nat_cmp nat_eq (
 pub value_last : (l : List (MultiPair ℕ ℕ)) (p : MultiPair ℕ ℕ) → pair_values (entries (l ++ p ∷ [])) ≡ pair_values (entries l) ++ p.value ∷ []
 value_last [] p = refl
 value_last (q ∷ l) p = ap (λ m. q.value ∷ m) (value_last l p)
+
+-- what a removal that found a pair tells of it
+pub pair_told : (o : Option (MultiPair ℕ ℕ)) (e : ℕ × ℕ) → Some e ≡ option_map key_and_value o → option_map (λ p. p.value) o ≡ Some e.1
+pair_told None e h = absurd (none-some e (sym h))
+pair_told (Some p) e h = ap Some (ap (λ (x : ℕ × ℕ). x.1) (sym (same_Some e (key_and_value p) h)))
+
+pub pair_there : {P : Type 0} (o : Option (MultiPair ℕ ℕ)) (e : ℕ × ℕ) → Some e ≡ option_map key_and_value o → o ≡ None → P
+pair_there o e h none = absurd (none-some e (sym (h ∙ ap (option_map key_and_value) none)))
+
+-- and one that found none
+pub no_pair : (o : Option (MultiPair ℕ ℕ)) → None ≡ option_map key_and_value o → o ≡ None
+no_pair None h = refl
+no_pair (Some p) h = absurd (none-some (key_and_value p) h)
+
+pub none_removed : (m : MultiTree ℕ ℕ) (o : Option (MultiPair ℕ ℕ)) → o ≡ None → after_removal nat_cmp m o ≡ m
+none_removed m o none = ap (after_removal nat_cmp m) none ∙ kept where
+  kept : after_removal nat_cmp m None ≡ m
+  kept = let same : m.next + 0 ≡ m.next = omega arith in λ i. record { nodes = m.nodes; size = m.size; next = same i; pair_next = m.pair_next }
+
+-- why an insertion is refused
+pub for_insertion : (m : MultiTree ℕ ℕ) (k w : ℕ) → (insertion_refusal nat_cmp nat_eq m k w ≡ refusals.Memory) ⊎ (insertion_refusal nat_cmp nat_eq m k w ≡ refusals.Numbers)
+for_insertion m k w = either (lacks_number nat_cmp nat_eq m k w) (refusal_for m.next (length (insertion_events nat_cmp nat_eq m k w))) (for_events m.next (length (insertion_events nat_cmp nat_eq m k w))) where
+  either : (b : Bool) (r : Refusal) → (r ≡ refusals.Memory) ⊎ (r ≡ refusals.Numbers) → ((if b then refusals.Numbers else r) ≡ refusals.Memory) ⊎ ((if b then refusals.Numbers else r) ≡ refusals.Numbers)
+  either true r h = inr refl
+  either false r h = h

@@ -1,0 +1,119 @@
+use Rattle.std.proofs.Common.{◌≡◌, Some, None, length, refl, ap, sym, ◌∙◌}
+use Rattle.std.proofs.lemmas.Bool.{leb-true}
+use Rattle.std.proofs.lemmas.Option.{none-some}
+use Rattle.std.specs.Ordering.{nat_cmp}
+use Rattle.indexset_core.specs.Pairs.{by_key, pair}
+use Rattle.indexset_log.specs.Table.{put_events}
+use Rattle.indexset_log.specs.Tree.{refusal_for}
+use Rattle.indexset_c.specs.declared.status.TheConstants.{NO, YES, MEMORY, NONE, NUMBERS, UNFIT}
+use Rattle.indexset_c.proofs.StatusLemmas.{IsRefused, for_events, is_refused, not_at, not_least, not_most, refused_not_done, refused_not_no, refused_not_none, refused_not_unfit, refused_not_yes, refused_status}
+use Rattle.indexset_c.proofs.log_edits.indexset_log_insert.Goals.{in-Ok+then-write, in-Ok+else-write, in-Err}
+use Rattle.indexset_c.proofs.log_edits.indexset_log_insert.Goals as goal
+
+pub returns-in_default : goal.returns-in_default
+returns-in_default c =
+    let none : None ≡ c.args.log.now.slot.value = c.in_default.ensures.taken in
+    rw (← none) record {
+      added = λ h. not_at 3 NONE YES refl refl h;
+      replaced = λ h. not_at 3 NONE NO refl refl h;
+      ok = λ h. tt;
+      told = λ h. tt;
+      events = λ h. tt;
+      few = leb-true 0 3 refl;
+      unwritten = λ h. refl;
+      untold = λ h. refl;
+      no_events = λ h. refl;
+      same = λ h. c.in_default.ensures.left;
+      none = (λ h. refl, λ h. refl);
+      unfit = λ h. not_at 3 NONE UNFIT refl refl h;
+      memory = λ h. tt;
+      numbers = λ h. tt;
+      status = leb-true NONE UNFIT refl;
+    }
+
+pub returns-then-events-lt3 : goal.returns-then-events-lt3
+returns-then-events-lt3 c =
+    let was : Some c.in-Some.held.value ≡ c.args.log.now.slot.value = c.in-Some.ensures.taken in
+    rw (← was) record {
+      added = λ h. not_at 6 UNFIT YES refl refl h;
+      replaced = λ h. not_at 6 UNFIT NO refl refl h;
+      ok = λ h. not_most 6 UNFIT YES refl refl h;
+      told = λ h. not_most 6 UNFIT YES refl refl h;
+      events = λ h. not_most 6 UNFIT YES refl refl h;
+      few = leb-true 0 3 refl;
+      unwritten = λ h. refl;
+      untold = λ h. refl;
+      no_events = λ h. refl;
+      same = λ h. c.put.ensures;
+      none = (λ h. not_at 6 UNFIT NONE refl refl h, λ h. absurd (none-some _ (sym h)));
+      unfit = λ h. c.if-events-lt3.true;
+      memory = λ h. not_at 6 UNFIT MEMORY refl refl h;
+      numbers = λ h. not_at 6 UNFIT NUMBERS refl refl h;
+      status = leb-true 6 UNFIT refl;
+    }
+
+pub returns : goal.returns
+returns c =
+    let m = c.deref_mut.result.now in let s = c.match-insert_told.status in let new = c.put-2.ensures in
+    let n = length (put_events (by_key nat_cmp) m.size m.nodes (pair c.args.key c.args.value)) in
+    let was : Some m ≡ c.args.log.now.slot.value = ap Some c.deref_mut.ensures.value ∙ c.in-Some.ensures.taken in
+    rw (← was) (elim c.match-insert_told.branch [
+      | in-Ok+then-write w ↦
+          let e = w.in-Ok.ensures in let told : c.match-insert_told.told ≡ n = w.told-is ∙ e.told in
+          record {
+            added = λ h. not_at s NO YES w.status-is refl h;
+            replaced = λ h. sym e.before ∙ w.write.ensures.found w.if-write.true ∙ ap Some (sym w.before-is);
+            ok = λ h. rw told (new ∙ ap Some e.ok);
+            told = λ h. told;
+            events = λ h. rw told e.events;
+            few = rw w.told-is e.few;
+            unwritten = λ h. absurd (h w.status-is);
+            untold = λ h. not_least s NO MEMORY w.status-is refl h;
+            no_events = λ h. not_least s NO MEMORY w.status-is refl h;
+            same = λ h. not_least s NO MEMORY w.status-is refl h;
+            none = (λ h. not_at s NO NONE w.status-is refl h, λ h. absurd (none-some _ (sym h)));
+            unfit = λ h. not_at s NO UNFIT w.status-is refl h;
+            memory = λ h. not_at s NO MEMORY w.status-is refl h;
+            numbers = λ h. not_at s NO NUMBERS w.status-is refl h;
+            status = rw w.status-is (leb-true NO UNFIT refl);
+          }
+      | in-Ok+else-write w ↦
+          let e = w.in-Ok.ensures in let told : c.match-insert_told.told ≡ n = w.told-is ∙ e.told in
+          record {
+            added = λ h. sym e.before ∙ w.write.ensures.absent w.if-write.false;
+            replaced = λ h. not_at s YES NO w.status-is refl h;
+            ok = λ h. rw told (new ∙ ap Some e.ok);
+            told = λ h. told;
+            events = λ h. rw told e.events;
+            few = rw w.told-is e.few;
+            unwritten = λ h. w.before-is ∙ w.write.ensures.unwritten w.if-write.false;
+            untold = λ h. not_least s YES MEMORY w.status-is refl h;
+            no_events = λ h. not_least s YES MEMORY w.status-is refl h;
+            same = λ h. not_least s YES MEMORY w.status-is refl h;
+            none = (λ h. not_at s YES NONE w.status-is refl h, λ h. absurd (none-some _ (sym h)));
+            unfit = λ h. not_at s YES UNFIT w.status-is refl h;
+            memory = λ h. not_at s YES MEMORY w.status-is refl h;
+            numbers = λ h. not_at s YES NUMBERS w.status-is refl h;
+            status = rw w.status-is (leb-true YES UNFIT refl);
+          }
+      | in-Err w ↦
+          let e = w.in-Err.ensures in
+          let r : IsRefused s (refusal_for m.next n) = is_refused s w.of_refusal-status.result w.in-Err.cause (refusal_for m.next n) w.status-is e.refusal (for_events m.next n) w.of_refusal-status.ensures.memory w.of_refusal-status.ensures.numbers in
+          record {
+            added = λ h. refused_not_yes s _ r h;
+            replaced = λ h. refused_not_no s _ r h;
+            ok = λ h. refused_not_done s _ r h;
+            told = λ h. refused_not_done s _ r h;
+            events = λ h. refused_not_done s _ r h;
+            few = rw w.told-is (leb-true 0 3 refl);
+            unwritten = λ h. w.before-is;
+            untold = λ h. w.told-is;
+            no_events = λ h. e.unwritten;
+            same = λ h. new ∙ ap Some e.unchanged;
+            none = (λ h. refused_not_none s _ r h, λ h. absurd (none-some _ (sym h)));
+            unfit = λ h. refused_not_unfit s _ r h;
+            memory = r.memory;
+            numbers = r.numbers;
+            status = refused_status s _ r;
+          }
+    ])

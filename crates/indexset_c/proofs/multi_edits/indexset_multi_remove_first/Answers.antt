@@ -1,0 +1,80 @@
+use Rattle.std.proofs.Common.{◌≡◌, ℕ, Option, Some, None, length, refl, ap, sym, ◌∙◌}
+use Rattle.std.proofs.lemmas.Bool.{false≢true, leb-true}
+use Rattle.std.specs.Ordering.{nat_cmp}
+use Rattle.indexset_core.specs.Nodes.{joined}
+use Rattle.indexset_log.specs.Tree.{refusal_for}
+use Rattle.indexset_multi.specs.Keys.{first_pair, pairs_of}
+use Rattle.indexset_multi.specs.Tree.{MultiTree, pair_removal_events}
+use Rattle.indexset_c.specs.declared.status.TheConstants.{NO, YES, MEMORY, NUMBERS}
+use Rattle.indexset_c.specs.Elements.{numbered_pairs}
+use Rattle.indexset_c.proofs.MultiLemmas.{no_pair, none_removed, pair_there, pair_told}
+use Rattle.indexset_c.proofs.StatusLemmas.{IsRefused, for_events, is_refused, not_at, refused_not_no, refused_not_yes}
+use Rattle.indexset_c.proofs.multi_edits.indexset_multi_remove_first.Goals.{in-Ok-Some, in-Ok-None, in-Err}
+use Rattle.indexset_c.proofs.multi_edits.indexset_multi_remove_first.Goals as goal
+
+pub returns-in_default : goal.returns-in_default
+returns-in_default c =
+    let none : None ≡ c.args.multi.now.slot.value = c.in_default.ensures.taken in
+    rw (← none) record {
+      found = λ h. not_at 0 NO YES refl refl h;
+      absent = (λ h. refl, λ h. refl);
+      ok = λ h. not_at 0 NO YES refl refl h;
+      gone = λ h. not_at 0 NO YES refl refl h;
+      others = λ h. not_at 0 NO YES refl refl h;
+      unwritten = λ h. refl;
+      same = λ h. c.in_default.ensures.left;
+      memory = λ h. tt;
+      numbers = λ h. tt;
+      status = leb-true 0 NUMBERS refl;
+    }
+
+pub returns : goal.returns
+returns c =
+    let m = c.deref_mut.result.now in let s = c.match-remove_some.status in let new = c.put.ensures in
+    let p = first_pair nat_cmp (joined m.nodes) c.args.key in let n = length (pair_removal_events nat_cmp m.size m.nodes p) in
+    let was : Some m ≡ c.args.multi.now.slot.value = ap Some c.deref_mut.ensures.value ∙ c.in-Some.ensures.taken in
+    rw (← was) (elim c.match-remove_some.branch [
+      | in-Ok-Some w ↦
+          let e = w.in-Ok-Some.ensures in let answer = sym w.in-Ok-Some.field-0-is ∙ e.answer in
+          record {
+            found = λ h. pair_told p _ answer ∙ ap Some (sym w.out-is);
+            absent = (λ h. not_at s YES NO w.status-is refl h, λ h. pair_there p _ answer h);
+            ok = λ h. ap numbered_pairs new ∙ e.contents;
+            gone = λ h. ap (λ (o : Option (MultiTree ℕ ℕ)). pairs_of nat_cmp (numbered_pairs o) c.args.key) new ∙ e.gone;
+            others = λ h other apart. ap (λ (o : Option (MultiTree ℕ ℕ)). pairs_of nat_cmp (numbered_pairs o) other) new ∙ e.others other apart;
+            unwritten = λ h. absurd (h w.status-is);
+            same = λ h. absurd (h w.status-is);
+            memory = λ h. not_at s YES MEMORY w.status-is refl h;
+            numbers = λ h. not_at s YES NUMBERS w.status-is refl h;
+            status = rw w.status-is (leb-true YES NUMBERS refl);
+          }
+      | in-Ok-None w ↦
+          let e = w.in-Ok-None.ensures in let answer = sym w.in-Ok-None.field-0-is ∙ e.answer in
+          record {
+            found = λ h. not_at s NO YES w.status-is refl h;
+            absent = (λ h. no_pair p answer, λ h. w.status-is);
+            ok = λ h. not_at s NO YES w.status-is refl h;
+            gone = λ h. not_at s NO YES w.status-is refl h;
+            others = λ h. not_at s NO YES w.status-is refl h;
+            unwritten = λ h. w.out-is;
+            same = λ h. new ∙ ap Some (e.tree ∙ none_removed m p (no_pair p answer));
+            memory = λ h. not_at s NO MEMORY w.status-is refl h;
+            numbers = λ h. not_at s NO NUMBERS w.status-is refl h;
+            status = rw w.status-is (leb-true NO NUMBERS refl);
+          }
+      | in-Err w ↦
+          let e = w.in-Err.ensures in
+          let r : IsRefused s (refusal_for m.next n) = is_refused s w.of_refusal-status.result w.in-Err.cause (refusal_for m.next n) w.status-is e.refusal (for_events m.next n) w.of_refusal-status.ensures.memory w.of_refusal-status.ensures.numbers in
+          record {
+            found = λ h. refused_not_yes s _ r h;
+            absent = (λ h. refused_not_no s _ r h, λ h. absurd (false≢true (e.no_event (ap (pair_removal_events nat_cmp m.size m.nodes) h))));
+            ok = λ h. refused_not_yes s _ r h;
+            gone = λ h. refused_not_yes s _ r h;
+            others = λ h. refused_not_yes s _ r h;
+            unwritten = λ h. w.out-is;
+            same = λ h. new ∙ ap Some e.unchanged;
+            memory = r.memory;
+            numbers = r.numbers;
+            status = r.most;
+          }
+    ])
