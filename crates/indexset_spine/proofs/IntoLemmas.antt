@@ -54,3 +54,10 @@ module _ {X : Type 0} where
 
     pub none_left : (mid : List (Vec X Z)) (front back : List X) → length front ≡ 0 → length mid ≡ 0 → length back ≡ 0 → front ++ (joined (vec_items mid) ++ back) ≡ []
     none_left mid front back f m b = ap (λ l. l ++ (joined (vec_items mid) ++ back)) (nil_from_length front f) ∙ (ap (λ l. l ++ back) (no_nodes mid m) ∙ nil_from_length back b)
+
+    -- the next node becomes the front one
+    pub front_turn : (mid rest : List (Vec X Z)) (v : Vec X Z) (front now back all : List X) → now ≡ v.items → mid ≡ v ∷ rest → length front ≡ 0 → front ++ (joined (vec_items mid) ++ back) ≡ all → now ++ (joined (vec_items rest) ++ back) ≡ all
+    front_turn mid rest v front now back all n m f e =
+        ap (λ l. l ++ (joined (vec_items rest) ++ back)) n
+        ∙ (sym (append_assoc v.items (joined (vec_items rest)) back)
+        ∙ (ap (λ vs. joined (vec_items vs) ++ back) (sym m) ∙ (sym (ap (λ l. l ++ (joined (vec_items mid) ++ back)) (nil_from_length front f)) ∙ e)))

@@ -1,7 +1,7 @@
 use Rattle.std.proofs.Common.{◌≡◌, ◌∷◌, ◌++◌, sym, ◌∙◌, arith}
 use Rattle.std.specs.Vec.Iter.{into_iter_items}
 use Rattle.indexset_core.specs.Nodes.{joined, vec_items}
-use Rattle.indexset_spine.proofs.IntoLemmas.{alone_gives_first, fewer, front_gives, none_left, one_gone}
+use Rattle.indexset_spine.proofs.IntoLemmas.{alone_gives_first, fewer, front_gives, front_turn, none_left, one_gone}
 use Rattle.indexset_spine.proofs.into_iter.IntoIterIterator.next.Given.{Over}
 use Rattle.indexset_spine.proofs.into_iter.IntoIterIterator.next.Goals as goal
 use Rattle.indexset_spine.proofs.into_iter.IntoIterIterator.next.Goals.{In-Some, In_ok-first}
@@ -65,3 +65,12 @@ returns-in_err-first-clause-steps g c =
           ∙ none_left (into_iter_items s.middle) (into_iter_items s.front) (into_iter_items s.back) (omega (arith, c.in_default.ensures.cases.0, s.front.rest.ok)) (omega (arith, c.in_default-next.ensures.cases.0, s.middle.rest.ok)) (omega (arith, c.in_err-first.ensures.cases.0, s.back.rest.ok)),
       none_left (into_iter_items t) (into_iter_items f) (into_iter_items u) (omega (arith, c.in_default.ensures.cases.1, f.rest.ok)) (omega (arith, c.in_default-next.ensures.cases.1, t.rest.ok)) (omega (arith, c.in_err-first.ensures.cases.1, u.rest.ok)),
     )
+
+pub loop-first-preserved : goal.loop-first-preserved
+loop-first-preserved g c =
+    let s = c.loop-first.self-inside in
+    record {
+      rest = front_turn (into_iter_items s.middle) (into_iter_items c.next-in-loop-first.new.self) c.in-Some-next.node (into_iter_items s.front) (into_iter_items c.into_iter.result) (into_iter_items s.back) c.args.self.now c.into_iter.ensures.rest c.in-Some-next.ensures.cases.0
+          (omega (arith, c.in_default.ensures.cases.0, s.front.rest.ok)) c.loop-first.invariant.rest;
+      left = c.loop-first.invariant.left;
+    }
