@@ -1,6 +1,8 @@
 -- What a walk over nodes has left.
-use Rattle.std.proofs.Common.{◌≡◌, ℕ, zero, suc, ◌+◌, ◌-◌, ◌<◌, ◌≤◌, List, [], ◌∷◌, ◌++◌, length, map, take, drop, get_or, max, refl, sym, ap, ◌∙◌, arith, append_assoc}
+use Rattle.std.proofs.Common.{◌≡◌, Bool, true, false, ◌==◌, subst, ℕ, zero, suc, ◌+◌, ◌-◌, ◌<◌, ◌≤◌, List, [], ◌∷◌, ◌++◌, length, map, take, drop, get_or, max, refl, sym, ap, ◌∙◌, arith, append_assoc}
 use Rattle.std.specs.List.{between}
+use Rattle.std.proofs.lemmas.Bool.{false≢true}
+use Rattle.std.proofs.lemmas.Bool.Decides.{nat_tests}
 use Rattle.std.proofs.lemmas.List.{append-nil, length-drop, length-map, length-take, take-map, drop-map, take_rest}
 use Rattle.indexset_core.specs.Nodes.{joined, node_at}
 use Rattle.indexset_core.specs.Places.{IsPlace, items_before}
@@ -72,3 +74,18 @@ module _ {T N : Type 0} (f : N → List T) where
           let closed : node_at (map f ns) q.0 ≡ f n = node_read f ns q.0 n (within q.0 some stop.node_in) last [] in
           let whole = between_across (map f ns) p.0 p.1 q.0 q.1 inside stop.offset_in lt start.offset_in in
           rw (take_rest (f m) p.1, between-map ns (p.0 + 1) q.0, ← opened, ← closed) (sym whole)
+
+-- the places that the code reads, where there is a node
+module _ {T N : Type 0} (f : N → List T) (ns : List N) (p : ℕ × ℕ) (place : IsPlace (map f ns) p) where
+  pub place_node : 1 ≤ length ns → p.0 < length ns
+  place_node some = omega (arith, some, place.node_in, length-map ns f)
+
+  pub place_offset : 1 ≤ length ns → (n : N) → n ≡ get_or ns p.0 n → p.1 ≤ length (f n)
+  place_offset some n at = subst (λ (l : List T). p.1 ≤ length l) (node_read f ns p.0 n (place_node some) at []) place.offset_in
+
+pub some_node : (b : Bool) (n : ℕ) → b ≡ (n == 0) → b ≡ false → 1 ≤ n
+some_node b zero e f = absurd (false≢true (sym f ∙ e))
+some_node b (suc n) e f = omega arith
+
+pub no_node : (b : Bool) (n : ℕ) → b ≡ (n == 0) → b ≡ true → n ≡ 0
+no_node b n e f = let is : (n == 0) ≡ true = sym e ∙ f in grind (arith, nat_tests)

@@ -12,6 +12,7 @@ pub mod EditSteps
 pub mod EndLemmas
 pub mod FindLemmas
 pub mod IndexLemmas
+pub mod IntoLemmas
 pub mod LengthLemmas
 pub mod LowbitLemmas
 pub mod MergeSteps

@@ -1,7 +1,8 @@
 -- A node whose items are others, and one that gave its first items away.
-use Rattle.std.proofs.Common.{◌≡◌, ℕ, ◌+◌, ◌-◌, ◌<◌, ◌≤◌, List, [], ◌∷◌, ◌++◌, length, take, drop, get_or, slice_set, vec_len, false, Ordering, refl, sym, ap, ◌∙◌, subst, arith, length-append, length-drop}
+use Rattle.std.proofs.Common.{◌≡◌, ℕ, ◌+◌, ◌-◌, ◌<◌, ◌≤◌, List, [], ◌∷◌, ◌++◌, length, take, drop, get_or, slice_set, vec_len, false, Ordering, refl, sym, ap, ◌∙◌, subst, arith, length-append, length-drop, length-take}
 use Rattle.std.specs.Cmp.{IsTotalOrder}
-use Rattle.std.specs.List.{fold}
+use Rattle.std.specs.List.{All, HoldsAt, fold}
+use Rattle.std.specs.declared.cmp.Ordering.TheVariants.{Less}
 use Rattle.std.specs.declared.vec.Vec.{Vec}
 use Rattle.std.proofs.lemmas.List.{get_or-set_same, length-set, length-take-le, map-set, take-append-le}
 use Rattle.std.proofs.lemmas.List.Elements.{All-set}
@@ -9,7 +10,7 @@ use Rattle.indexset_core.specs.Nodes.{joined, node_at, node_lengths, vec_items}
 use Rattle.indexset_core.specs.Order.{IsAscending, put}
 use Rattle.indexset_core.proofs.CallerLemmas.{joined_around, length-joined}
 use Rattle.indexset_spine.specs.declared.spot.Spot.{Spot}
-use Rattle.indexset_spine.specs.Cut.{IsCut, IsSpine, IsSpot, position_of}
+use Rattle.indexset_spine.specs.Cut.{Cut, cut, items, IsCut, IsSpine, IsSpot, position_of}
 use Rattle.indexset_spine.specs.Edits.{right_nodes, without_emptied}
 use Rattle.indexset_spine.proofs.CutEdits.{joined_set, spine_of}
 use Rattle.indexset_spine.proofs.CutSplits.{joined_right, spine_right}
@@ -133,6 +134,12 @@ module _ {X Z : Type 0} (cmp : X → X → Ordering) (o : IsTotalOrder cmp) (vs 
     pub other_after : (rest : List (List X)) → rest ≡ without_emptied (vec_items (slice_set ws 0 z)) 0 → rest ≡ right_nodes os (behind count)
     other_after rest e = e ∙ (ap (λ l. without_emptied l 0) other_writes ∙ front_gone os count is.some_node)
 
+    pub other_some : 0 < length (vec_items (slice_set ws 0 z))
+    other_some = omega (arith, ap (λ (l : List (List X)). length l) other_writes, length-set os 0 (drop count (node_at os 0)), is.some_node)
+
+    pub count_within : (size total : ℕ) → IsSpine (node_lengths os) size total → count ≤ total
+    count_within size total spine = omega (arith, taken_length, length-take count (joined os), length-joined os, spine.total_is)
+
     position_is : position_of os (behind count) ≡ count
     position_is = omega arith
 
@@ -142,3 +149,14 @@ module _ {X Z : Type 0} (cmp : X → X → Ordering) (o : IsTotalOrder cmp) (vs 
     pub other_spine : (rest : List (List X)) → rest ≡ without_emptied (vec_items (slice_set ws 0 z)) 0 → (size total : ℕ) → IsSpine (node_lengths os) size total → IsSpine (node_lengths rest) size (total - count)
     other_spine rest e size total spine =
         subst (λ i. IsSpine (node_lengths rest) size (total - i)) position_is (rw (other_after rest e) (spine_right os (behind count) (front_spot os count is.some_node is.within) size total spine))
+
+-- what is below the last item of a node, as the code reads both
+pub below_read : {X Z : Type 0} (cmp : X → X → Ordering) (s t : Cut X) (ns : List (List X)) (ws : List (Vec X Z)) (n m k count : ℕ) (node from : List X)
+    → cut ns n ≡ s → cut (vec_items ws) m ≡ t → node_at ns k ≡ node → 0 < length (vec_items ws) → node_at (vec_items ws) 0 ≡ from → count ≤ length from
+    → All (λ x. HoldsAt (λ l. cmp x l ≡ Less) node (length node - 1)) (take count from)
+    → All (λ x. HoldsAt (λ l. cmp x l ≡ Less) (node_at s.nodes k) (length (node_at s.nodes k) - 1)) (take count (items t))
+below_read {X} cmp s t ns ws n m k count node from view view' node_is some from_is within below =
+    let this : node_at s.nodes k ≡ node = sym (ap (λ (u : Cut X). node_at u.nodes k) view) ∙ node_is in
+    let those : take count (items t) ≡ take count from =
+    sym (ap (λ (u : Cut X). take count (items u)) view') ∙ (sym (front_taken (vec_items ws) count some (omega (arith, within, ap (λ (l : List X). length l) from_is))) ∙ ap (take count) from_is) in
+    rw (this, those) below

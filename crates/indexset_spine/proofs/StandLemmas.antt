@@ -1,14 +1,14 @@
 -- Where an item stands, once it was inserted at a spot.
-use Rattle.std.proofs.Common.{◌≡◌, ◌+◌, ◌-◌, ◌/◌, ◌<◌, ◌≤◌, ℕ, suc, List, [], ◌∷◌, ◌++◌, length, take, drop, slice_set, ap, subst, sym, ◌∙◌, arith, length-append, length-take, length-drop, length-set}
+use Rattle.std.proofs.Common.{◌≡◌, ◌+◌, ◌-◌, ◌/◌, ◌<◌, ◌≤◌, ℕ, suc, List, [], ◌∷◌, ◌++◌, length, take, drop, slice_set, ap, subst, sym, ◌∙◌, arith, length-append, length-drop, length-set}
 use Rattle.std.proofs.lemmas.List.{get_or-set_same, length-take-le, set_split, take_at}
 use Rattle.std.proofs.lemmas.List.Edits.{length-insert}
-use Rattle.std.specs.List.{insert, splice}
+use Rattle.std.specs.List.{insert}
 use Rattle.indexset_core.proofs.CallerLemmas.{length-joined-more}
 use Rattle.indexset_core.specs.Nodes.{joined, node_at}
 use Rattle.indexset_spine.specs.declared.spot.Spot.{Spot}
 use Rattle.indexset_spine.specs.Cut.{IsItemSpot, IsSpot, position_of}
 use Rattle.indexset_spine.specs.Edits.{with_halved, with_item_in}
-use Rattle.indexset_spine.proofs.EditSteps.{get_left}
+use Rattle.indexset_spine.proofs.EditSteps.{get_left, get_right}
 
 module _ {X : Type 0} where
   -- an item put into the node of its spot stands at that spot
@@ -52,3 +52,20 @@ module _ {X : Type 0} where
   pub halved_position : (ns : List (List X)) (k o half : ℕ) → k < length ns → half ≡ length (node_at ns k) / 2 → half ≤ o → length (joined (take (k + 1) (with_halved ns k))) + (o - half) ≡ length (joined (take k ns)) + o
   halved_position ns k o half h is above =
       omega (arith, length-joined-more (with_halved ns k) k (omega (arith, halved_more ns k h)), ap (λ (ms : List (List X)). length (joined ms)) (halved_before ns k h), ap (λ (l : List X). length l) (halved_left ns k h), length-take-le (length (node_at ns k) / 2) (node_at ns k) (omega arith))
+
+  halved_right : (ns : List (List X)) (k : ℕ) → k < length ns → node_at (with_halved ns k) (k + 1) ≡ drop (length (node_at ns k) / 2) (node_at ns k)
+  unfolding with_halved
+  halved_right ns k h = let half : ℕ = length (node_at ns k) / 2 in get_right ns k (take half (node_at ns k)) (drop half (node_at ns k)) h []
+
+  -- where a spot of a halved node is then
+  pub spot_right : (ns : List (List X)) (s : Spot) (half : ℕ) → IsSpot ns s → half ≡ length (node_at ns s.node) / 2 → half < s.offset → IsSpot (with_halved ns s.node) record { node = s.node + 1; offset = s.offset - half; found = s.found }
+  spot_right ns s half is e above = record {
+    node_in = omega (arith, halved_more ns s.node is.node_in, is.node_in);
+    offset_in = omega (arith, ap (λ (l : List X). length l) (halved_right ns s.node is.node_in), length-drop (length (node_at ns s.node) / 2) (node_at ns s.node), is.offset_in, e);
+  }
+
+  pub spot_left : (ns : List (List X)) (s : Spot) (half : ℕ) → IsSpot ns s → half ≡ length (node_at ns s.node) / 2 → s.offset ≤ half → IsSpot (with_halved ns s.node) s
+  spot_left ns s half is e upto = record {
+    node_in = omega (arith, halved_more ns s.node is.node_in, is.node_in);
+    offset_in = omega (arith, ap (λ (l : List X). length l) (halved_left ns s.node is.node_in), length-take-le (length (node_at ns s.node) / 2) (node_at ns s.node) (omega arith), e);
+  }

@@ -1,4 +1,4 @@
-use Rattle.std.proofs.Common.{ap, sym, subst, ◌∙◌, not, insert}
+use Rattle.std.proofs.Common.{◌<◌, ◌≤◌, length, ap, sym, subst, ◌∙◌, arith, rules, not, insert}
 use Rattle.indexset_core.specs.Order.{IsAscending}
 use Rattle.indexset_core.proofs.OrderLemmas.{parted_by_item, found_has_equal, found_rank, found_keep, gap_has_equal, gap_rank, gap_keep, gap_ascending}
 use Rattle.indexset_core.proofs.array_node.ArrayNodeNodeLike.insert.Goals as goal
@@ -41,3 +41,18 @@ returns-in-Err-clause-ascending g c =
     let gap = rw (c.as_slice.ensures.value, c.self.view_is) at c.in-Err.ensures.absent in
     let items = rw c.self.view_is at c.insert.ensures.items in
     subst (IsAscending cmp) {x = insert c.args.self.now c.in-Err.index c.args.value} {y = c.insert.new.self.items} (sym items) (gap_ascending cmp c.args.self.now c.args.value c.in-Err.index g.met.T.Ord.total gap c.requires.ascending)
+
+pub find-requires : goal.find-requires
+find-requires g c = rw (c.as_slice.ensures.value, c.self.view_is) c.requires.ascending
+
+pub invariant_of-self : goal.invariant_of-self
+invariant_of-self g c =
+    let room : length c.self.inside.items.items < g.row.N = omega (arith, c.requires.room, ap (λ l. length l) c.self.view_is) in
+    let held : length c.insert.new.self.items ≤ g.row.N = omega (arith, c.insert.ensures.len) in
+    held
+
+pub insert-requires : goal.insert-requires
+insert-requires g c =
+    let gap = rw c.as_slice.ensures.value at c.in-Err.ensures.absent in
+    let room : length c.self.inside.items.items < g.row.N = omega (arith, c.requires.room, ap (λ l. length l) c.self.view_is) in
+    (search rules, (gap.inside, room))

@@ -1,12 +1,15 @@
-use Rattle.std.proofs.Common.{◌≡◌, ℕ, ◌+◌, ◌<◌, List, ◌++◌, length, take, slice_set, get_or, vec_len, vec_capacity, subst, ◌∙◌, ap, sym, arith}
+use Rattle.std.proofs.Common.{◌≡◌, ℕ, ◌+◌, ◌<◌, List, ◌++◌, length, take, sum, refl, [], slice_set, get_or, vec_len, vec_capacity, subst, ◌∙◌, ap, sym, arith}
 use Rattle.std.specs.declared.vec.Vec.{Vec}
 use Rattle.std.proofs.lemmas.List.{length-take-le, length-drop, take-append-drop}
 use Rattle.std.specs.List.{fold}
 use Rattle.indexset_core.specs.Nodes.{node_at, node_lengths, vec_items}
-use Rattle.indexset_spine.specs.Cut.{Cut, end_spot, with_inserted, with_last}
+use Rattle.indexset_spine.specs.Cut.{Cut, cut, end_spot, with_inserted, with_last}
 use Rattle.indexset_spine.specs.Edits.{IsShortEnd}
 use Rattle.indexset_spine.proofs.AppendLemmas.{block_taken, block_writes, lengths-block, short_end, spine_all_last}
-use Rattle.indexset_spine.proofs.EditSteps.{node_len}
+use Rattle.indexset_core.proofs.CallerLemmas.{on_err}
+use Rattle.indexset_spine.proofs.EditSteps.{node_len, spot_in}
+use Rattle.indexset_spine.proofs.IndexLemmas.{count-lengths}
+use Rattle.indexset_spine.proofs.VecNodes.{length-vec_items}
 use Rattle.indexset_spine.proofs.spine.Spine.append_block.Given.{Over}
 use Rattle.indexset_spine.proofs.spine.Spine.append_block.Goals as goal
 use Rattle.indexset_spine.proofs.spine.Spine.append_block.Goals.{After-move_front}
@@ -75,3 +78,42 @@ pub returns-clause-fewer : goal.returns-clause-fewer
 returns-clause-fewer g c =
     let at = (goal.at.returns-clause-fewer g c).After-move_front in
     omega (arith, some g at, c.requires, ap (λ l. length l) c.move_front.ensures.left, length-drop c.min-count.result c.args.from.now.items)
+
+pub overflow_sub-self-inside : goal.overflow_sub-self-inside
+overflow_sub-self-inside g c =
+    let place = c.end-end.ensures.place ∙ ap (λ (t : Cut g.row.T.Denot). end_spot t.nodes) (sym c.self.view_is) in
+    omega (arith, (short_end c.self.inside.size (vec_items c.self.inside.nodes.items) c.end-end.result c.self.invariant.is_spine.is_cut place).short)
+
+pub make_room-requires-clause-spot : goal.make_room-requires-clause-spot
+make_room-requires-clause-spot g c = spot_in (vec_items c.self.inside.nodes.items) c.self.inside.size c.args.self.now c.end-end.result c.self.view_is c.end-end.ensures.spot
+
+pub make_room-requires-clause-fits : goal.make_room-requires-clause-fits
+make_room-requires-clause-fits g c = omega (arith, c.self.invariant.is_spine.total_is, ap sum c.self.invariant.index_is)
+
+pub invariant_of-self : goal.invariant_of-self
+invariant_of-self g c = record { is_spine = rw c.in_err-to.ensures.unchanged c.self.invariant.is_spine; index_is = c.make_room.ensures.index }
+
+pub returns-in_err-to-clause-unchanged : goal.returns-in_err-to-clause-unchanged
+returns-in_err-to-clause-unchanged g c = on_err c.from_residual.result (ap (λ (ns : List (List g.row.T.Denot)). cut ns c.self.inside.size) c.in_err-to.ensures.unchanged ∙ c.self.view_is)
+
+pub returns-in_err-to-clause-moved : goal.returns-in_err-to-clause-moved
+returns-in_err-to-clause-moved g c = ([], refl, c.in_err-to.ensures.unchanged ∙ ap (λ (t : Cut g.row.T.Denot). t.nodes) c.self.view_is)
+
+pub index_mut-node-requires : goal.index_mut-node-requires
+index_mut-node-requires g c = omega (arith, c.in_ok-to.ensures.spot.node_in, length-vec_items c.make_room.new.nodes.items, c.make_room.new.nodes.ok)
+
+pub add-requires-clause-inside : goal.add-requires-clause-inside
+add-requires-clause-inside g c = omega (arith, c.in_ok-to.ensures.spot.node_in, ap (λ l. length l) c.make_room.ensures.index, count-lengths (vec_items c.make_room.new.nodes.items))
+
+pub add-requires-clause-fits : goal.add-requires-clause-fits
+add-requires-clause-fits g c = omega (arith, c.make_room.ensures.sum, ap sum c.self.invariant.index_is, c.self.invariant.is_spine.total_is, c.min-count.ensures)
+
+pub overflow_sub-room : goal.overflow_sub-room
+overflow_sub-room g c =
+    let place = c.end-end.ensures.place ∙ ap (λ (t : Cut g.row.T.Denot). end_spot t.nodes) (sym c.self.view_is) in
+    let end = c.in_ok-to.ensures.end (short_end c.self.inside.size (vec_items c.self.inside.nodes.items) c.end-end.result c.self.invariant.is_spine.is_cut place) in
+    let long = node_len c.make_room.new.nodes.items c.in_ok-to.to.node c.index_mut-node.result.now c.in_ok-to.ensures.spot.node_in c.index_mut-node.ensures.value in
+    omega (arith, c.len-2.ensures, c.min-2.ensures, c.capacity.ensures, long, end.end, end.short, c.index_mut-node.result.now.ok)
+
+pub move_front-requires-clause-room : goal.move_front-requires-clause-room
+move_front-requires-clause-room g c = omega (arith, c.len-2.ensures, c.min-2.ensures, c.min-3.ensures, c.min-count.ensures, c.capacity.ensures, c.index_mut-node.result.now.ok)

@@ -5,8 +5,10 @@ use Rattle.indexset_core.specs.Order.{IsAscending, put}
 use Rattle.indexset_core.proofs.CallerLemmas.{on_err}
 use Rattle.indexset_spine.specs.Cut.{Cut, cut, items}
 use Rattle.indexset_spine.proofs.EditSteps.{lists_kept, node_is}
-use Rattle.indexset_spine.proofs.MergeSteps.{Merges, grown, length_after, length_before, lengths_after, other_items, other_spine, spine_after, writes}
+use Rattle.indexset_spine.proofs.MergeSteps.{Merges, grown, length_after, length_before, lengths_after, count_within, other_items, other_lengths, other_some, other_spine, spine_after, writes}
+use Rattle.indexset_spine.proofs.IndexLemmas.{count-lengths, length-at}
 use Rattle.indexset_spine.proofs.PutLemmas.{node_up}
+use Rattle.indexset_spine.proofs.VecNodes.{length-vec_items}
 use Rattle.indexset_spine.proofs.spine.Spine.merge_from.Given.{Over}
 use Rattle.indexset_spine.proofs.spine.Spine.merge_from.Goals as goal
 use Rattle.indexset_spine.proofs.spine.Spine.merge_from.Goals.{After-index_mut-2, After-len}
@@ -127,3 +129,56 @@ pub returns-clause-rest : goal.returns-clause-rest
 returns-clause-rest g c =
     let at = (goal.at.returns-clause-rest g c).After-len in
     other_items _ _ _ _ _ _ _ _ _ _ (merges g at) _ c.drop_indexed_if_empty.ensures.nodes ∙ ap (λ (t : Cut g.row.T.Denot). drop c.args.count (items t)) c.other.view_is
+
+pub index-requires : goal.index-requires
+index-requires g c = omega (arith, subst (λ (t : Cut g.row.T.Denot). c.args.node < length t.nodes) (sym c.self.view_is) c.requires.node, length-vec_items c.self.inside.nodes.items, c.self.inside.nodes.ok)
+
+pub index_mut-requires : goal.index_mut-requires
+index_mut-requires g c = omega (arith, subst (λ (t : Cut g.row.T.Denot). c.args.node < length t.nodes) (sym c.self.view_is) c.requires.node, length-vec_items c.self.inside.nodes.items, c.self.inside.nodes.ok)
+
+pub index-requires-2 : goal.index-requires-2
+index-requires-2 g c = omega (arith, subst (λ (t : Cut g.row.T.Denot). c.args.node < length t.nodes) (sym c.self.view_is) c.requires.node, length-vec_items c.self.inside.nodes.items, c.self.inside.nodes.ok)
+
+pub index_mut-requires-2 : goal.index_mut-requires-2
+index_mut-requires-2 g c = omega (arith, subst (λ (t : Cut g.row.T.Denot). 0 < length t.nodes) (sym c.other.view_is) (omega (arith, c.node_count-count.ensures.value, c.node_count-count.ensures.some)), length-vec_items c.other.inside.nodes.items, c.other.inside.nodes.ok)
+
+pub merge_first-requires-clause-within : goal.merge_first-requires-clause-within
+merge_first-requires-clause-within g c =
+    omega (arith, c.requires.within, ap (λ (t : Cut g.row.T.Denot). length (node_at t.nodes 0)) c.other.view_is, ap (λ l. length l) (node_is c.other.inside.nodes.items 0 c.index_mut-2.result.now (some_node g c) c.index_mut-2.ensures.value))
+
+pub invariant_of-other : goal.invariant_of-other
+invariant_of-other g c =
+    let at = (goal.at.invariant_of-other g c).After-index_mut-2 in
+    rw (lists_kept c.other.inside.nodes.items 0 c.index_mut-2.result.now c.merge_first.new.from (some_node g at) c.index_mut-2.ensures.value c.in_err-merge_first.ensures.from_unchanged) c.other.invariant
+
+pub returns-in_err-merge_first-clause-other_unchanged : goal.returns-in_err-merge_first-clause-other_unchanged
+returns-in_err-merge_first-clause-other_unchanged g c =
+    let at = (goal.at.returns-in_err-merge_first-clause-other_unchanged g c).After-index_mut-2 in
+    on_err c.from_residual.result
+    (ap (λ (ns : List (List g.row.T.Denot)). cut ns c.other.inside.size) (lists_kept c.other.inside.nodes.items 0 c.index_mut-2.result.now c.merge_first.new.from (some_node g at) c.index_mut-2.ensures.value c.in_err-merge_first.ensures.from_unchanged)
+    ∙ c.other.view_is)
+
+pub add-requires-clause-inside : goal.add-requires-clause-inside
+add-requires-clause-inside g c =
+    let at = (goal.at.add-requires-clause-inside g c).After-len in omega (arith, (merges g at).inside, ap (λ l. length l) c.self.invariant.index_is, count-lengths (vec_items (vs g at)))
+
+pub sub-requires-clause-inside : goal.sub-requires-clause-inside
+sub-requires-clause-inside g c =
+    let at = (goal.at.sub-requires-clause-inside g c).After-len in omega (arith, (merges g at).some_node, ap (λ l. length l) c.other.invariant.index_is, count-lengths (vec_items (ws g at)))
+
+pub sub-requires-clause-enough : goal.sub-requires-clause-enough
+sub-requires-clause-enough g c =
+    let at = (goal.at.sub-requires-clause-enough g c).After-len in
+    omega (arith, (merges g at).within, length-at (vec_items (ws g at)) 0 (merges g at).some_node, ap (λ ls. get_or ls 0 0) c.other.invariant.index_is)
+
+pub overflow_sub-other : goal.overflow_sub-other
+overflow_sub-other g c =
+    let at = (goal.at.overflow_sub-other g c).After-len in count_within _ _ _ _ _ _ _ _ _ _ (merges g at) c.other.inside.size c.other.inside.len c.other.invariant.is_spine
+
+pub drop_indexed_if_empty-requires-clause-node : goal.drop_indexed_if_empty-requires-clause-node
+drop_indexed_if_empty-requires-clause-node g c = other_some _ _ _ _ _ _ _ _ _ _ (merges g (goal.at.drop_indexed_if_empty-requires-clause-node g c).After-len)
+
+pub drop_indexed_if_empty-requires-clause-index : goal.drop_indexed_if_empty-requires-clause-index
+drop_indexed_if_empty-requires-clause-index g c =
+    let at = (goal.at.drop_indexed_if_empty-requires-clause-index g c).After-len in
+    c.sub.ensures.lengths ∙ (ap (λ ls. slice_set ls 0 (get_or ls 0 0 - c.args.count)) c.other.invariant.index_is ∙ other_lengths _ _ _ _ _ _ _ _ _ _ (merges g at))

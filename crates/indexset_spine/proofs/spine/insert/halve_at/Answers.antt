@@ -3,7 +3,9 @@ use Rattle.indexset_core.specs.Nodes.{joined, vec_items}
 use Rattle.indexset_core.proofs.CallerLemmas.{on_err}
 use Rattle.indexset_spine.proofs.AppendLemmas.{halved_end}
 use Rattle.indexset_spine.proofs.EditSteps.{IsHalved, lists_kept, right_puts, left_puts, right_room, left_room, halved_lists, half_of}
-use Rattle.indexset_spine.proofs.StandLemmas.{halved_before, halved_position}
+use Rattle.indexset_spine.proofs.VecNodes.{length-vec_items}
+use Rattle.std.proofs.lemmas.List.{length-set}
+use Rattle.indexset_spine.proofs.StandLemmas.{halved_before, halved_position, spot_left, spot_right}
 use Rattle.indexset_spine.proofs.spine.insert.halve_at.Given.{Over}
 use Rattle.indexset_spine.proofs.spine.insert.halve_at.Goals as goal
 use Rattle.indexset_spine.proofs.spine.insert.halve_at.Goals.{In_ok-right}
@@ -72,3 +74,25 @@ returns-clause-position g c =
     let cut = halved g (goal.at.returns-clause-position g c).In_ok-right in
     rw (ap vec_items c.insert_item.ensures.items ∙ halved_lists cut)
     (ap (λ (ms : List (List g.row.T.Denot)). length (joined ms) + c.args.spot.offset) (halved_before (vec_items c.args.nodes.now.items) c.args.spot.node c.requires.spot.node_in))
+
+pub returns-then-half-spot-clause-spot : goal.returns-then-half-spot-clause-spot
+returns-then-half-spot-clause-spot g c =
+    let cut = halved g (goal.at.returns-then-half-spot-clause-spot g c).In_ok-right in
+    rw (ap vec_items c.insert_item.ensures.items ∙ halved_lists cut)
+    (spot_right (vec_items c.args.nodes.now.items) c.args.spot c.len-half.result c.requires.spot (c.len-half.ensures ∙ half_of cut) c.if-half-spot.true)
+
+pub returns-clause-spot : goal.returns-clause-spot
+returns-clause-spot g c =
+    let cut = halved g (goal.at.returns-clause-spot g c).In_ok-right in
+    rw (ap vec_items c.insert_item.ensures.items ∙ halved_lists cut)
+    (spot_left (vec_items c.args.nodes.now.items) c.args.spot c.len-half.result c.requires.spot (c.len-half.ensures ∙ half_of cut) c.if-half-spot.false)
+
+pub returns-in_err-reserve-clause-unchanged : goal.returns-in_err-reserve-clause-unchanged
+returns-in_err-reserve-clause-unchanged g c = on_err c.from_residual.result (ap vec_items c.reserve.ensures.items)
+
+pub index_mut-node-requires : goal.index_mut-node-requires
+index_mut-node-requires g c = omega (arith, c.requires.spot.node_in, length-vec_items c.args.nodes.now.items, ap (λ l. length l) c.reserve.ensures.items, c.reserve.new.self.ok)
+
+pub insert_item-requires-clause-within : goal.insert_item-requires-clause-within
+insert_item-requires-clause-within g c =
+    omega (arith, c.requires.spot.node_in, length-vec_items c.args.nodes.now.items, ap (λ l. length l) c.reserve.ensures.items, length-set c.reserve.new.self.items c.args.spot.node c.halve_node.new.node)

@@ -1,0 +1,13 @@
+use Rattle.indexset_core.proofs.array_node.ArrayNodeNodeLike.first_not_less.Goals as goal
+
+pub first_not_less-requires : goal.first_not_less-requires
+first_not_less-requires g c = rw (c.as_slice.ensures.value, c.self.view_is) c.requires
+
+pub returns-clause-count : goal.returns-clause-count
+returns-clause-count g c = rw (c.as_slice.ensures.value, c.self.view_is) at c.first_not_less.ensures.count
+
+pub returns-clause-fixed : goal.returns-clause-fixed
+returns-clause-fixed g c = c.first_not_less.ensures.fixed
+
+pub returns-clause-few : goal.returns-clause-few
+returns-clause-few g c = rw (c.as_slice.ensures.value, c.self.view_is) at c.first_not_less.ensures.few
