@@ -1,4 +1,4 @@
-use Rattle.std.proofs.Common.{◌≡◌, [], ◌∷◌, refl, rules}
+use Rattle.std.proofs.Common.{◌≡◌, [], ◌∷◌, refl}
 use Rattle.std.specs.List.{AllZip, fold}
 use Rattle.std.specs.Result.{IfOk}
 use Rattle.indexset_core.specs.Nodes.{joined}
@@ -7,6 +7,7 @@ use Rattle.indexset_spine.specs.Cut.{cut, items}
 use Rattle.indexset_spine.proofs.CallerLemmas.{copies_joined}
 use Rattle.indexset_set.specs.SetNodes.{nodes_kept_all}
 use Rattle.indexset_set.proofs.SetCopyLemmas.{clones_ascend, copy_in_place, copy_in_turn}
+use Rattle.indexset_set.proofs.SetDrainLemmas.{made_of}
 use Rattle.indexset_set.proofs.BTreeSet.clone.Goals as goal
 
 pub invariant_of-result : goal.invariant_of-result
@@ -33,8 +34,9 @@ returns-clause-copy g c =
     let s = c.args.self.now in
     let clones = c.in_ok-spine.spine.nodes in
     let cloned : AllZip (AllZip g.T.Clone.is_clone) s.nodes clones = rw (← c.self.view_is) c.in_ok-spine.ensures.cloned in
-    let elements : IfOk c.kept_in.result (λ copy. items copy ≡ fold (keep cmp) [] (joined clones)) = search rules in
-    let nodes : IfOk c.kept_in.result (λ copy. copy.nodes ≡ nodes_kept_all cmp (cut ([] ∷ []) s.size) (joined clones)) = search rules in
+    let elements = made_of _ (λ copy xs. items copy ≡ fold (keep cmp) [] xs) (joined clones) c.kept_in.result c.kept_in.ensures.kept in
+    let kept = rw c.maximum_node_size.ensures.value at c.kept_in.ensures.nodes in
+    let nodes = made_of _ (λ copy xs. copy.nodes ≡ nodes_kept_all cmp (cut ([] ∷ []) s.size) xs) (joined clones) c.kept_in.result kept in
     let size : IfOk c.kept_in.result (λ copy. copy.size ≡ s.size) = rw c.maximum_node_size.ensures.value at c.kept_in.ensures.size in
     copy_in_turn cmp g.T.Clone.is_clone s clones cloned c.kept_in.result (c.if-is_ascending.ensures.other refl) elements nodes size
 
