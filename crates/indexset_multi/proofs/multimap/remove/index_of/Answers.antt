@@ -17,7 +17,7 @@ returns-then-eq g c =
     let eq = g.V.PartialEq.eq in
     let w = c.args.value.now in
     let next = read (λ p. eq p.value w) c.args.pairs at.rest at.index c.in-Some.pair.now c.next.new.self at.invariant.left at.invariant.found c.in-Some.ensures.steps in
-    let same : eq c.in-Some.pair.now.value w ≡ true = sym c.eq.ensures ∙ c.if-eq.true in
+    let same : eq c.in-Some.pair.now.value w ≡ true = cc in
     (next.inside, first_is (λ p. eq p.value w) c.args.pairs at.rest at.index c.in-Some.pair.now c.next.new.self at.invariant.left at.invariant.found c.in-Some.ensures.steps same)
 
 pub loop-pair-preserved : goal.loop-pair-preserved
