@@ -12,6 +12,7 @@ pub mod SetDrainLemmas
 pub mod SetEndLemmas
 pub mod SetNodeLemmas
 pub mod SetPairLemmas
+pub mod SetPartLemmas
 pub mod SetProbeLemmas
 pub mod SetRangeLemmas
 pub mod SetRunLemmas

@@ -1,11 +1,10 @@
 -- Where a cursor stands: its position, and what stands before its node.
-use Rattle.std.proofs.Common.{◌≡◌, ℕ, ◌+◌, ◌-◌, ◌≤◌, min, List, length, sum, take, refl, ap, arith}
-use Rattle.indexset_core.specs.Nodes.{joined, node_at, node_lengths}
+use Rattle.std.proofs.Common.{◌≡◌, ℕ, ◌-◌, ◌≤◌, List, length, sum, take, arith}
+use Rattle.indexset_core.specs.Nodes.{joined, node_lengths}
 use Rattle.indexset_core.proofs.CallerLemmas.{offset-le}
 use Rattle.indexset_spine.specs.declared.spot.Spot.{Spot}
 use Rattle.indexset_spine.specs.Cut.{IsSpot, position_of}
 use Rattle.indexset_spine.proofs.CallerLemmas.{place_position}
-use Rattle.indexset_set.specs.SetCursor.{Standing, standing_at}
 
 module _ {X : Type 0} (ns : List (List X)) (s : Spot) where
   pub before_node : (i : ℕ) → position_of ns s ≡ i → i - s.offset ≡ sum (take s.node (node_lengths ns))

@@ -1,12 +1,12 @@
 -- Elements that go into one node, before its last element.
-use Rattle.std.proofs.Common.{◌≡◌, ℕ, suc, ◌+◌, ◌-◌, ◌<◌, ◌≤◌, ◌||◌, Bool, true, false, List, [], ◌∷◌, ◌++◌, length, take, drop, get_or, slice_set, slice_get, Some, Ordering, refl, sym, ap, ◌∙◌, subst, inl, inr, arith, length-append, length-drop, length-take, append_assoc, length-set, get_or-set_same, get_or-set_other}
+use Rattle.std.proofs.Common.{◌≡◌, ℕ, suc, ◌+◌, ◌-◌, ◌<◌, ◌≤◌, ◌||◌, Bool, true, false, List, [], ◌∷◌, ◌++◌, length, take, drop, get_or, slice_set, slice_get, Some, Ordering, refl, sym, ap, ◌∙◌, subst, inl, inr, arith, length-append, length-take, append_assoc, length-set, get_or-set_same, get_or-set_other}
 use Rattle.std.specs.declared.cmp.Ordering.TheVariants.{Less, Greater}
 use Rattle.std.specs.Cmp.{IsTotalOrder}
 use Rattle.std.specs.List.{All, AllWithin, HoldsAt, fold, insert, list_any}
 use Rattle.std.specs.Ordering.{ordering_reverse, is_eq, is_gt, is_lt}
 use Rattle.std.proofs.lemmas.Bool.{cases_lt, false≢true}
 use Rattle.std.proofs.lemmas.Cmp.{tied_itself}
-use Rattle.std.proofs.lemmas.List.{append-nil, get_or-append-add, get_or-drop, get_or-take, get_or_append_left, get_or_default, set-get_or, set-set, take-append-drop}
+use Rattle.std.proofs.lemmas.List.{append-nil, get_or-append-add, get_or-take, get_or_append_left, get_or_default, set-get_or, set-set, take-append-drop}
 use Rattle.std.proofs.lemmas.List.Elements.{filter-append}
 use Rattle.std.proofs.lemmas.List.Folds.{list_any-append, list_any_none}
 use Rattle.std.proofs.lemmas.Option.{get_or_from_slice_get, slice_get_within}
@@ -242,8 +242,3 @@ module _ {T : Type 0} (cmp : T → T → Ordering) (o : IsTotalOrder cmp) where
   -- some first elements of a list put in keep the order
   pub grown_up : (l xs m rest : List T) → IsAscending cmp l → TakesSome (put cmp) l xs m rest → IsAscending cmp m
   grown_up l xs m rest up taken = subst (IsAscending cmp) (sym taken.2) (fold_grown cmp o l taken.0 up).up
-
--- and what is left of the list is in order
-pub tail_up : {T : Type 0} (cmp : T → T → Ordering) (l : List T) (n : ℕ) → IsAscending cmp l → IsAscending cmp (drop n l)
-tail_up cmp l n up i j d lt inside =
-    rw (get_or-drop n l i d, get_or-drop n l j d) (up (n + i) (n + j) d (omega (arith, lt)) (omega (arith, inside, length-drop n l)))

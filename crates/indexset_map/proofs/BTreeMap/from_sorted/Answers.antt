@@ -1,17 +1,16 @@
-use Rattle.std.proofs.Common.{◌≡◌, false, IsTrue, rules}
 use Rattle.indexset_map.proofs.BTreeMap.from_sorted.Goals as goal
+
+pub from_ascending-requires : goal.from_ascending-requires
+from_ascending-requires g c = rw c.as_slice.ensures.value at (c.is_sorted.ensures.ascending c.if-not-is_sorted.false)
 
 pub returns-then-not-is_sorted-clause-memory : goal.returns-then-not-is_sorted-clause-memory
 returns-then-not-is_sorted-clause-memory g c =
-    let no : c.is_sorted.result ≡ false = search rules in
-    λ up. absurd (rw c.as_slice.ensures.value at (c.is_sorted.ensures.other no) up)
+    λ up. absurd (rw c.as_slice.ensures.value at (c.is_sorted.ensures.other c.if-not-is_sorted.true) up)
 
 pub returns-in-Ok-clause-ascending : goal.returns-in-Ok-clause-ascending
 returns-in-Ok-clause-ascending g c =
-    let yes : IsTrue c.is_sorted.result = search rules in
-    rw c.as_slice.ensures.value at (c.is_sorted.ensures.ascending yes)
+    rw c.as_slice.ensures.value at (c.is_sorted.ensures.ascending c.if-not-is_sorted.false)
 
 pub returns-in-Err-clause-unsorted : goal.returns-in-Err-clause-unsorted
 returns-in-Err-clause-unsorted g c =
-    let yes : IsTrue c.is_sorted.result = search rules in
-    λ other. absurd (other (rw c.as_slice.ensures.value at (c.is_sorted.ensures.ascending yes)))
+    λ other. absurd (other (rw c.as_slice.ensures.value at (c.is_sorted.ensures.ascending c.if-not-is_sorted.false)))

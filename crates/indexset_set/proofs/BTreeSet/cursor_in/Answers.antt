@@ -1,6 +1,5 @@
-use Rattle.std.proofs.Common.{◌≡◌, ℕ, length, ap, arith, sym, subst}
-use Rattle.indexset_spine.specs.Cut.{IsSpot, items, position_of}
-use Rattle.indexset_set.specs.SetCursor.{Standing}
+use Rattle.std.proofs.Common.{ℕ, ap, arith, sym}
+use Rattle.indexset_spine.specs.Cut.{items}
 use Rattle.indexset_set.proofs.SetCursorLemmas.{before_node, position_le}
 use Rattle.indexset_set.proofs.BTreeSet.cursor_in.Goals as goal
 

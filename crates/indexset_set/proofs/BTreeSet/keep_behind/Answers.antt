@@ -1,9 +1,16 @@
 use Rattle.std.proofs.Common.{◌≡◌, ◌∙◌, rules, subst}
+use Rattle.std.proofs.lemmas.List.{append-nil}
 use Rattle.indexset_core.specs.Order.{IsAscending, keep}
 use Rattle.indexset_spine.specs.Cut.{items}
 use Rattle.indexset_set.specs.SetNodes.{nodes_kept}
 use Rattle.indexset_set.proofs.SetAppendLemmas.{run_kept, run_nodes, run_then_kept, run_then_nodes}
 use Rattle.indexset_set.proofs.BTreeSet.keep_behind.Goals as goal
+
+pub join_run-requires : goal.join_run-requires
+join_run-requires g c = record { order = c.requires.order }
+
+pub returns-in-Ok-None-clause-order : goal.returns-in-Ok-None-clause-order
+returns-in-Ok-None-clause-order g c = c.in-Ok-None.ensures.order
 
 pub returns-in-Ok-None-clause-kept : goal.returns-in-Ok-None-clause-kept
 returns-in-Ok-None-clause-kept g c =
@@ -15,6 +22,11 @@ returns-in-Ok-None-clause-nodes g c =
     let joined = (rw c.in-Ok-None.is at c.join_run.ensures.items) c.in-Ok-None.field-0-is in
     (rw c.in-Ok-None.is at c.join_run.ensures.nodes) c.in-Ok-None.field-0-is
     ∙ run_nodes g.T.Ord.cmp c.args.self.now.size c.args.self.now.nodes c.args.run.now.items c.args.value c.node_count-count.ensures.cut (subst (IsAscending g.T.Ord.cmp) joined (rw c.in-Ok-None.is at c.join_run.ensures.order))
+
+pub returns-in_ok-map_err-in-Ok-Some-clause-order : goal.returns-in_ok-map_err-in-Ok-Some-clause-order
+returns-in_ok-map_err-in-Ok-Some-clause-order g c =
+    let emptied = rw c.in-Ok-Some.field-0-is at (rw c.in-Ok-Some.is at c.join_run.ensures.emptied) in
+    rw (emptied, append-nil) c.len-len.ensures.ascending
 
 pub returns-in_ok-map_err-in-Ok-Some-clause-kept : goal.returns-in_ok-map_err-in-Ok-Some-clause-kept
 returns-in_ok-map_err-in-Ok-Some-clause-kept g c =

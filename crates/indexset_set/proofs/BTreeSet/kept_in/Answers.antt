@@ -1,8 +1,10 @@
-use Rattle.std.proofs.Common.{◌∙◌, true, arith, rules, refl}
+use Rattle.std.proofs.Common.{[], ◌∷◌, ◌∙◌, true, ap, arith, rules, refl, sym}
 use Rattle.std.specs.Iterator.{Drains}
 use Rattle.std.proofs.iter.runs.Made.{run, to_end}
-use Rattle.indexset_spine.specs.Cut.{with_all_last}
-use Rattle.indexset_set.specs.SetNodes.{nodes_kept_all}
+use Rattle.std.proofs.lemmas.List.Sums.{fold-append}
+use Rattle.indexset_core.specs.Order.{keep}
+use Rattle.indexset_spine.specs.Cut.{cut, with_all_last}
+use Rattle.indexset_set.specs.SetNodes.{nodes_kept, nodes_kept_all}
 use Rattle.indexset_set.proofs.SetAppendLemmas.{all_items, all_nodes}
 use Rattle.indexset_set.proofs.BTreeSet.kept_in.Goals as goal
 
@@ -15,6 +17,26 @@ loop-value-init g c =
       nodes = refl;
       size = c.in_ok-set.ensures.size;
     })
+
+pub keep_behind-requires : goal.keep_behind-requires
+keep_behind-requires g c = record { order = c.loop-value.invariant.order }
+
+pub loop-value-preserved : goal.loop-value-preserved
+loop-value-preserved g c =
+    let cmp = g.T.Ord.cmp in
+    let v = c.in-Some.value in
+    let came = c.loop-value.yielded in
+    let held = c.loop-value.invariant in
+    let step = c.in_ok-keep_behind.ensures in
+    record {
+      order = step.order;
+      kept = step.kept ∙ (ap (λ l. keep cmp l v) held.kept ∙ sym (fold-append (keep cmp) [] came (v ∷ [])));
+      nodes = (rw held.size at step.nodes) ∙ (ap (λ ns. nodes_kept cmp (cut ns c.args.size) v) held.nodes ∙ sym (fold-append (λ ns x. nodes_kept cmp (cut ns c.args.size) x) ([] ∷ []) came (v ∷ [])));
+      size = step.size ∙ held.size;
+    }
+
+pub take_run-requires : goal.take_run-requires
+take_run-requires g c = record { order = c.loop-value.invariant.order }
 
 -- the loop's calls are a whole run of the iterator
 pub returns-clause-kept : goal.returns-clause-kept

@@ -10,7 +10,8 @@ use Rattle.indexset_spine.proofs.CallerLemmas.{takes_first}
 use Rattle.indexset_set.specs.SetNodes.{nodes_put}
 use Rattle.indexset_set.proofs.SetBulkLemmas.{item_is, rest_ascending}
 use Rattle.indexset_set.proofs.SetNodeLemmas.{put_new, put_there}
-use Rattle.indexset_set.proofs.SetRunLemmas.{grown_up, taken_run, taken_run_nodes, tail_up}
+use Rattle.indexset_set.proofs.SetPartLemmas.{tail_up}
+use Rattle.indexset_set.proofs.SetRunLemmas.{grown_up, taken_run, taken_run_nodes}
 use Rattle.indexset_set.proofs.BTreeSet.put_some_of.Given.{Over}
 use Rattle.indexset_set.proofs.BTreeSet.put_some_of.Goals as goal
 use Rattle.indexset_set.proofs.BTreeSet.put_some_of.Goals.{After-count_inside-run}
@@ -39,6 +40,31 @@ module _ (g : Over) (c : After-count_inside-run g) where
     run_nodes =
         taken_run_nodes g.T.Ord.cmp g.met.T.Ord.total c.self.inside.spine.nodes c.locate_near-spot.result.node c.locate_near-spot.ensures.spot.node_in c.self.inside.spine.size c.node_count-count.ensures.cut c.self.invariant c.item.result.now found
         (items c.other.inside.spine) c.count_inside-run.result c.other.invariant begins positive c.count_inside-run.ensures.below c.count_inside-run.ensures.room
+
+pub locate_near-spot-requires : goal.locate_near-spot-requires
+locate_near-spot-requires g c = c.self.invariant
+
+pub count_inside-run-requires : goal.count_inside-run-requires
+count_inside-run-requires g c = record { spot = c.locate_near-spot.ensures.spot; order = c.other.invariant }
+
+pub merge_from-requires : goal.merge_from-requires
+merge_from-requires g c = record {
+  node = c.locate_near-spot.ensures.spot.node_in;
+  some = c.if-run-gt0.true;
+  room = c.count_inside-run.ensures.room;
+  within = c.count_inside-run.ensures.within;
+  order = c.self.invariant;
+  other_order = c.other.invariant;
+}
+
+pub invariant_of-self : goal.invariant_of-self
+invariant_of-self g c = rw c.in_err-merge_from.ensures.unchanged c.self.invariant
+
+pub invariant_of-other : goal.invariant_of-other
+invariant_of-other g c = rw c.in_err-merge_from.ensures.other_unchanged c.other.invariant
+
+pub invariant_of-self-in_err-insert_from : goal.invariant_of-self-in_err-insert_from
+invariant_of-self-in_err-insert_from g c = rw c.in_err-insert_from.ensures.unchanged c.self.invariant
 
 pub invariant_of-self-then-run-gt0 : goal.invariant_of-self-then-run-gt0
 invariant_of-self-then-run-gt0 g c =

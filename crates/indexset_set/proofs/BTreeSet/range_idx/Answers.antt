@@ -2,7 +2,11 @@ use Rattle.std.proofs.Common.{◌∙◌, length, ap, min}
 use Rattle.std.specs.Range.Bound.{start_index, end_index}
 use Rattle.indexset_spine.specs.Cut.{items}
 use Rattle.indexset_set.proofs.SetRangeLemmas.{clipped}
+use Rattle.indexset_set.proofs.SetPartLemmas.{between_up}
 use Rattle.indexset_set.proofs.BTreeSet.range_idx.Goals as goal
+
+pub returns-clause-ascending : goal.returns-clause-ascending
+returns-clause-ascending g c = rw (c.of.ensures, c.iter_between.ensures.rest) (between_up g.T.Ord.cmp _ _ _ c.self.invariant)
 
 pub returns-clause-rest : goal.returns-clause-rest
 returns-clause-rest g c =

@@ -1,7 +1,17 @@
 use Rattle.std.proofs.Common.{◌∙◌}
 use Rattle.indexset_spine.specs.Cut.{items}
-use Rattle.indexset_core.proofs.CallerLemmas.{probed_before, probed_up_to, range_order, range_is}
+use Rattle.indexset_core.proofs.CallerLemmas.{each_bounded, parted_by_item, probed_before, probed_up_to, range_order, range_is}
+use Rattle.indexset_set.proofs.SetPartLemmas.{between_up}
 use Rattle.indexset_set.proofs.BTreeSet.within.Goals as goal
+
+pub start_of-from-requires : goal.start_of-from-requires
+start_of-from-requires g c = each_bounded _ (λ p. parted_by_item g.T.Ord.cmp g.met.T.Ord.total (items c.self.inside.spine) c.self.invariant p.0) c.map.result
+
+pub end_of-to-requires : goal.end_of-to-requires
+end_of-to-requires g c = each_bounded _ (λ p. parted_by_item g.T.Ord.cmp g.met.T.Ord.total (items c.self.inside.spine) c.self.invariant p.0) c.map-2.result
+
+pub returns-clause-ascending : goal.returns-clause-ascending
+returns-clause-ascending g c = rw (c.of.ensures, c.iter_from_to.ensures.rest) (between_up g.T.Ord.cmp _ _ _ c.self.invariant)
 
 pub iter_from_to-requires-clause-order : goal.iter_from_to-requires-clause-order
 iter_from_to-requires-clause-order g c =

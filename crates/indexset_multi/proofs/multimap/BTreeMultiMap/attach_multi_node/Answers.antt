@@ -1,11 +1,35 @@
-use Rattle.std.proofs.Common.{◌≡◌, ◌≤◌, false, ap, arith}
+use Rattle.std.proofs.Common.{◌≡◌, ◌≤◌, ◌∙◌, Some, false, true, ap, arith, refl}
+use Rattle.std.proofs.lemmas.Bool.{false≢true}
 use Rattle.std.proofs.lemmas.Grind.{common_steps}
+use Rattle.indexset_core.specs.declared.refusal.Refusal.TheVariants.{PairNumber}
 use Rattle.indexset_core.specs.MultiPairs.{by_number}
 use Rattle.indexset_core.specs.Nodes.{joined}
 use Rattle.indexset_log.specs.Attach.{attach_index}
-use Rattle.indexset_multi.specs.Attach.{free_number, has_greatest}
+use Rattle.indexset_multi.specs.Attach.{free_number, has_greatest, pairs_refusal}
 use Rattle.indexset_multi.proofs.Below.{below_free, below_insert, below_more}
 use Rattle.indexset_multi.proofs.multimap.BTreeMultiMap.attach_multi_node.Goals as goal
+
+pub returns-in_default : goal.returns-in_default
+returns-in_default g c =
+    let list = g.Node.NodeLike.list c.args.node in
+    let whole = c.as_slice.ensures.value ∙ c.iter.ensures in
+    let greatest : has_greatest list ≡ true = rw (← whole) c.in_default.ensures in
+    let refused : pairs_refusal g.K.Ord.cmp c.args.self.now list ≡ Some PairNumber = rw greatest refl in
+    record {
+      nodes = tt;
+      ascending = tt;
+      count = tt;
+      good = λ done. absurd (false≢true done);
+      refusal = rw refused refl;
+      given_back = refl;
+      size = refl;
+      next = refl;
+      pair_next = tt;
+      unchanged = refl;
+    }
+
+pub invariant_of-self : goal.invariant_of-self
+invariant_of-self g c = rw c.in_err-attach_node.ensures.unchanged c.self.invariant
 
 pub returns-in_err-attach_node-clause-refusal : goal.returns-in_err-attach_node-clause-refusal
 returns-in_err-attach_node-clause-refusal g c =
@@ -14,7 +38,7 @@ returns-in_err-attach_node-clause-refusal g c =
     let m = c.args.self.now in
     let same : set.nodes ≡ m.nodes = ap (λ t. t.nodes) c.self.view_is in
     let size : set.size ≡ m.size = ap (λ t. t.size) c.self.view_is in
-    let whole : c.as_slice.result.now ≡ list = cc in
+    let whole = c.as_slice.ensures.value ∙ c.iter.ensures in
     let none : has_greatest list ≡ false = rw (← whole) c.in-Some.ensures.0 in
     let cause = rw (same, size) at c.in_err-attach_node.ensures.refusal in
     rw (none, ← cause) (grind (arith, common_steps))
@@ -24,7 +48,7 @@ invariant_of-self-2 g c =
     let list = g.Node.NodeLike.list c.args.node in
     let nodes = c.self.inside.set.nodes in
     let n = c.max-self-inside.result in
-    let whole : c.as_slice.result.now ≡ list = cc in
+    let whole = c.as_slice.ensures.value ∙ c.iter.ensures in
     let free : c.in-Some.free ≡ free_number list = rw (← whole) c.in-Some.ensures.1 in
     let old : c.self.inside.pair_next ≤ n = omega (arith, c.max-self-inside.ensures) in
     let new : free_number list ≤ n = omega (arith, c.max-self-inside.ensures, free) in

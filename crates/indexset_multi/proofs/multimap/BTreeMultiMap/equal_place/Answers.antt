@@ -2,8 +2,24 @@ use Rattle.std.proofs.Common.{◌≡◌, find, slice_get, ap, sym, ◌∙◌}
 use Rattle.indexset_core.specs.Nodes.{joined}
 use Rattle.indexset_core.proofs.CallerLemmas.{get_in_node}
 use Rattle.indexset_core.specs.Places.{items_before}
-use Rattle.indexset_multi.proofs.Runs.{slice_between}
+use Rattle.indexset_multi.proofs.Runs.{between_inside, slice_between}
 use Rattle.indexset_multi.proofs.multimap.BTreeMultiMap.equal_place.Goals as goal
+
+pub range_between-requires : goal.range_between-requires
+range_between-requires g c =
+    let same : c.self.inside.set.nodes ≡ c.args.self.now.nodes = ap (λ m. m.nodes) c.self.view_is in
+    rw same (record { from = c.places_of.ensures.from; to = c.places_of.ensures.to; order = c.places_of.ensures.order })
+
+pub place_ahead-requires : goal.place_ahead-requires
+place_ahead-requires g c =
+    let ns = c.args.self.now.nodes in
+    let same : c.self.inside.set.nodes ≡ ns = ap (λ m. m.nodes) c.self.view_is in
+    let part = rw same at c.range_between.ensures.rest in
+    let index = rw part at c.in_ok-index.ensures in
+    rw same (record {
+      place = c.places_of.ensures.from;
+      within = between_inside (items_before ns c.places_of.result.0) (items_before ns c.places_of.result.1) (joined ns) c.in_ok-index.index index.0;
+    })
 
 pub returns-clause-pair : goal.returns-clause-pair
 returns-clause-pair g c =

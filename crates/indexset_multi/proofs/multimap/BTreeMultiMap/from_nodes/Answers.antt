@@ -1,8 +1,31 @@
-use Rattle.std.proofs.Common.{◌≡◌, ap, map}
+use Rattle.std.proofs.Common.{◌≡◌, ◌∙◌, IfErr, Some, false, is_some, true, ap, map, refl, rules, sym}
+use Rattle.std.proofs.lemmas.Bool.{false≢true}
+use Rattle.indexset_core.specs.declared.refusal.Refusal.TheVariants.{PairNumber}
 use Rattle.indexset_core.specs.Nodes.{joined}
-use Rattle.indexset_multi.specs.Attach.{free_number}
+use Rattle.indexset_multi.specs.Attach.{free_number, has_greatest, pair_nodes_refusal}
 use Rattle.indexset_multi.proofs.Below.{below_free}
 use Rattle.indexset_multi.proofs.multimap.BTreeMultiMap.from_nodes.Goals as goal
+
+pub returns-in_err-set-clause-refusal : goal.returns-in_err-set-clause-refusal
+returns-in_err-set-clause-refusal g c =
+    let pairs = joined (map g.Node.NodeLike.list c.args.nodes.items) in
+    let none : has_greatest pairs ≡ false = rw c.as_slice.ensures.value at c.in-Some.ensures.0 in
+    let told : IfErr c.from_residual.result (λ e. e.cause ≡ c.in_err-set.field-0.0.cause) = search rules in
+    rw (none, ← c.in_err-set.ensures.refusal) told
+
+pub returns-in_default : goal.returns-in_default
+returns-in_default g c =
+    let ns = map g.Node.NodeLike.list c.args.nodes.items in
+    let greatest : has_greatest (joined ns) ≡ true = rw c.as_slice.ensures.value at c.in_default.ensures in
+    let refused : pair_nodes_refusal g.K.Ord.cmp c.args.size ns ≡ Some PairNumber = rw greatest refl in
+    record {
+      tree = tt;
+      good = tt;
+      refusal = rw refused refl;
+      memory = λ good. absurd (false≢true (ap is_some (sym good ∙ refused)));
+      lawful = λ lawful none fits. sym none ∙ greatest;
+      given_back = refl;
+    }
 
 pub invariant_of-result : goal.invariant_of-result
 invariant_of-result g c =

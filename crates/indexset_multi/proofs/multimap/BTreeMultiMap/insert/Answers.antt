@@ -9,6 +9,9 @@ use Rattle.indexset_multi.proofs.Inserts.{insertion_tree, numbered_after, replac
 use Rattle.indexset_multi.proofs.Lists.{inserted}
 use Rattle.indexset_multi.proofs.multimap.BTreeMultiMap.insert.Goals as goal
 
+pub invariant_of-self : goal.invariant_of-self
+invariant_of-self g c = rw c.in_err-old.ensures.unchanged c.self.invariant
+
 pub returns-in_err-pair-clause-few : goal.returns-in_err-pair-clause-few
 returns-in_err-pair-clause-few g c =
     let m = c.args.self.now in

@@ -7,6 +7,9 @@ use Rattle.indexset_multi.proofs.Lists.{inserted}
 use Rattle.indexset_multi.proofs.Takes.{pair_same}
 use Rattle.indexset_multi.proofs.multimap.BTreeMultiMap.insert_cdc.Goals as goal
 
+pub invariant_of-self : goal.invariant_of-self
+invariant_of-self g c = rw c.in_err-old.ensures.unchanged c.self.invariant
+
 pub returns-in_err-old-clause-refusal : goal.returns-in_err-old-clause-refusal
 returns-in_err-old-clause-refusal g c =
     let m = c.args.self.now in

@@ -8,6 +8,9 @@ use Rattle.indexset_multi.proofs.Ends.{told_at}
 use Rattle.indexset_multi.proofs.Takes.{pair_same, removal_tree}
 use Rattle.indexset_multi.proofs.multimap.BTreeMultiMap.pop_first_cdc.Goals as goal
 
+pub invariant_of-self : goal.invariant_of-self
+invariant_of-self g c = rw c.in_err-pair.ensures.unchanged c.self.invariant
+
 pub returns-in_err-pair-clause-refusal : goal.returns-in_err-pair-clause-refusal
 returns-in_err-pair-clause-refusal g c =
     let told = told_at g.K.Ord.cmp (λ _. 0) c.self.view_is in

@@ -7,6 +7,15 @@ use Rattle.indexset_multi.specs.Places.{placed_item}
 use Rattle.indexset_multi.proofs.Takes.{pair_below, removal_tree, taken, taken_count}
 use Rattle.indexset_multi.proofs.multimap.BTreeMultiMap.take.Goals as goal
 
+pub remove_at-requires : goal.remove_at-requires
+remove_at-requires g c =
+    let same : c.self.inside.set.nodes ≡ c.args.self.now.nodes = ap (λ t. t.nodes) c.self.view_is in
+    let at = rw c.in-Some.is at c.requires in
+    rw same (record { node = at.0; offset = at.1 })
+
+pub invariant_of-self : goal.invariant_of-self
+invariant_of-self g c = rw c.in_err-pair-in-Some.ensures.unchanged c.self.invariant
+
 pub returns-in_err-pair-in-Some-clause-refusal : goal.returns-in_err-pair-in-Some-clause-refusal
 returns-in_err-pair-in-Some-clause-refusal g c =
     let count = taken_count g.K.Ord.cmp g.met.K.Ord.total c.self.view_is c.rule.ensures.tree c.in-Some.is c.requires in

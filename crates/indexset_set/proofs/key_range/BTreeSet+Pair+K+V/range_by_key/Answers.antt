@@ -1,7 +1,18 @@
 use Rattle.std.proofs.Common.{◌∙◌}
+use Rattle.indexset_core.specs.Pairs.{by_key}
 use Rattle.indexset_spine.specs.Cut.{items}
-use Rattle.indexset_core.proofs.CallerLemmas.{key_range_is, key_range_order, probed_before, probed_up_to}
+use Rattle.indexset_core.proofs.CallerLemmas.{each_bounded, key_range_is, key_range_order, parted_by_key, probed_before, probed_up_to}
+use Rattle.indexset_set.proofs.SetPartLemmas.{between_up}
 use Rattle.indexset_set.proofs.key_range.BTreeSet+Pair+K+V.range_by_key.Goals as goal
+
+pub start_of-from-requires : goal.start_of-from-requires
+start_of-from-requires g c = each_bounded _ (λ p. parted_by_key g.K.Ord.cmp g.met.K.Ord.total (items c.self.inside.spine) c.self.invariant p.0) c.map.result
+
+pub end_of-to-requires : goal.end_of-to-requires
+end_of-to-requires g c = each_bounded _ (λ p. parted_by_key g.K.Ord.cmp g.met.K.Ord.total (items c.self.inside.spine) c.self.invariant p.0) c.map-2.result
+
+pub returns-clause-ascending : goal.returns-clause-ascending
+returns-clause-ascending g c = rw (c.of.ensures, c.iter_from_to.ensures.rest) (between_up (by_key g.K.Ord.cmp) _ _ _ c.self.invariant)
 
 pub iter_from_to-requires-clause-order : goal.iter_from_to-requires-clause-order
 iter_from_to-requires-clause-order g c =
