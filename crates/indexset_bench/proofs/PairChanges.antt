@@ -1,10 +1,8 @@
 -- What a line does, by the kind of its command.
-use Rattle.std.proofs.Common.{Option, None, Some, refl, ◌≡◌, ◌≢◌, ℕ, ◌+◌, ◌==◌, Bool, true, false, cond, List, [], ◌∷◌, ◌++◌, length, Ordering, ap}
-use Rattle.std.specs.Option.{option_map, option_map_or}
+use Rattle.std.proofs.Common.{None, Some, ◌≡◌, ◌≢◌, ℕ, ◌+◌, ◌==◌, Bool, true, false, cond, List, [], ◌∷◌, ◌++◌, length, Ordering, ap}
+use Rattle.std.specs.Option.{option_map_or}
 use Rattle.indexset_core.specs.Nodes.{node_at}
 use Rattle.indexset_core.specs.Order.{has_equal, rank}
-use Rattle.indexset_core.specs.Pairs.{entry_of}
-use Rattle.indexset_core.specs.declared.pair.Pair.{Pair}
 use Rattle.indexset_log.specs.Nodes.{is_filled}
 use Rattle.indexset_log.specs.Table.{halving_events, node_events, part_for, put_events, replace_events, target, target_events}
 use Rattle.indexset_bench.specs.Command.{meaning}
@@ -68,8 +66,3 @@ module _ (s : List ℕ) (t : PairTree) (line : List ℕ) where
 
     pub numbers_change : AddsNew s (meaning line) → Changes (stores s t) line
     numbers_change added = rw e added
-
--- the pair that a removal gave is that of the key, so its value is too
-pub out_value : {X : Type 0} (f : ℕ → X) (none : X) (o : Option (Pair ℕ ℕ)) → option_map_or (λ (entry : ℕ × ℕ). f entry.1) (option_map entry_of o) none ≡ option_map_or f (option_map (λ p. p.value) o) none
-out_value f none None = refl
-out_value f none (Some p) = refl
