@@ -1,7 +1,9 @@
+pub mod Acts
 pub mod CallerLemmas
 pub mod ClonedRuns
 pub mod CommandRuns
 pub mod Digits
+pub mod Faults
 pub mod Lines
 pub mod LoggedMaps
 pub mod LoggedRuns

@@ -1,13 +1,15 @@
 -- How a line is read, piece by piece.
-use Rattle.std.proofs.Common.{Option, true, false, cond, None, Some, OnSome, ◌≡◌, ◌≢◌, ℕ, ◌==◌, not, ◌+◌, ◌<◌, ◌≤◌, List, [], ◌∷◌, ◌++◌, length, take, get_or, refl, sym, ap, subst, ◌∙◌, arith, append_assoc, append-nil, eq-eqb, eqb-true, true≢false, length-take-le, get_or-take}
+use Rattle.std.proofs.Common.{Option, true, false, cond, None, Some, IfSome, OnSome, ◌≡◌, ◌≢◌, ℕ, ◌==◌, not, ◌+◌, ◌<◌, ◌≤◌, List, [], ◌∷◌, ◌++◌, length, take, get_or, refl, sym, ap, subst, ◌∙◌, arith, append_assoc, append-nil, eq-eqb, eqb-true, true≢false, length-take-le, get_or-take}
 use Rattle.std.proofs.lemmas.List.{take_more}
 use Rattle.std.proofs.lemmas.List.Elements.{All-append, All-from_get_or}
 use Rattle.std.proofs.lemmas.List.Sums.{fails_before_first, passes_at_first, prefix_len-le-length}
-use Rattle.std.proofs.KnownBytes.{Consumes-trans}
+use Rattle.std.proofs.KnownBytes.{Consumes-kept, Consumes-nil, Consumes-trans}
+use Rattle.std.proofs.Transfers.{starts_with_length}
 use borrow.Author.Tests.{ltb-false}
 use Rattle.std.specs.Prelude.{Bool, nat_lt, unwrap_or}
 use Rattle.std.specs.List.{position, position_or_len}
-use Rattle.std.specs.Io.KnownBytes.{Consumes, IsAtEnd}
+use Rattle.std.specs.Io.{StartsWith}
+use Rattle.std.specs.Io.KnownBytes.{Consumes, IsAtEnd, Keeps}
 use Rattle.indexset_bench.specs.declared.line.Part.{Part}
 use Rattle.indexset_bench.specs.declared.line.Part.TheVariants.{Whole, Last, End}
 use Rattle.indexset_bench.specs.Lines.{HasNoEnd}
@@ -48,6 +50,25 @@ module _ (shown : List ℕ) (n : ℕ) (first : n ≡ position_or_len (λ b. b ==
 
     pub moves_on : Consumes old new (take n shown) → Moves old new before after []
     moves_on gone = record { piece = take n shown; no_end = before_first_end; line = line; read = subst (Consumes old new) (sym (append-nil (take n shown))) gone }
+
+-- ---- a look that shows nothing, and one whose bytes find no room
+
+module _ (r r' : Option (List ℕ)) (shown : List ℕ) where
+  pub ends_there : (before : List ℕ) → IfSome r (λ xs. length shown ≡ 0 → xs ≡ []) → length shown ≡ 0 → Keeps r r' → Ends r r' before before
+  ends_there before end none kept = record { line = refl; read = Consumes-kept r r r' [] (Consumes-nil r) kept; at_end = at r r' end kept }
+    where
+      at : (a b : Option (List ℕ)) → IfSome a (λ xs. length shown ≡ 0 → xs ≡ []) → Keeps a b → OnSome a (IsAtEnd b)
+      at None b e k = tt
+      at (Some xs) None e k = absurd k
+      at (Some xs) (Some ys) e k = k ∙ e none
+
+pub no_bytes : (xs : List ℕ) → length xs ≡ 0 → xs ≡ []
+no_bytes [] none = refl
+no_bytes (x ∷ xs) none = absurd (omega arith)
+
+pub no_room_left : (r : Option (List ℕ)) (shown piece : List ℕ) (room len : ℕ) → IfSome r (λ xs. StartsWith xs shown) → length piece ≤ length shown → room < len + length piece → IfSome r (λ xs. room < len + length xs)
+no_room_left None shown piece room len front within small = tt
+no_room_left (Some xs) shown piece room len front within small = omega (arith, starts_with_length xs shown front)
 
 -- ---- pieces one after the other
 

@@ -1,8 +1,8 @@
 -- How a run goes on, line by line.
-use Rattle.std.proofs.Common.{Option, Bool, ◌≡◌, ◌≢◌, ℕ, ◌<◌, List, [], ◌∷◌, ◌++◌, refl, sym, ap, subst, ◌∙◌, arith, append_assoc, append-nil}
+use Rattle.std.proofs.Common.{Option, OnSome, Bool, ◌≡◌, ◌≢◌, ℕ, ◌<◌, List, [], ◌∷◌, ◌++◌, refl, sym, ap, subst, ◌∙◌, arith, append_assoc, append-nil}
 use Rattle.std.proofs.lemmas.List.Elements.{All-nil}
 use Rattle.std.below.core.specs.declared.int.u64.TheConstants.{MAX}
-use Rattle.std.specs.Io.KnownBytes.{Appends, Consumes, Keeps}
+use Rattle.std.specs.Io.KnownBytes.{Appends, Consumes, IsAtEnd, Keeps}
 use Rattle.std.proofs.KnownBytes.{Consumes-nil, Consumes-kept, Appends-nil, Consumes-trans, Appends-trans, Appends-kept, Keeps-refl}
 use Rattle.std.proofs.Transfers.{StopsAt-of_All, StopsAt-append}
 use Rattle.indexset_bench.specs.declared.line.Part.{Part}
@@ -115,15 +115,42 @@ module _ (r r1 r2 w w1 w2 : Option (List ℕ)) (held : Stores) (line : List ℕ)
   unanswered End other reads kept = absurd (other refl)
 
   -- a line was read whose events do not fit
+  lacking_rest : (rest passed : List ℕ) → lines_of rest ≡ line ∷ [] → IsLinePart rest → Consumes r1 r2 rest → passed ≡ line → Keeps w1 w2 → MAX < (stores_after held passed).pairs.next → LacksNumbers r r2 w w2
+  unfolding unanswered_rest
+  lacking_rest rest passed one stops read same kept many =
+      let after = ap (stores_after held) same ∙ sym (stores_of-more far.whole rest line held far.is_whole one far.left) in
+      (unanswered_rest rest stops read kept, subst (λ s. MAX < s.pairs.next) after many)
+
   pub lacking : (part : Part) (passed : List ℕ) → part ≢ End → passed ≡ line → Reads r1 r2 line part → Keeps w1 w2 → MAX < (stores_after held passed).pairs.next → LacksNumbers r r2 w w2
-  unfolding unanswered unanswered_rest
-  lacking (Whole is_used_up) passed other same reads kept many =
-      let after = stores_of-more far.whole (line ++ 10 ∷ []) line held far.is_whole (lines_of-end line reads.0) far.left in
-      (unanswered (Whole is_used_up) other reads kept, subst (λ s. MAX < s.pairs.next) (ap (stores_after held) same ∙ sym after) many)
-  lacking Last passed other same reads kept many =
-      let after = stores_of-more far.whole line line held far.is_whole (lines_of-last line reads.0 reads.2) far.left in
-      (unanswered Last other reads kept, subst (λ s. MAX < s.pairs.next) (ap (stores_after held) same ∙ sym after) many)
+  lacking (Whole is_used_up) passed other same reads kept many = lacking_rest (line ++ 10 ∷ []) passed (lines_of-end line reads.0) (StopsAt-append line (10 ∷ []) 10 reads.0 (All-nil (λ x. x ≢ 10))) reads.1 same kept many
+  lacking Last passed other same reads kept many = lacking_rest line passed (lines_of-last line reads.0 reads.2) (StopsAt-of_All line 10 reads.0) reads.1 same kept many
   lacking End passed other same reads kept many = absurd (other refl)
+
+  -- nothing was left, and the writer was flushed
+  pub all_read : (part : Part) → part ≡ End → Reads r1 r2 line part → Keeps w1 w2 → AnswersAll r r2 w w2
+  all_read part is reads kept =
+      let read = subst (Reads r1 r2 line) is reads in
+      record {
+        input = far.whole;
+        read = subst (Consumes r r2) (append-nil far.whole) (Consumes-trans r r1 r2 far.whole [] far.read read.1);
+        at_end = at_end-after r r1 r2 far.whole far.read read.2;
+        written = Appends-kept w w1 w2 (text_of far.whole) far.written kept;
+      }
+
+-- nothing more was there to read
+pub rest_read : (r r1 r2 w w1 : Option (List ℕ)) (held : Stores) → SoFar r r1 w w1 held → Keeps r1 r2 → OnSome r1 (IsAtEnd r2) → AnswersAll r r2 w w1
+rest_read r r1 r2 w w1 held far kept end = record {
+  input = far.whole;
+  read = Consumes-kept r r1 r2 far.whole far.read kept;
+  at_end = at_end-after r r1 r2 far.whole far.read end;
+  written = far.written;
+}
+
+pub whole_not_end : (is_used_up : Bool) → Whole is_used_up ≢ End
+whole_not_end is_used_up e = cc
+
+pub last_not_end : Last ≢ End
+last_not_end e = cc
 
 -- nothing more was read
 pub unread : (r r1 r2 w w1 : Option (List ℕ)) (held : Stores) → SoFar r r1 w w1 held → Keeps r1 r2 → AnswersWholeLines HasNoEnd r r2 w w1

@@ -1,7 +1,7 @@
 -- How a run goes on, line by line.
-use Rattle.std.proofs.Common.{Option, Bool, ◌≡◌, ◌≢◌, ℕ, List, [], ◌∷◌, ◌++◌, refl, sym, ap, subst, ◌∙◌, arith, append_assoc, append-nil}
+use Rattle.std.proofs.Common.{Option, OnSome, Bool, ◌≡◌, ◌≢◌, ℕ, List, [], ◌∷◌, ◌++◌, refl, sym, ap, subst, ◌∙◌, arith, append_assoc, append-nil}
 use Rattle.std.proofs.lemmas.List.Elements.{All-nil}
-use Rattle.std.specs.Io.KnownBytes.{Appends, Consumes, Keeps}
+use Rattle.std.specs.Io.KnownBytes.{Appends, Consumes, IsAtEnd, Keeps}
 use Rattle.std.proofs.KnownBytes.{Consumes-nil, Consumes-kept, Appends-nil, Consumes-trans, Appends-trans, Appends-kept, Keeps-refl}
 use Rattle.std.proofs.Transfers.{StopsAt-of_All, StopsAt-append}
 use Rattle.indexset_bench.specs.declared.line.Part.{Part}
@@ -114,6 +114,26 @@ module _ (o : Others) where
     unanswered (Whole is_used_up) other reads kept = unanswered_rest (line ++ 10 ∷ []) (StopsAt-append line (10 ∷ []) 10 reads.0 (All-nil (λ x. x ≢ 10))) reads.1 kept
     unanswered Last other reads kept = unanswered_rest line (StopsAt-of_All line 10 reads.0) reads.1 kept
     unanswered End other reads kept = absurd (other refl)
+
+    -- nothing was left, and the writer was flushed
+    pub all_read : (part : Part) → part ≡ End → Reads r1 r2 line part → Keeps w1 w2 → AnswersAll o r r2 w w2
+    all_read part is reads kept =
+        let read = subst (Reads r1 r2 line) is reads in
+        record {
+          input = far.whole;
+          read = subst (Consumes r r2) (append-nil far.whole) (Consumes-trans r r1 r2 far.whole [] far.read read.1);
+          at_end = at_end-after r r1 r2 far.whole far.read read.2;
+          written = Appends-kept w w1 w2 (text_of o far.whole) far.written kept;
+        }
+
+  -- nothing more was there to read
+  pub rest_read : (r r1 r2 w w1 : Option (List ℕ)) (held : State) → SoFar r r1 w w1 held → Keeps r1 r2 → OnSome r1 (IsAtEnd r2) → AnswersAll o r r2 w w1
+  rest_read r r1 r2 w w1 held far kept end = record {
+    input = far.whole;
+    read = Consumes-kept r r1 r2 far.whole far.read kept;
+    at_end = at_end-after r r1 r2 far.whole far.read end;
+    written = far.written;
+  }
 
   -- nothing more was read
   pub unread : (r r1 r2 w w1 : Option (List ℕ)) (held : State) → SoFar r r1 w w1 held → Keeps r1 r2 → AnswersWholeLines o HasNoEnd r r2 w w1

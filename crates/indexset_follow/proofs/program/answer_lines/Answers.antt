@@ -1,10 +1,11 @@
-use Rattle.std.proofs.Common.{rules}
+use Rattle.std.proofs.Common.{Err, refl, sym, ap, ◌∙◌}
+use Rattle.std.proofs.KnownBytes.{Keeps-trans}
 use Rattle.std.proofs.lemmas.Result.{on_ok_weaker}
 use Rattle.std.proofs.Transfers.{StopsAt-of_All}
-use Rattle.std.specs.Io.KnownBytes.{Keeps}
 use Rattle.indexset_bench.specs.Lines.{HasNoEnd, IsLinePart}
 use Rattle.indexset_bench.specs.declared.line.Part.TheVariants.{Whole, Last}
-use Rattle.indexset_follow.proofs.Runs.{all_but_end, flushed, further, start, stopped, unanswered, unread}
+use Rattle.indexset_bench.proofs.CallerLemmas.{err_same, failed, last_not_end, ok_not_err, read_not_memory, read_not_numbers, whole_not_end, write_not_memory, write_not_numbers, write_not_read}
+use Rattle.indexset_follow.proofs.Runs.{all_but_end, all_read, flushed, further, rest_read, start, stopped, unanswered, unread}
 use Rattle.indexset_follow.proofs.program.answer_lines.Goals.{then-is_used_up+in_ok-flush-in-Whole, else-is_used_up}
 use Rattle.indexset_follow.proofs.program.answer_lines.Goals as goal
 
@@ -29,13 +30,14 @@ returns-clause-read_failed g c failed = unread c.args.others _ _ (g.R.Read.remai
 
 pub returns-in-Last-clause-memory_refused : goal.returns-in-Last-clause-memory_refused
 returns-in-Last-clause-memory_refused g c refused =
-    let kept : Keeps (g.W.Write.contents c.loop.writer) (g.W.Write.contents c.answer_line-in-Last.new.writer) = search rules in
-    unanswered c.args.others _ _ (g.R.Read.remaining c.next_line.new.reader) _ _ _ _ c.next_line.new.line.items c.loop.invariant Last (λ e. cc) (rw c.in-Last.is at c.in_ok-is_used_up.ensures.ok) kept
+    let kept = Keeps-trans _ _ _ c.next_line.ensures.unwritten (c.answer_line-in-Last.ensures.memory_refused refused) in
+    unanswered c.args.others _ _ (g.R.Read.remaining c.next_line.new.reader) _ _ _ _ c.next_line.new.line.items c.loop.invariant Last last_not_end (rw c.in-Last.is at c.in_ok-is_used_up.ensures.ok) kept
 
 pub returns-in_err-answer_line-in-Whole-clause-memory_refused : goal.returns-in_err-answer_line-in-Whole-clause-memory_refused
 returns-in_err-answer_line-in-Whole-clause-memory_refused g c refused =
-    let kept : Keeps (g.W.Write.contents c.loop.writer) (g.W.Write.contents c.answer_line.new.writer) = search rules in
-    unanswered c.args.others _ _ (g.R.Read.remaining c.next_line.new.reader) _ _ _ _ c.next_line.new.line.items c.loop.invariant (Whole c.in-Whole.is_used_up) (λ e. cc) (rw c.in-Whole.is at c.in_ok-is_used_up.ensures.ok) kept
+    let told = c.in_err-answer_line-in-Whole.was ∙ (sym (failed c.from_residual-in_err-answer_line-in-Whole.result _ c.from_residual-in_err-answer_line-in-Whole.ensures) ∙ refused) in
+    let kept = Keeps-trans _ _ _ c.next_line.ensures.unwritten (c.answer_line.ensures.memory_refused told) in
+    unanswered c.args.others _ _ (g.R.Read.remaining c.next_line.new.reader) _ _ _ _ c.next_line.new.line.items c.loop.invariant (Whole c.in-Whole.is_used_up) (whole_not_end c.in-Whole.is_used_up) (rw c.in-Whole.is at c.in_ok-is_used_up.ensures.ok) kept
 
 pub returns-in-Last-clause-given_answered : goal.returns-in-Last-clause-given_answered
 returns-in-Last-clause-given_answered g c =
@@ -53,3 +55,88 @@ loop-preserved g c =
       | then-is_used_up+in_ok-flush-in-Whole w ↦ rw w.writer-is (flushed c.args.others _ _ _ _ _ _ told w.flush.ensures.unwritten)
       | else-is_used_up w ↦ rw w.writer-is told
     ]
+
+pub returns-in_err-is_used_up-clause-given_answered : goal.returns-in_err-is_used_up-clause-given_answered
+returns-in_err-is_used_up-clause-given_answered g c = rw (failed c.from_residual.result _ c.from_residual.ensures) tt
+
+pub returns-in_err-is_used_up-clause-no_numbers : goal.returns-in_err-is_used_up-clause-no_numbers
+returns-in_err-is_used_up-clause-no_numbers g c refused =
+    c.next_line.ensures.numbers_fit (c.in_err-is_used_up.was ∙ ap Err (err_same c.from_residual.result (failed c.from_residual.result _ c.from_residual.ensures) refused))
+
+pub returns-in_err-answer_line-in-Whole-clause-given_answered : goal.returns-in_err-answer_line-in-Whole-clause-given_answered
+returns-in_err-answer_line-in-Whole-clause-given_answered g c = rw (failed c.from_residual-in_err-answer_line-in-Whole.result _ c.from_residual-in_err-answer_line-in-Whole.ensures) tt
+
+pub returns-in_err-answer_line-in-Whole-clause-read_failed : goal.returns-in_err-answer_line-in-Whole-clause-read_failed
+returns-in_err-answer_line-in-Whole-clause-read_failed g c failure =
+    absurd (c.answer_line.ensures.no_read (c.in_err-answer_line-in-Whole.was ∙ (sym (failed c.from_residual-in_err-answer_line-in-Whole.result _ c.from_residual-in_err-answer_line-in-Whole.ensures) ∙ failure)))
+
+pub returns-in_err-answer_line-in-Whole-clause-no_numbers : goal.returns-in_err-answer_line-in-Whole-clause-no_numbers
+returns-in_err-answer_line-in-Whole-clause-no_numbers g c failure =
+    c.answer_line.ensures.no_numbers (c.in_err-answer_line-in-Whole.was ∙ (sym (failed c.from_residual-in_err-answer_line-in-Whole.result _ c.from_residual-in_err-answer_line-in-Whole.ensures) ∙ failure))
+
+pub returns-in_err-flush-in-Whole-clause-given_answered : goal.returns-in_err-flush-in-Whole-clause-given_answered
+returns-in_err-flush-in-Whole-clause-given_answered g c = rw (failed c.from_residual-in_err-flush-in-Whole.result _ c.from_residual-in_err-flush-in-Whole.ensures) tt
+
+pub returns-in_err-flush-in-Whole-clause-read_failed : goal.returns-in_err-flush-in-Whole-clause-read_failed
+returns-in_err-flush-in-Whole-clause-read_failed g c failure =
+    write_not_read (rw c.in_err-flush-in-Whole.ensures.fault at (err_same c.from_residual-in_err-flush-in-Whole.result (failed c.from_residual-in_err-flush-in-Whole.result _ c.from_residual-in_err-flush-in-Whole.ensures) failure))
+
+pub returns-in_err-flush-in-Whole-clause-memory_refused : goal.returns-in_err-flush-in-Whole-clause-memory_refused
+returns-in_err-flush-in-Whole-clause-memory_refused g c failure =
+    write_not_memory (rw c.in_err-flush-in-Whole.ensures.fault at (err_same c.from_residual-in_err-flush-in-Whole.result (failed c.from_residual-in_err-flush-in-Whole.result _ c.from_residual-in_err-flush-in-Whole.ensures) failure))
+
+pub returns-in_err-flush-in-Whole-clause-no_numbers : goal.returns-in_err-flush-in-Whole-clause-no_numbers
+returns-in_err-flush-in-Whole-clause-no_numbers g c failure =
+    write_not_numbers (rw c.in_err-flush-in-Whole.ensures.fault at (err_same c.from_residual-in_err-flush-in-Whole.result (failed c.from_residual-in_err-flush-in-Whole.result _ c.from_residual-in_err-flush-in-Whole.ensures) failure))
+
+pub returns-in-Last-clause-read_failed : goal.returns-in-Last-clause-read_failed
+returns-in-Last-clause-read_failed g c failure = absurd (c.answer_line-in-Last.ensures.no_read failure)
+
+pub returns-in-Last-clause-no_numbers : goal.returns-in-Last-clause-no_numbers
+returns-in-Last-clause-no_numbers g c = c.answer_line-in-Last.ensures.no_numbers
+
+pub returns-in-End-clause-given_answered : goal.returns-in-End-clause-given_answered
+returns-in-End-clause-given_answered g c =
+    all_read c.args.others _ _ (g.R.Read.remaining c.next_line.new.reader) _ _ _ _ c.next_line.new.line.items c.loop.invariant c.in_ok-is_used_up.field-0 c.in-End.is c.in_ok-is_used_up.ensures.ok c.next_line.ensures.unwritten
+
+pub returns-in-End-clause-read_failed : goal.returns-in-End-clause-read_failed
+returns-in-End-clause-read_failed g c failure = ok_not_err failure
+
+pub returns-in-End-clause-memory_refused : goal.returns-in-End-clause-memory_refused
+returns-in-End-clause-memory_refused g c failure = ok_not_err failure
+
+pub returns-in-End-clause-no_numbers : goal.returns-in-End-clause-no_numbers
+returns-in-End-clause-no_numbers g c failure = ok_not_err failure
+
+pub returns-in_err-is_at_end-clause-given_answered : goal.returns-in_err-is_at_end-clause-given_answered
+returns-in_err-is_at_end-clause-given_answered g c = rw (failed c.from_residual-in_err-is_at_end.result _ c.from_residual-in_err-is_at_end.ensures) tt
+
+pub returns-in_err-is_at_end-clause-memory_refused : goal.returns-in_err-is_at_end-clause-memory_refused
+returns-in_err-is_at_end-clause-memory_refused g c failure =
+    read_not_memory (rw c.in_err-is_at_end.ensures.err at (err_same c.from_residual-in_err-is_at_end.result (failed c.from_residual-in_err-is_at_end.result _ c.from_residual-in_err-is_at_end.ensures) failure))
+
+pub returns-in_err-is_at_end-clause-no_numbers : goal.returns-in_err-is_at_end-clause-no_numbers
+returns-in_err-is_at_end-clause-no_numbers g c failure =
+    read_not_numbers (rw c.in_err-is_at_end.ensures.err at (err_same c.from_residual-in_err-is_at_end.result (failed c.from_residual-in_err-is_at_end.result _ c.from_residual-in_err-is_at_end.ensures) failure))
+
+pub returns-then-branch-clause-given_answered : goal.returns-then-branch-clause-given_answered
+returns-then-branch-clause-given_answered g c =
+    rest_read c.args.others _ _ (g.R.Read.remaining c.is_at_end.new.reader) _ _ _ c.loop.invariant c.is_at_end.ensures.unread (c.in_ok-is_at_end.ensures.end c.if-branch.true)
+
+pub returns-then-branch-clause-read_failed : goal.returns-then-branch-clause-read_failed
+returns-then-branch-clause-read_failed g c failure = ok_not_err failure
+
+pub returns-then-branch-clause-memory_refused : goal.returns-then-branch-clause-memory_refused
+returns-then-branch-clause-memory_refused g c failure = ok_not_err failure
+
+pub returns-then-branch-clause-no_numbers : goal.returns-then-branch-clause-no_numbers
+returns-then-branch-clause-no_numbers g c failure = ok_not_err failure
+
+pub returns-clause-given_answered : goal.returns-clause-given_answered
+returns-clause-given_answered g c = tt
+
+pub returns-clause-memory_refused : goal.returns-clause-memory_refused
+returns-clause-memory_refused g c failure = read_not_memory (err_same _ refl failure)
+
+pub returns-clause-no_numbers : goal.returns-clause-no_numbers
+returns-clause-no_numbers g c failure = read_not_numbers (err_same _ refl failure)

@@ -1,4 +1,5 @@
 use Rattle.std.proofs.Common.{ap, ◌∙◌}
+use Rattle.std.proofs.lemmas.Result.{err_from_is_err_and}
 use Rattle.indexset_core.proofs.CallerLemmas.{value_put}
 use Rattle.indexset_core.specs.Pairs.{value_of}
 use Rattle.std.specs.Option.{option_map}
@@ -29,3 +30,29 @@ returns g c =
       next = done.next;
       fits = done.fits;
     }
+
+pub returns-in_err-old : goal.returns-in_err-old
+returns-in_err-old g c =
+    let done = rw c.self.view_is at c.in_err-old.ensures in
+    let why = err_from_is_err_and c.from_residual.result c.from_residual.ensures.1 in
+    rw why.1 (record {
+      tree = tt;
+      answer = tt;
+      clones = tt;
+      refusal = why.2.1 ∙ done.refusal;
+      given_back = why.2.0 ∙ ap (λ p. (p.key, p.value)) done.given_back;
+      unchanged = done.unchanged;
+      contents = tt;
+      there = tt;
+      written = tt;
+      nodes = tt;
+      events = λ _ _. tt;
+      numbered = tt;
+      replay = λ _ _. tt;
+      table = tt;
+      few = tt;
+      size = done.size;
+      spaced = done.spaced;
+      next = tt;
+      fits = tt;
+    })

@@ -135,3 +135,31 @@ returns-clause-few g c =
     let full : c.run_end-end.result ≡ length (node_at c.args.self.now.nodes c.args.node) = omega (arith, c.if-end-items.false, end, le, ap (λ l. length l) is) in
     let some = begun_last g at.After-last_started-last l in
     few_far c.args.self.now.nodes l.filled c.args.node c.last_started-last.result c.args.offset c.run_end.result (g.P.Probe.asked c.run_end-end.new.probe) (g.P.Probe.asked c.last_started-last.new.probe) (g.P.Probe.asked c.run_end.new.probe) (g.P.Probe.asked c.args.probe.now) c.requires.offset (omega (arith, c.last_started-last.ensures.order, c.if-last-node.false)) l.inside (omega (arith, some, end_last g at.After-run_end l.fixed (read_last g at.After-as_slice-2 l.inside))) (rw full at c.run_end-end.ensures.few) c.last_started-last.ensures.few c.run_end.ensures.few
+
+pub returns-then-end-items-clause-place : goal.returns-then-end-items-clause-place
+returns-then-end-items-clause-place g c =
+    let at = goal.at.returns-then-end-items-clause-place g c in
+    let end = end_is g at.After-run_end-end (read g at.After-as_slice-items) in
+    record { node_in = omega (arith, c.requires.node); offset_in = omega (arith, end, at_most_all (g.P.Probe.answer c.args.probe.now) (node_at c.args.self.now.nodes c.args.node)) }
+
+pub returns-then-end-items-clause-fixed : goal.returns-then-end-items-clause-fixed
+returns-then-end-items-clause-fixed g c = c.run_end-end.ensures.fixed
+
+pub returns-then-last-node-clause-place : goal.returns-then-last-node-clause-place
+returns-then-last-node-clause-place g c =
+    let at = goal.at.returns-then-last-node-clause-place g c in
+    let end = end_is g at.After-run_end-end (read g at.After-as_slice-items) in
+    record { node_in = omega (arith, c.requires.node); offset_in = omega (arith, end, at_most_all (g.P.Probe.answer c.args.probe.now) (node_at c.args.self.now.nodes c.args.node)) }
+
+pub returns-then-last-node-clause-fixed : goal.returns-then-last-node-clause-fixed
+returns-then-last-node-clause-fixed g c = c.last_started-last.ensures.fixed ∙ c.run_end-end.ensures.fixed
+
+pub returns-clause-place : goal.returns-clause-place
+returns-clause-place g c =
+    let at = goal.at.returns-clause-place g c in
+    let l = last g at.After-last_started-last in
+    let end = end_last g at.After-run_end l.fixed (read_last g at.After-as_slice-2 l.inside) in
+    record { node_in = omega (arith, l.inside); offset_in = omega (arith, end, at_most_all (g.P.Probe.answer c.args.probe.now) (node_at c.args.self.now.nodes c.last_started-last.result)) }
+
+pub returns-clause-fixed : goal.returns-clause-fixed
+returns-clause-fixed g c = c.run_end.ensures.fixed ∙ (c.last_started-last.ensures.fixed ∙ c.run_end-end.ensures.fixed)

@@ -1,4 +1,4 @@
-use Rattle.std.proofs.Common.{◌≡◌, ◌≤◌, ◌<◌, [], true, false, not, length, arith, ap, sym, ◌∙◌}
+use Rattle.std.proofs.Common.{◌≡◌, ◌≤◌, ◌<◌, List, [], ◌∷◌, true, false, not, length, vec_len, refl, eqb-true, arith, ap, sym, ◌∙◌}
 use Rattle.std.proofs.lemmas.Grind.{common_steps}
 use Rattle.std.specs.Ordering.{is_lt}
 use Rattle.indexset_core.specs.Nodes.{node_at, node_for}
@@ -48,3 +48,13 @@ pub returns-in_default-2 : goal.returns-in_default-2
 returns-in_default-2 g c =
     let f = found g (goal.at.returns-in_default-2 g c).After-index in
     absurd (never_none g.Node.NodeLike.list c.self.inside.nodes.items c.node_by-node.result c.index.result.now f.2 c.index.ensures (lawful_filled g.T.Ord.cmp c.self.inside.size _ c.self.invariant.lawful) (sym (rw c.in_default.is at c.max.ensures)))
+
+no_nodes : {T : Type 0} (ns : List (List T)) → length ns ≡ 0 → ns ≡ []
+no_nodes [] none = refl
+no_nodes (n ∷ ns) none = absurd (omega arith)
+
+pub returns-then-is_empty : goal.returns-then-is_empty
+returns-then-is_empty g c =
+    let t = held g.Node.NodeLike.list c.self.inside.nodes.items c.self.view_is c.self.invariant in
+    let none : vec_len c.self.inside.nodes ≡ 0 = eqb-true _ _ (sym c.is_empty.ensures ∙ c.if-is_empty.true) in
+    rw (no_nodes c.args.self.now.nodes (omega (arith, t.many, none, c.self.inside.nodes.ok.0))) refl

@@ -1,15 +1,17 @@
-use Rattle.std.proofs.Common.{◌≡◌, ℕ, ◌+◌, ◌<◌, ◌≤◌, List, length, Ordering, ap, sym, ◌∙◌, arith}
+use Rattle.std.proofs.Common.{◌≡◌, ℕ, ◌+◌, ◌<◌, ◌≤◌, List, [], ◌∷◌, length, vec_len, Ordering, refl, eqb-true, ap, sym, ◌∙◌, arith}
 use Rattle.std.proofs.lemmas.Grind.{common_steps}
+use Rattle.std.proofs.lemmas.List.Sums.{count_by-le-length}
+use Rattle.std.specs.Ordering.{is_lt}
 use Rattle.indexset_core.specs.Digits.{digits}
 use Rattle.indexset_core.specs.Nodes.{equal_at, joined, node_at, node_for}
-use Rattle.indexset_core.specs.Parted.{less_count}
+use Rattle.indexset_core.specs.Parted.{less_count, not_greater_count}
 use Rattle.indexset_core.proofs.CallerLemmas.{digits-mono, equal_inside, parted_node, place_for}
-use Rattle.indexset_core.specs.Places.{items_before}
+use Rattle.indexset_core.specs.Places.{IsPlace, items_before}
 use Rattle.indexset_log.proofs.Runs.{equal_goes_on, none_equal}
 use Rattle.indexset_log.proofs.Trees.{held, node_held}
 use Rattle.indexset_log.proofs.Views.{equal_joined, lawful_filled, lawful_small}
 use Rattle.indexset_log.proofs.set.BTreeSet.places_by.Given.{Over}
-use Rattle.indexset_log.proofs.set.BTreeSet.places_by.Goals.{After-as_slice-2, After-first_not_less_near-offset}
+use Rattle.indexset_log.proofs.set.BTreeSet.places_by.Goals.{After-as_slice-2, After-first_not_less_near-offset, Then-is_empty}
 use Rattle.indexset_log.proofs.set.BTreeSet.places_by.Goals as goal
 
 -- the node that the search reads
@@ -114,3 +116,67 @@ returns-else-found-clause-few g c =
     let at = goal.at.returns-else-found-clause-few g c in
     let f = found g at.After-first_not_less_near-offset (read g at.After-as_slice-2) in
     omega (arith, f.few)
+
+pub end_from-requires-clause-parted : goal.end_from-requires-clause-parted
+end_from-requires-clause-parted g c = rw (c.first_not_less_near-offset.ensures.fixed, c.node_by-node.ensures.fixed) c.requires
+
+pub end_from-requires-clause-node : goal.end_from-requires-clause-node
+end_from-requires-clause-node g c = (read g (goal.at.end_from-requires-clause-node g c).After-as_slice-2).inside
+
+pub returns-then-found-clause-to : goal.returns-then-found-clause-to
+returns-then-found-clause-to g c = c.end_from.ensures.place
+
+pub returns-then-found-clause-past : goal.returns-then-found-clause-past
+returns-then-found-clause-past g c =
+    c.end_from.ensures.before ∙ ap (λ answer. not_greater_count answer (joined c.args.self.now.nodes)) (c.first_not_less_near-offset.ensures.fixed ∙ c.node_by-node.ensures.fixed)
+
+pub returns-then-found-clause-fixed : goal.returns-then-found-clause-fixed
+returns-then-found-clause-fixed g c =
+    c.end_from.ensures.fixed ∙ (c.first_not_less_near-offset.ensures.fixed ∙ c.node_by-node.ensures.fixed)
+
+pub returns-else-found-clause-fixed : goal.returns-else-found-clause-fixed
+returns-else-found-clause-fixed g c = c.first_not_less_near-offset.ensures.fixed ∙ c.node_by-node.ensures.fixed
+
+no_nodes : {T : Type 0} (ns : List (List T)) → length ns ≡ 0 → ns ≡ []
+no_nodes [] none = refl
+no_nodes (n ∷ ns) none = absurd (omega arith)
+
+empty : (g : Over) (c : Then-is_empty g) → c.args.self.now.nodes ≡ []
+empty g c =
+    let t = held g.Node.NodeLike.list c.self.inside.nodes.items c.self.view_is c.self.invariant in
+    let none : vec_len c.self.inside.nodes ≡ 0 = eqb-true _ _ (sym c.is_empty.ensures ∙ c.if-is_empty.true) in
+    no_nodes c.args.self.now.nodes (omega (arith, t.many, none, c.self.inside.nodes.ok.0))
+
+pub returns-then-is_empty : goal.returns-then-is_empty
+returns-then-is_empty g c =
+    let none = empty g c in
+    record {
+      from = record { node_in = omega arith; offset_in = omega arith };
+      to = record { node_in = omega arith; offset_in = omega arith };
+      before = rw none refl;
+      past = rw none refl;
+      fixed = refl;
+      few = omega arith;
+    }
+
+-- the place before the items that are found
+here : (g : Over) (c : After-first_not_less_near-offset g) → Read (g.P.Probe.answer c.args.probe.now) c.args.self.now.nodes c.node_by-node.result c.as_slice-2.result.now → Found g c → IsPlace c.args.self.now.nodes (c.node_by-node.result, c.first_not_less_near-offset.result.0)
+here g c r f = record { node_in = omega (arith, r.inside); offset_in = omega (arith, f.offset, count_by-le-length (λ x. is_lt (g.P.Probe.answer c.args.probe.now x)) (node_at c.args.self.now.nodes c.node_by-node.result)) }
+
+pub returns-then-found-clause-from : goal.returns-then-found-clause-from
+returns-then-found-clause-from g c =
+    let at = goal.at.returns-then-found-clause-from g c in
+    let r = read g at.After-as_slice-2 in
+    here g at.After-first_not_less_near-offset r (found g at.After-first_not_less_near-offset r)
+
+pub returns-else-found-clause-from : goal.returns-else-found-clause-from
+returns-else-found-clause-from g c =
+    let at = goal.at.returns-else-found-clause-from g c in
+    let r = read g at.After-as_slice-2 in
+    here g at.After-first_not_less_near-offset r (found g at.After-first_not_less_near-offset r)
+
+pub returns-else-found-clause-to : goal.returns-else-found-clause-to
+returns-else-found-clause-to g c =
+    let at = goal.at.returns-else-found-clause-to g c in
+    let r = read g at.After-as_slice-2 in
+    here g at.After-first_not_less_near-offset r (found g at.After-first_not_less_near-offset r)

@@ -1,79 +1,159 @@
-use Rattle.std.proofs.Common.{◌≡◌, true, sym}
+use Rattle.std.proofs.Common.{◌≡◌, true, not, refl, sym, ap, arith}
 use Rattle.std.below.core.specs.declared.int.u64.TheConstants.{MAX}
 use Rattle.std.proofs.lemmas.Bool.{le-ltb}
 use Rattle.indexset_core.specs.Nodes.{joined}
 use Rattle.indexset_core.specs.Pairs.{by_key, has_key, pair}
+use Rattle.indexset_log.specs.Keys.{key_removal_events}
+use Rattle.indexset_log.specs.Table.{checked_put_events, put_events}
+use Rattle.indexset_bench.specs.declared.logged.map.LoggedMapReply.TheVariants.{OldValue, Added, Out}
+use Rattle.indexset_bench.proofs.Acts.{tree_led}
+use Rattle.indexset_bench.proofs.Faults.{failed}
 use Rattle.indexset_bench.proofs.LoggedMaps.{checked_there}
 use Rattle.indexset_bench.proofs.logged.map.BTreeMapLogged.act.Goals as goal
 
-pub returns-in-Some-clause-fits : goal.returns-in-Some-clause-fits
-returns-in-Some-clause-fits g c =
-    rw c.in-CheckedInsert.is (le-ltb MAX _ c.in_ok-events-in-CheckedInsert.ensures.fits)
+pub returns-in_err-old-in-Insert : goal.returns-in_err-old-in-Insert
+returns-in_err-old-in-Insert g c =
+    let done = c.in_err-old-in-Insert.ensures in
+    rw (failed c.from_residual.result _ c.from_residual.ensures, c.in-Insert.is) (record {
+      reply = tt;
+      state = tt;
+      clones = tt;
+      events = λ _. tt;
+      replay = λ _. tt;
+      table = tt;
+      few = tt;
+      tree = tt;
+      next = tt;
+      size = done.size;
+      spaced = done.spaced;
+      fits = tt;
+      refusal = done.refusal;
+      unchanged = done.unchanged;
+    })
 
-pub returns-in-None-clause-events : goal.returns-in-None-clause-events
-returns-in-None-clause-events g c h =
-    let there : has_key g.K.Ord.cmp (joined c.args.self.now.nodes) c.in-CheckedInsert.key ≡ true = sym (rw c.in-None.is at c.in_ok-events-in-CheckedInsert.ensures.answer) in
-    rw (c.in-CheckedInsert.is, checked_there (by_key g.K.Ord.cmp) c.args.self.now.size c.args.self.now.nodes (pair c.in-CheckedInsert.key c.in-CheckedInsert.value) there) c.new.ensures.items
+pub returns-in_ok-old-in-Insert : goal.returns-in_ok-old-in-Insert
+returns-in_ok-old-in-Insert g c =
+    let done = c.in_ok-old-in-Insert.ensures in
+    let old = c.args.self.now in
+    rw c.in-Insert.is (record {
+      reply = ap OldValue done.answer;
+      state = done.contents;
+      clones = done.clones;
+      events = λ same. done.events same.0 same.1;
+      replay = λ same. done.replay same.0 same.1;
+      table = done.table;
+      few = done.few;
+      tree = tree_led (by_key g.K.Ord.cmp) old c.insert_cdc.new.self (put_events (by_key g.K.Ord.cmp) old.size old.nodes (pair c.in-Insert.key c.in-Insert.value)) done.table done.size done.next;
+      next = done.next;
+      size = done.size;
+      spaced = done.spaced;
+      fits = le-ltb MAX _ done.fits;
+      refusal = tt;
+      unchanged = tt;
+    })
 
-pub returns-in-None-clause-replay : goal.returns-in-None-clause-replay
-returns-in-None-clause-replay g c h =
-    let there : has_key g.K.Ord.cmp (joined c.args.self.now.nodes) c.in-CheckedInsert.key ≡ true = sym (rw c.in-None.is at c.in_ok-events-in-CheckedInsert.ensures.answer) in
-    let same = rw (checked_there (by_key g.K.Ord.cmp) c.args.self.now.size c.args.self.now.nodes (pair c.in-CheckedInsert.key c.in-CheckedInsert.value) there) at c.in_ok-events-in-CheckedInsert.ensures.replay in
-    rw c.new.ensures.items same
+pub returns-in_err-events-in-CheckedInsert : goal.returns-in_err-events-in-CheckedInsert
+returns-in_err-events-in-CheckedInsert g c =
+    let done = c.in_err-events-in-CheckedInsert.ensures in
+    rw (failed c.from_residual-in_err-events-in-CheckedInsert.result _ c.from_residual-in_err-events-in-CheckedInsert.ensures, c.in-CheckedInsert.is) (record {
+      reply = tt;
+      state = tt;
+      clones = tt;
+      events = λ _. tt;
+      replay = λ _. tt;
+      table = tt;
+      few = tt;
+      tree = tt;
+      next = tt;
+      size = done.size;
+      spaced = done.spaced;
+      fits = tt;
+      refusal = done.refusal;
+      unchanged = done.unchanged;
+    })
 
-pub returns-in-None-clause-fits : goal.returns-in-None-clause-fits
-returns-in-None-clause-fits g c =
-    rw c.in-CheckedInsert.is (le-ltb MAX _ c.in_ok-events-in-CheckedInsert.ensures.fits)
+pub returns-in-Some : goal.returns-in-Some
+returns-in-Some g c =
+    let done = rw c.in-Some.is at c.in_ok-events-in-CheckedInsert.ensures in
+    let old = c.args.self.now in
+    rw c.in-CheckedInsert.is (record {
+      reply = ap (λ b. Added (not b)) done.answer;
+      state = done.contents;
+      clones = done.clones;
+      events = λ same. done.events same.0 same.1;
+      replay = λ same. rw (done.events same.0 same.1) done.replay;
+      table = done.replay;
+      few = done.few;
+      tree = tree_led (by_key g.K.Ord.cmp) old c.checked_insert_cdc.new.self (checked_put_events (by_key g.K.Ord.cmp) old.size old.nodes (pair c.in-CheckedInsert.key c.in-CheckedInsert.value)) done.replay done.size done.next;
+      next = done.next;
+      size = done.size;
+      spaced = done.spaced;
+      fits = le-ltb MAX _ done.fits;
+      refusal = tt;
+      unchanged = tt;
+    })
 
-pub returns-in_ok-out-in-Remove-clause-fits : goal.returns-in_ok-out-in-Remove-clause-fits
-returns-in_ok-out-in-Remove-clause-fits g c =
-    rw c.in-Remove.is (le-ltb MAX _ c.in_ok-out-in-Remove.ensures.fits)
+pub returns-in-None : goal.returns-in-None
+returns-in-None g c =
+    let done = rw c.in-None.is at c.in_ok-events-in-CheckedInsert.ensures in
+    let old = c.args.self.now in
+    let there : has_key g.K.Ord.cmp (joined old.nodes) c.in-CheckedInsert.key ≡ true = sym done.answer in
+    let silent = checked_there (by_key g.K.Ord.cmp) old.size old.nodes (pair c.in-CheckedInsert.key c.in-CheckedInsert.value) there in
+    let led = rw silent at done.replay in
+    rw (c.in-CheckedInsert.is, c.new.ensures.items) (record {
+      reply = ap (λ b. Added (not b)) done.answer;
+      state = done.contents;
+      clones = rw silent tt;
+      events = λ _. rw silent refl;
+      replay = λ _. led;
+      table = done.replay;
+      few = omega arith;
+      tree = tree_led (by_key g.K.Ord.cmp) old c.checked_insert_cdc.new.self (checked_put_events (by_key g.K.Ord.cmp) old.size old.nodes (pair c.in-CheckedInsert.key c.in-CheckedInsert.value)) done.replay done.size done.next;
+      next = done.next;
+      size = done.size;
+      spaced = done.spaced;
+      fits = le-ltb MAX _ done.fits;
+      refusal = tt;
+      unchanged = tt;
+    })
 
-pub returns-in-None-clause-clones : goal.returns-in-None-clause-clones
-returns-in-None-clause-clones g c =
-    let there : has_key g.K.Ord.cmp (joined c.args.self.now.nodes) c.in-CheckedInsert.key ≡ true = sym (rw c.in-None.is at c.in_ok-events-in-CheckedInsert.ensures.answer) in
-    rw (c.in-CheckedInsert.is, checked_there (by_key g.K.Ord.cmp) c.args.self.now.size c.args.self.now.nodes (pair c.in-CheckedInsert.key c.in-CheckedInsert.value) there, c.new.ensures.items) tt
+pub returns-in_err-out-in-Remove : goal.returns-in_err-out-in-Remove
+returns-in_err-out-in-Remove g c =
+    let done = c.in_err-out-in-Remove.ensures in
+    rw (failed c.from_residual-in_err-out-in-Remove.result _ c.from_residual-in_err-out-in-Remove.ensures, c.in-Remove.is) (record {
+      reply = tt;
+      state = tt;
+      clones = tt;
+      events = λ _. tt;
+      replay = λ _. tt;
+      table = tt;
+      few = tt;
+      tree = tt;
+      next = tt;
+      size = done.size;
+      spaced = done.spaced;
+      fits = tt;
+      refusal = done.refusal;
+      unchanged = done.unchanged;
+    })
 
-pub returns-in_ok-old-in-Insert-clause-clones : goal.returns-in_ok-old-in-Insert-clause-clones
-returns-in_ok-old-in-Insert-clause-clones g c = rw c.in-Insert.is c.in_ok-old-in-Insert.ensures.clones
-
-pub returns-in_ok-old-in-Insert-clause-events : goal.returns-in_ok-old-in-Insert-clause-events
-returns-in_ok-old-in-Insert-clause-events g c h = rw c.in-Insert.is (c.in_ok-old-in-Insert.ensures.events h.0 h.1)
-
-pub returns-in_ok-old-in-Insert-clause-replay : goal.returns-in_ok-old-in-Insert-clause-replay
-returns-in_ok-old-in-Insert-clause-replay g c h = c.in_ok-old-in-Insert.ensures.replay h.0 h.1
-
-pub returns-in_ok-old-in-Insert-clause-table : goal.returns-in_ok-old-in-Insert-clause-table
-returns-in_ok-old-in-Insert-clause-table g c = rw c.in-Insert.is c.in_ok-old-in-Insert.ensures.table
-
-pub returns-in_ok-out-in-Remove-clause-clones : goal.returns-in_ok-out-in-Remove-clause-clones
-returns-in_ok-out-in-Remove-clause-clones g c = rw c.in-Remove.is c.in_ok-out-in-Remove.ensures.clones
-
-pub returns-in_ok-out-in-Remove-clause-events : goal.returns-in_ok-out-in-Remove-clause-events
-returns-in_ok-out-in-Remove-clause-events g c h = rw c.in-Remove.is (c.in_ok-out-in-Remove.ensures.events h.0 h.1)
-
-pub returns-in_ok-out-in-Remove-clause-replay : goal.returns-in_ok-out-in-Remove-clause-replay
-returns-in_ok-out-in-Remove-clause-replay g c h = c.in_ok-out-in-Remove.ensures.replay h.0 h.1
-
-pub returns-in_ok-out-in-Remove-clause-table : goal.returns-in_ok-out-in-Remove-clause-table
-returns-in_ok-out-in-Remove-clause-table g c = rw c.in-Remove.is c.in_ok-out-in-Remove.ensures.table
-
-pub returns-in-Some-clause-clones : goal.returns-in-Some-clause-clones
-returns-in-Some-clause-clones g c = rw c.in-CheckedInsert.is (rw c.in-Some.is at c.in_ok-events-in-CheckedInsert.ensures.clones)
-
-pub returns-in-Some-clause-events : goal.returns-in-Some-clause-events
-returns-in-Some-clause-events g c h = rw c.in-CheckedInsert.is (rw c.in-Some.is at (c.in_ok-events-in-CheckedInsert.ensures.events h.0 h.1))
-
-pub returns-in-Some-clause-replay : goal.returns-in-Some-clause-replay
-returns-in-Some-clause-replay g c h =
-    let told = rw c.in-Some.is at (c.in_ok-events-in-CheckedInsert.ensures.events h.0 h.1) in
-    rw told c.in_ok-events-in-CheckedInsert.ensures.replay
-
-pub returns-in-Some-clause-table : goal.returns-in-Some-clause-table
-returns-in-Some-clause-table g c = rw c.in-CheckedInsert.is c.in_ok-events-in-CheckedInsert.ensures.replay
-
-pub returns-in-None-clause-table : goal.returns-in-None-clause-table
-returns-in-None-clause-table g c = rw c.in-CheckedInsert.is c.in_ok-events-in-CheckedInsert.ensures.replay
-
-pub returns-in_ok-old-in-Insert-clause-fits : goal.returns-in_ok-old-in-Insert-clause-fits
-returns-in_ok-old-in-Insert-clause-fits g c = rw c.in-Insert.is (le-ltb MAX _ c.in_ok-old-in-Insert.ensures.fits)
+pub returns-in_ok-out-in-Remove : goal.returns-in_ok-out-in-Remove
+returns-in_ok-out-in-Remove g c =
+    let done = c.in_ok-out-in-Remove.ensures in
+    let old = c.args.self.now in
+    rw c.in-Remove.is (record {
+      reply = ap Out done.answer;
+      state = done.contents;
+      clones = done.clones;
+      events = λ same. done.events same.0 same.1;
+      replay = λ same. done.replay same.0 same.1;
+      table = done.table;
+      few = done.few;
+      tree = tree_led (by_key g.K.Ord.cmp) old c.remove_cdc.new.self (key_removal_events g.K.Ord.cmp old.size old.nodes c.in-Remove.key) done.table done.size done.next;
+      next = done.next;
+      size = done.size;
+      spaced = done.spaced;
+      fits = le-ltb MAX _ done.fits;
+      refusal = tt;
+      unchanged = tt;
+    })

@@ -1,48 +1,134 @@
+use Rattle.std.proofs.Common.{ap, ◌∙◌}
 use Rattle.std.below.core.specs.declared.int.u64.TheConstants.{MAX}
 use Rattle.std.proofs.lemmas.Bool.{le-ltb}
+use Rattle.indexset_core.specs.Nodes.{joined}
+use Rattle.indexset_core.specs.declared.refusal.Refusal.TheVariants.{Memory, Numbers}
+use Rattle.indexset_multi.specs.Keys.{equal_pair, first_pair}
+use Rattle.indexset_multi.specs.Tree.{insertion_events, lacks_number, pair_next_after, pair_removal_events}
+use Rattle.indexset_bench.specs.declared.logged.multimap.LoggedMultiReply.TheVariants.{OldValue, Out}
+use Rattle.indexset_bench.proofs.Acts.{either_lack, multi_led, multi_state}
+use Rattle.indexset_bench.proofs.Faults.{failed}
 use Rattle.indexset_bench.proofs.logged.multimap.BTreeMultiMapLogged.act.Goals as goal
 
-pub returns-in_ok-old-in-Insert-clause-clones : goal.returns-in_ok-old-in-Insert-clause-clones
-returns-in_ok-old-in-Insert-clause-clones g c = rw c.in-Insert.is c.in_ok-old-in-Insert.ensures.clones
+pub returns-in_err-old-in-Insert : goal.returns-in_err-old-in-Insert
+returns-in_err-old-in-Insert g c =
+    let done = c.in_err-old-in-Insert.ensures in
+    rw (failed c.from_residual.result _ c.from_residual.ensures, c.in-Insert.is) (record {
+      reply = tt;
+      state = tt;
+      clones = tt;
+      events = λ _. tt;
+      replay = λ _. tt;
+      table = tt;
+      few = tt;
+      tree = tt;
+      next = tt;
+      size = done.size;
+      spaced = done.spaced;
+      fits = tt;
+      refusal = done.refusal ∙ either_lack (lacks_number g.K.Ord.cmp g.V.PartialEq.eq c.args.self.now c.in-Insert.key c.in-Insert.value) _ Numbers Memory;
+      unchanged = done.unchanged;
+    })
 
-pub returns-in_ok-old-in-Insert-clause-events : goal.returns-in_ok-old-in-Insert-clause-events
-returns-in_ok-old-in-Insert-clause-events g c h = rw c.in-Insert.is (c.in_ok-old-in-Insert.ensures.events h.0 h.1)
+pub returns-in_ok-old-in-Insert : goal.returns-in_ok-old-in-Insert
+returns-in_ok-old-in-Insert g c =
+    let done = c.in_ok-old-in-Insert.ensures in
+    let old = c.args.self.now in
+    rw c.in-Insert.is (record {
+      reply = ap OldValue done.answer;
+      state = λ i. multi_state (done.contents i) (done.pair_next i);
+      clones = done.clones;
+      events = λ same. done.events same.0 same.1;
+      replay = λ same. done.replay same.0 same.1;
+      table = done.table;
+      few = done.few;
+      tree = multi_led g.K.Ord.cmp old c.insert_cdc.new.self (insertion_events g.K.Ord.cmp g.V.PartialEq.eq old c.in-Insert.key c.in-Insert.value) (pair_next_after g.K.Ord.cmp g.V.PartialEq.eq old c.in-Insert.key c.in-Insert.value) done.table done.size done.next done.pair_next;
+      next = done.next;
+      size = done.size;
+      spaced = done.spaced;
+      fits = rw done.number_left (le-ltb MAX _ done.fits);
+      refusal = tt;
+      unchanged = tt;
+    })
 
-pub returns-in_ok-old-in-Insert-clause-replay : goal.returns-in_ok-old-in-Insert-clause-replay
-returns-in_ok-old-in-Insert-clause-replay g c h = c.in_ok-old-in-Insert.ensures.replay h.0 h.1
+pub returns-in_err-out-in-RemoveSome : goal.returns-in_err-out-in-RemoveSome
+returns-in_err-out-in-RemoveSome g c =
+    let done = c.in_err-out-in-RemoveSome.ensures in
+    rw (failed c.from_residual-in_err-out-in-RemoveSome.result _ c.from_residual-in_err-out-in-RemoveSome.ensures, c.in-RemoveSome.is) (record {
+      reply = tt;
+      state = tt;
+      clones = tt;
+      events = λ _. tt;
+      replay = λ _. tt;
+      table = tt;
+      few = tt;
+      tree = tt;
+      next = tt;
+      size = done.size;
+      spaced = done.spaced;
+      fits = tt;
+      refusal = done.refusal;
+      unchanged = done.unchanged;
+    })
 
-pub returns-in_ok-old-in-Insert-clause-table : goal.returns-in_ok-old-in-Insert-clause-table
-returns-in_ok-old-in-Insert-clause-table g c = rw c.in-Insert.is c.in_ok-old-in-Insert.ensures.table
+pub returns-in_ok-out-in-RemoveSome : goal.returns-in_ok-out-in-RemoveSome
+returns-in_ok-out-in-RemoveSome g c =
+    let done = c.in_ok-out-in-RemoveSome.ensures in
+    let old = c.args.self.now in
+    rw c.in-RemoveSome.is (record {
+      reply = ap Out done.answer;
+      state = λ i. multi_state (done.contents i) (done.pair_next i);
+      clones = done.clones;
+      events = λ same. done.events same.0 same.1;
+      replay = λ same. done.replay same.0 same.1;
+      table = done.table;
+      few = done.few;
+      tree = multi_led g.K.Ord.cmp old c.remove_some_cdc.new.self (pair_removal_events g.K.Ord.cmp old.size old.nodes (first_pair g.K.Ord.cmp (joined old.nodes) c.in-RemoveSome.key)) (old.pair_next) done.table done.size done.next done.pair_next;
+      next = done.next;
+      size = done.size;
+      spaced = done.spaced;
+      fits = le-ltb MAX _ done.fits;
+      refusal = tt;
+      unchanged = tt;
+    })
 
-pub returns-in_ok-out-in-RemoveSome-clause-clones : goal.returns-in_ok-out-in-RemoveSome-clause-clones
-returns-in_ok-out-in-RemoveSome-clause-clones g c = rw c.in-RemoveSome.is c.in_ok-out-in-RemoveSome.ensures.clones
+pub returns-in_err-out-in-Remove : goal.returns-in_err-out-in-Remove
+returns-in_err-out-in-Remove g c =
+    let done = c.in_err-out-in-Remove.ensures in
+    rw (failed c.from_residual-in_err-out-in-Remove.result _ c.from_residual-in_err-out-in-Remove.ensures, c.in-Remove.is) (record {
+      reply = tt;
+      state = tt;
+      clones = tt;
+      events = λ _. tt;
+      replay = λ _. tt;
+      table = tt;
+      few = tt;
+      tree = tt;
+      next = tt;
+      size = done.size;
+      spaced = done.spaced;
+      fits = tt;
+      refusal = done.refusal;
+      unchanged = done.unchanged;
+    })
 
-pub returns-in_ok-out-in-RemoveSome-clause-events : goal.returns-in_ok-out-in-RemoveSome-clause-events
-returns-in_ok-out-in-RemoveSome-clause-events g c h = rw c.in-RemoveSome.is (c.in_ok-out-in-RemoveSome.ensures.events h.0 h.1)
-
-pub returns-in_ok-out-in-RemoveSome-clause-replay : goal.returns-in_ok-out-in-RemoveSome-clause-replay
-returns-in_ok-out-in-RemoveSome-clause-replay g c h = c.in_ok-out-in-RemoveSome.ensures.replay h.0 h.1
-
-pub returns-in_ok-out-in-RemoveSome-clause-table : goal.returns-in_ok-out-in-RemoveSome-clause-table
-returns-in_ok-out-in-RemoveSome-clause-table g c = rw c.in-RemoveSome.is c.in_ok-out-in-RemoveSome.ensures.table
-
-pub returns-in_ok-out-in-Remove-clause-clones : goal.returns-in_ok-out-in-Remove-clause-clones
-returns-in_ok-out-in-Remove-clause-clones g c = rw c.in-Remove.is c.in_ok-out-in-Remove.ensures.clones
-
-pub returns-in_ok-out-in-Remove-clause-events : goal.returns-in_ok-out-in-Remove-clause-events
-returns-in_ok-out-in-Remove-clause-events g c h = rw c.in-Remove.is (c.in_ok-out-in-Remove.ensures.events h.0 h.1)
-
-pub returns-in_ok-out-in-Remove-clause-replay : goal.returns-in_ok-out-in-Remove-clause-replay
-returns-in_ok-out-in-Remove-clause-replay g c h = c.in_ok-out-in-Remove.ensures.replay h.0 h.1
-
-pub returns-in_ok-out-in-Remove-clause-table : goal.returns-in_ok-out-in-Remove-clause-table
-returns-in_ok-out-in-Remove-clause-table g c = rw c.in-Remove.is c.in_ok-out-in-Remove.ensures.table
-
-pub returns-in_ok-old-in-Insert-clause-fits : goal.returns-in_ok-old-in-Insert-clause-fits
-returns-in_ok-old-in-Insert-clause-fits g c = rw (c.in-Insert.is, c.in_ok-old-in-Insert.ensures.number_left) (le-ltb MAX _ c.in_ok-old-in-Insert.ensures.fits)
-
-pub returns-in_ok-out-in-RemoveSome-clause-fits : goal.returns-in_ok-out-in-RemoveSome-clause-fits
-returns-in_ok-out-in-RemoveSome-clause-fits g c = rw c.in-RemoveSome.is (le-ltb MAX _ c.in_ok-out-in-RemoveSome.ensures.fits)
-
-pub returns-in_ok-out-in-Remove-clause-fits : goal.returns-in_ok-out-in-Remove-clause-fits
-returns-in_ok-out-in-Remove-clause-fits g c = rw c.in-Remove.is (le-ltb MAX _ c.in_ok-out-in-Remove.ensures.fits)
+pub returns-in_ok-out-in-Remove : goal.returns-in_ok-out-in-Remove
+returns-in_ok-out-in-Remove g c =
+    let done = c.in_ok-out-in-Remove.ensures in
+    let old = c.args.self.now in
+    rw c.in-Remove.is (record {
+      reply = ap Out done.answer;
+      state = λ i. multi_state (done.contents i) (done.pair_next i);
+      clones = done.clones;
+      events = λ same. done.events same.0 same.1;
+      replay = λ same. done.replay same.0 same.1;
+      table = done.table;
+      few = done.few;
+      tree = multi_led g.K.Ord.cmp old c.remove_cdc.new.self (pair_removal_events g.K.Ord.cmp old.size old.nodes (equal_pair g.K.Ord.cmp g.V.PartialEq.eq (joined old.nodes) c.in-Remove.key c.in-Remove.value)) (old.pair_next) done.table done.size done.next done.pair_next;
+      next = done.next;
+      size = done.size;
+      spaced = done.spaced;
+      fits = le-ltb MAX _ done.fits;
+      refusal = tt;
+      unchanged = tt;
+    })

@@ -1,75 +1,158 @@
-use Rattle.std.proofs.Common.{◌≡◌, true, sym}
+use Rattle.std.proofs.Common.{◌≡◌, true, not, refl, sym, ap, arith}
 use Rattle.std.below.core.specs.declared.int.u64.TheConstants.{MAX}
 use Rattle.std.proofs.lemmas.Bool.{le-ltb}
 use Rattle.indexset_core.specs.Nodes.{joined}
 use Rattle.indexset_core.specs.Order.{has_equal}
-use Rattle.indexset_log.specs.Table.{checked_put_events}
+use Rattle.indexset_log.specs.Table.{checked_put_events, put_events, removal_events}
+use Rattle.indexset_bench.specs.declared.logged.set.LoggedSetReply.TheVariants.{Old, Added}
+use Rattle.indexset_bench.proofs.Acts.{tree_led}
+use Rattle.indexset_bench.proofs.Faults.{failed}
+use Rattle.indexset_bench.proofs.LoggedMaps.{checked_there}
 use Rattle.indexset_bench.proofs.logged.set.BTreeSetLogged.act.Goals as goal
 
-pub returns-in-Some-clause-fits : goal.returns-in-Some-clause-fits
-returns-in-Some-clause-fits g c =
-    rw c.in-PutChecked.is (le-ltb MAX _ c.in_ok-events-in-PutChecked.ensures.fits)
+pub returns-in_err-old-in-Put : goal.returns-in_err-old-in-Put
+returns-in_err-old-in-Put g c =
+    let done = c.in_err-old-in-Put.ensures in
+    rw (failed c.from_residual.result _ c.from_residual.ensures, c.in-Put.is) (record {
+      reply = tt;
+      state = tt;
+      clones = tt;
+      events = λ _. tt;
+      replay = λ _. tt;
+      table = tt;
+      few = tt;
+      tree = tt;
+      next = tt;
+      size = done.size;
+      spaced = done.spaced;
+      fits = tt;
+      refusal = done.refusal;
+      unchanged = done.unchanged;
+    })
 
-pub returns-in-None-clause-events : goal.returns-in-None-clause-events
-unfolding checked_put_events
-returns-in-None-clause-events g c h =
-    let there : has_equal g.T.Ord.cmp (joined c.args.self.now.nodes) c.in-PutChecked.value ≡ true = sym (rw c.in-None.is at c.in_ok-events-in-PutChecked.ensures.answer) in
-    rw (c.in-PutChecked.is, there) c.new.ensures.items
+pub returns-in_ok-old-in-Put : goal.returns-in_ok-old-in-Put
+returns-in_ok-old-in-Put g c =
+    let done = c.in_ok-old-in-Put.ensures in
+    let old = c.args.self.now in
+    rw c.in-Put.is (record {
+      reply = ap Old done.answer;
+      state = done.contents;
+      clones = done.clones;
+      events = done.events;
+      replay = done.replay;
+      table = done.table;
+      few = done.few;
+      tree = tree_led g.T.Ord.cmp old c.put_cdc.new.self (put_events g.T.Ord.cmp old.size old.nodes c.in-Put.value) done.table done.size done.next;
+      next = done.next;
+      size = done.size;
+      spaced = done.spaced;
+      fits = le-ltb MAX _ done.fits;
+      refusal = tt;
+      unchanged = tt;
+    })
 
-pub returns-in-None-clause-replay : goal.returns-in-None-clause-replay
-unfolding checked_put_events
-returns-in-None-clause-replay g c h =
-    let there : has_equal g.T.Ord.cmp (joined c.args.self.now.nodes) c.in-PutChecked.value ≡ true = sym (rw c.in-None.is at c.in_ok-events-in-PutChecked.ensures.answer) in
-    let same = rw (there) at c.in_ok-events-in-PutChecked.ensures.replay in
-    rw c.new.ensures.items same
+pub returns-in_err-events-in-PutChecked : goal.returns-in_err-events-in-PutChecked
+returns-in_err-events-in-PutChecked g c =
+    let done = c.in_err-events-in-PutChecked.ensures in
+    rw (failed c.from_residual-in_err-events-in-PutChecked.result _ c.from_residual-in_err-events-in-PutChecked.ensures, c.in-PutChecked.is) (record {
+      reply = tt;
+      state = tt;
+      clones = tt;
+      events = λ _. tt;
+      replay = λ _. tt;
+      table = tt;
+      few = tt;
+      tree = tt;
+      next = tt;
+      size = done.size;
+      spaced = done.spaced;
+      fits = tt;
+      refusal = done.refusal;
+      unchanged = done.unchanged;
+    })
 
-pub returns-in-None-clause-fits : goal.returns-in-None-clause-fits
-returns-in-None-clause-fits g c =
-    rw c.in-PutChecked.is (le-ltb MAX _ c.in_ok-events-in-PutChecked.ensures.fits)
+pub returns-in-Some : goal.returns-in-Some
+returns-in-Some g c =
+    let done = rw c.in-Some.is at c.in_ok-events-in-PutChecked.ensures in
+    let old = c.args.self.now in
+    rw c.in-PutChecked.is (record {
+      reply = ap (λ b. Added (not b)) done.answer;
+      state = done.contents;
+      clones = done.clones;
+      events = done.events;
+      replay = λ same. rw (done.events same) done.replay;
+      table = done.replay;
+      few = done.few;
+      tree = tree_led g.T.Ord.cmp old c.put_cdc_checked.new.self (checked_put_events g.T.Ord.cmp old.size old.nodes c.in-PutChecked.value) done.replay done.size done.next;
+      next = done.next;
+      size = done.size;
+      spaced = done.spaced;
+      fits = le-ltb MAX _ done.fits;
+      refusal = tt;
+      unchanged = tt;
+    })
 
-pub returns-in-None-clause-clones : goal.returns-in-None-clause-clones
-unfolding checked_put_events
-returns-in-None-clause-clones g c =
-    let there : has_equal g.T.Ord.cmp (joined c.args.self.now.nodes) c.in-PutChecked.value ≡ true = sym (rw c.in-None.is at c.in_ok-events-in-PutChecked.ensures.answer) in
-    rw (c.in-PutChecked.is, there, c.new.ensures.items) tt
+pub returns-in-None : goal.returns-in-None
+returns-in-None g c =
+    let done = rw c.in-None.is at c.in_ok-events-in-PutChecked.ensures in
+    let old = c.args.self.now in
+    let there : has_equal g.T.Ord.cmp (joined old.nodes) c.in-PutChecked.value ≡ true = sym done.answer in
+    let silent = checked_there g.T.Ord.cmp old.size old.nodes c.in-PutChecked.value there in
+    let led = rw silent at done.replay in
+    rw (c.in-PutChecked.is, c.new.ensures.items) (record {
+      reply = ap (λ b. Added (not b)) done.answer;
+      state = done.contents;
+      clones = rw silent tt;
+      events = λ _. rw silent refl;
+      replay = λ _. led;
+      table = done.replay;
+      few = omega arith;
+      tree = tree_led g.T.Ord.cmp old c.put_cdc_checked.new.self (checked_put_events g.T.Ord.cmp old.size old.nodes c.in-PutChecked.value) done.replay done.size done.next;
+      next = done.next;
+      size = done.size;
+      spaced = done.spaced;
+      fits = le-ltb MAX _ done.fits;
+      refusal = tt;
+      unchanged = tt;
+    })
 
-pub returns-in_ok-old-in-Put-clause-clones : goal.returns-in_ok-old-in-Put-clause-clones
-returns-in_ok-old-in-Put-clause-clones g c = rw c.in-Put.is c.in_ok-old-in-Put.ensures.clones
+pub returns-in_err-old-in-Remove : goal.returns-in_err-old-in-Remove
+returns-in_err-old-in-Remove g c =
+    let done = c.in_err-old-in-Remove.ensures in
+    rw (failed c.from_residual-in_err-old-in-Remove.result _ c.from_residual-in_err-old-in-Remove.ensures, c.in-Remove.is) (record {
+      reply = tt;
+      state = tt;
+      clones = tt;
+      events = λ _. tt;
+      replay = λ _. tt;
+      table = tt;
+      few = tt;
+      tree = tt;
+      next = tt;
+      size = done.size;
+      spaced = done.spaced;
+      fits = tt;
+      refusal = done.refusal;
+      unchanged = done.unchanged;
+    })
 
-pub returns-in_ok-old-in-Put-clause-events : goal.returns-in_ok-old-in-Put-clause-events
-returns-in_ok-old-in-Put-clause-events g c h = rw c.in-Put.is (c.in_ok-old-in-Put.ensures.events h)
-
-pub returns-in_ok-old-in-Put-clause-replay : goal.returns-in_ok-old-in-Put-clause-replay
-returns-in_ok-old-in-Put-clause-replay g c h = c.in_ok-old-in-Put.ensures.replay h
-
-pub returns-in_ok-old-in-Put-clause-table : goal.returns-in_ok-old-in-Put-clause-table
-returns-in_ok-old-in-Put-clause-table g c = rw c.in-Put.is c.in_ok-old-in-Put.ensures.table
-
-pub returns-in_ok-old-in-Remove-clause-clones : goal.returns-in_ok-old-in-Remove-clause-clones
-returns-in_ok-old-in-Remove-clause-clones g c = rw c.in-Remove.is c.in_ok-old-in-Remove.ensures.clones
-
-pub returns-in_ok-old-in-Remove-clause-events : goal.returns-in_ok-old-in-Remove-clause-events
-returns-in_ok-old-in-Remove-clause-events g c h = rw c.in-Remove.is (c.in_ok-old-in-Remove.ensures.events h)
-
-pub returns-in_ok-old-in-Remove-clause-replay : goal.returns-in_ok-old-in-Remove-clause-replay
-returns-in_ok-old-in-Remove-clause-replay g c h = c.in_ok-old-in-Remove.ensures.replay h
-
-pub returns-in_ok-old-in-Remove-clause-table : goal.returns-in_ok-old-in-Remove-clause-table
-returns-in_ok-old-in-Remove-clause-table g c = rw c.in-Remove.is c.in_ok-old-in-Remove.ensures.table
-
-pub returns-in-Some-clause-clones : goal.returns-in-Some-clause-clones
-returns-in-Some-clause-clones g c = rw c.in-PutChecked.is (rw c.in-Some.is at c.in_ok-events-in-PutChecked.ensures.clones)
-
-pub returns-in-Some-clause-events : goal.returns-in-Some-clause-events
-returns-in-Some-clause-events g c h = rw c.in-PutChecked.is (rw c.in-Some.is at (c.in_ok-events-in-PutChecked.ensures.events h))
-
-pub returns-in-Some-clause-replay : goal.returns-in-Some-clause-replay
-returns-in-Some-clause-replay g c h =
-    let told = rw c.in-Some.is at (c.in_ok-events-in-PutChecked.ensures.events h) in
-    rw told c.in_ok-events-in-PutChecked.ensures.replay
-
-pub returns-in-Some-clause-table : goal.returns-in-Some-clause-table
-returns-in-Some-clause-table g c = rw c.in-PutChecked.is c.in_ok-events-in-PutChecked.ensures.replay
-
-pub returns-in-None-clause-table : goal.returns-in-None-clause-table
-returns-in-None-clause-table g c = rw c.in-PutChecked.is c.in_ok-events-in-PutChecked.ensures.replay
+pub returns-in_ok-old-in-Remove : goal.returns-in_ok-old-in-Remove
+returns-in_ok-old-in-Remove g c =
+    let done = c.in_ok-old-in-Remove.ensures in
+    let old = c.args.self.now in
+    rw c.in-Remove.is (record {
+      reply = ap Old done.answer;
+      state = done.contents;
+      clones = done.clones;
+      events = done.events;
+      replay = done.replay;
+      table = done.table;
+      few = done.few;
+      tree = tree_led g.T.Ord.cmp old c.remove_cdc.new.self (removal_events g.T.Ord.cmp old.size old.nodes c.in-Remove.value) done.table done.size done.next;
+      next = done.next;
+      size = done.size;
+      spaced = done.spaced;
+      fits = le-ltb MAX _ done.fits;
+      refusal = tt;
+      unchanged = tt;
+    })
