@@ -7,7 +7,7 @@ import time
 import build
 from tables import table
 
-LINES, COMMANDS = 2_000_000, 500_000
+LINES, COMMANDS, KEYS = 2_000_000, 500_000, 1_000
 
 
 def given(text):
@@ -54,11 +54,11 @@ def of_lines(times):
         text = f"{line}\n".encode() * LINES
         rows.append([f"a line `{line}`", f"{least(lambda: seconds(program, text)) / LINES * 1e9:.0f} ns"])
     draw = random.Random(1)
-    text = b"".join(b"put %d %d\n" % (draw.randrange(1 << 32), at) for at in range(COMMANDS))
+    text = b"".join(b"put %d %d\n" % (draw.randrange(KEYS), at) for at in range(COMMANDS))
     events = events_of(program, text)
     count = events.count(b"\n")
     pace = lambda spent: f"{count / spent / 1e6:.2f} million a second"
     rows.append(["events told, to nowhere", pace(least(lambda: seconds(program, text)))])
     rows.append(["events followed, from a file", pace(least(lambda: seconds(follower, events)))])
     rows.append(["events told and followed, through a pipe", pace(least(lambda: piped(program, follower, text)))])
-    return f"The programs, over {LINES:,} lines, and over {COMMANDS:,} commands that tell {count:,} events:\n\n" + table(["", ""], rows)
+    return f"The programs, over {LINES:,} lines, and over {COMMANDS:,} puts at {KEYS:,} keys, which tell {count:,} events:\n\n" + table(["", ""], rows)
