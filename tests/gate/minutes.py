@@ -20,7 +20,7 @@ KINDS = ["proof", "tests", "edits"]
 
 def fields(pid):
     """The name of a process, and what its file `stat` says after that."""
-    text = pathlib.Path(f"/proc/{pid}/stat").read_text()
+    text = pathlib.Path(f"/proc/{pid}/stat").read_text(errors="replace")
     name, _, rest = text.partition("(")[2].rpartition(")")
     return name, rest.split()
 
