@@ -63,7 +63,8 @@ impl<T: Ord> BTreeSet<T> {
     }
 
     /// Returns a cursor at the first element that is not before the start, a bound on what a probe
-    /// seeks, or at the end place where there is none. (Not in the Rust crate.)
+    /// seeks, or at the end place where there is none, by two binary searches. (Not in the Rust
+    /// crate.)
     pub fn cursor_from<P: Probe<T> + Drop>(&self, start: Bound<P>) -> Cursor<'_, T>
         requires { IfBounded (λ p. FindsInOrder (P.answer p) (items self.now)) start }
         ensures { result ≡ standing_at (items self.now) (count_by (is_before (λ x p. P.answer p x) start) (items self.now)) }
@@ -72,7 +73,7 @@ impl<T: Ord> BTreeSet<T> {
     }
 
     /// Returns a cursor at the first element that is past the end, a bound on what a probe seeks, or
-    /// at the end place where there is none. (Not in the Rust crate.)
+    /// at the end place where there is none, by two binary searches. (Not in the Rust crate.)
     pub fn cursor_past<P: Probe<T> + Drop>(&self, end: Bound<P>) -> Cursor<'_, T>
         requires { IfBounded (λ p. FindsInOrder (P.answer p) (items self.now)) end }
         ensures { result ≡ standing_at (items self.now) (count_by (is_up_to_end (λ x p. P.answer p x) end) (items self.now)) }

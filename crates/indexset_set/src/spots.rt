@@ -62,8 +62,8 @@ impl<T: Ord> BTreeSet<T> {
         self.spine.last_spot()
     }
 
-    /// Returns the spot after the elements before the start, a bound on what a probe seeks. (Not in
-    /// the Rust crate.)
+    /// Returns the spot after the elements before the start, a bound on what a probe seeks, by two
+    /// binary searches. (Not in the Rust crate.)
     pub fn start_of<P: Probe<T> + Drop>(&self, start: Bound<P>) -> Spot
         requires { IfBounded (λ p. FindsInOrder (P.answer p) (items self.now)) start }
         ensures spot { IsSpot self.now.nodes result }
@@ -72,7 +72,7 @@ impl<T: Ord> BTreeSet<T> {
         self.spine.start_of(start)
     }
 
-    /// Returns how many elements stand before a spot. (Not in the Rust crate.)
+    /// Returns how many elements stand before a spot, which the index tells. (Not in the Rust crate.)
     pub fn position(&self, spot: &Spot) -> usize
         requires { IsSpot self.now.nodes spot.now }
         ensures { result ≡ position_of self.now.nodes spot.now }
