@@ -3,6 +3,7 @@
 ghost use Rattle.std.specs.Prelude.{◌≡◌, ◌≢◌, ◌⊎◌, ◌<◌, [], Some, Err, OnOk, IfErr, IfSome, OnSome};
 ghost use Rattle.std.below.core.specs.declared.int.u64.TheConstants.{MAX};
 ghost use Rattle.std.specs.Io.KnownBytes.{Appends, Keeps};
+ghost use Rattle.indexset_log.specs.Tree.{fresh};
 ghost use Rattle.indexset_spine.specs.Cut.{items};
 ghost use Rattle.indexset_bench.specs.Lines.{HasNoEnd, IsLinePart};
 ghost use Rattle.indexset_bench.specs.Reply.{AddsNew, contents_after, reply_to};
@@ -87,15 +88,41 @@ fn answer_lines<R: BufRead, W: Write>(
     let mut set = BTreeSet::new(alloc)?;
     let mut pairs = Pairs::with_maximum_node_size(alloc, 4);
     let mut line = Vec::new(alloc);
+    answer_each(reader, writer, &mut set, &mut pairs, &mut line)
+}
+
+/// The same, over a set and a map that are given empty, and room for a line.
+fn answer_each<R: BufRead, W: Write>(
+    reader: &mut R,
+    writer: &mut W,
+    set: &mut BTreeSet<u64>,
+    pairs: &mut Pairs,
+    line: &mut Vec<u8>,
+) -> Result<(), RunFault>
+    requires empty { items set.old ≡ [] }
+    requires fresh { pairs.old ≡ fresh 4 }
+    ensures given_answered { OnOk result (AnswersAll
+        (R.remaining reader.old) (R.remaining reader.new)
+        (W.contents writer.old) (W.contents writer.new)) }
+    ensures read_failed { result ≡ Err RunFault.Read → AnswersWholeLines HasNoEnd
+        (R.remaining reader.old) (R.remaining reader.new)
+        (W.contents writer.old) (W.contents writer.new) }
+    ensures memory_refused { result ≡ Err RunFault.Memory → AnswersWholeLines IsLinePart
+        (R.remaining reader.old) (R.remaining reader.new)
+        (W.contents writer.old) (W.contents writer.new) }
+    ensures numbers_refused { result ≡ Err RunFault.Numbers → LacksNumbers
+        (R.remaining reader.old) (R.remaining reader.new)
+        (W.contents writer.old) (W.contents writer.new) }
+{
     for _ in 0..u64::MAX {
-        match next_line(reader, writer, &mut line)? {
+        match next_line(reader, writer, line)? {
             Part::Whole { is_used_up } => {
-                answer_line(writer, &mut set, &mut pairs, &line)?;
+                answer_line(writer, set, pairs, line)?;
                 if is_used_up {
                     flush(writer)?;
                 }
             }
-            Part::Last => return answer_line(writer, &mut set, &mut pairs, &line),
+            Part::Last => return answer_line(writer, set, pairs, line),
             Part::End => return Ok(()),
         }
     }

@@ -1,7 +1,7 @@
 use Rattle.indexset_spine.specs.Cut.{items}
 use Rattle.indexset_bench.specs.Text.{stores}
 use Rattle.indexset_bench.proofs.Runs.{SoFar}
-use Rattle.indexset_bench.proofs.program.answer_lines.Given as goal
+use Rattle.indexset_bench.proofs.program.answer_each.Given as goal
 
 abbrev pub invariant-loop : goal.invariant-loop
 invariant-loop g l =
