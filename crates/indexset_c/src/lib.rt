@@ -2,53 +2,35 @@
 //!
 //! C holds a handle, which leads to a collection on the heap or to none. Each call takes a handle
 //! by its address; where there is no collection, it reads as an empty one and refuses to grow. No
-//! call aborts: one that can fail returns a status of [`status`].
+//! call aborts: one that can fail returns a status of [`indexset_handle::status`].
 #![tactic(auto)]
 
 ghost use Rattle.std.specs.Prelude.{◌≡◌};
 
-mod event;
 mod log_edits;
-mod log_handle;
 mod log_life;
 mod log_reads;
-mod log_slot;
 mod map_batch;
-mod map_handle;
 mod map_keys;
 mod map_life;
 mod map_positions;
 mod map_ranges;
-mod map_slot;
 mod multi_edits;
-mod multi_handle;
 mod multi_keys;
 mod multi_life;
 mod multi_pairs;
-mod multi_slot;
 mod replica_edits;
-mod replica_handle;
 mod replica_life;
 mod replica_reads;
-mod replica_slot;
 mod set_batch;
-mod set_each;
-mod set_handle;
 mod set_keys;
 mod set_life;
 mod set_positions;
 mod set_ranges;
-mod set_slot;
-pub mod status;
-mod text_edits;
-mod text_find;
-mod text_handle;
 mod text_keys;
 mod text_life;
 mod text_positions;
-mod text_probe;
 mod text_ranges;
-mod text_slot;
 
 /// This library's version: the major number times 65536, the minor one times 256, and the patch.
 pub const VERSION: u32 = 256;

@@ -1,7 +1,6 @@
 //! Calls that change a logged map and tell the changes.
-ghost use Rattle.std.specs.Prelude.{◌≡◌, ◌≢◌, ◌+◌, ◌<◌, ◌≤◌, ◌↔◌, length, map, true, IfSome, IfOk, OnOk, IfErr, OnErr, None, Some};
+ghost use Rattle.std.specs.Prelude.{◌≡◌, ◌≢◌, ◌+◌, ◌<◌, ◌≤◌, ◌↔◌, length, map, IfSome, None, Some};
 ghost use Rattle.std.specs.Ordering.{nat_cmp};
-ghost use Rattle.indexset_core.specs.Nodes.{joined};
 ghost use Rattle.indexset_core.specs.Pairs.{by_key, pair, value_of, without_key};
 ghost use Rattle.indexset_core.specs.declared.refusal.Refusal.TheVariants as refusals;
 ghost use Rattle.indexset_log.specs.Edits.{with_put};
@@ -9,71 +8,15 @@ ghost use Rattle.indexset_log.specs.Keys.{key_removal_events};
 ghost use Rattle.indexset_log.specs.Replay.{numbered_from, replay};
 ghost use Rattle.indexset_log.specs.Table.{put_events};
 ghost use Rattle.indexset_log.specs.Tree.{refusal_for};
-ghost use Rattle.indexset_c.specs.Elements.{logged_pairs, written};
-ghost use Rattle.indexset_c.specs.Events.{record_of};
+ghost use Rattle.indexset_handle.specs.Elements.{logged_pairs, written};
+ghost use Rattle.indexset_handle.specs.Events.{record_of};
 
-use crate::event::{Event, write_events};
-use crate::log_handle::LogHandle;
-use crate::log_slot::LoggedMap;
-use crate::set_positions::write;
-use crate::status::{MEMORY, NO, NONE, NUMBERS, UNFIT, YES, of_refusal};
-use indexset_core::refusal::Refusal;
+use indexset_handle::event::Event;
+use indexset_handle::log_calls::{insert_told, remove_told};
+use indexset_handle::log_handle::LogHandle;
+use indexset_handle::status::{MEMORY, NO, NONE, NUMBERS, UNFIT, YES, of_refusal};
+use indexset_handle::write::write;
 use std::alloc::Global;
-
-// Puts a pair in and writes the changes. Returns the value before and how many the changes are.
-fn insert_told(
-    log: &mut LoggedMap,
-    key: u64,
-    value: u64,
-    events: &mut [Event],
-) -> Result<(Option<u64>, usize), Refusal>
-    requires { 3 ≤ length events.old }
-    ensures before { IfOk result (λ r. r.0 ≡ value_of nat_cmp (joined log.old.nodes) key) }
-    ensures told { IfOk result (λ r. r.1 ≡ length (put_events (by_key nat_cmp) log.old.size log.old.nodes (pair key value))) }
-    ensures few { IfOk result (λ r. r.1 ≤ 3) }
-    ensures ok { OnOk result (log.new ≡ record { nodes = with_put (by_key nat_cmp) log.old.size log.old.nodes (pair key value); size = log.old.size; next = log.old.next + length (put_events (by_key nat_cmp) log.old.size log.old.nodes (pair key value)) }) }
-    ensures events { OnOk result (events.new ≡ written (length (put_events (by_key nat_cmp) log.old.size log.old.nodes (pair key value))) (map record_of (numbered_from log.old.next (put_events (by_key nat_cmp) log.old.size log.old.nodes (pair key value)))) events.old) }
-    ensures refusal { IfErr result (λ e. e ≡ refusal_for log.old.next (length (put_events (by_key nat_cmp) log.old.size log.old.nodes (pair key value)))) }
-    ensures unchanged { OnErr result (log.new ≡ log.old) }
-    ensures unwritten { OnErr result (events.new ≡ events.old) }
-{
-    match log.insert_cdc(key, value) {
-        Ok((before, changes)) => {
-            write_events(changes.as_slice(), events);
-            Ok((before, changes.len()))
-        }
-        Err(refused) => Err(refused.cause),
-    }
-}
-
-// Removes a key and writes the changes. Returns its value and how many the changes are.
-fn remove_told(
-    log: &mut LoggedMap,
-    key: u64,
-    events: &mut [Event],
-) -> Result<(Option<u64>, usize), Refusal>
-    requires { 3 ≤ length events.old }
-    ensures found { IfOk result (λ r. r.0 ≡ value_of nat_cmp (joined log.old.nodes) key) }
-    ensures told { IfOk result (λ r. r.1 ≡ length (key_removal_events nat_cmp log.old.size log.old.nodes key)) }
-    ensures few { IfOk result (λ r. r.1 ≤ 3) }
-    ensures rest { OnOk result (joined log.new.nodes ≡ without_key nat_cmp (joined log.old.nodes) key) }
-    ensures nodes { OnOk result (replay (by_key nat_cmp) log.old.nodes (numbered_from log.old.next (key_removal_events nat_cmp log.old.size log.old.nodes key)) ≡ Some log.new.nodes) }
-    ensures size { OnOk result (log.new.size ≡ log.old.size) }
-    ensures next { OnOk result (log.new.next ≡ log.old.next + length (key_removal_events nat_cmp log.old.size log.old.nodes key)) }
-    ensures events { OnOk result (events.new ≡ written (length (key_removal_events nat_cmp log.old.size log.old.nodes key)) (map record_of (numbered_from log.old.next (key_removal_events nat_cmp log.old.size log.old.nodes key))) events.old) }
-    ensures refusal { IfErr result (λ e. e ≡ refusal_for log.old.next (length (key_removal_events nat_cmp log.old.size log.old.nodes key))) }
-    ensures absent { IfOk result (λ r. r.0 ≡ None → (r.1 ≡ 0) × (log.new ≡ log.old)) }
-    ensures unchanged { OnErr result (log.new ≡ log.old) }
-    ensures unwritten { OnErr result (events.new ≡ events.old) }
-{
-    let (found, changes) = log.remove_cdc(&key)?;
-    write_events(changes.as_slice(), events);
-    let value = match found {
-        Some((_, value)) => Some(value),
-        None => None,
-    };
-    Ok((value, changes.len()))
-}
 
 /// Makes a value that of a key, and writes the changes and how many they are. Where the key is there, the
 /// value before is written. Fewer than three places for changes are refused.

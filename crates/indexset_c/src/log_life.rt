@@ -1,10 +1,10 @@
 //! Calls that make and free a logged map, and tell its length and its next number.
 ghost use Rattle.std.specs.Prelude.{◌≡◌, ◌≢◌, ◌<◌, ◌↔◌, [], Some, None, false, true, length, is_some};
 ghost use Rattle.std.specs.Option.{option_map_or};
-ghost use Rattle.indexset_c.specs.Elements.{logged_pairs};
+ghost use Rattle.indexset_handle.specs.Elements.{logged_pairs};
 
-use crate::log_handle::LogHandle;
-use crate::status::{HELD, MEMORY, UNFIT, YES};
+use indexset_handle::log_handle::LogHandle;
+use indexset_handle::status::{HELD, MEMORY, UNFIT, YES};
 use indexset_log::map::BTreeMap;
 use std::alloc::Global;
 

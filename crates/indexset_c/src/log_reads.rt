@@ -2,13 +2,13 @@
 ghost use Rattle.std.specs.Prelude.{◌≡◌, ◌<◌, ◌≤◌, None, Some, false, true, length, min};
 ghost use Rattle.std.specs.Ordering.{nat_cmp};
 ghost use Rattle.std.specs.declared.ops.Bound.TheVariants.{Included};
-ghost use Rattle.indexset_core.specs.Nodes.{node_lengths, vec_items};
+ghost use Rattle.indexset_core.specs.Nodes.{node_lengths};
 ghost use Rattle.indexset_core.specs.Pairs.{has_key, pair_keys, pair_values, pairs_within, value_of};
-ghost use Rattle.indexset_c.specs.Elements.{logged_nodes, logged_pairs, written};
+ghost use Rattle.indexset_handle.specs.Elements.{logged_nodes, logged_pairs, written};
 
-use crate::log_handle::LogHandle;
-use crate::log_slot::{LoggedNodes, LoggedRange};
-use crate::set_positions::write;
+use indexset_handle::log_calls::{write_lengths, write_logged};
+use indexset_handle::log_handle::LogHandle;
+use indexset_handle::write::write;
 use std::alloc::Global;
 use std::ops::Bound;
 
@@ -64,23 +64,6 @@ pub extern "C" fn indexset_log_node_count(alloc: Global, log: &mut LogHandle) ->
     count
 }
 
-// Writes the lengths of the nodes that a walk gives, as far as there is room, and returns how many that
-// are.
-fn write_lengths(mut walk: LoggedNodes<'_>, out: &mut [usize]) -> usize
-    ensures count { result ≡ min (length walk.entry) (length out.old) }
-    ensures written { out.new ≡ written result (node_lengths (vec_items walk.entry)) out.old }
-{
-    let mut count = 0;
-    while count < out.len() {
-        let Some(node) = walk.next() else {
-            break;
-        };
-        out[count] = node.len();
-        count += 1;
-    }
-    count
-}
-
 /// Writes how many pairs each node has, in order and as far as there is room. Returns how many it wrote.
 #[unsafe(no_mangle)]
 pub extern "C" fn indexset_log_node_lengths(
@@ -97,25 +80,6 @@ pub extern "C" fn indexset_log_node_lengths(
     };
     let count = write_lengths(held.iter_nodes(), out);
     log.put(held);
-    count
-}
-
-// Writes what a walk gives, as far as there is room in both slices, and returns how much that is.
-fn write_logged(mut walk: LoggedRange<'_>, keys: &mut [u64], values: &mut [u64]) -> usize
-    ensures count { result ≡ min (length walk.entry) (min (length keys.old) (length values.old)) }
-    ensures keys { keys.new ≡ written result (pair_keys walk.entry) keys.old }
-    ensures values { values.new ≡ written result (pair_values walk.entry) values.old }
-{
-    let room = keys.len().min(values.len());
-    let mut count = 0;
-    while count < room {
-        let Some((key, value)) = walk.next() else {
-            break;
-        };
-        keys[count] = *key;
-        values[count] = *value;
-        count += 1;
-    }
     count
 }
 

@@ -1,45 +1,16 @@
 //! Calls of a map that take many keys at once.
 ghost use Rattle.std.specs.Prelude.{◌≡◌, ◌≢◌, ◌<◌, ◌≤◌, ◌↔◌, None, length, map, min, take};
-ghost use Rattle.indexset_c.specs.Elements.{pairs, put_all, value_or, written};
+ghost use Rattle.indexset_handle.specs.Elements.{pairs, put_all, value_or, written};
 
-use crate::map_handle::MapHandle;
-use crate::status::{MEMORY, NO, NONE, YES};
-use indexset_map::BTreeMap;
+use indexset_handle::map_calls::{put_each, value_each};
+use indexset_handle::map_handle::MapHandle;
+use indexset_handle::status::{MEMORY, NO, NONE, YES};
 use std::alloc::Global;
-
-// Makes each value that of its key, until memory is refused, and returns how many were taken.
-#[tactic(auto, unfolding(crate::specs::Elements::put_all))]
-fn put_each(map: &mut BTreeMap<u64, u64>, keys: &[u64], values: &[u64]) -> usize
-    ensures count { result ≤ min (length keys.now) (length values.now) }
-    ensures put { map.new.pairs ≡ put_all map.old.pairs (take result keys.now) (take result values.now) }
-{
-    let room = keys.len().min(values.len());
-    let mut count = 0;
-    while count < room {
-        if map.insert(keys[count], values[count]).is_err() {
-            break;
-        }
-        count += 1;
-    }
-    count
-}
-
-// Writes the value of each key or `absent`, as far as there is room, and returns how many those are.
-fn value_each(held: &BTreeMap<u64, u64>, keys: &[u64], absent: u64, out: &mut [u64]) -> usize
-    ensures count { result ≡ min (length keys.now) (length out.old) }
-    ensures written { out.new ≡ written result (map (value_or held.now.pairs absent) keys.now) out.old }
-{
-    let count = keys.len().min(out.len());
-    for i in 0..count {
-        out[i] = held.get(&keys[i]).copied().unwrap_or(absent);
-    }
-    count
-}
 
 /// Makes each value that of its key, first to last and as far as there are both. Writes how many were
 /// taken: all, or those before the one at which memory ran out.
 #[unsafe(no_mangle)]
-#[tactic(auto, unfolding(crate::specs::Elements::put_all))]
+#[tactic(auto, unfolding(indexset_handle::specs::Elements::put_all))]
 pub extern "C" fn indexset_map_insert_all(
     alloc: Global,
     map: &mut MapHandle,

@@ -2,16 +2,16 @@
 ghost use Rattle.std.specs.Prelude.{◌≡◌, ◌≢◌, ◌≤◌, ◌↔◌, Some, None, true, false};
 ghost use Rattle.std.specs.Ordering.{nat_cmp};
 ghost use Rattle.indexset_core.specs.Pairs.{has_key, key_rank, put_value, value_of, without_key};
-ghost use Rattle.indexset_c.specs.Elements.{pairs};
+ghost use Rattle.indexset_handle.specs.Elements.{pairs};
 
-use crate::map_handle::MapHandle;
-use crate::set_positions::write;
-use crate::status::{MEMORY, NO, NONE, YES};
+use indexset_handle::map_handle::MapHandle;
+use indexset_handle::status::{MEMORY, NO, NONE, YES};
+use indexset_handle::write::write;
 use std::alloc::Global;
 
 /// Inserts a pair, or replaces the value of a present key and writes the old one.
 #[unsafe(no_mangle)]
-#[tactic(auto, using(crate::proofs::PairLemmas::none_key))]
+#[tactic(auto, using(crate::proofs::PairLemmas::no_value_no_key))]
 pub extern "C" fn indexset_map_insert(
     alloc: Global,
     map: &mut MapHandle,

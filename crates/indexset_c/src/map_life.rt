@@ -1,9 +1,9 @@
 //! Calls that make, empty, clone and free a map, and return its length.
 ghost use Rattle.std.specs.Prelude.{◌≡◌, ◌≢◌, ◌↔◌, [], Some, None, true, length, is_some};
-ghost use Rattle.indexset_c.specs.Elements.{pairs};
+ghost use Rattle.indexset_handle.specs.Elements.{pairs};
 
-use crate::map_handle::MapHandle;
-use crate::status::{HELD, MEMORY, NONE, YES};
+use indexset_handle::map_handle::MapHandle;
+use indexset_handle::status::{HELD, MEMORY, NONE, YES};
 use indexset_map::BTreeMap;
 use std::alloc::Global;
 

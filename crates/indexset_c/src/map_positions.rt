@@ -1,26 +1,10 @@
 //! Calls of a map that go by a position, and those at its two ends.
 ghost use Rattle.std.specs.Prelude.{◌≡◌, ◌-◌, Some, None, true, false, drop, length, take};
-ghost use Rattle.indexset_c.specs.Elements.{entry_at, pairs};
+ghost use Rattle.indexset_handle.specs.Elements.{entry_at, pairs};
 
-use crate::map_handle::MapHandle;
+use indexset_handle::map_handle::MapHandle;
+use indexset_handle::write::write_pair;
 use std::alloc::Global;
-
-// Writes a pair where there is one, and returns whether there was.
-pub fn write_pair(found: Option<(u64, u64)>, key: &mut u64, value: &mut u64) -> bool
-    ensures found { result ≡ true → found ≡ Some (key.new, value.new) }
-    ensures absent { result ≡ false → found ≡ None }
-    ensures no_key { result ≡ false → key.new ≡ key.old }
-    ensures no_value { result ≡ false → value.new ≡ value.old }
-{
-    match found {
-        Some((k, v)) => {
-            *key = k;
-            *value = v;
-            true
-        }
-        None => false,
-    }
-}
 
 /// Writes the pair at a position, counted from 0, where there is one.
 #[unsafe(no_mangle)]

@@ -3,32 +3,12 @@ ghost use Rattle.std.specs.Prelude.{◌≡◌, ◌≤◌, ◌<◌, drop, length,
 ghost use Rattle.std.specs.Ordering.{nat_cmp};
 ghost use Rattle.std.specs.declared.ops.Bound.TheVariants.{Included};
 ghost use Rattle.indexset_core.specs.Pairs.{pair_keys, pair_values, pairs_within};
-ghost use Rattle.indexset_c.specs.Elements.{pairs, written};
+ghost use Rattle.indexset_handle.specs.Elements.{pairs, written};
 
-use crate::map_handle::MapHandle;
-use indexset_map::RangeMap;
+use indexset_handle::map_calls::write_pairs;
+use indexset_handle::map_handle::MapHandle;
 use std::alloc::Global;
 use std::ops::Bound;
-
-// Writes what an iterator gives, as far as there is room in both slices, and returns how much that
-// is.
-fn write_pairs(mut walk: RangeMap<'_, u64, u64>, keys: &mut [u64], values: &mut [u64]) -> usize
-    ensures count { result ≡ min (length walk.entry) (min (length keys.old) (length values.old)) }
-    ensures keys { keys.new ≡ written result (pair_keys walk.entry) keys.old }
-    ensures values { values.new ≡ written result (pair_values walk.entry) values.old }
-{
-    let room = keys.len().min(values.len());
-    let mut count = 0;
-    while count < room {
-        let Some((key, value)) = walk.next() else {
-            break;
-        };
-        keys[count] = *key;
-        values[count] = *value;
-        count += 1;
-    }
-    count
-}
 
 /// Writes the pairs of the keys from `low` to `high`, both included, in order and as far as there is
 /// room. Returns how many it wrote.

@@ -1,5 +1,5 @@
 //! Calls that change a multimap.
-ghost use Rattle.std.specs.Prelude.{◌≡◌, ◌≢◌, ◌≤◌, ◌↔◌, ◌∷◌, ◌++◌, [], drop, length, ℕ, false, true, is_some, IfSome, IfErr, OnErr, OnOk, nat_eq, None, Some};
+ghost use Rattle.std.specs.Prelude.{◌≡◌, ◌≢◌, ◌≤◌, ◌↔◌, ◌∷◌, ◌++◌, [], drop, length, ℕ, false, true, is_some, IfSome, nat_eq, None, Some};
 ghost use Rattle.std.specs.Ordering.{is_eq, nat_cmp};
 ghost use Rattle.std.specs.Option.{option_map};
 ghost use Rattle.indexset_core.specs.MultiPairs.{by_number, numbered_pair};
@@ -9,29 +9,12 @@ ghost use Rattle.indexset_core.specs.declared.refusal.Refusal.TheVariants as ref
 ghost use Rattle.indexset_multi.specs.Keys.{equal_pair, first_pair, pairs_of, without_first, without_named};
 ghost use Rattle.indexset_multi.specs.Tree.{insertion_refusal, pair_removal_events};
 ghost use Rattle.indexset_log.specs.Tree.{refusal_for};
-ghost use Rattle.indexset_c.specs.Elements.{numbered_pairs, values_of};
+ghost use Rattle.indexset_handle.specs.Elements.{numbered_pairs, values_of};
 
-use crate::multi_handle::MultiHandle;
-use crate::multi_keys::has_pair;
-use crate::multi_slot::MultiMap;
-use crate::status::{MEMORY, NO, NONE, NUMBERS, YES, of_refusal};
-use indexset_core::refusal::Refusal;
+use indexset_handle::multi_calls::{has_pair, insert_new};
+use indexset_handle::multi_handle::MultiHandle;
+use indexset_handle::status::{MEMORY, NO, NONE, NUMBERS, YES, of_refusal};
 use std::alloc::Global;
-
-// Adds a value that a key does not have.
-fn insert_new(multi: &mut MultiMap, key: u64, value: u64) -> Result<(), Refusal>
-    requires { equal_pair nat_cmp nat_eq (joined multi.old.nodes) key value ≡ None }
-    ensures ok { OnOk result (joined multi.new.nodes ≡ put (by_number nat_cmp) (joined multi.old.nodes) (numbered_pair key value multi.old.pair_next)) }
-    ensures last { OnOk result (values_of (joined multi.new.nodes) key ≡ values_of (joined multi.old.nodes) key ++ value ∷ []) }
-    ensures others { OnOk result ((other : ℕ) → is_eq (nat_cmp other key) ≡ false → pairs_of nat_cmp (joined multi.new.nodes) other ≡ pairs_of nat_cmp (joined multi.old.nodes) other) }
-    ensures refusal { IfErr result (λ e. e ≡ insertion_refusal nat_cmp nat_eq multi.old key value) }
-    ensures same { OnErr result (multi.new ≡ multi.old) }
-{
-    match multi.insert(key, value) {
-        Ok(_) => Ok(()),
-        Err(refused) => Err(refused.cause),
-    }
-}
 
 /// Adds a value to those of a key, as the last. A value that the key has stays.
 #[unsafe(no_mangle)]

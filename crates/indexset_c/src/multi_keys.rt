@@ -1,50 +1,12 @@
 //! Calls of a multimap that look for a key, or for a key with a value.
 ghost use Rattle.std.specs.Prelude.{◌≡◌, is_some, length, min, nat_eq};
-ghost use Rattle.std.specs.List.{list_any};
 ghost use Rattle.std.specs.Ordering.{nat_cmp};
-ghost use Rattle.indexset_core.specs.Nodes.{joined};
-ghost use Rattle.indexset_core.specs.Pairs.{pair_values};
 ghost use Rattle.indexset_multi.specs.Keys.{equal_pair, has_pair_of};
-ghost use Rattle.indexset_c.specs.Elements.{numbered_pairs, values_of, written};
+ghost use Rattle.indexset_handle.specs.Elements.{numbered_pairs, values_of, written};
 
-use crate::multi_handle::MultiHandle;
-use crate::multi_slot::{MultiMap, MultiRange};
+use indexset_handle::multi_calls::{has_pair, write_values};
+use indexset_handle::multi_handle::MultiHandle;
 use std::alloc::Global;
-
-// Tells whether a walk gives a value.
-fn has_value(mut walk: MultiRange<'_>, value: u64) -> bool
-    ensures { result ≡ list_any (λ p. nat_eq p.value value) walk.entry }
-{
-    while let Some((_, found)) = walk.next() {
-        if *found == value {
-            return true;
-        }
-    }
-    false
-}
-
-// Writes the values that a walk gives, as far as there is room, and returns how many that are.
-fn write_values(mut walk: MultiRange<'_>, out: &mut [u64]) -> usize
-    ensures count { result ≡ min (length walk.entry) (length out.old) }
-    ensures written { out.new ≡ written result (pair_values walk.entry) out.old }
-{
-    let mut count = 0;
-    while count < out.len() {
-        let Some((_, value)) = walk.next() else {
-            break;
-        };
-        out[count] = *value;
-        count += 1;
-    }
-    count
-}
-
-/// Returns whether a key has a value.
-pub fn has_pair(multi: &MultiMap, key: u64, value: u64) -> bool
-    ensures { result ≡ is_some (equal_pair nat_cmp nat_eq (joined multi.now.nodes) key value) }
-{
-    has_value(multi.get(&key), value)
-}
 
 /// Tells whether a key has a value.
 #[unsafe(no_mangle)]

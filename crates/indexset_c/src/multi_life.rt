@@ -1,9 +1,9 @@
 //! Calls that make, empty and free a multimap, and tell its length.
 ghost use Rattle.std.specs.Prelude.{◌≡◌, ◌≢◌, ◌↔◌, [], Some, None, true, length, is_some};
-ghost use Rattle.indexset_c.specs.Elements.{numbered_pairs};
+ghost use Rattle.indexset_handle.specs.Elements.{numbered_pairs};
 
-use crate::multi_handle::MultiHandle;
-use crate::status::{HELD, MEMORY, YES};
+use indexset_handle::multi_handle::MultiHandle;
+use indexset_handle::status::{HELD, MEMORY, YES};
 use indexset_multi::multimap::BTreeMultiMap;
 use std::alloc::Global;
 

@@ -4,32 +4,13 @@ ghost use Rattle.std.specs.Ordering.{nat_cmp};
 ghost use Rattle.std.specs.declared.ops.Bound.TheVariants.{Included};
 ghost use Rattle.indexset_core.specs.Pairs.{pair_keys, pair_values};
 ghost use Rattle.indexset_multi.specs.Keys.{entries, pairs_between};
-ghost use Rattle.indexset_c.specs.Elements.{entry_at, numbered_pairs, written};
+ghost use Rattle.indexset_handle.specs.Elements.{entry_at, numbered_pairs, written};
 
-use crate::map_positions::write_pair;
-use crate::multi_handle::MultiHandle;
-use crate::multi_slot::MultiRange;
+use indexset_handle::multi_calls::write_entries;
+use indexset_handle::multi_handle::MultiHandle;
+use indexset_handle::write::write_pair;
 use std::alloc::Global;
 use std::ops::Bound;
-
-// Writes what a walk gives, as far as there is room in both slices, and returns how much that is.
-fn write_entries(mut walk: MultiRange<'_>, keys: &mut [u64], values: &mut [u64]) -> usize
-    ensures count { result ≡ min (length walk.entry) (min (length keys.old) (length values.old)) }
-    ensures keys { keys.new ≡ written result (pair_keys walk.entry) keys.old }
-    ensures values { values.new ≡ written result (pair_values walk.entry) values.old }
-{
-    let room = keys.len().min(values.len());
-    let mut count = 0;
-    while count < room {
-        let Some((key, value)) = walk.next() else {
-            break;
-        };
-        keys[count] = *key;
-        values[count] = *value;
-        count += 1;
-    }
-    count
-}
 
 /// Writes the first pair, where there is one: the least key, with the first of its values.
 #[unsafe(no_mangle)]

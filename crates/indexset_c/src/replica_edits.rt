@@ -1,52 +1,12 @@
 //! Calls that make the changes of a logged map in a replica.
 ghost use Rattle.std.specs.Prelude.{◌≡◌, ◌≢◌, ◌<◌, ◌≤◌, ◌↔◌, length, take, unwrap_or, IfSome, None, Some, slice_get};
-ghost use Rattle.indexset_c.specs.Replicas.{applied, applied_all, refused};
+ghost use Rattle.indexset_handle.specs.Replicas.{applied, applied_all, refused};
 
-use crate::event::{Event, event_of};
-use crate::replica_handle::ReplicaHandle;
-use crate::replica_slot::MapReplica;
-use crate::status::{MEMORY, NO, NONE, UNFIT, YES, status_of};
+use indexset_handle::event::Event;
+use indexset_handle::replica_calls::{apply_each, apply_record};
+use indexset_handle::replica_handle::ReplicaHandle;
+use indexset_handle::status::{MEMORY, NO, NONE, YES};
 use std::alloc::Global;
-
-// Makes the change of a record, and returns the status.
-fn apply_record(replica: &mut MapReplica, event: &Event) -> u32
-    ensures ok { result ≤ YES → applied replica.old event.now ≡ Some replica.new }
-    ensures fits { result ≡ YES → refused replica.old event.now ≡ None }
-    ensures refusal { result ≢ YES → result ≡ unwrap_or (refused replica.old event.now) MEMORY }
-    ensures unchanged { result ≢ YES → replica.new ≡ replica.old }
-    ensures some { result ≢ NONE }
-{
-    let Some(change) = event_of(event) else {
-        return UNFIT;
-    };
-    if change.id().inner() < replica.next() {
-        return NO;
-    }
-    match replica.apply(&change) {
-        Ok(()) => YES,
-        Err(cause) => status_of(cause),
-    }
-}
-
-// Makes the changes of records, first to last, until one is refused. Returns the status and how many
-// records were taken.
-fn apply_each(replica: &mut MapReplica, events: &[Event]) -> (u32, usize)
-    ensures applied { applied_all replica.old (take result.1 events.now) ≡ Some replica.new }
-    ensures all { result.0 ≡ YES → result.1 ≡ length events.now }
-    ensures some { result.0 ≢ YES → result.1 < length events.now }
-    ensures refusal { result.0 ≢ YES → IfSome (slice_get events.now result.1) (λ e. result.0 ≡ unwrap_or (refused replica.new e) MEMORY) }
-    ensures status { (result.0 ≢ NO) × (result.0 ≢ NONE) }
-{
-    let mut count = 0;
-    while count < events.len() {
-        let status = apply_record(replica, &events[count]);
-        if status > YES {
-            return (status, count);
-        }
-        count += 1;
-    }
-    (YES, count)
-}
 
 /// Makes a change of a logged map, where it is the one that is awaited and fits the nodes.
 #[unsafe(no_mangle)]

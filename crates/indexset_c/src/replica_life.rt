@@ -1,18 +1,15 @@
 //! Calls that make and free a replica, and return its length, its node count and the number that it
 //! awaits.
-ghost use Rattle.std.specs.Prelude.{◌≡◌, ◌≢◌, ◌↔◌, [], Some, None, IfOk, IfSome, length, is_some, min, option_map, true};
+ghost use Rattle.std.specs.Prelude.{◌≡◌, ◌≢◌, ◌↔◌, [], Some, None, length, is_some, min, option_map, true};
 ghost use Rattle.std.specs.Option.{option_map_or};
-ghost use Rattle.indexset_core.specs.Nodes.{vec_items};
-ghost use Rattle.indexset_c.specs.Replicas.{copied_nodes, copied_pairs, replica_of};
+ghost use Rattle.indexset_handle.specs.Replicas.{copied_nodes, copied_pairs, replica_of};
 
-use crate::log_handle::LogHandle;
-use crate::log_slot::{LoggedMap, LoggedNodes};
-use crate::replica_handle::ReplicaHandle;
-use crate::replica_slot::MapReplica;
-use crate::status::{HELD, MEMORY, NONE, YES};
-use indexset_core::pair::Pair;
+use indexset_handle::log_handle::LogHandle;
+use indexset_handle::replica_calls::replica_of;
+use indexset_handle::replica_handle::ReplicaHandle;
+use indexset_handle::status::{HELD, MEMORY, NONE, YES};
 use indexset_replica::Replica;
-use std::alloc::{AllocError, Global};
+use std::alloc::Global;
 
 /// Makes a replica without nodes, which awaits the change of the number `next`. Fails where the handle
 /// leads to a replica.
@@ -33,32 +30,6 @@ pub extern "C" fn indexset_replica_new(alloc: Global, replica: &mut ReplicaHandl
             YES
         }
         Err(_) => MEMORY,
-    }
-}
-
-// Returns copies of the nodes that remain of a walk.
-fn copies(alloc: Global, walk: LoggedNodes<'_>) -> Result<Vec<Vec<Pair<u64, u64>>>, AllocError>
-    ensures { IfOk result (λ nodes. vec_items nodes.items ≡ vec_items walk.entry) }
-{
-    let mut nodes = Vec::new(alloc);
-    for node in walk {
-        nodes.push(Vec::from_clones(alloc, node.as_slice())?)?;
-    }
-    Ok(nodes)
-}
-
-// Returns a replica of a logged map, or `None` where memory ran out.
-fn replica_of(alloc: Global, log: &LoggedMap) -> Option<MapReplica>
-    ensures { IfSome result (λ r. r ≡ replica_of log.now) }
-{
-    // The contract of `node_count` says that the nodes are lawful.
-    let _count = log.node_count();
-    let Ok(nodes) = copies(alloc, log.iter_nodes()) else {
-        return None;
-    };
-    match Replica::from_nodes(nodes, log.events_issued()) {
-        Ok(replica) => Some(replica),
-        Err(_) => None,
     }
 }
 

@@ -2,25 +2,16 @@
 ghost use Rattle.std.specs.Prelude.{◌≡◌, ◌<◌, ◌≤◌, ◌-◌, None, Some, false, true, length, min};
 ghost use Rattle.std.specs.Ordering.{nat_cmp};
 ghost use Rattle.std.specs.declared.ops.Bound.TheVariants.{Included};
-ghost use Rattle.indexset_core.specs.Nodes.{node_lengths, vec_items};
+ghost use Rattle.indexset_core.specs.Nodes.{node_lengths};
 ghost use Rattle.indexset_core.specs.Pairs.{has_key, pair_keys, pair_values, pairs_within, value_of};
-ghost use Rattle.indexset_c.specs.Elements.{entry_at, written};
-ghost use Rattle.indexset_c.specs.Replicas.{copied_nodes, copied_pairs};
+ghost use Rattle.indexset_handle.specs.Elements.{entry_at, written};
+ghost use Rattle.indexset_handle.specs.Replicas.{copied_nodes, copied_pairs};
 
-use crate::map_positions::write_pair;
-use crate::replica_handle::ReplicaHandle;
-use crate::replica_slot::ReplicaRange;
-use crate::set_positions::write;
-use indexset_core::pair::Pair;
+use indexset_handle::replica_calls::{sought, write_copied, write_lengths};
+use indexset_handle::replica_handle::ReplicaHandle;
+use indexset_handle::write::{write, write_pair};
 use std::alloc::Global;
 use std::ops::Bound;
-
-// Returns the pair of a key that is sought.
-fn sought(key: u64) -> Pair<u64, u64>
-    ensures { result ≡ record { key = key; value = 0 } }
-{
-    Pair { key, value: 0 }
-}
 
 /// Writes the value of a key, where there is one.
 #[unsafe(no_mangle)]
@@ -114,18 +105,6 @@ pub extern "C" fn indexset_replica_last(
     write_pair(found, key, value)
 }
 
-// Writes how long each node is, as far as there is room, and returns how many those are.
-fn write_lengths(nodes: &[Vec<Pair<u64, u64>>], out: &mut [usize]) -> usize
-    ensures count { result ≡ min (length nodes.now) (length out.old) }
-    ensures written { out.new ≡ written result (node_lengths (vec_items nodes.now)) out.old }
-{
-    let count = nodes.len().min(out.len());
-    for i in 0..count {
-        out[i] = nodes[i].len();
-    }
-    count
-}
-
 /// Writes how many pairs each node has, in order and as far as there is room. Returns how many it wrote.
 #[unsafe(no_mangle)]
 pub extern "C" fn indexset_replica_node_lengths(
@@ -142,25 +121,6 @@ pub extern "C" fn indexset_replica_node_lengths(
     };
     let count = write_lengths(held.nodes(), out);
     replica.put(held);
-    count
-}
-
-// Writes what a walk gives, as far as there is room in both slices, and returns how much that is.
-fn write_copied(mut walk: ReplicaRange<'_>, keys: &mut [u64], values: &mut [u64]) -> usize
-    ensures count { result ≡ min (length walk.entry) (min (length keys.old) (length values.old)) }
-    ensures keys { keys.new ≡ written result (pair_keys walk.entry) keys.old }
-    ensures values { values.new ≡ written result (pair_values walk.entry) values.old }
-{
-    let room = keys.len().min(values.len());
-    let mut count = 0;
-    while count < room {
-        let Some(pair) = walk.next() else {
-            break;
-        };
-        keys[count] = pair.key;
-        values[count] = pair.value;
-        count += 1;
-    }
     count
 }
 

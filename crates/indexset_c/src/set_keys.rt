@@ -2,11 +2,11 @@
 ghost use Rattle.std.specs.Prelude.{◌≡◌, ◌≢◌, ◌≤◌, ◌↔◌, Some, None, true, false};
 ghost use Rattle.std.specs.Ordering.{nat_cmp};
 ghost use Rattle.indexset_core.specs.Order.{has_equal, keep, lower_element, rank, without};
-ghost use Rattle.indexset_c.specs.Elements.{elements};
+ghost use Rattle.indexset_handle.specs.Elements.{elements};
 
-use crate::set_handle::SetHandle;
-use crate::set_positions::write;
-use crate::status::{MEMORY, NO, NONE, YES};
+use indexset_handle::set_handle::SetHandle;
+use indexset_handle::status::{MEMORY, NO, NONE, YES};
+use indexset_handle::write::write;
 use std::alloc::Global;
 
 /// Inserts a key. A present one stays.

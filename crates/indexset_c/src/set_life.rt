@@ -1,9 +1,9 @@
 //! Calls that make, empty, clone and free a set, and return its length.
 ghost use Rattle.std.specs.Prelude.{◌≡◌, ◌≢◌, ◌↔◌, [], Some, None, true, length, is_some};
-ghost use Rattle.indexset_c.specs.Elements.{elements};
+ghost use Rattle.indexset_handle.specs.Elements.{elements};
 
-use crate::set_handle::SetHandle;
-use crate::status::{HELD, MEMORY, NONE, YES};
+use indexset_handle::set_handle::SetHandle;
+use indexset_handle::status::{HELD, MEMORY, NONE, YES};
 use indexset_set::BTreeSet;
 use std::alloc::Global;
 

@@ -1,24 +1,10 @@
 //! Calls of a set that go by a position, and those at its two ends.
 ghost use Rattle.std.specs.Prelude.{◌≡◌, ◌-◌, Some, None, true, false, drop, length, slice_get, take};
-ghost use Rattle.indexset_c.specs.Elements.{elements};
+ghost use Rattle.indexset_handle.specs.Elements.{elements};
 
-use crate::set_handle::SetHandle;
+use indexset_handle::set_handle::SetHandle;
+use indexset_handle::write::write;
 use std::alloc::Global;
-
-// Writes an element where there is one, and returns whether there was.
-pub fn write(found: Option<u64>, out: &mut u64) -> bool
-    ensures found { result ≡ true → found ≡ Some out.new }
-    ensures absent { result ≡ false → found ≡ None }
-    ensures unwritten { result ≡ false → out.new ≡ out.old }
-{
-    match found {
-        Some(element) => {
-            *out = element;
-            true
-        }
-        None => false,
-    }
-}
 
 /// Writes the element at a position, counted from 0, where there is one.
 #[unsafe(no_mangle)]

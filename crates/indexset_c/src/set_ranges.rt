@@ -1,12 +1,12 @@
 //! Calls of a set that write a part of it into a caller's slice.
-ghost use Rattle.std.specs.Prelude.{◌≡◌, ◌≤◌, ◌<◌, ◌++◌, drop, length, min, take};
+ghost use Rattle.std.specs.Prelude.{◌≡◌, ◌≤◌, ◌<◌, drop, length, min, take};
 ghost use Rattle.std.specs.Ordering.{nat_cmp};
 ghost use Rattle.std.specs.declared.ops.Bound.TheVariants.{Included};
 ghost use Rattle.indexset_core.specs.Bounds.{in_range};
-ghost use Rattle.indexset_c.specs.Elements.{elements, written};
+ghost use Rattle.indexset_handle.specs.Elements.{elements, written};
 
-use crate::set_each::write_each;
-use crate::set_handle::SetHandle;
+use indexset_handle::set_calls::write_each;
+use indexset_handle::set_handle::SetHandle;
 use std::alloc::Global;
 use std::ops::Bound;
 

@@ -3,19 +3,19 @@ ghost use Rattle.std.specs.Prelude.{◌≡◌, ◌≢◌, ◌≤◌, ◌↔◌, 
 ghost use Rattle.std.specs.Cmp.Lexicographic.{slice_cmp};
 ghost use Rattle.std.specs.Ordering.{nat_cmp};
 ghost use Rattle.indexset_core.specs.Pairs.{has_key, key_rank, put_value, value_of, without_key};
-ghost use Rattle.indexset_c.specs.Text.{text_pairs};
+ghost use Rattle.indexset_handle.specs.Text.{text_pairs};
 
-use crate::set_positions::write;
-use crate::status::{MEMORY, NO, NONE, YES};
-use crate::text_edits::{put, take};
-use crate::text_find::{get, rank_of};
-use crate::text_handle::TextHandle;
+use indexset_handle::status::{MEMORY, NO, NONE, YES};
+use indexset_handle::text_edits::{put, take};
+use indexset_handle::text_find::{get, rank_of};
+use indexset_handle::text_handle::TextHandle;
+use indexset_handle::write::write;
 use std::alloc::Global;
 
 /// Inserts a pair, or replaces the value of a present key and writes the old one. The bytes of a new key
 /// are copied.
 #[unsafe(no_mangle)]
-#[tactic(auto, using(crate::proofs::TextLemmas::no_value_no_key))]
+#[tactic(auto, using(crate::proofs::PairLemmas::no_value_no_key))]
 pub extern "C" fn indexset_text_map_insert(
     alloc: Global,
     map: &mut TextHandle,
@@ -93,7 +93,7 @@ pub extern "C" fn indexset_text_map_remove(
 
 /// Returns whether a key is present.
 #[unsafe(no_mangle)]
-#[tactic(auto, using(crate::proofs::TextLemmas::value_there))]
+#[tactic(auto, using(crate::proofs::PairLemmas::value_there))]
 pub extern "C" fn indexset_text_map_contains(
     alloc: Global,
     map: &mut TextHandle,

@@ -1,9 +1,9 @@
 //! Calls that make, empty, clone and free a map from byte strings, and return its length.
 ghost use Rattle.std.specs.Prelude.{◌≡◌, ◌≢◌, ◌↔◌, [], Some, None, true, length, is_some};
-ghost use Rattle.indexset_c.specs.Text.{text_pairs};
+ghost use Rattle.indexset_handle.specs.Text.{text_pairs};
 
-use crate::status::{HELD, MEMORY, NONE, YES};
-use crate::text_handle::TextHandle;
+use indexset_handle::status::{HELD, MEMORY, NONE, YES};
+use indexset_handle::text_handle::TextHandle;
 use indexset_map::BTreeMap;
 use std::alloc::Global;
 

@@ -3,20 +3,13 @@ ghost use Rattle.std.specs.Prelude.{◌≡◌, ◌-◌, Some, None, true, false,
 ghost use Rattle.std.specs.Cmp.Lexicographic.{slice_cmp};
 ghost use Rattle.std.specs.Ordering.{nat_cmp};
 ghost use Rattle.indexset_core.specs.Pairs.{key_rank};
-ghost use Rattle.indexset_c.specs.Text.{key_at, text_pairs, value_at, written_over};
+ghost use Rattle.indexset_handle.specs.Text.{key_at, text_pairs, value_at, written_over};
 
-use crate::text_handle::TextHandle;
 use crate::text_keys::indexset_text_map_rank;
 use crate::text_life::indexset_text_map_len;
+use indexset_handle::text_handle::TextHandle;
+use indexset_handle::write::write_bytes;
 use std::alloc::Global;
-
-/// Writes bytes into the first places, as far as there is room.
-pub fn write_bytes(bytes: &[u8], out: &mut [u8])
-    ensures { out.new ≡ written_over bytes.now out.old }
-{
-    let count = bytes.len().min(out.len());
-    out[..count].copy_from_slice(&bytes[..count]);
-}
 
 /// Writes the pair at a position, counted from 0, where there is one: as many bytes of its key as there
 /// is room for, how many the key has, and its value.

@@ -1,1 +1,6 @@
+pub mod Elements
+pub mod Events
 pub mod Holds
+pub mod Replicas
+pub mod Slots
+pub mod Text

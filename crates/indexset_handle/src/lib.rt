@@ -1,11 +1,39 @@
-//! A boxed value taken apart, for a handle that C holds.
+//! What C holds, and what its calls do with it: the layer below the static library.
 //!
 //! C sees a pointer and knows nothing of a box. [`Parts`] is the step between the two: a box becomes
-//! its parts, a handle keeps them, and the parts become the box again.
+//! its parts, a handle keeps them, and the parts become the box again. Each collection has a slot (as
+//! [`set_slot`]), which owns the parts, and a handle (as [`set_handle`]), which tells whether there are
+//! any. Modules such as [`set_calls`] hold what a call does with a collection once it is out of the
+//! handle, [`event`] the record of a change, and [`status`] what a call returns that can fail.
 #![tactic(auto)]
 
 ghost use Rattle.std.specs.Prelude.{◌≡◌, Option, Some, None, is_some, true};
 ghost use Rattle.indexset_handle.specs.Holds.{holds};
+
+pub mod event;
+pub mod log_calls;
+pub mod log_handle;
+pub mod log_slot;
+pub mod map_calls;
+pub mod map_handle;
+pub mod map_slot;
+pub mod multi_calls;
+pub mod multi_handle;
+pub mod multi_slot;
+pub mod replica_calls;
+pub mod replica_handle;
+pub mod replica_slot;
+pub mod set_calls;
+pub mod set_handle;
+pub mod set_slot;
+pub mod status;
+pub mod text_calls;
+pub mod text_edits;
+pub mod text_find;
+pub mod text_handle;
+pub mod text_probe;
+pub mod text_slot;
+pub mod write;
 
 use std::alloc::Allocator;
 use std::marker::Model;

@@ -1,9 +1,10 @@
 use Rattle.std.proofs.Common.{◌≡◌, Some, None, refl, ap, sym, ◌∙◌}
 use Rattle.std.proofs.lemmas.Bool.{false≢true, leb-true}
 use Rattle.std.proofs.lemmas.Option.{none-some}
-use Rattle.indexset_c.specs.declared.status.TheConstants.{NO, YES, MEMORY, NONE}
-use Rattle.indexset_c.specs.Elements.{pairs}
-use Rattle.indexset_c.proofs.PairLemmas.{none_key}
+use Rattle.std.specs.Ordering.{nat_cmp}
+use Rattle.indexset_handle.specs.declared.status.TheConstants.{NO, YES, MEMORY, NONE}
+use Rattle.indexset_handle.specs.Elements.{pairs}
+use Rattle.indexset_c.proofs.PairLemmas.{no_value_no_key}
 use Rattle.indexset_c.proofs.StatusLemmas.{not_at, not_least, not_most}
 use Rattle.indexset_c.proofs.map_keys.indexset_map_insert.Goals.{in-Ok-None, in-Ok-Some, in-Err}
 use Rattle.indexset_c.proofs.map_keys.indexset_map_insert.Goals as goal
@@ -36,7 +37,7 @@ returns c =
             unwritten = λ h. w.before-is;
             same = λ h. not_least s YES MEMORY w.status-is refl h;
             none = (λ h. not_at s YES NONE w.status-is refl h, λ h. absurd (none-some _ (sym h)));
-            no_memory = λ h. absurd (false≢true (sym (none_key m.pairs c.args.key absent) ∙ h));
+            no_memory = λ h. absurd (false≢true (sym (no_value_no_key nat_cmp m.pairs c.args.key absent) ∙ h));
             status = rw w.status-is (leb-true YES NONE refl);
           }
       | in-Ok-Some w ↦

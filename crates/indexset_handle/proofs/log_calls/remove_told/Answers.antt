@@ -1,0 +1,41 @@
+use Rattle.std.proofs.Common.{◌≡◌, [], length, map, Some, None, ap, sym, ◌∙◌, arith}
+use Rattle.std.proofs.lemmas.Option.{none-some, same_Some}
+use Rattle.std.specs.Ordering.{nat_cmp}
+use Rattle.indexset_core.specs.Nodes.{joined}
+use Rattle.indexset_core.specs.Pairs.{by_key, entry_of, pair_of}
+use Rattle.indexset_log.proofs.CallerLemmas.{length-numbered}
+use Rattle.indexset_log.specs.Keys.{key_removal_events}
+use Rattle.indexset_log.specs.Replay.{numbered_from, replay}
+use Rattle.indexset_handle.specs.Elements.{written}
+use Rattle.indexset_handle.specs.Events.{record_of}
+use Rattle.indexset_handle.proofs.LogLemmas.{mapped_none, none_told, same_tree}
+use Rattle.indexset_handle.proofs.log_calls.remove_told.Goals.{in-Some, in-None}
+use Rattle.indexset_handle.proofs.log_calls.remove_told.Goals as goal
+
+-- src/log_edits.rt:50:1
+pub returns-clause-told : goal.returns-clause-told
+returns-clause-told c =
+    let log = c.args.log.now in let es = key_removal_events nat_cmp log.size log.nodes c.args.key in
+    let all : c.in_ok-found.changes.items ≡ numbered_from log.next es = c.in_ok-found.ensures.events (λ x y h. h) (λ x y h. h) in
+    c.len.ensures ∙ c.in_ok-found.changes.ok.0 ∙ ap (λ l. length l) all ∙ length-numbered log.next es
+
+-- src/log_edits.rt:50:1
+pub returns-clause-events : goal.returns-clause-events
+returns-clause-events c =
+    let log = c.args.log.now in let es = key_removal_events nat_cmp log.size log.nodes c.args.key in
+    let all : c.as_slice.result.now ≡ numbered_from log.next es = c.as_slice.ensures.value ∙ c.in_ok-found.ensures.events (λ x y h. h) (λ x y h. h) in
+    c.write_events.ensures ∙ ap (λ l. written (length l) (map record_of l) c.args.events.now) all ∙ ap (λ n. written n (map record_of (numbered_from log.next es)) c.args.events.now) (length-numbered log.next es)
+
+-- src/log_edits.rt:50:1
+pub returns-clause-absent : goal.returns-clause-absent
+returns-clause-absent c none =
+    let log = c.args.log.now in let new = c.remove_cdc.new.self in let k = c.args.key in let es = key_removal_events nat_cmp log.size log.nodes k in
+    let e = c.in_ok-found.ensures in
+    let gone : pair_of nat_cmp (joined log.nodes) k ≡ None = elim c.match-found.branch [
+      | in-Some w ↦ absurd (none-some _ (sym none ∙ w.value-is))
+      | in-None w ↦ mapped_none entry_of (pair_of nat_cmp (joined log.nodes) k) (sym e.answer ∙ w.in-None.is)
+    ] in
+    let empty : es ≡ [] = none_told log.size log.nodes k gone in let zero : length es ≡ 0 = ap (λ l. length l) empty in
+    let count = returns-clause-told c in let next = e.next in
+    let nodes : Some log.nodes ≡ Some new.nodes = sym (ap (λ l. replay (by_key nat_cmp) log.nodes (numbered_from log.next l)) empty) ∙ e.table in
+    (count ∙ zero, same_tree new log (sym (same_Some log.nodes new.nodes nodes)) e.size (omega (arith, next, zero)))

@@ -1,0 +1,83 @@
+//! What the calls of a multimap do with it.
+ghost use Rattle.std.specs.Prelude.{◌≡◌, is_some, length, min, nat_eq, ◌∷◌, ◌++◌, [], ℕ, false, IfErr, OnErr, OnOk, None};
+ghost use Rattle.std.specs.List.{list_any};
+ghost use Rattle.std.specs.Ordering.{nat_cmp, is_eq};
+ghost use Rattle.indexset_core.specs.Nodes.{joined};
+ghost use Rattle.indexset_core.specs.Pairs.{pair_values, pair_keys};
+ghost use Rattle.indexset_multi.specs.Keys.{equal_pair, pairs_of};
+ghost use Rattle.indexset_handle.specs.Elements.{values_of, written};
+ghost use Rattle.indexset_core.specs.MultiPairs.{by_number, numbered_pair};
+ghost use Rattle.indexset_core.specs.Order.{put};
+ghost use Rattle.indexset_multi.specs.Tree.{insertion_refusal};
+
+use crate::multi_slot::{MultiMap, MultiRange};
+use indexset_core::refusal::Refusal;
+
+/// Tells whether a walk gives a value.
+pub fn has_value(mut walk: MultiRange<'_>, value: u64) -> bool
+    ensures { result ≡ list_any (λ p. nat_eq p.value value) walk.entry }
+{
+    while let Some((_, found)) = walk.next() {
+        if *found == value {
+            return true;
+        }
+    }
+    false
+}
+
+/// Returns whether a key has a value.
+pub fn has_pair(multi: &MultiMap, key: u64, value: u64) -> bool
+    ensures { result ≡ is_some (equal_pair nat_cmp nat_eq (joined multi.now.nodes) key value) }
+{
+    has_value(multi.get(&key), value)
+}
+
+/// Adds a value that a key does not have.
+pub fn insert_new(multi: &mut MultiMap, key: u64, value: u64) -> Result<(), Refusal>
+    requires { equal_pair nat_cmp nat_eq (joined multi.old.nodes) key value ≡ None }
+    ensures ok { OnOk result (joined multi.new.nodes ≡ put (by_number nat_cmp) (joined multi.old.nodes) (numbered_pair key value multi.old.pair_next)) }
+    ensures last { OnOk result (values_of (joined multi.new.nodes) key ≡ values_of (joined multi.old.nodes) key ++ value ∷ []) }
+    ensures others { OnOk result ((other : ℕ) → is_eq (nat_cmp other key) ≡ false → pairs_of nat_cmp (joined multi.new.nodes) other ≡ pairs_of nat_cmp (joined multi.old.nodes) other) }
+    ensures refusal { IfErr result (λ e. e ≡ insertion_refusal nat_cmp nat_eq multi.old key value) }
+    ensures same { OnErr result (multi.new ≡ multi.old) }
+{
+    match multi.insert(key, value) {
+        Ok(_) => Ok(()),
+        Err(refused) => Err(refused.cause),
+    }
+}
+
+/// Writes the values that a walk gives, as far as there is room, and returns how many that are.
+pub fn write_values(mut walk: MultiRange<'_>, out: &mut [u64]) -> usize
+    ensures count { result ≡ min (length walk.entry) (length out.old) }
+    ensures written { out.new ≡ written result (pair_values walk.entry) out.old }
+{
+    let mut count = 0;
+    while count < out.len() {
+        let Some((_, value)) = walk.next() else {
+            break;
+        };
+        out[count] = *value;
+        count += 1;
+    }
+    count
+}
+
+/// Writes what a walk gives, as far as there is room in both slices, and returns how much that is.
+pub fn write_entries(mut walk: MultiRange<'_>, keys: &mut [u64], values: &mut [u64]) -> usize
+    ensures count { result ≡ min (length walk.entry) (min (length keys.old) (length values.old)) }
+    ensures keys { keys.new ≡ written result (pair_keys walk.entry) keys.old }
+    ensures values { values.new ≡ written result (pair_values walk.entry) values.old }
+{
+    let room = keys.len().min(values.len());
+    let mut count = 0;
+    while count < room {
+        let Some((key, value)) = walk.next() else {
+            break;
+        };
+        keys[count] = *key;
+        values[count] = *value;
+        count += 1;
+    }
+    count
+}

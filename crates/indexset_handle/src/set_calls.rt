@@ -1,0 +1,73 @@
+//! What the calls of a set do with it.
+ghost use Rattle.std.specs.Prelude.{◌≡◌, ◌<◌, ◌≤◌, length, map, min, slice_index_or, take};
+ghost use Rattle.std.specs.List.{AllWithin, fold};
+ghost use Rattle.std.specs.Ordering.{nat_cmp};
+ghost use Rattle.indexset_core.specs.Order.{keep, rank};
+ghost use Rattle.indexset_spine.specs.Cut.{items};
+ghost use Rattle.indexset_handle.specs.Elements.{element_at, written};
+
+use indexset_set::BTreeSet;
+use indexset_set::range::Range;
+
+/// Writes what an iterator gives, as far as there is room, and returns how much that is.
+pub fn write_each(mut walk: Range<'_, u64>, out: &mut [u64]) -> usize
+    ensures count { result ≡ min (length walk.entry) (length out.old) }
+    ensures written { out.new ≡ written result walk.entry out.old }
+{
+    let mut count = 0;
+    while count < out.len() {
+        let Some(element) = walk.next() else {
+            break;
+        };
+        out[count] = *element;
+        count += 1;
+    }
+    count
+}
+
+/// Writes the rank of each key, as far as there is room, and returns how many that are.
+pub fn rank_each(set: &BTreeSet<u64>, keys: &[u64], out: &mut [usize]) -> usize
+    ensures count { result ≡ min (length keys.now) (length out.old) }
+    ensures written { out.new ≡ written result (map (rank nat_cmp (items set.now)) keys.now) out.old }
+{
+    let count = keys.len().min(out.len());
+    for i in 0..count {
+        out[i] = set.rank(&keys[i]);
+    }
+    count
+}
+
+/// Adds each key, until memory is refused, and returns how many have gone in or were there.
+pub fn insert_each(set: &mut BTreeSet<u64>, keys: &[u64]) -> usize
+    ensures count { result ≤ length keys.now }
+    ensures kept { items set.new ≡ fold (keep nat_cmp) (items set.old) (take result keys.now) }
+{
+    let mut count = 0;
+    while count < keys.len() {
+        if set.insert(keys[count]).is_err() {
+            break;
+        }
+        count += 1;
+    }
+    count
+}
+
+/// Writes the element at each position, as far as there is room and up to the first position that has
+/// none, and returns how many that are.
+pub fn element_each(set: &BTreeSet<u64>, positions: &[usize], out: &mut [u64]) -> usize
+    ensures room { result ≤ min (length positions.now) (length out.old) }
+    ensures there { AllWithin (λ i. i < length (items set.now)) positions.now 0 result }
+    ensures stop { result < min (length positions.now) (length out.old) → length (items set.now) ≤ slice_index_or positions.now result 0 }
+    ensures written { out.new ≡ written result (map (element_at (items set.now)) positions.now) out.old }
+{
+    let room = positions.len().min(out.len());
+    let mut count = 0;
+    while count < room {
+        let Some(element) = set.get_index(positions[count]) else {
+            break;
+        };
+        out[count] = *element;
+        count += 1;
+    }
+    count
+}

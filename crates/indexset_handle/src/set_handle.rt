@@ -1,0 +1,58 @@
+//! A set's handle.
+ghost use Rattle.std.specs.Prelude.{◌≡◌, Some, None, is_some};
+ghost use Rattle.std.specs.Option.{option_map};
+
+use crate::Parts;
+use crate::set_slot::SetSlot;
+use indexset_set::BTreeSet;
+use std::alloc::Global;
+use std::mem::replace;
+
+/// What C holds of a set: the set on the heap, or none.
+#[repr(C)]
+#[derive(Drop)]
+pub struct SetHandle {
+    /// The set, where there is one.
+    pub slot: SetSlot,
+    /// Whether there is a set.
+    pub live: bool,
+    /// The flag says whether the slot holds one.
+    pub ghost sound: { live ≡ is_some slot.value },
+}
+
+impl SetHandle {
+    fn none(alloc: Global) -> SetHandle
+        ensures { result.slot.value ≡ None }
+    {
+        SetHandle {
+            slot: SetSlot::of_parts(Parts::none(alloc)),
+            live: false,
+        }
+    }
+
+    fn of(set: Box<BTreeSet<u64>, Global>) -> SetHandle
+        ensures { result.slot.value ≡ Some set.value }
+    {
+        SetHandle {
+            slot: SetSlot::of_parts(Parts::of(set)),
+            live: true,
+        }
+    }
+
+    /// Takes the set out of the handle, if any.
+    pub fn take(&mut self, alloc: Global) -> Option<Box<BTreeSet<u64>, Global>>
+        ensures taken { option_map (λ b. b.value) result ≡ self.old.slot.value }
+        ensures left { self.new.slot.value ≡ None }
+    {
+        let SetHandle { slot, live } = replace(self, SetHandle::none(alloc));
+        let parts = slot.into_parts();
+        if live { Some(parts.into_box()) } else { None }
+    }
+
+    /// Puts a set into the handle. What it led to before is not freed.
+    pub fn put(&mut self, set: Box<BTreeSet<u64>, Global>)
+        ensures { self.new.slot.value ≡ Some set.value }
+    {
+        *self = SetHandle::of(set);
+    }
+}

@@ -1,0 +1,59 @@
+//! What changes a map from byte strings.
+ghost use Rattle.std.specs.Prelude.{◌≡◌, ◌<◌, true, None, Some, IfOk, IsOk, OnErr, OnOk, length};
+ghost use Rattle.std.specs.Cmp.Lexicographic.{slice_cmp};
+ghost use Rattle.std.specs.Ordering.{nat_cmp};
+ghost use Rattle.indexset_core.specs.Pairs.{has_key, put_value, set_value_at, value_of, without_key};
+ghost use Rattle.indexset_handle.specs.Text.{value_at};
+
+use crate::text_find::position_of;
+use crate::text_slot::TextMap;
+use bytes::Bytes;
+use std::alloc::{AllocError, Global};
+use std::mem::replace;
+
+// Replaces the value at a position, and returns the one before.
+fn replace_at(map: &mut TextMap, position: usize, value: u64) -> u64
+    requires { position < length map.old.pairs }
+    ensures before { value_at map.old.pairs position ≡ Some result }
+    ensures after { map.new.pairs ≡ set_value_at map.old.pairs position value }
+{
+    match map.get_mut_index(position) {
+        Some(place) => replace(place, value),
+        None => value,
+    }
+}
+
+/// Makes a value that of a key, and returns the value before. Where the key is new, its bytes are copied.
+pub fn put(
+    alloc: Global,
+    map: &mut TextMap,
+    key: &[u8],
+    value: u64,
+) -> Result<Option<u64>, AllocError>
+    ensures before { IfOk result (λ o. o ≡ value_of (slice_cmp nat_cmp) map.old.pairs key.now) }
+    ensures ok { OnOk result (map.new.pairs ≡ put_value (slice_cmp nat_cmp) map.old.pairs key.now value) }
+    ensures unchanged { OnErr result (map.new ≡ map.old) }
+    ensures no_memory { has_key (slice_cmp nat_cmp) map.old.pairs key.now ≡ true → IsOk result }
+{
+    match position_of(map, key) {
+        Some(i) => Ok(Some(replace_at(map, i, value))),
+        None => {
+            let copied = Bytes::copy_from_slice(alloc, key)?;
+            match map.insert(copied, value) {
+                Ok(before) => Ok(before),
+                Err(_) => Err(AllocError),
+            }
+        }
+    }
+}
+
+/// Removes a key and returns its value, or `None` where it is not there.
+pub fn take(map: &mut TextMap, key: &[u8]) -> Option<u64>
+    ensures value { result ≡ value_of (slice_cmp nat_cmp) map.old.pairs key.now }
+    ensures rest { map.new.pairs ≡ without_key (slice_cmp nat_cmp) map.old.pairs key.now }
+    ensures same { result ≡ None → map.new ≡ map.old }
+{
+    let i = position_of(map, key)?;
+    let (_key, value) = map.pop_index(i);
+    Some(value)
+}

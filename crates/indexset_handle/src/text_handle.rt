@@ -1,0 +1,57 @@
+//! The handle of a map from byte strings.
+ghost use Rattle.std.specs.Prelude.{◌≡◌, Some, None, is_some};
+ghost use Rattle.std.specs.Option.{option_map};
+
+use crate::Parts;
+use crate::text_slot::{TextMap, TextSlot};
+use std::alloc::Global;
+use std::mem::replace;
+
+/// What C holds of a map from byte strings: the map on the heap, or none.
+#[repr(C)]
+#[derive(Drop)]
+pub struct TextHandle {
+    /// The map, where there is one.
+    pub slot: TextSlot,
+    /// Whether there is a map.
+    pub live: bool,
+    /// The flag says whether the slot holds one.
+    pub ghost sound: { live ≡ is_some slot.value },
+}
+
+impl TextHandle {
+    fn none(alloc: Global) -> TextHandle
+        ensures { result.slot.value ≡ None }
+    {
+        TextHandle {
+            slot: TextSlot::of_parts(Parts::none(alloc)),
+            live: false,
+        }
+    }
+
+    fn of(map: Box<TextMap, Global>) -> TextHandle
+        ensures { result.slot.value ≡ Some map.value }
+    {
+        TextHandle {
+            slot: TextSlot::of_parts(Parts::of(map)),
+            live: true,
+        }
+    }
+
+    /// Takes the map out of the handle, if any.
+    pub fn take(&mut self, alloc: Global) -> Option<Box<TextMap, Global>>
+        ensures taken { option_map (λ b. b.value) result ≡ self.old.slot.value }
+        ensures left { self.new.slot.value ≡ None }
+    {
+        let TextHandle { slot, live } = replace(self, TextHandle::none(alloc));
+        let parts = slot.into_parts();
+        if live { Some(parts.into_box()) } else { None }
+    }
+
+    /// Puts a map into the handle. What it led to before is not freed.
+    pub fn put(&mut self, map: Box<TextMap, Global>)
+        ensures { self.new.slot.value ≡ Some map.value }
+    {
+        *self = TextHandle::of(map);
+    }
+}

@@ -1,0 +1,54 @@
+//! What the handle of a map from byte strings holds.
+ghost use Rattle.std.specs.Prelude.{◌≡◌, Option};
+ghost use Rattle.indexset_handle.specs.Text.{text_row};
+
+use crate::Parts;
+use bytes::Bytes;
+use indexset_map::{BTreeMap, RangeMap};
+use std::alloc::Global;
+use std::marker::Model;
+
+/// A map from byte strings to numbers.
+pub type TextMap = BTreeMap<Bytes, u64>;
+
+/// The pairs of a part of it.
+pub type TextRange<'a> = RangeMap<'a, Bytes, u64>;
+
+/// A map from byte strings on the heap, or none.
+#[repr(C)]
+#[derive(Drop)]
+pub struct TextSlot {
+    at: *mut u8,
+    alloc: Global,
+    pub ghost value: { Option text_row.Denot },
+}
+
+impl Model for TextSlot {
+    ghost use Rattle.indexset_handle.specs.Text.{holds_text};
+
+    ghost also_owns = { λ slot. holds_text slot.alloc slot.at slot.value };
+}
+
+impl TextSlot {
+    /// Returns the slot that these are the parts of.
+    pub fn of_parts(parts: Parts<TextMap, Global>) -> TextSlot
+        ensures { result.value ≡ parts.value }
+    {
+        let Parts { at, alloc } = parts;
+        TextSlot {
+            at: at as *mut u8,
+            alloc,
+        }
+    }
+
+    /// Returns the parts of this slot.
+    pub fn into_parts(self) -> Parts<TextMap, Global>
+        ensures { result.value ≡ self.value }
+    {
+        let TextSlot { at, alloc } = self;
+        Parts {
+            at: at as *mut TextMap,
+            alloc,
+        }
+    }
+}
