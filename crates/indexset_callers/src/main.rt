@@ -2,6 +2,8 @@
 //! wants. The program prints what they return.
 #![tactic(auto)]
 
+ghost use Rattle.std.specs.Prelude.{◌<◌};
+
 mod follower;
 mod leaderboard;
 mod order_book;
@@ -14,9 +16,11 @@ use follower::Primary;
 use indexset::base::pair::Pair;
 use indexset::replica::Replica;
 use indexset::{BTreeMap, BTreeSet};
-use leaderboard::Entry;
+use leaderboard::{Board, Entry};
 use order_book::Book;
+use secondary_index::Index;
 use std::cmp::Reverse;
+use window::Window;
 
 fn main(rt: HostRuntime) -> Result<()> {
     show_window(&rt)?;
@@ -28,26 +32,33 @@ fn main(rt: HostRuntime) -> Result<()> {
 
 fn show_window(rt: &HostRuntime) -> Result<()> {
     let mut window = BTreeMap::new(rt.alloc())?;
+    play_window(rt, &mut window)
+}
+
+fn play_window(rt: &HostRuntime, window: &mut Window) -> Result<()> {
     for (time, value) in [(100, 7), (130, 9), (160, 8), (190, 6)] {
-        window::push(&mut window, time, value)?;
+        window::push(window, time, value)?;
     }
-    println!(rt; "oldest: {:?}", window::oldest(&window))?;
-    println!(rt; "expired: {:?}", window::expire(&mut window, 130)?)?;
+    println!(rt; "oldest: {:?}", window::oldest(window))?;
+    println!(rt; "expired: {:?}", window::expire(window, 130)?)?;
     println!(rt; "left: {window:?}")?;
-    println!(rt; "from 160 on: {}", window::since(&window, 160).len())?;
+    println!(rt; "from 160 on: {}", window::since(window, 160).len())?;
     Ok(())
 }
 
 fn show_order_book(rt: &HostRuntime) -> Result<()> {
     let bids = BTreeMap::new(rt.alloc())?;
     let asks = BTreeMap::new(rt.alloc())?;
-    let mut book = Book { bids, asks };
+    play_order_book(rt, &mut Book { bids, asks })
+}
+
+fn play_order_book(rt: &HostRuntime, book: &mut Book) -> Result<()> {
     for (price, quantity) in [(98, 5), (99, 2), (98, 4)] {
         order_book::add(&mut book.bids, price, quantity)?;
     }
     order_book::add(&mut book.asks, 101, 3)?;
-    println!(rt; "best bid: {:?}", order_book::best_bid(&book))?;
-    println!(rt; "best ask: {:?}", order_book::best_ask(&book))?;
+    println!(rt; "best bid: {:?}", order_book::best_bid(book))?;
+    println!(rt; "best ask: {:?}", order_book::best_ask(book))?;
     println!(rt;
         "left at 99: {:?}",
         order_book::reduce(&mut book.bids, 99, 2)
@@ -66,28 +77,45 @@ fn show_order_book(rt: &HostRuntime) -> Result<()> {
 
 fn show_leaderboard(rt: &HostRuntime) -> Result<()> {
     let mut board = BTreeSet::new(rt.alloc())?;
+    fill_leaderboard(rt, &mut board)?;
+    show_places(rt, &board)?;
+    for number in 0..3 {
+        show_page(rt, &board, number)?;
+    }
+    Ok(())
+}
+
+fn fill_leaderboard(rt: &HostRuntime, board: &mut Board) -> Result<()> {
     for (score, player) in [(300, 1), (100, 2), (500, 3), (300, 4), (200, 5), (300, 1)] {
-        let new = leaderboard::add(&mut board, entry(score, player))?;
+        let new = leaderboard::add(board, entry(score, player))?;
         println!(rt; "{score} by player {player} is new: {new}")?;
     }
+    Ok(())
+}
+
+fn show_places(rt: &HostRuntime, board: &Board) -> Result<()> {
     println!(rt;
         "place of player 5: {:?}",
-        leaderboard::place(&board, entry(200, 5))
+        leaderboard::place(board, entry(200, 5))
     )?;
     println!(rt;
         "place of player 6: {:?}",
-        leaderboard::place(&board, entry(200, 6))
+        leaderboard::place(board, entry(200, 6))
     )?;
     println!(rt;
         "better than 200: {}",
-        leaderboard::better(&board, entry(200, 5))
+        leaderboard::better(board, entry(200, 5))
     )?;
-    for number in 0..3 {
-        println!(rt; "page {number}:")?;
-        let page = leaderboard::page(rt.alloc(), &board, number, 2)?;
-        for entry in page.as_slice() {
-            println!(rt; "  {} by player {}", entry.score.0, entry.player)?;
-        }
+    Ok(())
+}
+
+fn show_page(rt: &HostRuntime, board: &Board, number: usize) -> Result<()>
+    requires { number < 3 }
+{
+    println!(rt; "page {number}:")?;
+    let page = leaderboard::page(rt.alloc(), board, number, 2)?;
+    for entry in page.as_slice() {
+        println!(rt; "  {} by player {}", entry.score.0, entry.player)?;
     }
     Ok(())
 }
@@ -98,18 +126,26 @@ fn entry(score: u64, player: u64) -> Entry {
 }
 
 fn show_index(rt: &HostRuntime) -> Result<()> {
-    let mut index = secondary_index::Index::new(rt.alloc());
+    play_index(rt, &mut Index::new(rt.alloc()))
+}
+
+fn play_index(rt: &HostRuntime, index: &mut Index) -> Result<()> {
+    fill_index(rt, index)?;
+    show_tag(rt, index, &ByteStr::from_static("red"))
+}
+
+fn fill_index(rt: &HostRuntime, index: &mut Index) -> Result<()> {
     for (tag, document) in [("red", 7), ("blue", 3), ("red", 2), ("red", 7)] {
-        let new = secondary_index::add(&mut index, ByteStr::from_static(tag), document)?;
+        let new = secondary_index::add(index, ByteStr::from_static(tag), document)?;
         println!(rt; "{document} under {tag} is new: {new}")?;
     }
-    let red = ByteStr::from_static("red");
-    println!(rt; "under red: {}", secondary_index::count(&index, &red))?;
-    println!(rt;
-        "removed: {}",
-        secondary_index::remove(&mut index, &red, 7)?
-    )?;
-    for (tag, document) in secondary_index::documents(&index, &red) {
+    Ok(())
+}
+
+fn show_tag(rt: &HostRuntime, index: &mut Index, tag: &ByteStr) -> Result<()> {
+    println!(rt; "under {tag}: {}", secondary_index::count(index, tag))?;
+    println!(rt; "removed: {}", secondary_index::remove(index, tag, 7)?)?;
+    for (tag, document) in secondary_index::documents(index, tag) {
         println!(rt; "{document} under {tag}")?;
     }
     Ok(())
