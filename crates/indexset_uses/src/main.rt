@@ -35,71 +35,93 @@ fn main(rt: HostRuntime) -> Result<()> {
 
 fn show_leaderboard(rt: &HostRuntime) -> Result<()> {
     let mut board = BTreeSet::new(rt.alloc())?;
+    play_leaderboard(rt, &mut board)
+}
+
+fn play_leaderboard(rt: &HostRuntime, board: &mut BTreeSet<u64>) -> Result<()> {
     for score in [30, 10, 20, 50, 40] {
-        leaderboard::enter(&mut board, score)?;
+        leaderboard::enter(board, score)?;
     }
-    println!(rt; "best: {:?}", leaderboard::best(&board))?;
-    println!(rt; "scores from 35: {}", leaderboard::scores_from(&board, 35))?;
+    println!(rt; "best: {:?}", leaderboard::best(board))?;
+    println!(rt; "scores from 35: {}", leaderboard::scores_from(board, 35))?;
     println!(rt;
         "second page of two: {:?}",
-        listing::page(rt.alloc(), &board, 2, 2)?
+        listing::page(rt.alloc(), board, 2, 2)?
     )?;
-    println!(rt; "pages: {}", listing::page_count(&board, 2))?;
-    println!(rt;
-        "taken from 35: {:?}",
-        leaderboard::take_from(&mut board, 35)?
-    )?;
+    println!(rt; "pages: {}", listing::page_count(board, 2))?;
+    println!(rt; "taken from 35: {:?}", leaderboard::take_from(board, 35)?)?;
     Ok(())
 }
 
 fn show_order_book(rt: &HostRuntime) -> Result<()> {
     let mut bids = BTreeSet::from(rt.alloc(), vec![in rt.alloc(); 98, 101, 99]?)?;
     let mut asks = BTreeSet::from(rt.alloc(), vec![in rt.alloc(); 100, 103, 102]?)?;
+    match_orders(rt, &mut bids, &mut asks)
+}
+
+fn match_orders(
+    rt: &HostRuntime,
+    bids: &mut BTreeSet<u64>,
+    asks: &mut BTreeSet<u64>,
+) -> Result<()> {
     for _ in 0..2 {
-        let found = order_book::take_match(&mut bids, &mut asks);
+        let found = order_book::take_match(bids, asks);
         println!(rt; "match: {found:?}")?;
     }
     println!(rt; "asks: {asks:?}")?;
-    println!(rt; "in all: {}", order_book::clear(&mut asks))?;
+    println!(rt; "in all: {}", order_book::clear(asks))?;
     Ok(())
 }
 
 fn show_counts(rt: &HostRuntime) -> Result<()> {
     let low: BTreeSet<u64> = (0..1000u64).collect(rt.alloc())?;
     let high: BTreeSet<u64> = (900..2000u64).collect(rt.alloc())?;
-    println!(rt; "either: {:?}", counting::count_of_either(&low, &high))?;
-    println!(rt; "both: {}", counting::count_of_both(&low, &high))?;
-    println!(rt; "place of 950: {:?}", counting::place_of(&high, 950))?;
-    println!(rt; "few questions: {}", counting::questions(&high, 950) <= 17)?;
+    show_counts_of(rt, &low, &high)
+}
+
+fn show_counts_of(rt: &HostRuntime, low: &BTreeSet<u64>, high: &BTreeSet<u64>) -> Result<()> {
+    println!(rt; "either: {:?}", counting::count_of_either(low, high))?;
+    println!(rt; "both: {}", counting::count_of_both(low, high))?;
+    println!(rt; "place of 950: {:?}", counting::place_of(high, 950))?;
+    println!(rt; "few questions: {}", counting::questions(high, 950) <= 17)?;
     Ok(())
 }
 
 fn show_prices(rt: &HostRuntime) -> Result<()> {
     let mut prices = BTreeMap::new(rt.alloc())?;
+    play_prices(rt, &mut prices)
+}
+
+fn play_prices(rt: &HostRuntime, prices: &mut BTreeMap<u64, u64>) -> Result<()> {
     for (item, price) in [(7, 120), (3, 80), (7, 130)] {
-        prices::set_price(&mut prices, item, price)?;
+        prices::set_price(prices, item, price)?;
     }
     println!(rt; "prices: {prices:?}")?;
-    println!(rt; "price of 7: {:?}", prices::price_of(&prices, 7))?;
-    println!(rt; "price of 5: {}", prices::price_or(&mut prices, 5, 95)?)?;
-    println!(rt; "priced below 7: {}", prices::priced_below(&prices, 7))?;
-    prices::raise(&mut prices);
+    println!(rt; "price of 7: {:?}", prices::price_of(prices, 7))?;
+    println!(rt; "price of 5: {}", prices::price_or(prices, 5, 95)?)?;
+    println!(rt; "priced below 7: {}", prices::priced_below(prices, 7))?;
+    prices::raise(prices);
     println!(rt; "raised: {prices:?}")?;
-    println!(rt; "price of 3: {:?}", prices::forget(&mut prices, 3))?;
+    println!(rt; "price of 3: {:?}", prices::forget(prices, 3))?;
     Ok(())
 }
 
 fn show_changes(rt: &HostRuntime) -> Result<()> {
     let mut tree = change_log::Numbers::with_maximum_node_size(rt.alloc(), 2);
-    for number in [10, 20, 30] {
-        let events = change_log::put(&mut tree, number)?;
-        println!(rt; "put {number}: {} events", events.len())?;
-    }
-    println!(rt; "holds 20: {}", change_log::hold(&mut tree, 20)?)?;
-    let events = change_log::take(&mut tree, 10)?;
-    println!(rt; "take 10: {} events", events.len())?;
+    play_changes(rt, &mut tree)?;
     let mut quotes = change_log::Quotes::with_maximum_node_size(rt.alloc(), 2);
     println!(rt; "quote of 3: {:?}", change_log::quote(&mut quotes, 3, 80)?)?;
+    Ok(())
+}
+
+fn play_changes(rt: &HostRuntime, tree: &mut change_log::Numbers) -> Result<()> {
+    for number in [10, 20, 30] {
+        let events = change_log::put(tree, number)?;
+        println!(rt; "put {number}: {} events", events.len())?;
+    }
+    println!(rt; "holds 20: {}", change_log::hold(tree, 20)?)?;
+    let events = change_log::take(tree, 10)?;
+    println!(rt; "take 10: {} events", events.len())?;
     Ok(())
 }
 
