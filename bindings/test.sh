@@ -1,43 +1,53 @@
 #!/usr/bin/env bash
-# Builds both bindings, each in its folder out/, and runs their tests. The last line counts the steps.
+# Builds both bindings, each in its folder out/, and runs their tests side by side. The last line counts
+# them.
 set -u
 cd "$(dirname "$0")"
-passed=0
-failed=0
-
-try() {
-    if "$@"; then
-        passed=$((passed + 1))
-    else
-        failed=$((failed + 1))
-        echo "failed: $*"
-    fi
-}
-
-try make -s -C c all
-try make -s -C c check
-
+make -s -C c all || exit 1
 rm -rf python/out
-mkdir python/out
+mkdir -p python/out/logs
 cp -r python/indexset python/test_*.py python/out
 export INDEXSET_LIBRARY="$PWD/c/out/libindexset.so" PYTHONDONTWRITEBYTECODE=1
-try env INDEXSET_BACKEND=ctypes python3 python/out/test_indexset.py
-try env INDEXSET_BACKEND=ctypes python3 python/out/test_numbers.py
-try env INDEXSET_BACKEND=ctypes python3 python/out/test_text.py
 
-can_build='import cffi, os, sysconfig; assert os.path.exists(sysconfig.get_path("include") + "/Python.h")'
-if python3 -c "$can_build" 2>/dev/null; then
-    try python3 -W ignore python/build_cffi.py python/out
-    try python3 python/out/test_indexset.py
-    try python3 python/out/test_numbers.py
-    try python3 python/out/test_text.py
-fi
+names=()
+jobs=()
+
+# Starts a test.
+try() {
+    "$@" > "python/out/logs/${#jobs[@]}" 2>&1 &
+    jobs+=($!)
+    names+=("$*")
+}
 
 # The package as pip makes it, where an environment can be made: it asks for nothing of the network.
-if python3 -m venv python/out/fresh 2>/dev/null; then
-    try python/out/fresh/bin/pip install -q --no-index ./python
-    try env -u INDEXSET_LIBRARY python/out/fresh/bin/python -c 'import indexset; print(indexset.BACKEND, indexset.SortedSet([2, 1]))'
-fi
+package() {
+    python3 -m venv python/out/fresh || return 0
+    python/out/fresh/bin/pip install -q --no-index ./python &&
+        env -u INDEXSET_LIBRARY python/out/fresh/bin/python -c 'import indexset; indexset.SortedSet([2, 1])'
+}
 
-echo "$passed passed, $failed failed"
+try make -s -j "$(nproc)" -C c check
+try package
+backends=(ctypes)
+can_build='import cffi, os, sysconfig; assert os.path.exists(sysconfig.get_path("include") + "/Python.h")'
+if python3 -c "$can_build" 2> /dev/null; then
+    python3 -W ignore python/build_cffi.py python/out && backends+=(cffi) || try false cffi module
+fi
+for backend in "${backends[@]}"; do
+    for test in test_indexset test_numbers test_text; do
+        try env "INDEXSET_BACKEND=$backend" python3 "python/out/$test.py"
+    done
+done
+
+failed=0
+for i in "${!jobs[@]}"; do
+    if wait "${jobs[$i]}"; then
+        tail -n 1 "python/out/logs/$i"
+    else
+        failed=$((failed + 1))
+        cat "python/out/logs/$i"
+        echo "failed: ${names[$i]}"
+    fi
+done
+echo "$((${#jobs[@]} - failed)) passed, $failed failed"
 test "$failed" = 0
