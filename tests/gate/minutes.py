@@ -26,13 +26,15 @@ def fields(pid):
 
 
 def label(pid):
-    """The crate that a process of the prover works on, and what for; None of a copy of another one."""
+    """The crate that a process of the prover works on, and what for; None of a copy of another one, and
+    of what `bindings/early.py` runs."""
     name, rest = fields(pid)
-    if name != "rattle" or fields(rest[1])[0] == "rattle":
+    at = os.readlink(f"/proc/{pid}/cwd")
+    if name != "rattle" or fields(rest[1])[0] == "rattle" or "/early-" in at:
         return None
     words = pathlib.Path(f"/proc/{pid}/cmdline").read_bytes().decode(errors="replace").split("\0")
     crate = dict(zip(words, words[1:])).get("--crate-name")
-    is_edit = "/rt-edit-" in os.readlink(f"/proc/{pid}/cwd")
+    is_edit = "/rt-edit-" in at
     return crate and (crate, "tests" if "--test" in words else "edits" if is_edit else "proof")
 
 
