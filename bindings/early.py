@@ -26,6 +26,12 @@ def is_proved(crate, since):
     return bool(built) and since < min(built) and max(built) + SETTLED < time.time()
 
 
+def has_ended(since):
+    """Whether `rt ci` has ended, and the minutes that it took were written, after a time."""
+    minutes = TOP / "out/minutes"
+    return minutes.exists() and since < os.path.getmtime(minutes)
+
+
 def lay(crates, to):
     """Copies the sources of crates into a folder, with their libraries."""
     for crate in crates:
@@ -50,7 +56,7 @@ def stamp(to):
 def main():
     started = time.time()
     static = next(it for it in rtlib.crates_below(str(TOP / "crates")) if it.is_static)
-    while not all(is_proved(it, started) for it in static.below()):
+    while not all(is_proved(it, started) for it in static.below()) and not has_ended(started):
         time.sleep(5)
     with tempfile.TemporaryDirectory(prefix="early-") as room:
         to, archive = pathlib.Path(room), f"out/lib{static.name}.a"
