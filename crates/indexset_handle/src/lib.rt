@@ -45,7 +45,7 @@ pub struct Parts<T, A: Allocator> {
     pub at: *mut T,
     /// What the block goes back to.
     pub alloc: A,
-    /// The value, where there is one.
+    /// The value, if any.
     pub ghost value: { Option T },
 }
 

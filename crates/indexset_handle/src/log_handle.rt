@@ -11,7 +11,7 @@ use std::mem::replace;
 #[repr(C)]
 #[derive(Drop)]
 pub struct LogHandle {
-    /// The logged map, where there is one.
+    /// The logged map, if any.
     pub slot: LogSlot,
     /// Whether there is a logged map.
     pub live: bool,
@@ -38,7 +38,7 @@ impl LogHandle {
         }
     }
 
-    /// Takes the logged map out, where there is one.
+    /// Takes the logged map out of the handle, if any.
     pub fn take(&mut self, alloc: Global) -> Option<Box<LoggedMap, Global>>
         ensures taken { option_map (λ b. b.value) result ≡ self.old.slot.value }
         ensures left { self.new.slot.value ≡ None }

@@ -12,7 +12,7 @@ use std::mem::replace;
 #[repr(C)]
 #[derive(Drop)]
 pub struct MapHandle {
-    /// The map, where there is one.
+    /// The map, if any.
     pub slot: MapSlot,
     /// Whether there is a map.
     pub live: bool,

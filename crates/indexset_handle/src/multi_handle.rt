@@ -11,7 +11,7 @@ use std::mem::replace;
 #[repr(C)]
 #[derive(Drop)]
 pub struct MultiHandle {
-    /// The multimap, where there is one.
+    /// The multimap, if any.
     pub slot: MultiSlot,
     /// Whether there is a multimap.
     pub live: bool,
@@ -38,7 +38,7 @@ impl MultiHandle {
         }
     }
 
-    /// Takes the multimap out, where there is one.
+    /// Takes the multimap out of the handle, if any.
     pub fn take(&mut self, alloc: Global) -> Option<Box<MultiMap, Global>>
         ensures taken { option_map (λ b. b.value) result ≡ self.old.slot.value }
         ensures left { self.new.slot.value ≡ None }

@@ -11,7 +11,7 @@ use std::mem::replace;
 #[repr(C)]
 #[derive(Drop)]
 pub struct ReplicaHandle {
-    /// The replica, where there is one.
+    /// The replica, if any.
     pub slot: ReplicaSlot,
     /// Whether there is a replica.
     pub live: bool,
@@ -38,7 +38,7 @@ impl ReplicaHandle {
         }
     }
 
-    /// Takes the replica out, where there is one.
+    /// Takes the replica out of the handle, if any.
     pub fn take(&mut self, alloc: Global) -> Option<Box<MapReplica, Global>>
         ensures taken { option_map (λ b. b.value) result ≡ self.old.slot.value }
         ensures left { self.new.slot.value ≡ None }

@@ -12,7 +12,7 @@ use std::mem::replace;
 #[repr(C)]
 #[derive(Drop)]
 pub struct SetHandle {
-    /// The set, where there is one.
+    /// The set, if any.
     pub slot: SetSlot,
     /// Whether there is a set.
     pub live: bool,

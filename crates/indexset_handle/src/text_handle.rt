@@ -11,7 +11,7 @@ use std::mem::replace;
 #[repr(C)]
 #[derive(Drop)]
 pub struct TextHandle {
-    /// The map, where there is one.
+    /// The map, if any.
     pub slot: TextSlot,
     /// Whether there is a map.
     pub live: bool,

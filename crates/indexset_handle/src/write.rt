@@ -2,7 +2,7 @@
 ghost use Rattle.std.specs.Prelude.{◌≡◌, Some, None, true, false};
 ghost use Rattle.indexset_handle.specs.Text.{written_over};
 
-/// Writes an element where there is one, and returns whether there was.
+/// Writes an element, if any, and returns whether there was one.
 pub fn write(found: Option<u64>, out: &mut u64) -> bool
     ensures found { result ≡ true → found ≡ Some out.new }
     ensures absent { result ≡ false → found ≡ None }
@@ -17,7 +17,7 @@ pub fn write(found: Option<u64>, out: &mut u64) -> bool
     }
 }
 
-/// Writes a pair where there is one, and returns whether there was.
+/// Writes a pair, if any, and returns whether there was one.
 pub fn write_pair(found: Option<(u64, u64)>, key: &mut u64, value: &mut u64) -> bool
     ensures found { result ≡ true → found ≡ Some (key.new, value.new) }
     ensures absent { result ≡ false → found ≡ None }
