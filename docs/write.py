@@ -18,10 +18,10 @@ CLAUSE = re.compile(r"(requires|ensures)\b")
 
 
 def library_crates():
-    """The crates of crates.txt that are neither programs nor tests, in its order."""
+    """The crates of crates.txt that are neither programs nor tests nor what tests play on, in its order."""
     lines = (ROOT / "crates.txt").read_text(encoding="utf-8").splitlines()
     names = [line.split(":")[0].strip() for line in lines if line.strip()]
-    return [it for it in names if (ROOT / "crates" / it / "src/lib.rt").exists() and not it.endswith("_tests")]
+    return [it for it in names if (ROOT / "crates" / it / "src/lib.rt").exists() and not it.endswith(("_tests", "_play"))]
 
 
 def source_files(crate):

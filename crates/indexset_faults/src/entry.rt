@@ -4,7 +4,7 @@ use crate::outcome::{Outcome, Trial, answered, refused};
 use crate::state::has_pairs;
 use indexset_core::refusal::Refused;
 use indexset_map::{BTreeMap, Entry};
-use indexset_tests::sized::map_of;
+use indexset_play::sized::map_of;
 use std::alloc::Global;
 
 /// What a call lent, or the pair that it handed back.

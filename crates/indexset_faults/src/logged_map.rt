@@ -5,8 +5,8 @@ use crate::outcome::{Outcome, Trial, answered, refused};
 use indexset_core::pair::Pair;
 use indexset_core::refusal::{Refusal, Refused};
 use indexset_log::map::BTreeMap;
-use indexset_log_tests::told::{Told, are_events, are_items, are_nodes};
-use indexset_tests::owned::Owned;
+use indexset_log_play::told::{Told, are_events, are_items, are_nodes};
+use indexset_play::owned::Owned;
 use std::alloc::Global;
 
 type Letters = Pair<Owned, char>;

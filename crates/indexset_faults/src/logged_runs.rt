@@ -11,9 +11,9 @@ use indexset_core::multipair::MultiPair;
 use indexset_core::pair::Pair;
 use indexset_log::map::BTreeMap;
 use indexset_log::set::BTreeSet;
-use indexset_log_tests::told::{Told, are_events, are_nodes};
+use indexset_log_play::told::{Told, are_events, are_nodes};
 use indexset_multi::multimap::BTreeMultiMap;
-use indexset_tests::owned::Owned;
+use indexset_play::owned::Owned;
 use std::alloc::Global;
 
 type Set = BTreeSet<Owned, Vec<Owned>>;

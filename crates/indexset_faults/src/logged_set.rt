@@ -5,9 +5,9 @@ use crate::outcome::{Outcome, Trial, answered, refused};
 use indexset_core::refusal::{Refusal, Refused};
 use indexset_log::change::ChangeEvent;
 use indexset_log::set::BTreeSet;
-use indexset_log_tests::told::{Told, are_events, are_items, are_nodes};
-use indexset_log_tests::trees::place_of;
-use indexset_tests::owned::{Owned, owned_node};
+use indexset_log_play::told::{Told, are_events, are_items, are_nodes};
+use indexset_log_play::trees::place_of;
+use indexset_play::owned::{Owned, owned_node};
 use std::alloc::Global;
 
 type Set = BTreeSet<Owned, Vec<Owned>>;

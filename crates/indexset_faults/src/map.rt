@@ -6,8 +6,8 @@ use crate::outcome::{Outcome, Trial, answered, refused};
 use crate::state::has_pairs;
 use indexset_core::refusal::Refusal;
 use indexset_map::BTreeMap;
-use indexset_tests::owned::Owned;
-use indexset_tests::sized::map_of;
+use indexset_play::owned::Owned;
+use indexset_play::sized::map_of;
 use std::alloc::{AllocError, Global};
 
 /// Five pairs, which stand in four nodes of two.

@@ -4,9 +4,9 @@
 use crate::outcome::{Outcome, Trial, answered, refused};
 use indexset_core::multipair::MultiPair;
 use indexset_core::refusal::{Refusal, Refused};
-use indexset_log_tests::told::{Told, are_events, are_items, are_nodes};
+use indexset_log_play::told::{Told, are_events, are_items, are_nodes};
 use indexset_multi::multimap::BTreeMultiMap;
-use indexset_tests::owned::Owned;
+use indexset_play::owned::Owned;
 use std::alloc::Global;
 
 type Letters = MultiPair<Owned, char>;

@@ -7,8 +7,8 @@ use indexset_core::halve::halve_node;
 use indexset_core::node::NodeLike;
 use indexset_core::refusal::Refusal;
 use indexset_log::set::BTreeSet;
-use indexset_log_tests::told::are_nodes;
-use indexset_tests::nodes::node_of;
+use indexset_log_play::told::are_nodes;
+use indexset_play::nodes::node_of;
 use std::alloc::Global;
 
 /// Makes the call of this name on a `Vec`, if there is one.

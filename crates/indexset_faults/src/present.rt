@@ -10,8 +10,8 @@ use crate::outcome::{Trial, answered};
 use crate::state::{has_keys, has_pairs};
 use crate::{logged_map, logged_set};
 use indexset_map::{BTreeMap, Entry};
-use indexset_tests::owned::Owned;
-use indexset_tests::sized::{map_of, set_of};
+use indexset_play::owned::Owned;
+use indexset_play::sized::{map_of, set_of};
 use std::alloc::Global;
 
 /// Makes the call of this name, if there is one.

@@ -4,9 +4,9 @@ use crate::outcome::{Outcome, Trial, answered, refused};
 use indexset_core::refusal::Refusal;
 use indexset_log::change::{ChangeEvent, Id};
 use indexset_log::set::BTreeSet;
-use indexset_log_tests::told::{are_copies, are_items};
+use indexset_log_play::told::{are_copies, are_items};
+use indexset_play::owned::{Owned, owned_node};
 use indexset_replica::Replica;
-use indexset_tests::owned::{Owned, owned_node};
 use std::alloc::Global;
 
 type Set = BTreeSet<Owned, Vec<Owned>>;

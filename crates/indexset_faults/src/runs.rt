@@ -7,8 +7,8 @@ use indexset_bench::map_run::{MapCommand, MapReply, run_map};
 use indexset_bench::set_run::{SetCommand, SetReply, run_set};
 use indexset_core::refusal::Refusal;
 use indexset_map::BTreeMap;
+use indexset_play::owned::Owned;
 use indexset_set::BTreeSet;
-use indexset_tests::owned::Owned;
 use std::alloc::Global;
 
 /// Makes the call of this name, if there is one.

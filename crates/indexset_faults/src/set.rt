@@ -5,10 +5,10 @@ ghost use Rattle.std.specs.Prelude.{◌≤◌};
 use crate::outcome::{Outcome, Trial, answered, refused};
 use crate::state::{found, has_keys};
 use indexset_core::refusal::{Refusal, Refused};
+use indexset_play::owned::{Owned, owned_node};
+use indexset_play::sized::set_of;
+use indexset_play::tagged::Tagged;
 use indexset_set::BTreeSet;
-use indexset_tests::owned::{Owned, owned_node};
-use indexset_tests::sized::set_of;
-use indexset_tests::tagged::Tagged;
 use std::alloc::{AllocError, Global};
 
 /// Makes the call of this name, if there is one.

@@ -3,8 +3,8 @@ ghost use Rattle.std.specs.Prelude.{◌≤◌};
 
 use crate::outcome::{Outcome, Trial, answered, refused};
 use indexset_core::refusal::Refusal;
+use indexset_play::owned::{Owned, owned_node};
 use indexset_spine::spine::Spine;
-use indexset_tests::owned::{Owned, owned_node};
 use std::alloc::Global;
 
 /// Where each item of the numbers 1 to 5 stands, two to a node: its node, its offset there, itself.

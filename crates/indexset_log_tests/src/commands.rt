@@ -1,11 +1,11 @@
 //! Lists of commands in the words of a script: a command is its name and what it is of, as `put(1)`,
 //! `insert(1:a)` or `len`.
 
-use crate::play::copy::Copy;
-use crate::play::item::Item;
 use indexset_bench::logged::Logged;
 use indexset_bench::logged_run::run_logged;
-use indexset_tests::script::Stop;
+use indexset_log_play::copy::Copy;
+use indexset_log_play::item::Item;
+use indexset_play::script::Stop;
 use std::alloc::Global;
 use std::str::SplitWhitespace;
 

@@ -1,12 +1,12 @@
 //! Worked examples of the first and the last item of a logged set and a logged map.
 
-use crate::play::copy::{Copy, told};
-use crate::play::item::tell_node;
-use crate::play::set::play_set;
 use indexset_core::pair::Pair;
 use indexset_log::map::BTreeMap;
-use indexset_tests::script::{Stop, Subject, play, read, tell, tell_option};
-use indexset_tests::tagged::Tagged;
+use indexset_log_play::copy::{Copy, told};
+use indexset_log_play::item::tell_node;
+use indexset_log_play::vec_set::play_set;
+use indexset_play::script::{Stop, Subject, play, read, tell, tell_option};
+use indexset_play::tagged::Tagged;
 use std::alloc::Global;
 use std::str::SplitWhitespace;
 use std::test::Fail;

@@ -1,10 +1,11 @@
 //! Events compared and shown.
 
-use crate::play::item::{Item, read_event};
 use indexset_core::multipair::MultiPair;
 use indexset_core::pair::Pair;
-use indexset_log::change::{ChangeEventUnassigned, Id};
-use indexset_tests::script::{Stop, Subject, play, tell};
+use indexset_log::change::{ChangeEvent, ChangeEventUnassigned, Id};
+use indexset_log_play::item::{Item, read_event};
+use indexset_play::script::{Stop, Subject, play, tell};
+use std::alloc::Global;
 use std::str::SplitWhitespace;
 use std::test::Fail;
 
@@ -33,12 +34,18 @@ impl Subject for Texts {
     }
 }
 
+/// Whether a number is shown in a width of three.
+fn is_shown_in_width(alloc: Global, number: Id) -> bool {
+    match format!(in alloc; "{number:>3}") {
+        Ok(text) => text.as_str() == "  7",
+        Err(_) => false,
+    }
+}
+
 #[test]
 fn events_as_text(rt: HostRuntime) -> Result<(), Fail> {
-    play(rt.alloc(), &mut Texts, TEXTS)?;
-    let number = format!(in rt.alloc(); "{:>3}", Id::from(7))?;
-    assert!(rt; number.as_str() == "  7");
-    Ok(())
+    assert!(rt; is_shown_in_width(rt.alloc(), Id::from(7)));
+    play(rt.alloc(), &mut Texts, TEXTS)
 }
 
 const TEXTS: &str = "
@@ -62,37 +69,69 @@ const SIX_EVENTS: [&str; 6] = [
     "7 merge 9 12",
 ];
 
+/// The event of a text.
+fn event_of(text: &str) -> Result<ChangeEvent<u64>, Stop> {
+    read_event(&mut text.split_whitespace())
+}
+
+/// Whether the events of two texts are equal where the texts are.
+fn is_compared(left: &str, right: &str) -> bool {
+    match (event_of(left), event_of(right)) {
+        (Ok(event), Ok(other)) => (event == other) == (left == right),
+        _ => false,
+    }
+}
+
+/// A split of the node of 9.
+fn split_at(split_index: usize) -> ChangeEventUnassigned<u64> {
+    ChangeEventUnassigned::SplitNode {
+        max_value: 9,
+        split_index,
+    }
+}
+
+/// A clone of an event, with a number.
+fn numbered(event: &ChangeEventUnassigned<u64>, id: u64) -> Result<ChangeEvent<u64>, Stop> {
+    Ok(event.clone()?.assign_id(Id::from(id)))
+}
+
+/// Whether an event is the one told where its number is 7, and another where it is 8.
+fn is_numbered(event: &ChangeEventUnassigned<u64>, told: &ChangeEvent<u64>) -> bool {
+    match (numbered(event, 7), numbered(event, 8)) {
+        (Ok(seventh), Ok(eighth)) => seventh == *told && eighth != *told,
+        _ => false,
+    }
+}
+
+/// Whether a split at 2 is the one told, and one at 3 is another.
+fn is_split_numbered() -> bool {
+    let split = split_at(2);
+    match event_of(SIX_EVENTS[4]) {
+        Ok(told) => is_numbered(&split, &told) && split != split_at(3),
+        Err(_) => false,
+    }
+}
+
 #[test]
-fn events_are_equal_where_each_part_is(rt: HostRuntime) -> Result<(), Fail> {
+fn events_are_equal_where_each_part_is(rt: HostRuntime) {
     for left in SIX_EVENTS {
         for right in SIX_EVENTS {
-            let event = read_event::<u64>(&mut left.split_whitespace())?;
-            let other = read_event::<u64>(&mut right.split_whitespace())?;
-            assert!(rt; (event == other) == (left == right), "{left} and {right}");
+            assert!(rt; is_compared(left, right), "{left} and {right}");
         }
     }
-    let max_value = 9;
-    let split_index = 2;
-    let split = ChangeEventUnassigned::SplitNode {
-        max_value,
-        split_index,
-    };
-    let later = ChangeEventUnassigned::SplitNode {
-        max_value,
-        split_index: 3,
-    };
-    let seventh = split.clone()?.assign_id(Id::from(7));
-    let eighth = split.clone()?.assign_id(Id::from(8));
-    let told = read_event::<u64>(&mut SIX_EVENTS[4].split_whitespace())?;
-    assert!(rt; seventh == told && eighth != told && split != later);
-    Ok(())
+    assert!(rt; is_split_numbered());
+}
+
+/// The creation of the node of a pair.
+fn creation_of(key: u64, value: char) -> ChangeEventUnassigned<Pair<u64, char>> {
+    ChangeEventUnassigned::CreateNode {
+        max_value: Pair { key, value },
+    }
 }
 
 #[test]
 fn events_of_pairs_are_compared_by_keys(rt: HostRuntime) {
-    let create = |key: u64, value: char| ChangeEventUnassigned::CreateNode {
-        max_value: Pair { key, value },
-    };
-    let same = create(1, 'a') == create(1, 'b');
-    assert!(rt; same && create(1, 'a') != create(2, 'a'));
+    let event = creation_of(1, 'a');
+    let same = event == creation_of(1, 'b');
+    assert!(rt; same && event != creation_of(2, 'a'));
 }

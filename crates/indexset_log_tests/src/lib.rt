@@ -1,8 +1,7 @@
 //! Worked examples of the logged set, the runs of commands and the program, as tests: the values are
 //! typed from the library's documents. Those of the logged map, the multimap, the replica and the facade
-//! stand in `indexset_replica_tests`. Rows of calls are scripts, which `play` plays; `told` is for tests that
-//! type events as values. What they share with the tests of the plain family (items with a tag, keys that
-//! count, the player of scripts) stands in `indexset_tests`.
+//! stand in `indexset_replica_tests`. Rows of calls are scripts; what plays them stands in
+//! `indexset_log_play`.
 #![tactic(auto)]
 
 #[cfg(test)]
@@ -19,7 +18,6 @@ mod logged_counted;
 mod logged_run;
 #[cfg(test)]
 mod logged_walks;
-pub mod play;
 #[cfg(test)]
 mod program;
 #[cfg(test)]
@@ -30,5 +28,3 @@ mod run_map;
 mod run_set;
 #[cfg(test)]
 mod terminal;
-pub mod told;
-pub mod trees;

@@ -1,10 +1,10 @@
 //! Worked examples of the logged set and its events.
 
-use crate::play::set::{play_numbers, play_set};
 use indexset_core::array_node::ArrayNode;
 use indexset_log::change::{ChangeEvent, ChangeEventUnassigned, Id};
 use indexset_log::set::BTreeSet;
-use indexset_tests::tagged::Tagged;
+use indexset_log_play::vec_set::{play_numbers, play_set};
+use indexset_play::tagged::Tagged;
 use std::test::Fail;
 
 mod removed;

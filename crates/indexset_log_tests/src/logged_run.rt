@@ -1,9 +1,6 @@
 //! Worked examples of lists of commands to the logged trees, and of a replica that follows.
 
 use crate::commands::{Command, Reply, tell_run};
-use crate::play::copy::{Copy, told};
-use crate::play::item::{read_pair, tell_node};
-use crate::play::set::Sets;
 use indexset_bench::logged::map::{LoggedMapCommand, LoggedMapReply};
 use indexset_bench::logged::multimap::{LoggedMultiCommand, LoggedMultiReply};
 use indexset_bench::logged::set::{LoggedSetCommand, LoggedSetReply};
@@ -14,8 +11,11 @@ use indexset_core::node::NodeLike;
 use indexset_core::pair::Pair;
 use indexset_log::map::BTreeMap;
 use indexset_log::set::BTreeSet;
+use indexset_log_play::copy::{Copy, told};
+use indexset_log_play::item::{read_pair, tell_node};
+use indexset_log_play::set::Sets;
 use indexset_multi::multimap::BTreeMultiMap;
-use indexset_tests::script::{Stop, Subject, play, read, tell, tell_option};
+use indexset_play::script::{Stop, Subject, play, read, tell, tell_option};
 use std::alloc::Global;
 use std::str::SplitWhitespace;
 use std::test::Fail;

@@ -1,7 +1,7 @@
 //! Walks, ranges and nodes of the logged set, over either node type.
 
-use crate::play::set::{play_numbers, play_sizes};
 use indexset_core::array_node::ArrayNode;
+use indexset_log_play::vec_set::{play_numbers, play_sizes};
 use std::test::Fail;
 
 #[test]

@@ -6,12 +6,36 @@ use std::alloc::Global;
 use std::io::{self, BufReader, ErrorKind, Read, Write};
 use std::test::Fail;
 
-/// The text that a run over memory writes.
-fn text(alloc: Global, input: &[u8]) -> Result<Vec<u8>, RunFault> {
+/// Runs over a source that is read through a buffer.
+pub fn run_buffered<R: Read + Drop, W: Write>(
+    alloc: Global,
+    source: R,
+    writer: &mut W,
+) -> Result<(), RunFault> {
+    match BufReader::new(alloc, source) {
+        Ok(mut reader) => run(alloc, &mut reader, writer),
+        Err(_) => Err(RunFault::Memory),
+    }
+}
+
+/// Whether a run over a source that is read through a buffer ends so, and writes this text.
+fn is_run<R: Read + Drop>(
+    alloc: Global,
+    source: R,
+    outcome: Result<(), RunFault>,
+    text: &[u8],
+) -> bool {
+    let mut written = Vec::new(alloc);
+    let told = run_buffered(alloc, source, &mut written);
+    told == outcome && written.as_slice() == text
+}
+
+/// Whether a run over memory writes this text.
+fn is_answered(alloc: Global, input: &[u8], text: &[u8]) -> bool {
     let mut reader = input;
     let mut written = Vec::new(alloc);
-    run(alloc, &mut reader, &mut written)?;
-    Ok(written)
+    let told = run(alloc, &mut reader, &mut written);
+    told == Ok(()) && written.as_slice() == text
 }
 
 /// Gives its bytes, and then fails.
@@ -118,10 +142,8 @@ impl Write for Stuck {
     }
 }
 
-#[test]
-fn answers_thousands_of_lines(rt: HostRuntime) -> Result<(), Fail> {
-    let mut input = Vec::new(rt.alloc());
-    let mut output = Vec::new(rt.alloc());
+/// Writes thousands of lines, and the replies to them.
+fn write_thousands(input: &mut Vec<u8>, output: &mut Vec<u8>) -> io::Result<()> {
     for n in 0..5000u64 {
         writeln!(input, "add {n}")?;
         writeln!(output, "new")?;
@@ -130,10 +152,16 @@ fn answers_thousands_of_lines(rt: HostRuntime) -> Result<(), Fail> {
         writeln!(input, "at {n}")?;
         writeln!(output, "{n}")?;
     }
-    let mut reader = BufReader::new(rt.alloc(), input.as_slice())?;
-    let mut written: Vec<u8> = Vec::new(rt.alloc());
-    assert_eq!(rt; run(rt.alloc(), &mut reader, &mut written), Ok(()));
-    assert_eq!(rt; written.as_slice(), output.as_slice());
+    Ok(())
+}
+
+#[test]
+fn answers_thousands_of_lines(rt: HostRuntime) -> Result<(), Fail> {
+    let mut input = Vec::new(rt.alloc());
+    let mut output = Vec::new(rt.alloc());
+    write_thousands(&mut input, &mut output)?;
+    let source = input.as_slice();
+    assert!(rt; is_run(rt.alloc(), source, Ok(()), output.as_slice()));
     Ok(())
 }
 
@@ -141,15 +169,13 @@ fn answers_thousands_of_lines(rt: HostRuntime) -> Result<(), Fail> {
 fn answers_a_line_of_a_megabyte(rt: HostRuntime) -> Result<(), Fail> {
     let mut input = vec![in rt.alloc(); b'9'; 1_000_000]?;
     input.extend_from_slice(b"\nlen\n")?;
-    let mut reader = BufReader::new(rt.alloc(), input.as_slice())?;
-    let mut written: Vec<u8> = Vec::new(rt.alloc());
-    assert_eq!(rt; run(rt.alloc(), &mut reader, &mut written), Ok(()));
-    assert_eq!(rt; written.as_slice(), b"bad\n0\n".as_slice());
+    let source = input.as_slice();
+    assert!(rt; is_run(rt.alloc(), source, Ok(()), b"bad\n0\n"));
     Ok(())
 }
 
 #[test]
-fn answers_each_line(rt: HostRuntime) -> Result<(), Fail> {
+fn answers_each_line(rt: HostRuntime) {
     let cases: [(&[u8], &[u8]); 4] = [
         (
             b"add 5\nadd 5\nrank 9\nat 1\n\nlen",
@@ -164,14 +190,12 @@ fn answers_each_line(rt: HostRuntime) -> Result<(), Fail> {
         ),
     ];
     for (input, output) in cases {
-        let written = text(rt.alloc(), input)?;
-        assert_eq!(rt; written.as_slice(), output);
+        assert!(rt; is_answered(rt.alloc(), input, output));
     }
-    Ok(())
 }
 
 #[test]
-fn tells_events(rt: HostRuntime) -> Result<(), Fail> {
+fn tells_events(rt: HostRuntime) {
     let cases: [(&[u8], &[u8]); 4] = [
         (
             b"put 0 0\nput 1 1\nput 2 2\nput 3 3\nput 4 4\ncut 4\ncut 3\ncut 1\nnodes\n",
@@ -198,68 +222,53 @@ fn tells_events(rt: HostRuntime) -> Result<(), Fail> {
         ),
     ];
     for (input, output) in cases {
-        let written = text(rt.alloc(), input)?;
-        assert_eq!(rt; written.as_slice(), output);
+        assert!(rt; is_answered(rt.alloc(), input, output));
     }
-    Ok(())
 }
 
 #[test]
-fn keeps_numbers_and_pairs_apart(rt: HostRuntime) -> Result<(), Fail> {
-    let written = text(rt.alloc(), b"add 5\ncut 5\nput 5 6\ndel 5\nlen\nnodes\n")?;
-    let expected = b"new\nnone\nnew\n0 create 5:6\ngone\n0\n5:6\n".as_slice();
-    assert_eq!(rt; written.as_slice(), expected);
-    Ok(())
+fn keeps_numbers_and_pairs_apart(rt: HostRuntime) {
+    let input = b"add 5\ncut 5\nput 5 6\ndel 5\nlen\nnodes\n";
+    let output = b"new\nnone\nnew\n0 create 5:6\ngone\n0\n5:6\n";
+    assert!(rt; is_answered(rt.alloc(), input, output));
 }
 
 #[test]
-fn tells_a_failed_read(rt: HostRuntime) -> Result<(), Fail> {
+fn tells_a_failed_read(rt: HostRuntime) {
     for kind in [ErrorKind::BrokenPipe, ErrorKind::OutOfMemory] {
         let bytes = b"add 5\nlen\nad".as_slice();
-        let mut reader = BufReader::new(rt.alloc(), Failing { bytes, kind })?;
-        let mut written: Vec<u8> = Vec::new(rt.alloc());
-        let outcome = run(rt.alloc(), &mut reader, &mut written);
-        assert_eq!(rt; outcome, Err(RunFault::Read));
-        assert_eq!(rt; written.as_slice(), b"new\n1\n".as_slice());
+        let source = Failing { bytes, kind };
+        assert!(rt; is_run(rt.alloc(), source, Err(RunFault::Read), b"new\n1\n"));
     }
-    Ok(())
 }
 
 #[test]
-fn reads_on_after_an_interruption(rt: HostRuntime) -> Result<(), Fail> {
-    let bytes = b"add 5\nlen".as_slice();
+fn reads_on_after_an_interruption(rt: HostRuntime) {
     let source = Interrupted {
-        bytes,
+        bytes: b"add 5\nlen".as_slice(),
         was_interrupted: false,
     };
-    let mut reader = BufReader::new(rt.alloc(), source)?;
-    let mut written: Vec<u8> = Vec::new(rt.alloc());
-    let outcome = run(rt.alloc(), &mut reader, &mut written);
-    assert_eq!(rt; outcome, Ok(()));
-    assert_eq!(rt; written.as_slice(), b"new\n1\n".as_slice());
-    Ok(())
+    assert!(rt; is_run(rt.alloc(), source, Ok(()), b"new\n1\n"));
+}
+
+/// What a run over a line, to this writer, returns.
+fn run_over_a_line<W: Write>(alloc: Global, writer: &mut W) -> Result<(), RunFault> {
+    let mut reader: &[u8] = b"add 5\n";
+    run(alloc, &mut reader, writer)
 }
 
 #[test]
-fn tells_a_failed_write(rt: HostRuntime) -> Result<(), Fail> {
-    let mut reader: &[u8] = b"add 5\n";
-    assert_eq!(rt;
-        run(rt.alloc(), &mut reader, &mut Full),
-        Err(RunFault::Write)
-    );
-    let mut reader: &[u8] = b"add 5\n";
-    assert_eq!(rt;
-        run(rt.alloc(), &mut reader, &mut Stuck),
-        Err(RunFault::Write)
-    );
-    Ok(())
+fn tells_a_failed_write(rt: HostRuntime) {
+    let full = run_over_a_line(rt.alloc(), &mut Full);
+    let stuck = run_over_a_line(rt.alloc(), &mut Stuck);
+    assert!(rt; full == Err(RunFault::Write) && stuck == Err(RunFault::Write));
 }
 
 /// The worked lines.
 const LINES: &[u8] = b"add 5\nadd 5\nrank 9\nat 1\n\nlen";
 
 #[test]
-fn tells_each_failed_read(rt: HostRuntime) -> Result<(), Fail> {
+fn tells_each_failed_read(rt: HostRuntime) {
     let failed = Err(RunFault::Read);
     // Of each row, so many reads succeed.
     let rows: [(usize, &[u8], Result<(), RunFault>); 9] = [
@@ -275,48 +284,53 @@ fn tells_each_failed_read(rt: HostRuntime) -> Result<(), Fail> {
     ];
     for (reads, text, outcome) in rows {
         let bytes = LINES;
-        let mut reader = BufReader::new(rt.alloc(), FailingAfter { bytes, reads })?;
-        let mut written: Vec<u8> = Vec::new(rt.alloc());
-        let told = run(rt.alloc(), &mut reader, &mut written);
-        assert!(rt;
-            told == outcome && written.as_slice() == text,
-            "after {reads}"
-        );
+        let source = FailingAfter { bytes, reads };
+        assert!(rt; is_run(rt.alloc(), source, outcome, text), "after {reads}");
     }
-    Ok(())
 }
 
-#[test]
-fn tells_each_failed_write(rt: HostRuntime) -> Result<(), Fail> {
-    // Each of the six replies is one write at least.
+/// Whether a run over the worked lines, of which so many writes succeed, writes all replies, or
+/// fails and writes a beginning of them. Each of the six replies is one write at least.
+fn is_right_after(alloc: Global, writes: usize) -> bool {
     let whole = b"new\nold\n1\nnone\nbad\n1\n".as_slice();
-    for writes in 0..40 {
-        let mut reader = LINES;
-        let text = Vec::new(rt.alloc());
-        let mut writer = FullAfter { text, writes };
-        let told = run(rt.alloc(), &mut reader, &mut writer);
-        let written = writer.text.as_slice();
-        let ended = told == Ok(()) && written == whole;
-        let failed = told == Err(RunFault::Write) && written != whole;
-        let is_right = if writes < 6 { failed } else { failed || ended };
-        assert!(rt; is_right && whole.starts_with(written), "after {writes}");
-    }
-    Ok(())
+    let mut reader = LINES;
+    let text = Vec::new(alloc);
+    let mut writer = FullAfter { text, writes };
+    let told = run(alloc, &mut reader, &mut writer);
+    let written = writer.text.as_slice();
+    let ended = told == Ok(()) && written == whole;
+    let failed = told == Err(RunFault::Write) && written != whole;
+    let is_right = if writes < 6 { failed } else { failed || ended };
+    is_right && whole.starts_with(written)
 }
 
 #[test]
-fn tells_the_first_fault(rt: HostRuntime) -> Result<(), Fail> {
+fn tells_each_failed_write(rt: HostRuntime) {
+    for writes in 0..40 {
+        assert!(rt; is_right_after(rt.alloc(), writes), "after {writes}");
+    }
+}
+
+#[test]
+fn tells_the_first_fault(rt: HostRuntime) {
     let cases: [(&[u8], RunFault); 2] = [(b"", RunFault::Read), (b"add 5\n", RunFault::Write)];
     for (bytes, fault) in cases {
         let kind = ErrorKind::BrokenPipe;
-        let mut reader = BufReader::new(rt.alloc(), Failing { bytes, kind })?;
-        assert_eq!(rt; run(rt.alloc(), &mut reader, &mut Stuck), Err(fault));
+        let told = run_buffered(rt.alloc(), Failing { bytes, kind }, &mut Stuck);
+        assert!(rt; told == Err(fault));
     }
-    Ok(())
+}
+
+/// Whether a fault has this status and this word, and is shown as the word.
+fn is_told(alloc: Global, fault: RunFault, status: u8, word: &str) -> bool {
+    match format!(in alloc; "{fault}") {
+        Ok(shown) => shown.as_str() == word && fault.status() == status && fault.word() == word,
+        Err(_) => false,
+    }
 }
 
 #[test]
-fn tells_faults_by_status_and_word(rt: HostRuntime) -> Result<(), Fail> {
+fn tells_faults_by_status_and_word(rt: HostRuntime) {
     let told = [
         (RunFault::Memory, 1, "memory"),
         (RunFault::Numbers, 2, "numbers"),
@@ -324,12 +338,9 @@ fn tells_faults_by_status_and_word(rt: HostRuntime) -> Result<(), Fail> {
         (RunFault::Write, 4, "write"),
     ];
     for (fault, status, word) in told {
-        assert_eq!(rt; fault.status(), status);
-        assert_eq!(rt; fault.word(), word);
-        let shown = format!(in rt.alloc(); "{fault}")?;
-        assert_eq!(rt; shown.as_str(), word);
+        assert!(rt; is_told(rt.alloc(), fault, status, word));
     }
-    assert_eq!(rt; RunFault::from(Refusal::Memory), RunFault::Memory);
-    assert_eq!(rt; RunFault::from(Refusal::Numbers), RunFault::Numbers);
-    Ok(())
+    let memory = RunFault::from(Refusal::Memory) == RunFault::Memory;
+    let numbers = RunFault::from(Refusal::Numbers) == RunFault::Numbers;
+    assert!(rt; memory && numbers);
 }

@@ -1,7 +1,7 @@
 //! Worked examples of the removal of all pairs of a key.
 
-use crate::told::{Told, are_events};
 use indexset_core::multipair::MultiPair;
+use indexset_log_play::told::{Told, are_events};
 use indexset_multi::multimap::BTreeMultiMap;
 use std::test::Fail;
 

@@ -1,11 +1,11 @@
 //! Worked examples of lists of commands to a map.
 
 use crate::commands::{Command, Reply, read_commands, tell_replies};
-use crate::play::item::read_pair;
 use indexset_bench::map_run::{MapCommand, MapReply, run_map};
 use indexset_core::pair::Pair;
+use indexset_log_play::item::read_pair;
 use indexset_map::BTreeMap;
-use indexset_tests::script::{Stop, Subject, play, read, tell, tell_option};
+use indexset_play::script::{Stop, Subject, play, read, tell, tell_option};
 use std::alloc::Global;
 use std::str::SplitWhitespace;
 use std::test::Fail;

@@ -1,10 +1,10 @@
 //! Worked examples of lists of commands to a set.
 
 use crate::commands::{Command, Reply, read_commands, tell_replies};
-use crate::play::item::read_items;
 use indexset_bench::set_run::{SetCommand, SetReply, run_set};
+use indexset_log_play::item::read_items;
+use indexset_play::script::{Stop, Subject, play, read, tell, tell_option};
 use indexset_set::BTreeSet;
-use indexset_tests::script::{Stop, Subject, play, read, tell, tell_option};
 use std::alloc::Global;
 use std::str::SplitWhitespace;
 use std::test::Fail;

@@ -1,9 +1,8 @@
 //! A person at a terminal, who types a line once the reply to the one before is on the screen.
 
-use indexset_bench::run;
+use crate::program::run_buffered;
 use std::cell::Cell;
-use std::io::{self, BufReader, ErrorKind, Read, Write};
-use std::test::Fail;
+use std::io::{self, ErrorKind, Read, Write};
 
 /// Gives a line at each read, and fails where the replies to the lines before are not out.
 #[derive(Drop)]
@@ -52,7 +51,7 @@ impl Write for Screen<'_> {
 }
 
 #[test]
-fn each_reply_is_out_before_the_next_line_is_read(rt: HostRuntime) -> Result<(), Fail> {
+fn each_reply_is_out_before_the_next_line_is_read(rt: HostRuntime) {
     let shown = Cell::new(0);
     let keyboard = Keyboard {
         lines: b"add 5\nadd 7\n\nat 1\nlen\n".as_slice(),
@@ -63,8 +62,6 @@ fn each_reply_is_out_before_the_next_line_is_read(rt: HostRuntime) -> Result<(),
         held: 0,
         shown: &shown,
     };
-    let mut reader = BufReader::new(rt.alloc(), keyboard)?;
-    assert_eq!(rt; run(rt.alloc(), &mut reader, &mut screen), Ok(()));
-    assert_eq!(rt; shown.get(), 5);
-    Ok(())
+    let told = run_buffered(rt.alloc(), keyboard, &mut screen);
+    assert!(rt; told == Ok(()) && shown.get() == 5);
 }

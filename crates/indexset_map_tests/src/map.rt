@@ -3,7 +3,7 @@ ghost use Rattle.std.specs.Prelude.{◌≤◌};
 
 use indexset_core::refusal::Refusal;
 use indexset_map::{BTreeMap, IterMap};
-use indexset_tests::sized::map_of;
+use indexset_play::sized::map_of;
 use std::alloc::Global;
 
 mod bulk;

@@ -1,11 +1,11 @@
 //! Worked examples of events that are delivered out of turn.
 
-use crate::play::copies::play_copies;
 use indexset_core::refusal::Refusal;
 use indexset_log::change::{ChangeEvent, Id};
-use indexset_log_tests::told::are_copies;
+use indexset_log_play::copies::play_copies;
+use indexset_log_play::told::are_copies;
+use indexset_play::tagged::Tagged;
 use indexset_replica::Replica;
-use indexset_tests::tagged::Tagged;
 use std::test::Fail;
 
 #[test]

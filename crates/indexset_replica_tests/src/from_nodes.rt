@@ -1,6 +1,6 @@
 //! Worked examples of trees that are made of the nodes of others.
 
-use crate::play::sets::play_made;
+use indexset_log_play::made::play_made;
 use std::test::Fail;
 
 #[test]

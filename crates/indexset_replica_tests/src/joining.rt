@@ -1,8 +1,10 @@
 //! Removals that join small neighbours, over either node type, and copies that follow.
 
-use crate::play::maps::{play_map, play_map_of_four};
-use crate::play::multimaps::{play_multimap, play_multimap_of_four};
-use crate::play::sets::{play_numbers_of_four, play_numbers_of_three};
+use indexset_log_play::array_maps::play_map_of_four;
+use indexset_log_play::array_multimaps::play_multimap_of_four;
+use indexset_log_play::made::{play_numbers_of_four, play_numbers_of_three};
+use indexset_log_play::maps::play_map;
+use indexset_log_play::multimaps::play_multimap;
 use std::test::Fail;
 
 mod older;

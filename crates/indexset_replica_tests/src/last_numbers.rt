@@ -1,6 +1,7 @@
 //! A worked example of a logged map whose event numbers run out, over either node type.
 
-use crate::play::maps::{play_map, play_map_of_four};
+use indexset_log_play::array_maps::play_map_of_four;
+use indexset_log_play::maps::play_map;
 use std::test::Fail;
 
 #[test]

@@ -1,6 +1,7 @@
 //! Worked examples of the logged map, the multimap and the replica, of small neighbours that are
 //! joined, of the last numbers and of the facade, as tests: the values are typed from the library's
-//! documents. What they share with the tests of the logged set stands in `indexset_log_tests`.
+//! documents. What plays their scripts stands in
+//! `indexset_log_play`.
 #![tactic(auto)]
 
 #[cfg(test)]
@@ -23,8 +24,6 @@ mod multimap_ends;
 mod multimap_nodes;
 #[cfg(test)]
 mod paths;
-#[cfg(test)]
-mod play;
 #[cfg(test)]
 mod readme;
 #[cfg(test)]

@@ -1,6 +1,7 @@
 //! Worked examples of the logged map, over either node type.
 
-use crate::play::maps::{play_map, play_map_of_eight, play_map_of_four, play_map_of_two};
+use indexset_log_play::array_maps::{play_map_of_eight, play_map_of_four, play_map_of_two};
+use indexset_log_play::maps::play_map;
 use std::test::Fail;
 
 #[test]

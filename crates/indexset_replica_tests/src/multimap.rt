@@ -1,11 +1,12 @@
 //! Worked examples of the multimap, over either node type.
 
-use crate::play::multimaps::{play_multimap, play_multimap_of_three};
 use indexset_core::multipair::MultiPair;
 use indexset_core::node::NodeLike;
 use indexset_core::pair::Pair;
 use indexset_log::change::ChangeEvent;
-use indexset_log_tests::told::{Told, are_events};
+use indexset_log_play::array_multimaps::play_multimap_of_three;
+use indexset_log_play::multimaps::play_multimap;
+use indexset_log_play::told::{Told, are_events};
 use indexset_multi::multimap::BTreeMultiMap;
 use std::test::Fail;
 

@@ -1,6 +1,6 @@
 //! Worked examples of the first and the last pair of a multimap.
 
-use crate::play::multimaps::play_multimap;
+use indexset_log_play::multimaps::play_multimap;
 use std::test::Fail;
 
 #[test]

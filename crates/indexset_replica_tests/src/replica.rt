@@ -1,7 +1,7 @@
 //! Worked examples of a replica: events that arrive, and events that are refused.
 
-use crate::play::copies::play_copies;
-use indexset_tests::tagged::Tagged;
+use indexset_log_play::copies::play_copies;
+use indexset_play::tagged::Tagged;
 use std::test::Fail;
 
 #[test]

@@ -1,8 +1,8 @@
 //! Replicas made of a tree's nodes, what they hold, and trees that go on from them.
 
-use crate::play::copies::play_copies;
-use crate::play::sets::play_made;
-use indexset_tests::tagged::Tagged;
+use indexset_log_play::copies::play_copies;
+use indexset_log_play::made::play_made;
+use indexset_play::tagged::Tagged;
 use std::test::Fail;
 
 #[test]

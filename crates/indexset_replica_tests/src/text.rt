@@ -1,9 +1,9 @@
 //! The texts of node lists.
 
-use crate::play::copies::play_copies;
-use crate::play::maps::play_map;
-use crate::play::multimaps::play_multimap;
-use crate::play::sets::play_numbers;
+use indexset_log_play::copies::play_copies;
+use indexset_log_play::made::play_numbers;
+use indexset_log_play::maps::play_map;
+use indexset_log_play::multimaps::play_multimap;
 use std::test::Fail;
 
 #[test]

@@ -1,10 +1,13 @@
 //! Worked figures of an index of the lengths 2, 2, 2, 4, and how many cells each answer reads.
-ghost use Rattle.std.specs.Prelude.{◌≡◌, ◌≤◌, length};
+ghost use Rattle.std.specs.Prelude.{◌≡◌, ◌<◌, ◌≤◌, ◌^◌, ◌∷◌, [], length, sum};
+ghost use Rattle.indexset_core.specs.Nodes.{node_lengths, vec_items};
 ghost use Rattle.indexset_spine.specs.Fenwick.{cell_of};
 
+use indexset_core::refusal::Refusal;
 use indexset_spine::fenwick::Fenwick;
 use indexset_spine::fenwick::cells::Cells;
 use indexset_spine::fenwick::sums::{find_in, prefix_in};
+use std::alloc::Global;
 use std::test::Fail;
 
 /// Cells that show how often they were read.
@@ -74,14 +77,21 @@ fn four(index: &Fenwick) -> [usize; 4]
     ]
 }
 
+// Whether the cells hold the sums of these lengths, and after each change to one of them.
+fn holds_sums(index: &mut Fenwick) -> bool
+    requires { index.old.lengths ≡ 2 ∷ 2 ∷ 2 ∷ 4 ∷ [] }
+{
+    let made = index.cells().count() == 4 && four(index) == [2, 4, 2, 10];
+    index.add(1, 1);
+    let added = four(index) == [2, 5, 2, 11] && find(index, 4).0 == Some((1, 2));
+    index.sub(3, 4);
+    made && added && four(index) == [2, 5, 2, 7]
+}
+
 #[test]
 fn cells_hold_sums(rt: HostRuntime) -> Result<(), Fail> {
     let mut index = Fenwick::from_lengths(rt.alloc(), &[2, 2, 2, 4])?;
-    let made = index.cells().count() == 4 && four(&index) == [2, 4, 2, 10];
-    index.add(1, 1);
-    let added = four(&index) == [2, 5, 2, 11] && find(&index, 4).0 == Some((1, 2));
-    index.sub(3, 4);
-    assert!(rt; made && added && four(&index) == [2, 5, 2, 7]);
+    assert!(rt; holds_sums(&mut index));
     Ok(())
 }
 
@@ -107,12 +117,43 @@ fn searches_read_a_cell_for_each_digit(rt: HostRuntime) -> Result<(), Fail> {
     Ok(())
 }
 
+/// The node of the first position in nodes of these lengths, and the offset in it.
+fn find_first(alloc: Global, lengths: &[usize]) -> Result<Option<(usize, usize)>, Refusal>
+    requires { sum lengths.now < 2 ^ 64 }
+{
+    let index = Fenwick::from_lengths(alloc, lengths)?;
+    Ok(find(&index, 0).0)
+}
+
 #[test]
 fn empty_nodes_hold_no_position(rt: HostRuntime) -> Result<(), Fail> {
-    let index = Fenwick::from_lengths(rt.alloc(), &[0, 3])?;
-    let none = Fenwick::from_lengths(rt.alloc(), &[0])?;
-    assert!(rt; find(&index, 0).0 == Some((1, 0)) && find(&none, 0).0.is_none());
+    let found = find_first(rt.alloc(), &[0, 3])?;
+    let none = find_first(rt.alloc(), &[0])?;
+    assert!(rt; found == Some((1, 0)) && none.is_none());
     Ok(())
+}
+
+// Whether two lengths are put into an empty index, and those of three nodes in their place.
+fn is_rebuilt(index: &mut Fenwick, nodes: &[Vec<u8>]) -> bool
+    requires empty { index.old.lengths ≡ [] }
+    requires room { 1 ≤ index.old.room }
+    requires three { length nodes.now ≡ 3 }
+    requires fits { sum (node_lengths (vec_items nodes.now)) < 2 ^ 64 }
+{
+    index.push(9);
+    if index.reserve_one().is_err() {
+        return false;
+    }
+    index.push(1);
+    if index.reserve_one().is_err() {
+        return false;
+    }
+    index.rebuild(nodes);
+    let rebuilt = prefix(index, 3).0 == 6;
+    index.truncate(2);
+    let cut = index.len() == 2 && prefix(index, 2).0 == 3;
+    index.rebuild_from(2, nodes);
+    rebuilt && cut && find(index, 3).0 == Some((2, 0))
 }
 
 #[test]
@@ -124,15 +165,6 @@ fn an_index_grows_and_is_rebuilt(rt: HostRuntime) -> Result<(), Fail> {
         vec![in alloc; 4, 5, 6]?,
     ]?;
     let mut index = Fenwick::with_capacity(alloc, 1)?;
-    index.push(9);
-    index.reserve_one()?;
-    index.push(1);
-    index.reserve_one()?;
-    index.rebuild(nodes.as_slice());
-    let rebuilt = prefix(&index, 3).0 == 6;
-    index.truncate(2);
-    let cut = index.len() == 2 && prefix(&index, 2).0 == 3;
-    index.rebuild_from(2, nodes.as_slice());
-    assert!(rt; rebuilt && cut && find(&index, 3).0 == Some((2, 0)));
+    assert!(rt; is_rebuilt(&mut index, nodes.as_slice()));
     Ok(())
 }

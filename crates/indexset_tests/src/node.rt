@@ -1,25 +1,43 @@
 //! Worked examples of the Vec node, through the trait.
+ghost use Rattle.std.specs.Prelude.{IfOk};
 ghost use Rattle.std.specs.Ordering.{nat_cmp};
 ghost use Rattle.indexset_core.specs.Order.{IsAscending};
 
-use crate::nodes::node_of;
-use crate::tagged::Tagged;
 use indexset_core::node::NodeLike;
 use indexset_core::probe::{ByItem, Counting};
+use indexset_core::refusal::Refusal;
+use indexset_play::nodes::node_of;
+use indexset_play::tagged::Tagged;
+use std::alloc::Global;
 use std::ops::Bound;
 use std::test::Fail;
 
+/// A node of these numbers, put in one after another.
+pub fn numbers(alloc: Global, values: &[u64]) -> Result<Vec<u64>, Refusal>
+    ensures { IfOk result (λ node. IsAscending nat_cmp node.items) }
+{
+    node_of(alloc, values)
+}
+
+// Whether the numbers from 1 to 10 are read in order.
+fn is_one_to_ten(node: &Vec<u64>) -> bool {
+    let all = node.as_slice() == [1, 2, 3, 4, 5, 6, 7, 8, 9, 10].as_slice();
+    let ends = NodeLike::max(node) == Some(&10) && NodeLike::min(node) == Some(&1);
+    let read = NodeLike::get_ith(node, 3) == Some(&4) && NodeLike::get_ith(node, 10).is_none();
+    all && ends && read && NodeLike::iter(node).next_back() == Some(&10)
+}
+
+// Whether the node holds ten items, and is to be split at ten and not at eleven.
+fn is_full_at_ten(node: &Vec<u64>) -> bool {
+    let room = NodeLike::len(node) == 10 && NodeLike::capacity(node) >= 10;
+    let full = NodeLike::need_to_split(node, 10, &0) && !NodeLike::need_to_split(node, 11, &0);
+    room && full && <Vec<u64> as NodeLike<u64>>::limit() == usize::MAX
+}
+
 #[test]
 fn an_insert_finds_its_place(rt: HostRuntime) -> Result<(), Fail> {
-    let node: Vec<u64> = node_of(rt.alloc(), &[1, 9, 2, 7, 6, 3, 5, 4, 10, 8])?;
-    let all = node.as_slice() == [1, 2, 3, 4, 5, 6, 7, 8, 9, 10].as_slice();
-    let ends = NodeLike::max(&node) == Some(&10) && NodeLike::min(&node) == Some(&1);
-    let room = NodeLike::len(&node) == 10 && NodeLike::capacity(&node) >= 10;
-    let read = NodeLike::get_ith(&node, 3) == Some(&4) && NodeLike::get_ith(&node, 10).is_none();
-    let last = NodeLike::iter(&node).next_back() == Some(&10);
-    let full = NodeLike::need_to_split(&node, 10, &0) && !NodeLike::need_to_split(&node, 11, &0);
-    let limit = <Vec<u64> as NodeLike<u64>>::limit() == usize::MAX;
-    assert!(rt; all && ends && room && read && last && full && limit);
+    let node = numbers(rt.alloc(), &[1, 9, 2, 7, 6, 3, 5, 4, 10, 8])?;
+    assert!(rt; is_one_to_ten(&node) && is_full_at_ten(&node));
     Ok(())
 }
 
@@ -36,9 +54,22 @@ fn a_node_is_cut_at_half_its_length(rt: HostRuntime) -> Result<(), Fail> {
     Ok(())
 }
 
-#[test]
-fn the_rank_of_a_bound(rt: HostRuntime) -> Result<(), Fail> {
-    let node: Vec<u64> = node_of(rt.alloc(), &[1, 3, 5, 7, 9])?;
+// The ranks of the value included and excluded, from the start, and the same from the end.
+fn ranks(node: &Vec<u64>, value: u64) -> [Option<usize>; 4]
+    requires { IsAscending nat_cmp node.now.items }
+{
+    [
+        node.rank(Bound::Included(&value), true),
+        node.rank(Bound::Excluded(&value), true),
+        node.rank(Bound::Included(&value), false),
+        node.rank(Bound::Excluded(&value), false),
+    ]
+}
+
+// Whether the numbers that are held and those around have these ranks among five odd numbers.
+fn has_ranks(node: &Vec<u64>) -> bool
+    requires { IsAscending nat_cmp node.now.items }
+{
     let table = [
         (1, [None, Some(0), Some(3), Some(4)]),
         (5, [Some(1), Some(2), Some(1), Some(2)]),
@@ -46,46 +77,80 @@ fn the_rank_of_a_bound(rt: HostRuntime) -> Result<(), Fail> {
         (0, [None, None, Some(4), Some(4)]),
         (10, [Some(4), Some(4), None, None]),
     ];
-    for (value, ranks) in table {
-        let included = node.rank(Bound::Included(&value), true);
-        let excluded = node.rank(Bound::Excluded(&value), true);
-        let included_back = node.rank(Bound::Included(&value), false);
-        let excluded_back = node.rank(Bound::Excluded(&value), false);
-        let found = [included, excluded, included_back, excluded_back];
-        assert!(rt; found == ranks, "of {value}: {found:?}");
+    for (value, expected) in table {
+        if ranks(node, value) != expected {
+            return false;
+        }
     }
+    true
+}
+
+#[test]
+fn the_rank_of_a_bound(rt: HostRuntime) -> Result<(), Fail> {
+    let node = numbers(rt.alloc(), &[1, 3, 5, 7, 9])?;
+    assert!(rt; has_ranks(&node));
     Ok(())
+}
+
+// Whether no bound has a rank in a node of no item.
+fn has_no_rank(none: &Vec<u64>, from_start: bool) -> bool
+    requires { IsAscending nat_cmp none.now.items }
+{
+    let bounded = none.rank(Bound::Included(&1), from_start).is_none()
+        && none.rank(Bound::Excluded(&1), from_start).is_none();
+    bounded && none.rank(Bound::Unbounded, from_start).is_none()
+}
+
+// Whether the absent bound has no rank in a node.
+fn has_no_unbounded_rank(node: &Vec<u64>) -> bool
+    requires { IsAscending nat_cmp node.now.items }
+{
+    node.rank(Bound::Unbounded, true).is_none() && node.rank(Bound::Unbounded, false).is_none()
+}
+
+// Whether a node of no item has no rank of a bound, no least item and no greatest.
+fn is_empty_node(none: &Vec<u64>) -> bool
+    requires { IsAscending nat_cmp none.now.items }
+{
+    let unranked = has_no_rank(none, true) && has_no_rank(none, false);
+    unranked && NodeLike::min(none).is_none() && NodeLike::max(none).is_none()
 }
 
 #[test]
 fn an_unbounded_rank_and_an_empty_node(rt: HostRuntime) -> Result<(), Fail> {
-    let node: Vec<u64> = node_of(rt.alloc(), &[1, 3, 5, 7, 9])?;
-    let none: Vec<u64> = node_of(rt.alloc(), &[])?;
-    for from_start in [true, false] {
-        let unbounded = node.rank(Bound::Unbounded, from_start).is_none();
-        let bounded = none.rank(Bound::Included(&1), from_start).is_none()
-            && none.rank(Bound::Excluded(&1), from_start).is_none();
-        assert!(rt; unbounded && bounded && none.rank(Bound::Unbounded, from_start).is_none());
-    }
-    assert!(rt; NodeLike::min(&none).is_none() && NodeLike::max(&none).is_none());
+    let node = numbers(rt.alloc(), &[1, 3, 5, 7, 9])?;
+    let none = numbers(rt.alloc(), &[])?;
+    assert!(rt; has_no_unbounded_rank(&node) && is_empty_node(&none));
     Ok(())
+}
+
+// Whether 4 is among the three even numbers and 5 is not, and each is found where it stands.
+fn finds_four(node: &Vec<u64>) -> bool
+    requires { IsAscending nat_cmp node.now.items }
+{
+    let held = NodeLike::contains(node, &4) && !NodeLike::contains(node, &5);
+    held && node.try_select(&6) == Some(2) && node.try_select(&1).is_none()
+}
+
+// Whether 4 is taken out from between 2 and 6, once.
+fn deletes_four(node: &mut Vec<u64>) -> bool
+    requires { IsAscending nat_cmp node.old.items }
+{
+    let out = node.delete(&4);
+    let again = node.delete(&4);
+    out == Some((4, 1)) && again.is_none() && node.as_slice() == [2, 6].as_slice()
 }
 
 #[test]
 fn looks_up_and_deletes(rt: HostRuntime) -> Result<(), Fail> {
-    let mut node: Vec<u64> = node_of(rt.alloc(), &[2, 4, 6])?;
-    let held = NodeLike::contains(&node, &4) && !NodeLike::contains(&node, &5);
-    let placed = node.try_select(&6) == Some(2) && node.try_select(&1).is_none();
-    let out = node.delete(&4);
-    let again = node.delete(&4);
-    let left = again.is_none() && node.as_slice() == [2, 6].as_slice();
-    assert!(rt; held && placed && out == Some((4, 1)) && left);
+    let mut node = numbers(rt.alloc(), &[2, 4, 6])?;
+    assert!(rt; finds_four(&node) && deletes_four(&mut node));
     Ok(())
 }
 
 #[test]
 fn counts_its_questions(rt: HostRuntime) -> Result<(), Fail> {
-    let node: Vec<u64> = node_of(rt.alloc(), &[2, 4, 6, 8, 10, 12, 14])?;
+    let node = numbers(rt.alloc(), &[2, 4, 6, 8, 10, 12, 14])?;
     let mut probe = Counting::new(ByItem::new(&8));
     let not_less = NodeLike::first_not_less(&node, &mut probe);
     let asked = probe.asked();

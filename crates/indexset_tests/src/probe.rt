@@ -4,7 +4,6 @@ use indexset_core::probe::{ByItem, Counting, Probe};
 use indexset_core::refusal::Refusal;
 use indexset_core::search;
 use std::cmp::Ordering;
-use std::test::Fail;
 
 #[test]
 fn refusals_have_their_numbers(rt: HostRuntime) {
@@ -40,15 +39,19 @@ fn a_probe_is_counted(rt: HostRuntime) {
     assert!(rt; none && less && equal && greater && probe.asked() == 3);
 }
 
-#[test]
-fn searches_a_slice(rt: HostRuntime) -> Result<(), Fail> {
+// Whether the searches for the first item not less and the first greater end where they must.
+fn finds_the_first() -> bool {
     let none = search::first_not_less(&[], &mut ByItem::new(&4)) == 0;
     let greater = search::first_greater(&[4], &mut ByItem::new(&4)) == 1;
     let above = search::first_not_less(&[4], &mut ByItem::new(&5)) == 1;
-    assert!(rt; none && greater && above);
+    none && greater && above
+}
+
+#[test]
+fn searches_a_slice(rt: HostRuntime) {
+    assert!(rt; finds_the_first());
     for (item, place, found) in [(6, 1, true), (5, 1, false), (7, 2, false)] {
         let near = search::first_not_less_near(&[4, 6], &mut ByItem::new(&item));
         assert!(rt; near == (place, found), "of {item}");
     }
-    Ok(())
 }

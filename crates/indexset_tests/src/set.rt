@@ -1,9 +1,10 @@
 //! Worked examples of the set: rows in scripts, named by the call, and what a script cannot say.
-ghost use Rattle.std.specs.Prelude.{◌≤◌};
 
+use indexset_core::pair::Pair;
 use indexset_core::refusal::Refusal;
 use indexset_set::BTreeSet;
 use std::alloc::Global;
+use std::ops::Range;
 
 mod algebra;
 mod bulk;
@@ -28,13 +29,17 @@ fn add<T: Ord + Drop>(set: &mut BTreeSet<T>, value: T) -> Result<bool, Refusal> 
     set.insert(value).map_err(|refused| refused.cause)
 }
 
-// The keys from 0 up to, but not with, the end, put in from the least up.
-fn ascending(alloc: Global, size: usize, end: u64) -> Result<BTreeSet<u64>, Refusal>
-    requires { 2 ≤ size }
-{
-    let mut set = BTreeSet::with_maximum_node_size(alloc, size)?;
-    for key in 0..end {
-        add(&mut set, key)?;
+// The pairs of these keys, each with the value 0, in nodes of two.
+fn noughts(alloc: Global, keys: Range<u64>) -> Result<BTreeSet<Pair<u64, u64>>, Refusal> {
+    let mut set = BTreeSet::with_maximum_node_size(alloc, 2)?;
+    for key in keys {
+        add(&mut set, Pair { key, value: 0 })?;
     }
     Ok(set)
+}
+
+// Whether the set holds these keys with these values.
+fn has_pairs(set: &BTreeSet<Pair<u64, u64>>, pairs: &[(u64, u64)]) -> bool {
+    let held = set.iter().map(|pair| (pair.key, pair.value));
+    held.eq(pairs.iter().copied())
 }

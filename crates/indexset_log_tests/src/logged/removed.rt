@@ -1,6 +1,6 @@
 //! Many items removed from a logged set.
 
-use crate::play::set::play_sizes;
+use indexset_log_play::vec_set::play_sizes;
 use std::test::Fail;
 
 #[test]

@@ -2,40 +2,84 @@
 use super::{put, shows, tens};
 use indexset_core::refusal::Refusal;
 use indexset_map::BTreeMap;
-use indexset_tests::misled::Misled;
-use indexset_tests::scarce::Scarce;
-use indexset_tests::sized::map_of;
+use indexset_play::misled::Misled;
+use indexset_play::scarce::Scarce;
+use indexset_play::sized::map_of;
+use std::alloc::{AllocError, Global};
 use std::cell::Cell;
 use std::test::Fail;
+
+// The keys 0 to 2, each with itself, two to a node.
+fn three(alloc: Global, clones: &Cell<u64>) -> Result<BTreeMap<Scarce<'_>, Scarce<'_>>, Refusal> {
+    let mut map = BTreeMap::with_maximum_node_size(alloc, 2)?;
+    for key in 0..3 {
+        put(&mut map, Scarce { key, clones }, Scarce { key, clones })?;
+    }
+    Ok(map)
+}
+
+// Whether the keys are 0 to 2, each with itself.
+fn has_three(map: &BTreeMap<Scarce<'_>, Scarce<'_>>) -> bool {
+    let pairs = map.iter().map(|(key, value)| (key.key, value.key));
+    pairs.eq([(0, 0), (1, 1), (2, 2)])
+}
+
+// Whether a clone is refused, and the pairs stay.
+fn refuses_a_clone(map: &BTreeMap<Scarce<'_>, Scarce<'_>>) -> bool {
+    matches!(map.clone(), Err(Refusal::Memory)) && has_three(map)
+}
+
+// Whether a clone has the same pairs, in two nodes.
+fn is_cloned(map: &BTreeMap<Scarce<'_>, Scarce<'_>>) -> bool {
+    match map.clone() {
+        Ok(copy) => has_three(&copy) && copy.node_count() == 2,
+        Err(_) => false,
+    }
+}
 
 #[test]
 fn clone_fails_at_each_key_and_value(rt: HostRuntime) -> Result<(), Fail> {
     let clones = Cell::new(0);
-    let mut map = BTreeMap::with_maximum_node_size(rt.alloc(), 2)?;
-    for key in 0..3 {
-        let clones = &clones;
-        put(&mut map, Scarce { key, clones }, Scarce { key, clones })?;
-    }
+    let map = three(rt.alloc(), &clones)?;
     for count in 0..6 {
         clones.set(count);
-        let copy = map.clone();
-        let stays = map.values().map(|item| item.key).eq(0..3);
-        assert!(rt;
-            copy == Err(Refusal::Memory) && stays,
-            "with {count} clones"
-        );
+        assert!(rt; refuses_a_clone(&map), "with {count} clones");
     }
     clones.set(6);
-    let copy = map.clone()?;
-    assert!(rt; copy.keys().map(|item| item.key).eq(0..3) && copy.node_count() == 2);
+    assert!(rt; is_cloned(&map));
     Ok(())
 }
 
-// Inserts a key by its entry.
-fn enter(map: &mut BTreeMap<u64, u64>, key: u64) -> Result<(), Refusal> {
-    match map.entry(key).or_insert(key) {
-        Ok(_) => Ok(()),
-        Err(refused) => Err(refused.cause),
+// Whether a key is inserted by its entry.
+fn is_entered(map: &mut BTreeMap<u64, u64>, key: u64) -> bool {
+    map.entry(key).or_insert(key).is_ok()
+}
+
+// Whether 100 001 keys go in behind those that are there.
+fn takes_many(map: &mut BTreeMap<u64, u64>) -> bool {
+    for key in 100_000..200_001 {
+        if !is_entered(map, key) {
+            return false;
+        }
+    }
+    true
+}
+
+// Whether the copy is split at 50 000, and the map is put behind what is cut off.
+fn splits_and_appends(copy: &mut BTreeMap<u64, u64>, map: &mut BTreeMap<u64, u64>) -> bool {
+    match copy.split_off(&50_000) {
+        Ok(mut rest) => {
+            rest.append(map).is_ok() && copy.len() == 50_000 && rest.len() == 200_001
+        }
+        Err(_) => false,
+    }
+}
+
+// Whether the map is copied, and the copy split and appended to.
+fn is_copied_and_split(map: &mut BTreeMap<u64, u64>) -> bool {
+    match map.clone() {
+        Ok(mut copy) => splits_and_appends(&mut copy, map),
+        Err(_) => false,
     }
 }
 
@@ -43,29 +87,45 @@ fn enter(map: &mut BTreeMap<u64, u64>, key: u64) -> Result<(), Refusal> {
 #[test]
 fn memory_is_found_for_many_pairs(rt: HostRuntime) -> Result<(), Fail> {
     let mut map = tens(rt.alloc(), 1024, 100_000)?;
-    for key in 100_000..200_001 {
-        enter(&mut map, key)?;
-    }
-    let mut copy = map.clone()?;
-    let mut rest = copy.split_off(&50_000)?;
-    rest.append(&mut map)?;
-    assert!(rt; copy.len() == 50_000 && rest.len() == 200_001);
+    assert!(rt; takes_many(&mut map) && is_copied_and_split(&mut map));
     Ok(())
+}
+
+// A key with the same letter for each.
+fn with_letter(key: u64) -> (u64, char) {
+    (key, 'a')
+}
+
+// Whether a map is made of three pairs, in place of which it is told of so many at least.
+fn is_made(alloc: Global, claim: usize) -> bool {
+    match BTreeMap::from_iter(alloc, Misled { first: 3, claim }.map(with_letter)) {
+        Ok(map) => shows(map.iter(), &[(1, 'a'), (2, 'a'), (3, 'a')]),
+        Err(_) => false,
+    }
+}
+
+// The same of `collect`.
+fn is_collected(alloc: Global, claim: usize) -> bool {
+    let pairs = Misled { first: 3, claim }.map(with_letter);
+    let collected: Result<BTreeMap<u64, char>, AllocError> = pairs.collect(alloc);
+    match collected {
+        Ok(map) => shows(map.iter(), &[(1, 'a'), (2, 'a'), (3, 'a')]),
+        Err(_) => false,
+    }
+}
+
+// The same of `extend`, where one of the keys is there.
+fn is_extended(map: &mut BTreeMap<u64, char>, claim: usize) -> bool {
+    let pairs = Misled { first: 3, claim }.map(with_letter);
+    map.extend(pairs).is_ok() && shows(map.iter(), &[(1, 'a'), (2, 'a'), (3, 'a')])
 }
 
 #[test]
 fn lengths_that_are_told_wrong(rt: HostRuntime) -> Result<(), Fail> {
-    // Three come, in place of which it tells of so many at least.
     for claim in [0, 1, 1_000_000] {
-        let misled = |first| Misled { first, claim };
-        let made = BTreeMap::from_iter(rt.alloc(), misled(3).map(|key| (key, 'a')))?;
-        let pairs = misled(3).map(|key| (key, 'a'));
-        let collected: BTreeMap<u64, char> = pairs.collect(rt.alloc())?;
-        let mut extended = map_of(rt.alloc(), 2, &[(2u64, 'z')])?;
-        extended.extend(misled(3).map(|key| (key, 'a')))?;
-        let all = [(1, 'a'), (2, 'a'), (3, 'a')];
-        let told = shows(made.iter(), &all) && shows(collected.iter(), &all);
-        assert!(rt; told && shows(extended.iter(), &all));
+        assert!(rt; is_made(rt.alloc(), claim) && is_collected(rt.alloc(), claim));
+        let mut map = map_of(rt.alloc(), 2, &[(2u64, 'z')])?;
+        assert!(rt; is_extended(&mut map, claim));
     }
     Ok(())
 }

@@ -2,7 +2,7 @@
 use super::{put, shows};
 use indexset_core::refusal::Refusal;
 use indexset_map::{BTreeMap, Entry};
-use indexset_tests::counted::Counted;
+use indexset_play::counted::Counted;
 use std::alloc::Global;
 use std::cell::Cell;
 use std::ops::Bound::{Excluded, Included};
@@ -17,26 +17,30 @@ fn many(alloc: Global, asked: &Cell<u64>) -> Result<BTreeMap<Counted<'_>, u64>, 
     Ok(map)
 }
 
+// Whether at most so many comparisons were made; the cell then counts anew.
+fn is_few(asked: &Cell<u64>, most: u64) -> bool {
+    asked.replace(0) <= most
+}
+
+// Whether each look-up finds a key in few comparisons.
+fn finds_in_few<'a>(map: &mut BTreeMap<Counted<'a>, u64>, key: u64, asked: &'a Cell<u64>) -> bool {
+    let sought = Counted { key, asked };
+    asked.set(0);
+    let is_read = map.get(&sought).copied() == Some(key) && is_few(asked, 17);
+    let lent = map.get_mut(&sought).is_some_and(|value| *value == key);
+    let is_lent = lent && is_few(asked, 17);
+    let is_held = map.contains_key(&sought) && is_few(asked, 17);
+    let is_occupied = matches!(map.entry(sought), Entry::Occupied(_)) && is_few(asked, 17);
+    is_read && is_lent && is_held && is_occupied
+}
+
 #[test]
 fn few_comparisons_in_many_nodes(rt: HostRuntime) -> Result<(), Fail> {
     let asked = Cell::new(0);
     let mut map = many(rt.alloc(), &asked)?;
     assert!(rt; map.node_count() == 19);
     for key in [0, 5119, 10239] {
-        let sought = Counted { key, asked: &asked };
-        asked.set(0);
-        let read = map.get(&sought).copied() == Some(key);
-        let get = asked.replace(0);
-        let lent = map.get_mut(&sought).is_some_and(|value| *value == key);
-        let get_mut = asked.replace(0);
-        let held = map.contains_key(&sought);
-        let contains = asked.replace(0);
-        let occupied = matches!(map.entry(sought), Entry::Occupied(_));
-        let few = get <= 17 && get_mut <= 17 && contains <= 17 && asked.get() <= 17;
-        assert!(rt;
-            read && lent && held && occupied && few,
-            "of {key}: {get} {get_mut} {contains}"
-        );
+        assert!(rt; finds_in_few(&mut map, key, &asked), "of {key}");
     }
     Ok(())
 }
@@ -50,30 +54,36 @@ fn is_indexed(map: &BTreeMap<Counted<'_>, u64>, sought: &Counted<'_>) -> bool {
     map[sought] == sought.key
 }
 
+// Whether a key's rank, pair, cursor and value are found in few comparisons.
+fn ranks_in_few<'a>(map: &BTreeMap<Counted<'a>, u64>, key: u64, asked: &'a Cell<u64>) -> bool {
+    let sought = Counted { key, asked };
+    asked.set(0);
+    let is_ranked = map.rank(&sought) as u64 == key && is_few(asked, 17);
+    let held = map.get_key_value(&sought).map(|pair| *pair.1);
+    let is_held = held == Some(key) && is_few(asked, 17);
+    let found = map.lower_bound(Included(&sought)).value().copied();
+    let is_found = found == Some(key) && is_few(asked, 17);
+    is_ranked && is_held && is_found && is_indexed(map, &sought) && is_few(asked, 17)
+}
+
 #[test]
 fn few_comparisons_of_rank(rt: HostRuntime) -> Result<(), Fail> {
     let asked = Cell::new(0);
     let map = many(rt.alloc(), &asked)?;
     for key in [0, 5119, 10239] {
-        let sought = Counted { key, asked: &asked };
-        asked.set(0);
-        let ranked = map.rank(&sought) as u64 == key;
-        let rank = asked.replace(0);
-        let held = map
-            .get_key_value(&sought)
-            .is_some_and(|pair| *pair.1 == key);
-        let get = asked.replace(0);
-        let cursor = map.lower_bound(Included(&sought));
-        let found = cursor.value().copied() == Some(key);
-        let bound = asked.replace(0);
-        let indexed = is_indexed(&map, &sought);
-        let few = rank <= 17 && get <= 17 && bound <= 17 && asked.get() <= 17;
-        assert!(rt;
-            ranked && held && found && indexed && few,
-            "of {key}: {rank} {get} {bound}"
-        );
+        assert!(rt; ranks_in_few(&map, key, &asked), "of {key}");
     }
     Ok(())
+}
+
+// Whether the place of a key, and what comes next, are found in few comparisons.
+fn places_in_few<'a>(map: &BTreeMap<Counted<'a>, u64>, key: u64, asked: &'a Cell<u64>) -> bool {
+    let sought = Counted { key, asked };
+    asked.set(0);
+    let placed = map.index_of(&sought).map(|i| i as u64);
+    let is_placed = placed == Some(key) && is_few(asked, 17);
+    let next = map.upper_bound(Included(&sought)).value().copied();
+    is_placed && next == Some(key.wrapping_add(1)) && is_few(asked, 17)
 }
 
 #[test]
@@ -81,13 +91,7 @@ fn few_comparisons_of_positions_and_upper_bounds(rt: HostRuntime) -> Result<(), 
     let asked = Cell::new(0);
     let map = many(rt.alloc(), &asked)?;
     for key in [0, 5119, 10238] {
-        let sought = Counted { key, asked: &asked };
-        asked.set(0);
-        let placed = map.index_of(&sought).map(|i| i as u64) == Some(key);
-        let place = asked.replace(0);
-        let next = map.upper_bound(Included(&sought)).value().copied();
-        let few = place <= 17 && asked.get() <= 17;
-        assert!(rt; placed && next == Some(key + 1) && few, "of {key}: {place}");
+        assert!(rt; places_in_few(&map, key, &asked), "of {key}");
     }
     Ok(())
 }
@@ -112,32 +116,56 @@ fn few_comparisons_of_ranges(rt: HostRuntime) -> Result<(), Fail> {
     Ok(())
 }
 
+// Whether a key goes in with itself, in place of this value and in at most so many comparisons.
+fn is_put<'a>(
+    map: &mut BTreeMap<Counted<'a>, u64>,
+    put: Counted<'a>,
+    old: Option<u64>,
+    most: u64,
+) -> bool {
+    let (key, asked) = (put.key, put.asked);
+    match map.insert(put, key) {
+        Ok(out) => out == old && is_few(asked, most),
+        Err(_) => false,
+    }
+}
+
+// Whether a key is put, removed and put again in few comparisons.
+fn changes_in_few<'a>(
+    map: &mut BTreeMap<Counted<'a>, u64>,
+    key: u64,
+    asked: &'a Cell<u64>,
+) -> bool {
+    let sought = Counted { key, asked };
+    asked.set(0);
+    let is_replaced = is_put(map, Counted { key, asked }, Some(key), 17);
+    let is_removed = map.remove(&sought) == Some(key) && is_few(asked, 17);
+    let is_gone = map.remove_entry(&sought).is_none() && is_few(asked, 17);
+    // A new key is looked for before it goes in.
+    is_replaced && is_removed && is_gone && is_put(map, sought, None, 35)
+}
+
+// Whether the half from a key on is cut off in few comparisons.
+fn splits_in_few<'a>(map: &mut BTreeMap<Counted<'a>, u64>, sought: &Counted<'a>) -> bool {
+    sought.asked.set(0);
+    match map.split_off(sought) {
+        Ok(rest) => rest.len() == 5120 && is_few(sought.asked, 17),
+        Err(_) => false,
+    }
+}
+
 #[test]
 fn few_comparisons_of_calls_that_change(rt: HostRuntime) -> Result<(), Fail> {
     let asked = Cell::new(0);
     let mut map = many(rt.alloc(), &asked)?;
     for key in [0, 5119, 10239] {
-        let sought = Counted { key, asked: &asked };
-        asked.set(0);
-        let old = put(&mut map, Counted { key, asked: &asked }, key)?;
-        let insert = asked.replace(0);
-        let value = map.remove(&sought);
-        let remove = asked.replace(0);
-        let none = map.remove_entry(&sought).is_none();
-        let remove_entry = asked.replace(0);
-        let new = put(&mut map, sought, key)?.is_none();
-        assert!(rt; old == Some(key) && value == Some(key) && none && new);
-        // A new key is looked for before it goes in.
-        let few = insert <= 17 && remove <= 17 && remove_entry <= 17 && asked.get() <= 35;
-        assert!(rt; few, "of {key}: {insert} {remove} {remove_entry}");
+        assert!(rt; changes_in_few(&mut map, key, &asked), "of {key}");
     }
     let sought = Counted {
         key: 5120,
         asked: &asked,
     };
-    asked.set(0);
-    let rest = map.split_off(&sought)?;
-    assert!(rt; rest.len() == 5120 && asked.get() <= 17);
+    assert!(rt; splits_in_few(&mut map, &sought));
     Ok(())
 }
 

@@ -4,7 +4,7 @@ ghost use Rattle.std.specs.Prelude.{◌≤◌};
 use super::{put, shows, tens};
 use indexset_core::refusal::Refusal;
 use indexset_map::BTreeMap;
-use indexset_tests::sized::map_of;
+use indexset_play::sized::map_of;
 use std::alloc::Global;
 use std::ops::Bound;
 use std::test::Fail;
@@ -74,10 +74,8 @@ fn a_walk_dropped_half_way(rt: HostRuntime) -> Result<(), Fail> {
     Ok(())
 }
 
-#[test]
-fn ten_more_in_each(rt: HostRuntime) -> Result<(), Fail> {
-    let mut map = zeros(rt.alloc(), 4)?;
-    let cut = map.node_count() == 3;
+// Adds ten to each of four values.
+fn add_ten(map: &mut BTreeMap<u64, u64>) {
     let mut walk = map.iter_mut();
     for _ in 0..4 {
         if walk.has_next() {
@@ -85,20 +83,32 @@ fn ten_more_in_each(rt: HostRuntime) -> Result<(), Fail> {
             *value = value.saturating_add(10);
         }
     }
-    let raised = map.values().copied().eq([10, 10, 10, 10]);
+}
+
+// Adds one to each value, from the back.
+fn add_one(map: &mut BTreeMap<u64, u64>) {
     let mut values = map.values_mut();
     for _ in 0..5 {
         if let Some(value) = values.next_back() {
             *value = value.saturating_add(1);
         }
     }
-    assert!(rt; cut && raised && map.values().copied().eq([11, 11, 11, 11]));
-    Ok(())
 }
 
 #[test]
-fn each_place_once_from_both_ends(rt: HostRuntime) -> Result<(), Fail> {
-    let mut map = tens(rt.alloc(), 2, 3)?;
+fn ten_more_in_each(rt: HostRuntime) -> Result<(), Fail> {
+    let mut map = zeros(rt.alloc(), 4)?;
+    let is_cut = map.node_count() == 3;
+    add_ten(&mut map);
+    let is_raised = shows(map.iter(), &[(1, 10), (2, 10), (3, 10), (4, 10)]);
+    add_one(&mut map);
+    let is_raised_again = shows(map.iter(), &[(1, 11), (2, 11), (3, 11), (4, 11)]);
+    assert!(rt; is_cut && is_raised && is_raised_again);
+    Ok(())
+}
+
+// Whether a walk from both ends lends each key once.
+fn lends_keys_once(map: &mut BTreeMap<u64, u64>) -> bool {
     let mut walk = map.iter_mut();
     let rows = [
         (true, Some(0), true),
@@ -113,8 +123,15 @@ fn each_place_once_from_both_ends(rt: HostRuntime) -> Result<(), Fail> {
         } else {
             walk.next_back()
         };
-        assert!(rt; pair.map(|pair| *pair.0) == key && walk.has_next() == has_next);
+        if pair.map(|pair| *pair.0) != key || walk.has_next() != has_next {
+            return false;
+        }
     }
+    true
+}
+
+// Whether a walk over the values from both ends lends each once.
+fn lends_values_once(map: &mut BTreeMap<u64, u64>) -> bool {
     let mut values = map.values_mut();
     let rows = [
         (true, Some(0)),
@@ -129,8 +146,17 @@ fn each_place_once_from_both_ends(rt: HostRuntime) -> Result<(), Fail> {
         } else {
             values.next_back()
         };
-        assert!(rt; value.map(|value| *value) == expected);
+        if value.map(|value| *value) != expected {
+            return false;
+        }
     }
+    true
+}
+
+#[test]
+fn each_place_once_from_both_ends(rt: HostRuntime) -> Result<(), Fail> {
+    let mut map = tens(rt.alloc(), 2, 3)?;
+    assert!(rt; lends_keys_once(&mut map) && lends_values_once(&mut map));
     Ok(())
 }
 

@@ -7,7 +7,7 @@ use super::walks::{
 };
 use indexset_core::bounds::bounds_are_ordered;
 use indexset_map::{BTreeMap, IterMap};
-use indexset_tests::script::{Stop, Subject, play, read, read_bound, tell, tell_all, tell_option};
+use indexset_play::script::{Stop, Subject, play, read, read_bound, tell, tell_all, tell_option};
 use std::alloc::Global;
 use std::fmt::Display;
 use std::hash::{BuildHasher, BuildHasherDefault, FoldHasher, Hash};

@@ -1,8 +1,8 @@
 //! What the scripts of the map write of its pairs, cursors and walks.
 
 use indexset_map::{BTreeMap, CursorMap};
-use indexset_tests::script::{Stop, tell_option};
-use indexset_tests::walk;
+use indexset_play::script::{Stop, tell_option};
+use indexset_play::walk;
 use std::fmt::Display;
 use std::ops::Bound;
 use std::str::SplitWhitespace;

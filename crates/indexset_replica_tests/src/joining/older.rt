@@ -1,7 +1,7 @@
 //! Copies that follow events from before small neighbours were joined, and then later ones.
 
-use crate::play::copies::play_copies;
 use indexset_core::pair::Pair;
+use indexset_log_play::copies::play_copies;
 use std::test::Fail;
 
 #[test]

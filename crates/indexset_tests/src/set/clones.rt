@@ -1,33 +1,68 @@
 //! Clones that fail or come in another order, and clones of many elements.
-use super::{add, ascending};
-use crate::mirrored::Mirrored;
-use crate::scarce::Scarce;
+use super::add;
+use super::sets::play_at;
 use indexset_core::refusal::Refusal;
+use indexset_play::mirrored::Mirrored;
+use indexset_play::scarce::Scarce;
 use indexset_set::BTreeSet;
+use std::alloc::Global;
 use std::cell::Cell;
 use std::test::Fail;
+
+// The keys 0, 1 and 2, which share the cell.
+fn scarce(alloc: Global, clones: &Cell<u64>) -> Result<BTreeSet<Scarce<'_>>, Refusal> {
+    let mut set = BTreeSet::with_maximum_node_size(alloc, 2)?;
+    for key in 0..3 {
+        add(&mut set, Scarce { key, clones })?;
+    }
+    Ok(set)
+}
+
+// Whether the set holds the keys 0, 1 and 2.
+fn has_keys(set: &BTreeSet<Scarce<'_>>) -> bool {
+    for i in 0..3 {
+        if !matches!(set.get_index(i), Some(item) if item.key == i as u64) {
+            return false;
+        }
+    }
+    set.len() == 3
+}
+
+// Whether the set gives no clone, and stays.
+fn refuses_a_clone(set: &BTreeSet<Scarce<'_>>) -> bool {
+    matches!(set.clone(), Err(Refusal::Memory)) && has_keys(set)
+}
+
+// Whether the set gives a clone of two nodes.
+fn gives_a_clone(set: &BTreeSet<Scarce<'_>>) -> bool {
+    matches!(set.clone(), Ok(copy) if has_keys(&copy) && copy.node_count() == 2)
+}
 
 #[test]
 fn clone_fails_at_each_element(rt: HostRuntime) -> Result<(), Fail> {
     let clones = Cell::new(0);
-    let mut set = BTreeSet::with_maximum_node_size(rt.alloc(), 2)?;
-    for key in 0..3 {
-        let clones = &clones;
-        add(&mut set, Scarce { key, clones })?;
-    }
+    let set = scarce(rt.alloc(), &clones)?;
     for count in 0..3 {
         clones.set(count);
-        let copy = set.clone();
-        let stays = set.iter().map(|item| item.key).eq(0..3);
-        assert!(rt;
-            copy == Err(Refusal::Memory) && stays,
-            "with {count} clones"
-        );
+        assert!(rt; refuses_a_clone(&set));
     }
     clones.set(3);
-    let copy = set.clone()?;
-    assert!(rt; copy.iter().map(|item| item.key).eq(0..3) && copy.node_count() == 2);
+    assert!(rt; gives_a_clone(&set));
     Ok(())
+}
+
+// Whether the set holds the numbers 0, 5 and 8.
+fn has_numbers(set: &BTreeSet<Mirrored>) -> bool {
+    set.iter().eq(&[
+        Mirrored { number: 0 },
+        Mirrored { number: 5 },
+        Mirrored { number: 8 },
+    ])
+}
+
+// Whether the clone holds what its elements' clones are, in order, and in nodes of the same size.
+fn gives_a_mirrored_clone(set: &BTreeSet<Mirrored>) -> bool {
+    matches!(set.clone(), Ok(copy) if has_numbers(&copy) && copy.maximum_node_size() == 2)
 }
 
 #[test]
@@ -36,20 +71,26 @@ fn clones_that_descend_are_inserted_in_turn(rt: HostRuntime) -> Result<(), Fail>
     for number in [1, 4, 9, 12] {
         add(&mut set, Mirrored { number })?;
     }
-    let copy = set.clone()?;
-    let inserted = copy.iter().map(|item| item.number).eq([0, 5, 8]);
-    assert!(rt; inserted && copy.maximum_node_size() == 2 && set.len() == 4);
+    assert!(rt; gives_a_mirrored_clone(&set) && set.len() == 4);
     Ok(())
 }
 
 // Memory is ample here, so no call may fail, whatever the size.
+const MANY_ELEMENTS: &str = "
+set 0..200001
+replace 200001 -> none
+clone
+swap
+split_off 100000
+len -> 100000
+# The upper part of the clone takes the whole set in.
+set 0..200002
+swap
+append
+len -> 200002
+";
+
 #[test]
 fn memory_is_found_for_many_elements(rt: HostRuntime) -> Result<(), Fail> {
-    let mut set = ascending(rt.alloc(), 1024, 200_001)?;
-    let old = set.replace(200_001).map_err(|refused| refused.cause)?;
-    let mut copy = set.clone()?;
-    let mut rest = copy.split_off(&100_000)?;
-    rest.append(&mut set)?;
-    assert!(rt; old.is_none() && copy.len() == 100_000 && rest.len() == 200_002);
-    Ok(())
+    play_at(rt.alloc(), 1024, MANY_ELEMENTS)
 }

@@ -1,9 +1,9 @@
 //! How often a call compares, told by keys that count, and how often `retain` and `retain_pairs` ask.
-use super::add;
-use crate::counted::Counted;
-use crate::sized::set_of;
+use super::{add, has_pairs, noughts};
 use indexset_core::pair::Pair;
 use indexset_core::refusal::Refusal;
+use indexset_play::counted::Counted;
+use indexset_play::sized::set_of;
 use indexset_set::BTreeSet;
 use std::alloc::Global;
 use std::cell::Cell;
@@ -19,31 +19,47 @@ fn many(alloc: Global, asked: &Cell<u64>) -> Result<BTreeSet<Counted<'_>>, Refus
     Ok(set)
 }
 
+// Whether at most so many comparisons were made since this was last asked.
+fn is_few(asked: &Cell<u64>, most: u64) -> bool {
+    asked.replace(0) <= most
+}
+
+// Whether an element is there and has the key.
+fn has_key(found: Option<&Counted<'_>>, key: u64) -> bool {
+    matches!(found, Some(found) if found.key == key)
+}
+
+// Whether each call finds the key of a set that has no other gaps, by few comparisons.
+fn finds_by_few(set: &BTreeSet<Counted<'_>>, sought: &Counted<'_>) -> bool {
+    let Counted { key, asked } = *sought;
+    asked.set(0);
+    let is_read = has_key(set.get(sought), key) && is_few(asked, 17);
+    let is_held = set.contains(sought) && is_few(asked, 17);
+    let is_first = has_key(set.lower_bound(sought), key) && is_few(asked, 17);
+    let is_ranked = set.rank(sought) as u64 == key && is_few(asked, 17);
+    is_read && is_held && is_first && is_ranked
+}
+
 #[test]
 fn few_comparisons_in_many_nodes(rt: HostRuntime) -> Result<(), Fail> {
     let asked = Cell::new(0);
     let set = many(rt.alloc(), &asked)?;
     assert!(rt; set.node_count() == 19);
     for key in [0, 5119, 10239] {
-        let sought = Counted { key, asked: &asked };
-        asked.set(0);
-        let read = set.get(&sought).is_some_and(|found| found.key == key);
-        let get = asked.replace(0);
-        let held = set.contains(&sought);
-        let contains = asked.replace(0);
-        let first = set
-            .lower_bound(&sought)
-            .is_some_and(|found| found.key == key);
-        let bound = asked.replace(0);
-        let ranked = set.rank(&sought) as u64 == key;
-        let rank = asked.replace(0);
-        let few = get <= 17 && contains <= 17 && bound <= 17 && rank <= 17;
-        assert!(rt;
-            read && held && first && ranked && few,
-            "of {key}: {get} {contains} {bound}"
-        );
+        let asked = &asked;
+        assert!(rt; finds_by_few(&set, &Counted { key, asked }));
     }
     Ok(())
+}
+
+// Whether a key that is not the last is placed, and the next one found, by few comparisons.
+fn places_by_few(set: &BTreeSet<Counted<'_>>, sought: &Counted<'_>) -> bool {
+    let Counted { key, asked } = *sought;
+    asked.set(0);
+    let is_placed = matches!(set.index_of(sought), Some(i) if i as u64 == key);
+    let is_near = is_few(asked, 17);
+    let is_next = has_key(set.upper_bound(sought), key.saturating_add(1));
+    is_placed && is_near && is_next && is_few(asked, 17)
 }
 
 #[test]
@@ -51,15 +67,39 @@ fn few_comparisons_of_positions_and_upper_bounds(rt: HostRuntime) -> Result<(), 
     let asked = Cell::new(0);
     let set = many(rt.alloc(), &asked)?;
     for key in [0, 5119, 10238] {
-        let sought = Counted { key, asked: &asked };
-        asked.set(0);
-        let placed = set.index_of(&sought).map(|i| i as u64) == Some(key);
-        let place = asked.replace(0);
-        let next = set.upper_bound(&sought).map(|found| found.key);
-        let few = place <= 17 && asked.get() <= 17;
-        assert!(rt; placed && next == Some(key + 1) && few, "of {key}: {place}");
+        let asked = &asked;
+        assert!(rt; places_by_few(&set, &Counted { key, asked }));
     }
     Ok(())
+}
+
+// Whether a key that is there is put in again and replaced by few comparisons.
+fn puts_by_few<'a>(set: &mut BTreeSet<Counted<'a>>, sought: &Counted<'a>) -> bool {
+    let Counted { key, asked } = *sought;
+    asked.set(0);
+    let is_old = matches!(add(set, Counted { key, asked }), Ok(false));
+    // An insert asks for the last element first.
+    let is_put = is_old && is_few(asked, 18);
+    let is_replaced = matches!(set.replace(Counted { key, asked }), Ok(Some(_)));
+    is_put && is_replaced && is_few(asked, 17)
+}
+
+// Whether a key that is there is found alone, and then taken, by few comparisons.
+fn takes_by_few<'a>(set: &mut BTreeSet<Counted<'a>>, sought: &Counted<'a>) -> bool {
+    let asked = sought.asked;
+    let key = sought.key.saturating_add(1);
+    let next = Counted { key, asked };
+    asked.set(0);
+    let is_only = set.range((Included(sought), Excluded(&next))).len() == 1;
+    let is_within = is_only && is_few(asked, 34);
+    let is_taken = set.take(sought).is_some() && is_few(asked, 17);
+    is_within && is_taken && !set.remove(sought) && is_few(asked, 17)
+}
+
+// Whether the set splits in its middle by few comparisons.
+fn splits_by_few<'a>(set: &mut BTreeSet<Counted<'a>>, sought: &Counted<'a>) -> bool {
+    sought.asked.set(0);
+    matches!(set.split_off(sought), Ok(rest) if rest.len() == 5119) && is_few(sought.asked, 17)
 }
 
 #[test]
@@ -67,65 +107,48 @@ fn few_comparisons_of_calls_that_change(rt: HostRuntime) -> Result<(), Fail> {
     let asked = Cell::new(0);
     let mut set = many(rt.alloc(), &asked)?;
     for key in [0, 5119, 10239] {
-        let sought = Counted { key, asked: &asked };
-        let next = Counted {
-            key: key + 1,
-            asked: &asked,
-        };
-        asked.set(0);
-        let is_new = add(&mut set, Counted { key, asked: &asked })?;
-        let insert = asked.replace(0);
-        let old = set.replace(Counted { key, asked: &asked })?;
-        let replace = asked.replace(0);
-        let count = set.range((Included(&sought), Excluded(&next))).len();
-        let range = asked.replace(0);
-        let out = set.take(&sought);
-        let take = asked.replace(0);
-        let again = set.remove(&sought);
-        assert!(rt; !is_new && old.is_some() && count == 1 && out.is_some() && !again);
-        // An insert asks for the last element first.
-        let few = insert <= 18 && replace <= 17 && range <= 34 && take <= 17;
-        assert!(rt;
-            few && asked.get() <= 17,
-            "of {key}: {insert} {replace} {range} {take}"
-        );
+        let asked = &asked;
+        let sought = Counted { key, asked };
+        let is_put = puts_by_few(&mut set, &sought);
+        assert!(rt; is_put && takes_by_few(&mut set, &sought));
     }
-    let sought = Counted {
-        key: 5120,
-        asked: &asked,
-    };
-    asked.set(0);
-    let rest = set.split_off(&sought)?;
-    assert!(rt; rest.len() == 5119 && asked.get() <= 17);
+    let asked = &asked;
+    let key = 5120;
+    assert!(rt; splits_by_few(&mut set, &Counted { key, asked }));
     Ok(())
 }
 
-#[test]
-fn retain_pairs_asks_once_a_pair(rt: HostRuntime) -> Result<(), Fail> {
-    let mut set = BTreeSet::with_maximum_node_size(rt.alloc(), 2)?;
-    for key in 1..8u64 {
-        add(&mut set, Pair { key, value: 0u64 })?;
-    }
+// Whether each pair is asked for once, and in order.
+fn asks_once_a_pair(set: &mut BTreeSet<Pair<u64, u64>>) -> bool {
     let mut asked = 0u64;
     set.retain_pairs(|key: &u64, value: &mut u64| -> bool {
         asked = asked.wrapping_add(1);
         *value = asked;
         key % 2 == 1
     });
-    let kept = set.iter().map(|pair| (pair.key, pair.value));
-    assert!(rt; asked == 7 && kept.eq([(1, 1), (3, 3), (5, 5), (7, 7)]));
-    Ok(())
+    asked == 7 && has_pairs(set, &[(1, 1), (3, 3), (5, 5), (7, 7)])
 }
 
 #[test]
-fn every_second_kept(rt: HostRuntime) -> Result<(), Fail> {
-    let mut set = set_of(rt.alloc(), 2, &[1u64, 2, 3, 4, 5, 6, 7])?;
+fn retain_pairs_asks_once_a_pair(rt: HostRuntime) -> Result<(), Fail> {
+    let mut set = noughts(rt.alloc(), 1..8)?;
+    assert!(rt; asks_once_a_pair(&mut set));
+    Ok(())
+}
+
+// Whether every second element is kept, and each is asked for once.
+fn keeps_every_second(set: &mut BTreeSet<u64>) -> bool {
     let mut asked = 0u64;
     set.retain(|_| {
         asked = asked.wrapping_add(1);
         asked % 2 == 1
     });
-    let kept = set.iter().copied().eq([1, 3, 5, 7]);
-    assert!(rt; asked == 7 && kept && set.node_count() == 4);
+    asked == 7 && set.iter().eq(&[1, 3, 5, 7]) && set.node_count() == 4
+}
+
+#[test]
+fn every_second_kept(rt: HostRuntime) -> Result<(), Fail> {
+    let mut set = set_of(rt.alloc(), 2, &[1u64, 2, 3, 4, 5, 6, 7])?;
+    assert!(rt; keeps_every_second(&mut set));
     Ok(())
 }

@@ -1,9 +1,9 @@
 //! What the scripts of the set call: two sets of numbers, of which most calls take the first.
 
-use crate::script::{Stop, Subject, play, read, read_bound, tell, tell_all, tell_option};
-use crate::walk;
 use indexset_core::bounds::bounds_are_ordered;
 use indexset_core::probe::{ByItem, Counting};
+use indexset_play::script::{Stop, Subject, play, read, read_bound, tell, tell_all, tell_option};
+use indexset_play::walk;
 use indexset_set::{BTreeSet, Iter};
 use std::alloc::Global;
 use std::hash::{BuildHasher, BuildHasherDefault, FoldHasher};

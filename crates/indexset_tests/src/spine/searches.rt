@@ -4,7 +4,7 @@ ghost use Rattle.std.specs.Ordering.{nat_cmp};
 ghost use Rattle.indexset_core.specs.Order.{IsAscending};
 ghost use Rattle.indexset_spine.specs.Cut.{items};
 
-use crate::nodes::node_of;
+use crate::node::numbers;
 use indexset_core::probe::{ByItem, Counting};
 use indexset_core::search;
 use indexset_spine::spine::Spine;
@@ -25,6 +25,14 @@ fn spine_of(alloc: Global, size: usize, values: &[u64]) -> Result<Spine<u64>, Fa
     Ok(spine)
 }
 
+/// The numbers 2, 4, 6, 8 and 10 in nodes of two: [2] [4] [6] [8, 10].
+fn evens(alloc: Global) -> Result<Spine<u64>, Fail>
+    ensures { IfOk result (λ spine. IsAscending nat_cmp (items spine)) }
+{
+    let node = numbers(alloc, &[2, 4, 6, 8, 10])?;
+    spine_of(alloc, 2, node.as_slice())
+}
+
 /// Where a search finds the value, and how many questions it asks.
 fn questions(spine: &Spine<u64>, value: u64) -> (Spot, u64)
     requires { IsAscending nat_cmp (items spine.now) }
@@ -43,12 +51,11 @@ fn questions_from_the_end(spine: &Spine<u64>, value: u64) -> (Spot, u64)
     (spot, probe.asked())
 }
 
-#[test]
-fn a_spot_by_few_questions(rt: HostRuntime) -> Result<(), Fail> {
-    let node: Vec<u64> = node_of(rt.alloc(), &[2, 4, 6, 8, 10])?;
-    let spine = spine_of(rt.alloc(), 2, node.as_slice())?;
-    // Nodes [2] [4] [6] [8, 10]: 3 + 2 + 1 questions at most.
-    assert!(rt; spine.node_count() == 4);
+// Whether the even numbers and those around are found at these spots, by six questions at most: 3
+// for the node of four, 2 for the place of two, and 1 for whether the item is equal.
+fn is_found_by_six(spine: &Spine<u64>) -> bool
+    requires { IsAscending nat_cmp (items spine.now) }
+{
     let table = [
         (1, (0, 0, false)),
         (2, (0, 0, true)),
@@ -58,21 +65,30 @@ fn a_spot_by_few_questions(rt: HostRuntime) -> Result<(), Fail> {
         (11, (3, 2, false)),
     ];
     for (value, (node, offset, found)) in table {
-        let (spot, asked) = questions(&spine, value);
+        let (spot, asked) = questions(spine, value);
         let expected = Spot {
             node,
             offset,
             found,
         };
-        assert!(rt; spot == expected && asked <= 6, "of {value}");
+        if spot != expected || asked > 6 {
+            return false;
+        }
     }
-    Ok(())
+    true
 }
 
 #[test]
-fn the_last_item_is_asked_for_first(rt: HostRuntime) -> Result<(), Fail> {
-    let node: Vec<u64> = node_of(rt.alloc(), &[2, 4, 6, 8, 10])?;
-    let spine = spine_of(rt.alloc(), 2, node.as_slice())?;
+fn a_spot_by_few_questions(rt: HostRuntime) -> Result<(), Fail> {
+    let spine = evens(rt.alloc())?;
+    assert!(rt; spine.node_count() == 4 && is_found_by_six(&spine));
+    Ok(())
+}
+
+// Whether the place behind the last item takes one question, and an item before it seven at most.
+fn asks_for_the_last_first(spine: &Spine<u64>) -> bool
+    requires { IsAscending nat_cmp (items spine.now) }
+{
     let end = Spot {
         node: 3,
         offset: 2,
@@ -83,21 +99,34 @@ fn the_last_item_is_asked_for_first(rt: HostRuntime) -> Result<(), Fail> {
         offset: 0,
         found: true,
     };
-    let at_once = questions_from_the_end(&spine, 11) == (end, 1);
-    let (spot, asked) = questions_from_the_end(&spine, 6);
-    assert!(rt; at_once && spot == six && asked <= 7);
+    let at_once = questions_from_the_end(spine, 11) == (end, 1);
+    let (spot, asked) = questions_from_the_end(spine, 6);
+    at_once && spot == six && asked <= 7
+}
+
+#[test]
+fn the_last_item_is_asked_for_first(rt: HostRuntime) -> Result<(), Fail> {
+    let spine = evens(rt.alloc())?;
+    assert!(rt; asks_for_the_last_first(&spine));
     Ok(())
+}
+
+// Whether 4 is found among 2, 4 and 6, the gaps of 5 and 7 are, and one question tells of 6.
+fn finds_in_a_slice(evens: &[u64]) -> bool
+    requires { IsAscending nat_cmp evens.now }
+{
+    let found = search::find(evens, &4) == Ok(1);
+    let absent = search::find(evens, &5) == Err(2);
+    let above = search::find(evens, &7) == Err(3);
+    let mut probe = Counting::new(ByItem::new(&6));
+    let equal = search::is_equal_at(evens, 2, &mut probe);
+    let past = search::is_equal_at(evens, 3, &mut probe);
+    found && absent && above && equal && !past && probe.asked() == 1
 }
 
 #[test]
 fn an_index_in_a_slice(rt: HostRuntime) -> Result<(), Fail> {
-    let node: Vec<u64> = node_of(rt.alloc(), &[2, 4, 6])?;
-    let found = search::find(node.as_slice(), &4) == Ok(1);
-    let absent = search::find(node.as_slice(), &5) == Err(2);
-    let above = search::find(node.as_slice(), &7) == Err(3);
-    let mut probe = Counting::new(ByItem::new(&6));
-    let equal = search::is_equal_at(node.as_slice(), 2, &mut probe);
-    let past = search::is_equal_at(node.as_slice(), 3, &mut probe);
-    assert!(rt; found && absent && above && equal && !past && probe.asked() == 1);
+    let node = numbers(rt.alloc(), &[2, 4, 6])?;
+    assert!(rt; finds_in_a_slice(node.as_slice()));
     Ok(())
 }

@@ -5,8 +5,8 @@ use indexset_core::node::NodeLike;
 use indexset_core::pair::Pair;
 use indexset_log::change::ChangeEvent;
 use indexset_log::set::nodes::Nodes;
-use indexset_tests::owned::Owned;
-use indexset_tests::tagged::Tagged;
+use indexset_play::owned::Owned;
+use indexset_play::tagged::Tagged;
 use std::fmt::Debug;
 
 /// An event: its number, the last item of its node, and what else it names.

@@ -1,8 +1,9 @@
 //! Scripts of the logged set.
 
-use super::copy::{Copy, given_back, told};
-use super::item::{Item, read_items, read_node, tell_node};
-use super::node::of_items;
+use crate::brief::tell_room;
+use crate::copy::{Copy, given_back, told};
+use crate::item::{Item, read_items, read_node, tell_node};
+use crate::node::of_items;
 use crate::trees::{place_of, start_of};
 use indexset_core::bounds::bounds_are_ordered;
 use indexset_core::constants::DEFAULT_INNER_SIZE;
@@ -11,16 +12,15 @@ use indexset_core::refusal::Refused;
 use indexset_log::set::BTreeSet;
 use indexset_log::set::iter::Iter;
 use indexset_log::set::range::Range;
-use indexset_tests::script::{Stop, Subject, play, read, tell, tell_option};
+use indexset_play::script::{Stop, Subject, read, tell, tell_option};
 use std::alloc::Global;
 use std::ops::Bound;
 use std::str::SplitWhitespace;
-use std::test::Fail;
 
 /// A logged set, and a replica that follows it.
 #[derive(Drop)]
 pub struct Sets<T: Item, N: NodeLike<T>> {
-    alloc: Global,
+    pub alloc: Global,
     size: usize,
     pub set: BTreeSet<T, N>,
     pub copy: Copy<T>,
@@ -80,27 +80,39 @@ impl<T: Item, N: NodeLike<T>> Sets<T, N> {
         answer: &mut String,
     ) -> Result<(), Stop> {
         match name {
-            "new" | "default" if N::limit() < DEFAULT_INNER_SIZE => Err(Stop::NoCall),
-            "new" => {
-                self.set = BTreeSet::new(self.alloc);
-                Ok(())
-            }
-            "default" => {
-                self.set = BTreeSet::default(self.alloc);
-                Ok(())
-            }
+            "new" | "default" => self.start_anew(name),
             "set" => self.fresh(words),
             "starting_at" => self.start(read(words)?, read(words)?),
-            "attach_node" => {
-                let items = read_node(self.alloc, words)?.ok_or(Stop::Word)?;
-                self.attach(of_items(self.alloc, items.as_slice())?, answer)
-            }
+            "attach_node" => self.attach_items(words, answer),
             _ => self.edit(name, words, answer),
         }
     }
 
+    /// Replaces the set by an empty one of the node size that a set has where none is named.
+    fn start_anew(&mut self, name: &str) -> Result<(), Stop> {
+        if N::limit() < DEFAULT_INNER_SIZE {
+            return Err(Stop::NoCall);
+        }
+        if name == "new" {
+            self.set = BTreeSet::new(self.alloc);
+        } else {
+            self.set = BTreeSet::default(self.alloc);
+        }
+        Ok(())
+    }
+
+    /// Attaches a node of the items that the words type.
+    fn attach_items(
+        &mut self,
+        words: &mut SplitWhitespace<'_>,
+        answer: &mut String,
+    ) -> Result<(), Stop> {
+        let items = read_node(self.alloc, words)?.ok_or(Stop::Word)?;
+        self.attach(of_items(self.alloc, items.as_slice())?, answer)
+    }
+
     /// Attaches a node, and writes it where it is handed back.
-    fn attach(&mut self, node: N, answer: &mut String) -> Result<(), Stop> {
+    pub fn attach(&mut self, node: N, answer: &mut String) -> Result<(), Stop> {
         match self.set.attach_node(node) {
             Ok(()) => Ok(()),
             Err(Refused { value, cause }) => {
@@ -117,56 +129,79 @@ impl<T: Item, N: NodeLike<T>> Sets<T, N> {
         answer: &mut String,
     ) -> Result<(), Stop> {
         match name {
-            "insert" => tell(answer, self.set.insert(T::read_item(words)?)?),
-            "put" => tell_option(answer, self.set.put(T::read_item(words)?)?),
-            "put_cdc" => {
-                let put = given_back(answer, self.set.put_cdc(T::read_item(words)?))?;
-                self.copy.tell_cdc(answer, put)
-            }
-            "put_cdc_checked" => match self.set.put_cdc_checked(T::read_item(words)?)? {
-                Some(events) => self.copy.tell_cdc(answer, (Some("some"), events)),
-                None => tell(answer, "none"),
-            },
-            "remove" => tell_option(answer, self.set.remove(&T::read_item(words)?)?),
-            "remove_cdc" => {
-                let removed = self.set.remove_cdc(&T::read_item(words)?)?;
-                self.copy.tell_cdc(answer, removed)
-            }
-            "remove_at" => match place_of(&self.set, &T::read_item(words)?) {
-                Ok((node, offset)) => tell(answer, self.set.remove_at(node, offset)?),
-                Err(_) => Err(Stop::NoCall),
-            },
-            "remove_at_cdc" => match place_of(&self.set, &T::read_item(words)?) {
-                Ok((node, offset)) => {
-                    let (item, events) = self.set.remove_at_cdc(node, offset)?;
-                    self.copy.tell_cdc(answer, (Some(item), events))
-                }
-                Err(_) => Err(Stop::NoCall),
-            },
-            _ => self.ends(name, words, answer),
+            "insert" | "put" | "put_cdc" | "put_cdc_checked" => self.put(name, words, answer),
+            "remove" | "remove_cdc" => self.remove(name, words, answer),
+            "remove_at" | "remove_at_cdc" => self.remove_at(name, words, answer),
+            "pop_first" | "pop_last" | "pop_first_cdc" | "pop_last_cdc" => self.pop(name, answer),
+            _ => self.look(name, words, answer),
         }
     }
 
-    fn ends(
+    fn put(
         &mut self,
         name: &str,
         words: &mut SplitWhitespace<'_>,
         answer: &mut String,
     ) -> Result<(), Stop> {
+        let item = T::read_item(words)?;
         match name {
-            "first" => tell_option(answer, self.set.first()),
-            "last" => tell_option(answer, self.set.last()),
+            "insert" => tell(answer, self.set.insert(item)?),
+            "put" => tell_option(answer, self.set.put(item)?),
+            "put_cdc" => {
+                let put = given_back(answer, self.set.put_cdc(item))?;
+                self.copy.tell_cdc(answer, put)
+            }
+            _ => match self.set.put_cdc_checked(item)? {
+                Some(events) => self.copy.tell_cdc(answer, (Some("some"), events)),
+                None => tell(answer, "none"),
+            },
+        }
+    }
+
+    fn remove(
+        &mut self,
+        name: &str,
+        words: &mut SplitWhitespace<'_>,
+        answer: &mut String,
+    ) -> Result<(), Stop> {
+        let item = T::read_item(words)?;
+        if name == "remove" {
+            return tell_option(answer, self.set.remove(&item)?);
+        }
+        let removed = self.set.remove_cdc(&item)?;
+        self.copy.tell_cdc(answer, removed)
+    }
+
+    /// Removes an item that is there by its place.
+    fn remove_at(
+        &mut self,
+        name: &str,
+        words: &mut SplitWhitespace<'_>,
+        answer: &mut String,
+    ) -> Result<(), Stop> {
+        let item = T::read_item(words)?;
+        let Ok((node, offset)) = place_of(&self.set, &item) else {
+            return Err(Stop::NoCall);
+        };
+        if name == "remove_at" {
+            return tell(answer, self.set.remove_at(node, offset)?);
+        }
+        let (item, events) = self.set.remove_at_cdc(node, offset)?;
+        self.copy.tell_cdc(answer, (Some(item), events))
+    }
+
+    fn pop(&mut self, name: &str, answer: &mut String) -> Result<(), Stop> {
+        match name {
             "pop_first" => tell_option(answer, self.set.pop_first()?),
             "pop_last" => tell_option(answer, self.set.pop_last()?),
             "pop_first_cdc" => {
                 let popped = self.set.pop_first_cdc()?;
                 self.copy.tell_cdc(answer, popped)
             }
-            "pop_last_cdc" => {
+            _ => {
                 let popped = self.set.pop_last_cdc()?;
                 self.copy.tell_cdc(answer, popped)
             }
-            _ => self.look(name, words, answer),
         }
     }
 
@@ -177,24 +212,57 @@ impl<T: Item, N: NodeLike<T>> Sets<T, N> {
         answer: &mut String,
     ) -> Result<(), Stop> {
         match name {
-            "get" => tell_option(answer, self.set.get(&T::read_item(words)?)),
-            "contains" => tell(answer, self.set.contains(&T::read_item(words)?)),
+            "first" => tell_option(answer, self.set.first()),
+            "last" => tell_option(answer, self.set.last()),
             "len" => tell(answer, self.set.len()),
             "is_empty" => tell(answer, self.set.is_empty()),
             "node_count" => tell(answer, self.set.node_count()),
             "maximum_node_size" => tell(answer, self.set.maximum_node_size()),
             "events_issued" => tell(answer, self.set.events_issued()),
-            "place_of" => match place_of(&self.set, &T::read_item(words)?) {
-                Ok((node, offset)) => Ok(write!(answer, " {node} {offset}")?),
-                Err((node, offset)) => Ok(write!(answer, " absent {node} {offset}")?),
-            },
-            "has_room_for" => tell(answer, read::<usize>(words)? <= self.set.capacity()),
+            _ => self.show(name, words, answer),
+        }
+    }
+
+    fn show(
+        &mut self,
+        name: &str,
+        words: &mut SplitWhitespace<'_>,
+        answer: &mut String,
+    ) -> Result<(), Stop> {
+        match name {
+            "has_room_for" => tell_room(self.set.capacity(), words, answer),
+            "get" | "contains" | "place_of" | "below" => self.look_for(name, words, answer),
             "nodes" => self.tell_nodes(answer),
             "items" => self.tell_items(answer),
             "items_back" => self.tell_back(answer),
             "walk" => self.walk(words, answer),
-            _ => self.ranges(name, words, answer),
+            "walk_nodes" => self.walk_nodes(words, answer),
+            "range" | "range_back" | "range_hint" => self.range(name, words, answer),
+            _ => self.copy.call(name, words, answer),
         }
+    }
+
+    fn look_for(
+        &self,
+        name: &str,
+        words: &mut SplitWhitespace<'_>,
+        answer: &mut String,
+    ) -> Result<(), Stop> {
+        let item = T::read_item(words)?;
+        match name {
+            "get" => tell_option(answer, self.set.get(&item)),
+            "contains" => tell(answer, self.set.contains(&item)),
+            "place_of" => self.tell_place(&item, answer),
+            _ => self.tell_below(&item, answer),
+        }
+    }
+
+    fn tell_place(&self, item: &T, answer: &mut String) -> Result<(), Stop> {
+        let told = match place_of(&self.set, item) {
+            Ok((node, offset)) => write!(answer, " {node} {offset}"),
+            Err((node, offset)) => write!(answer, " absent {node} {offset}"),
+        };
+        Ok(told?)
     }
 
     fn tell_nodes(&self, answer: &mut String) -> Result<(), Stop> {
@@ -218,27 +286,20 @@ impl<T: Item, N: NodeLike<T>> Sets<T, N> {
         Ok(())
     }
 
-    fn ranges(
-        &mut self,
-        name: &str,
-        words: &mut SplitWhitespace<'_>,
-        answer: &mut String,
-    ) -> Result<(), Stop> {
-        match name {
-            "walk_nodes" => self.walk_nodes(words, answer),
-            "below" => self.tell_below(&T::read_item(words)?, answer),
-            "range" | "range_back" | "range_hint" => {
-                let (start, end) = read_range::<T>(words)?;
-                self.tell_range(name, (start.as_ref(), end.as_ref()), answer)
-            }
-            _ => self.copy.call(name, words, answer),
-        }
-    }
-
     /// Writes the items below an item.
     fn tell_below(&self, item: &T, answer: &mut String) -> Result<(), Stop> {
         let end = start_of(&self.set, item);
         tell_forwards(answer, self.set.range_between((0, 0), end))
+    }
+
+    fn range(
+        &self,
+        name: &str,
+        words: &mut SplitWhitespace<'_>,
+        answer: &mut String,
+    ) -> Result<(), Stop> {
+        let (start, end) = read_range::<T>(words)?;
+        self.tell_range(name, (start.as_ref(), end.as_ref()), answer)
     }
 
     /// Writes the items of a range, or what it tells of their number.
@@ -321,73 +382,4 @@ fn tell_backwards<T: Item, N: NodeLike<T>>(
         tell(answer, item)?;
     }
     Ok(())
-}
-
-/// A logged set of nodes that are vectors, with the calls of such sets alone.
-#[derive(Drop)]
-pub struct VecSets<T: Item> {
-    pub sets: Sets<T, Vec<T>>,
-}
-
-impl<T: Item> VecSets<T> {
-    fn make(
-        &mut self,
-        name: &str,
-        words: &mut SplitWhitespace<'_>,
-        answer: &mut String,
-    ) -> Result<(), Stop> {
-        let alloc = self.sets.alloc;
-        match name {
-            "from" => {
-                self.sets.set = BTreeSet::from(alloc, read_items(alloc, words)?)?;
-                Ok(())
-            }
-            "attach_node" => {
-                let node = read_node(alloc, words)?.ok_or(Stop::Word)?;
-                self.sets.attach(node, answer)
-            }
-            "remove_range" => {
-                let (start, end) = read_range::<T>(words)?;
-                self.sets.set.remove_range((start.as_ref(), end.as_ref()));
-                Ok(())
-            }
-            _ => self.sets.call(name, words, answer),
-        }
-    }
-}
-
-impl<T: Item> Subject for VecSets<T> {
-    fn call(
-        &mut self,
-        name: &str,
-        words: &mut SplitWhitespace<'_>,
-        answer: &mut String,
-    ) -> Result<(), Stop> {
-        let made = self.make(name, words, answer);
-        told(answer, made)
-    }
-}
-
-/// Plays a script of sets of the size, of nodes that are vectors.
-fn play_size<T: Item>(alloc: Global, size: usize, script: &str) -> Result<(), Fail> {
-    let sets: Sets<T, Vec<T>> = Sets::new(alloc, size)?;
-    play(alloc, &mut VecSets { sets }, script)
-}
-
-/// Plays a script of sets of these items, of nodes that are vectors.
-pub fn play_set<T: Item>(alloc: Global, script: &str) -> Result<(), Fail> {
-    play_size::<T>(alloc, 2, script)
-}
-
-/// Plays a script of sets of numbers, of vectors and of these nodes.
-pub fn play_numbers<N: NodeLike<u64>>(alloc: Global, script: &str) -> Result<(), Fail> {
-    play_set::<u64>(alloc, script)?;
-    let mut sets: Sets<u64, N> = Sets::new(alloc, 2)?;
-    play(alloc, &mut sets, script)
-}
-
-/// Plays a script of sets of numbers of the node size 2, and of the size 1024.
-pub fn play_sizes(alloc: Global, script: &str) -> Result<(), Fail> {
-    play_size::<u64>(alloc, 2, script)?;
-    play_size::<u64>(alloc, 1024, script)
 }

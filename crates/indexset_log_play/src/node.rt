@@ -1,9 +1,9 @@
 //! Nodes of the items that a script types.
 
-use super::item::Item;
+use crate::item::Item;
 use indexset_core::node::NodeLike;
-use indexset_tests::nodes::node_of;
-use indexset_tests::script::Stop;
+use indexset_play::nodes::node_of;
+use indexset_play::script::Stop;
 use std::alloc::Global;
 
 /// The node of these items, put in one after another.

@@ -7,8 +7,8 @@
 use indexset_core::multipair::MultiPair;
 use indexset_core::pair::Pair;
 use indexset_log::change::{ChangeEvent, Id};
-use indexset_tests::script::{Stop, read, read_bound, tell};
-use indexset_tests::tagged::Tagged;
+use indexset_play::script::{Stop, read, read_bound, tell};
+use indexset_play::tagged::Tagged;
 use std::alloc::Global;
 use std::fmt::Display;
 use std::ops::Bound;
@@ -143,62 +143,84 @@ pub fn read_nodes<T: Item>(
 /// Writes an event.
 pub fn tell_event<T: Item>(answer: &mut String, event: &ChangeEvent<T>) -> Result<(), Stop> {
     tell(answer, event.id().inner())?;
-    match event {
+    let told = match event {
         ChangeEvent::InsertAt {
             max_value,
             value,
             index,
             ..
-        } => write!(answer, " insert {max_value} {value} {index}")?,
+        } => write!(answer, " insert {max_value} {value} {index}"),
         ChangeEvent::RemoveAt {
             max_value,
             value,
             index,
             ..
-        } => write!(answer, " remove {max_value} {value} {index}")?,
-        ChangeEvent::CreateNode { max_value, .. } => write!(answer, " create {max_value}")?,
-        ChangeEvent::RemoveNode { max_value, .. } => write!(answer, " drop {max_value}")?,
+        } => write!(answer, " remove {max_value} {value} {index}"),
+        ChangeEvent::CreateNode { max_value, .. } => write!(answer, " create {max_value}"),
+        ChangeEvent::RemoveNode { max_value, .. } => write!(answer, " drop {max_value}"),
         ChangeEvent::SplitNode {
             max_value,
             split_index,
             ..
-        } => write!(answer, " split {max_value} {split_index}")?,
+        } => write!(answer, " split {max_value} {split_index}"),
         ChangeEvent::MergeNodes {
             max_value,
             next_max_value,
             ..
-        } => write!(answer, " merge {max_value} {next_max_value}")?,
+        } => write!(answer, " merge {max_value} {next_max_value}"),
+    };
+    Ok(told?)
+}
+
+/// Writes events, each behind a comma.
+pub fn tell_events<T: Item>(answer: &mut String, events: &[ChangeEvent<T>]) -> Result<(), Stop> {
+    for event in events {
+        answer.push_str(",")?;
+        tell_event(answer, event)?;
     }
     Ok(())
 }
 
-/// Reads an event.
-pub fn read_event<T: Item>(words: &mut SplitWhitespace<'_>) -> Result<ChangeEvent<T>, Stop> {
-    let number: u64 = read(words)?;
-    let event_id = Id::from(number);
-    let kind = words.next().ok_or(Stop::Word)?;
-    let max_value = T::read_item(words)?;
+/// Reads what stands behind the last item of a node: an item, and its index.
+fn read_place<T: Item>(words: &mut SplitWhitespace<'_>) -> Result<(T, usize), Stop> {
+    let value = T::read_item(words)?;
+    let index = read(words)?;
+    Ok((value, index))
+}
+
+/// Reads an insertion into a node, or a removal from it.
+fn read_edit<T: Item>(
+    is_insertion: bool,
+    event_id: Id,
+    max_value: T,
+    words: &mut SplitWhitespace<'_>,
+) -> Result<ChangeEvent<T>, Stop> {
+    let (value, index) = read_place(words)?;
+    if is_insertion {
+        Ok(ChangeEvent::InsertAt {
+            event_id,
+            max_value,
+            value,
+            index,
+        })
+    } else {
+        Ok(ChangeEvent::RemoveAt {
+            event_id,
+            max_value,
+            value,
+            index,
+        })
+    }
+}
+
+/// Reads an event that cuts a node, or joins it with the next.
+fn read_cut<T: Item>(
+    kind: &str,
+    event_id: Id,
+    max_value: T,
+    words: &mut SplitWhitespace<'_>,
+) -> Result<ChangeEvent<T>, Stop> {
     match kind {
-        "insert" => Ok(ChangeEvent::InsertAt {
-            event_id,
-            max_value,
-            value: T::read_item(words)?,
-            index: read(words)?,
-        }),
-        "remove" => Ok(ChangeEvent::RemoveAt {
-            event_id,
-            max_value,
-            value: T::read_item(words)?,
-            index: read(words)?,
-        }),
-        "create" => Ok(ChangeEvent::CreateNode {
-            event_id,
-            max_value,
-        }),
-        "drop" => Ok(ChangeEvent::RemoveNode {
-            event_id,
-            max_value,
-        }),
         "split" => Ok(ChangeEvent::SplitNode {
             event_id,
             max_value,
@@ -210,5 +232,25 @@ pub fn read_event<T: Item>(words: &mut SplitWhitespace<'_>) -> Result<ChangeEven
             next_max_value: T::read_item(words)?,
         }),
         _ => Err(Stop::Word),
+    }
+}
+
+/// Reads an event.
+pub fn read_event<T: Item>(words: &mut SplitWhitespace<'_>) -> Result<ChangeEvent<T>, Stop> {
+    let event_id = Id::from(read::<u64>(words)?);
+    let kind = words.next().ok_or(Stop::Word)?;
+    let max_value = T::read_item(words)?;
+    match kind {
+        "insert" => read_edit(true, event_id, max_value, words),
+        "remove" => read_edit(false, event_id, max_value, words),
+        "create" => Ok(ChangeEvent::CreateNode {
+            event_id,
+            max_value,
+        }),
+        "drop" => Ok(ChangeEvent::RemoveNode {
+            event_id,
+            max_value,
+        }),
+        _ => read_cut(kind, event_id, max_value, words),
     }
 }

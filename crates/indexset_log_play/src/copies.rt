@@ -1,17 +1,17 @@
 //! Scripts of the replica.
 
-use super::tell_text;
+use crate::brief::tell_text;
+use crate::copy::{Copy, told};
+use crate::item::{Item, read_event, read_node, read_nodes, tell_node};
+use crate::set::read_range;
+use crate::told::Typed;
 use indexset_core::bounds::bounds_are_ordered;
 use indexset_core::node::NodeLike;
 use indexset_core::refusal::Refused;
 use indexset_log::change::ChangeEvent;
 use indexset_log::set::nodes::Nodes;
-use indexset_log_tests::play::copy::{Copy, told};
-use indexset_log_tests::play::item::{Item, read_event, read_node, read_nodes, tell_node};
-use indexset_log_tests::play::set::read_range;
-use indexset_log_tests::told::Typed;
+use indexset_play::script::{Stop, Subject, play, read, tell, tell_option};
 use indexset_replica::Replica;
-use indexset_tests::script::{Stop, Subject, play, read, tell, tell_option};
 use std::alloc::Global;
 use std::str::SplitWhitespace;
 use std::test::Fail;
@@ -110,18 +110,36 @@ impl<T: Item> Copies<T> {
         answer: &mut String,
     ) -> Result<(), Stop> {
         match name {
-            "new" => self.replica = Replica::new(self.alloc, read(words)?),
-            "from_nodes" => {
-                let next = read(words)?;
-                let nodes = read_nodes(self.alloc, words)?;
-                self.replica = nodes_back(answer, Replica::from_nodes(nodes, next))?;
-            }
-            "attach" => self.attach(words, answer)?,
-            "apply" => self.replica.apply(&read_event(words)?)?,
-            "event" => self.events.push(read_event(words)?)?,
-            "deliver" => deliver(&mut self.replica, self.events.as_slice(), words)?,
-            _ => return self.look(name, words, answer),
+            "new" => self.start(words),
+            "from_nodes" => self.make(words, answer),
+            "attach" => self.attach(words, answer),
+            "apply" => self.apply(words),
+            "event" => self.keep(words),
+            "deliver" => deliver(&mut self.replica, self.events.as_slice(), words),
+            _ => self.look(name, words, answer),
         }
+    }
+
+    fn start(&mut self, words: &mut SplitWhitespace<'_>) -> Result<(), Stop> {
+        self.replica = Replica::new(self.alloc, read(words)?);
+        Ok(())
+    }
+
+    fn make(&mut self, words: &mut SplitWhitespace<'_>, answer: &mut String) -> Result<(), Stop> {
+        let next = read(words)?;
+        let nodes = read_nodes(self.alloc, words)?;
+        self.replica = nodes_back(answer, Replica::from_nodes(nodes, next))?;
+        Ok(())
+    }
+
+    fn apply(&mut self, words: &mut SplitWhitespace<'_>) -> Result<(), Stop> {
+        let event = read_event(words)?;
+        Ok(self.replica.apply(&event)?)
+    }
+
+    /// Keeps an event to be delivered.
+    fn keep(&mut self, words: &mut SplitWhitespace<'_>) -> Result<(), Stop> {
+        self.events.push(read_event(words)?)?;
         Ok(())
     }
 
@@ -137,19 +155,34 @@ impl<T: Item> Copies<T> {
             "next" => tell(answer, self.replica.next()),
             "len" => tell(answer, self.replica.len()),
             "is_empty" => tell(answer, self.replica.is_empty()),
-            "contains" => tell(answer, self.replica.contains(&T::read_item(words)?)),
-            "get" => tell_option(answer, self.replica.get(&T::read_item(words)?)),
             "first" => tell_option(answer, self.replica.first()),
             "last" => tell_option(answer, self.replica.last()),
-            "expects" => {
-                let turn = self.replica.expects(&read_event(words)?);
-                Ok(write!(answer, " {turn:?}")?)
-            }
+            "get" | "contains" => self.look_for(name, words, answer),
+            "expects" => self.tell_turn(words, answer),
             "items" => self.tell_items(answer),
             "walk" => self.walk(words, answer),
             "range" | "range_back" => self.tell_range(name == "range_back", words, answer),
             _ => Err(Stop::NoCall),
         }
+    }
+
+    fn look_for(
+        &self,
+        name: &str,
+        words: &mut SplitWhitespace<'_>,
+        answer: &mut String,
+    ) -> Result<(), Stop> {
+        let item = T::read_item(words)?;
+        if name == "get" {
+            tell_option(answer, self.replica.get(&item))
+        } else {
+            tell(answer, self.replica.contains(&item))
+        }
+    }
+
+    fn tell_turn(&self, words: &mut SplitWhitespace<'_>, answer: &mut String) -> Result<(), Stop> {
+        let turn = self.replica.expects(&read_event(words)?);
+        Ok(write!(answer, " {turn:?}")?)
     }
 
     fn tell_items(&self, answer: &mut String) -> Result<(), Stop> {

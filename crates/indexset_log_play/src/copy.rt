@@ -1,10 +1,10 @@
 //! Events that a script is told, and a replica that follows them.
 
-use super::item::{Item, read_event, read_node, read_nodes, tell_event, tell_node};
+use crate::item::{Item, read_event, read_node, read_nodes, tell_events, tell_node};
 use indexset_core::refusal::Refused;
 use indexset_log::change::ChangeEvent;
+use indexset_play::script::{Stop, Subject, read, tell, tell_option};
 use indexset_replica::Replica;
-use indexset_tests::script::{Stop, Subject, read, tell, tell_option};
 use std::alloc::Global;
 use std::fmt::Display;
 use std::str::SplitWhitespace;
@@ -31,13 +31,10 @@ impl<T: Item> Copy<T> {
     pub fn tell_events(
         &mut self,
         answer: &mut String,
-        events: Vec<ChangeEvent<T>>,
+        mut events: Vec<ChangeEvent<T>>,
     ) -> Result<(), Stop> {
-        for event in events {
-            answer.push_str(",")?;
-            tell_event(answer, &event)?;
-            self.told.push(event)?;
-        }
+        tell_events(answer, events.as_slice())?;
+        self.told.append(&mut events)?;
         Ok(())
     }
 
@@ -60,6 +57,30 @@ impl<T: Item> Copy<T> {
         Ok(())
     }
 
+    /// Makes the replica one of these nodes.
+    fn start(&mut self, words: &mut SplitWhitespace<'_>) -> Result<(), Stop> {
+        let next = read(words)?;
+        let nodes = read_nodes(self.alloc, words)?;
+        self.replica = Replica::from_nodes(nodes, next)?;
+        Ok(())
+    }
+
+    fn attach(&mut self, words: &mut SplitWhitespace<'_>) -> Result<(), Stop> {
+        let node = read_node(self.alloc, words)?.ok_or(Stop::Word)?;
+        self.replica.attach(node)?;
+        Ok(())
+    }
+
+    fn apply(&mut self, words: &mut SplitWhitespace<'_>) -> Result<(), Stop> {
+        let event = read_event(words)?;
+        Ok(self.replica.apply(&event)?)
+    }
+
+    fn tell_followed(&mut self, answer: &mut String) -> Result<(), Stop> {
+        self.follow()?;
+        self.tell_copy(answer)
+    }
+
     /// Writes the nodes of the replica.
     fn tell_copy(&self, answer: &mut String) -> Result<(), Stop> {
         for node in self.replica.nodes().iter() {
@@ -77,22 +98,10 @@ impl<T: Item> Subject for Copy<T> {
         answer: &mut String,
     ) -> Result<(), Stop> {
         match name {
-            "replica" => {
-                let next = read(words)?;
-                let nodes = read_nodes(self.alloc, words)?;
-                self.replica = Replica::from_nodes(nodes, next)?;
-                Ok(())
-            }
-            "attach" => {
-                let node = read_node(self.alloc, words)?.ok_or(Stop::Word)?;
-                self.replica.attach(node)?;
-                Ok(())
-            }
-            "apply" => Ok(self.replica.apply(&read_event(words)?)?),
-            "follow" => {
-                self.follow()?;
-                self.tell_copy(answer)
-            }
+            "replica" => self.start(words),
+            "attach" => self.attach(words),
+            "apply" => self.apply(words),
+            "follow" => self.tell_followed(answer),
             "copy" => self.tell_copy(answer),
             "next" => tell(answer, self.replica.next()),
             _ => Err(Stop::NoCall),

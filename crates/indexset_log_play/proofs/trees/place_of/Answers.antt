@@ -3,7 +3,7 @@ use Rattle.indexset_core.specs.Nodes.{joined, node_at}
 use Rattle.indexset_core.proofs.CallerLemmas.{parted_by_item}
 use Rattle.indexset_log.specs.Located.{located}
 use Rattle.indexset_log.proofs.CallerLemmas.{IsEnd, located_end}
-use Rattle.indexset_log_tests.proofs.trees.place_of.Goals as goal
+use Rattle.indexset_log_play.proofs.trees.place_of.Goals as goal
 
 if_ok_map : {A E : Type 0} (r : Result A E) {P : A → Type 0} (Q : A → Type 0) → IfOk r P → ((x : A) → P x → Q x) → IfOk r Q
 if_ok_map (Ok x) Q p f = f x p

@@ -6,16 +6,11 @@
 
 use indexset_core::pair::Pair;
 use indexset_core::refusal::Refused;
-use indexset_tests::script::{Stop, Subject, play, tell, tell_option};
+use indexset_play::script::{Stop, Subject, play, read, tell, tell_option};
 use std::alloc::Global;
 use std::fmt::Display;
 use std::str::SplitWhitespace;
 use std::test::Fail;
-
-pub mod copies;
-pub mod maps;
-pub mod multimaps;
-pub mod sets;
 
 /// A subject, and calls that tell less of what it answers.
 #[derive(Drop)]
@@ -54,6 +49,24 @@ pub fn tell_text<D: Display>(alloc: Global, answer: &mut String, shown: &D) -> R
         answer.push_str(word)?;
     }
     Ok(())
+}
+
+/// Writes the pair at an end, or `none`.
+pub fn tell_end(answer: &mut String, end: Option<(&u64, &char)>) -> Result<(), Stop> {
+    match end {
+        Some((key, value)) => Ok(write!(answer, " {key}:{value}")?),
+        None => tell(answer, "none"),
+    }
+}
+
+/// Writes whether there is room for as many items as the next word says.
+pub fn tell_room(
+    capacity: usize,
+    words: &mut SplitWhitespace<'_>,
+    answer: &mut String,
+) -> Result<(), Stop> {
+    let count: usize = read(words)?;
+    tell(answer, count <= capacity)
 }
 
 impl<S: Subject + Drop> Brief<S> {

@@ -1,15 +1,15 @@
 //! Scripts of logged sets that are made of nodes.
 
-use super::copies::{deliver, is_followed, nodes_back};
-use super::{play_on, tell_text};
+use crate::brief::{play_on, tell_text};
+use crate::copies::{deliver, is_followed, nodes_back};
+use crate::copy::told;
+use crate::item::read_nodes;
+use crate::set::Sets;
 use indexset_core::array_node::ArrayNode;
 use indexset_core::node::NodeLike;
 use indexset_log::set::BTreeSet;
-use indexset_log_tests::play::copy::told;
-use indexset_log_tests::play::item::read_nodes;
-use indexset_log_tests::play::set::Sets;
+use indexset_play::script::{Stop, Subject, read, tell};
 use indexset_replica::Replica;
-use indexset_tests::script::{Stop, Subject, read, tell};
 use std::alloc::Global;
 use std::str::SplitWhitespace;
 use std::test::Fail;
