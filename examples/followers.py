@@ -7,7 +7,10 @@ import socket
 import subprocess
 import sys
 
-CRATES = pathlib.Path(__file__).resolve().parent.parent / "crates"
+sys.dont_write_bytecode = True
+sys.path.insert(0, str(pathlib.Path(__file__).resolve().parent.parent / "tools"))
+from programs import built  # noqa: E402, F401 (the examples take it from here)
+
 WORDS = (b"create", b"drop", b"insert", b"remove", b"split", b"merge")
 FOLLOWER_KILLED, RELAY_KILLED, NO_FAULT = b"follower killed", b"relay killed", b"no fault"
 
@@ -64,15 +67,6 @@ class Lines:
     def end(self):
         """Ends the program's input, and waits for its end."""
         self.process.communicate()
-
-
-def built(name):
-    """The program of a crate, which `rt ci` and `rt run` leave in its folder."""
-    program = CRATES / name / "out" / name
-    newest = max(source.stat().st_mtime for source in CRATES.glob("*/src/**/*.rt"))
-    if not program.exists() or program.stat().st_mtime < newest:
-        sys.exit(f"{program} is not there, or older than the sources: `rt run` in {CRATES / name} builds it")
-    return program
 
 
 def commands(count, chance):

@@ -6,16 +6,22 @@ altered, whole nodes that do not fit, snapshots cut short, requests, and bytes o
 written from docs/FOLLOWING.md, and shares nothing with the program. Lines of megabytes follow, each in a
 run of its own whose memory is bounded.
 
-Run it once the program is built. Give a seed as the argument, if not 1. The last line is 'N passed, M failed'.
+Run it once the program is built. With `--sanitized` the sanitizer in the program bounds the memory, which needs
+address space for its own. The last line is 'N passed, M failed'.
 """
 
+import argparse
+import os
 import pathlib
 import random
 import re
 import subprocess
 import sys
 
-CRATES = pathlib.Path(__file__).resolve().parent.parent.parent / "crates"
+sys.dont_write_bytecode = True
+sys.path.insert(0, str(pathlib.Path(__file__).resolve().parent.parent.parent / "tools"))
+from programs import built  # noqa: E402
+
 LINES = 100_000
 MOST = 2**64 - 1
 NUMBER = rb"(0|[1-9][0-9]*)"
@@ -251,13 +257,10 @@ def followed(program, given, memory=None):
     return subprocess.run(words, input=given, capture_output=True, timeout=100)
 
 
-def built(name):
-    """The program of a crate, which `rt ci` and `rt run` leave in its folder."""
-    program = CRATES / name / "out" / name
-    newest = max(source.stat().st_mtime for source in CRATES.glob("*/src/**/*.rt"))
-    if not program.exists() or program.stat().st_mtime < newest:
-        sys.exit(f"{program} is not there, or older than the sources: `rt run` in {CRATES / name} builds it")
-    return program
+def followed_sanitized(program, given, memory):
+    """The same, of a program that the sanitizer checks."""
+    options = f"hard_rss_limit_mb={memory // 1_000_000}:quarantine_size_mb=1:allocator_release_to_os_interval_ms=0"
+    return subprocess.run([program], input=given, capture_output=True, timeout=100, env={**os.environ, "ASAN_OPTIONS": options})
 
 
 def compare(program, seed):
@@ -287,7 +290,7 @@ def compare(program, seed):
     return (LINES, 0) if not failed else (at, failed)
 
 
-def long_lines(program):
+def long_lines(program, run):
     """The same for lines of megabytes, whose memory is bounded."""
     size = 8_000_000
     cases = {
@@ -301,7 +304,7 @@ def long_lines(program):
     }
     passed = failed = 0
     for name, (line, answer) in cases.items():
-        done = followed(program, line + b"\nlen\n" + line, memory=160_000_000)
+        done = run(program, line + b"\nlen\n" + line, memory=160_000_000)
         if (done.returncode, done.stdout) == (0, answer + b"\n0\n" + answer + b"\n"):
             passed += 1
         else:
@@ -311,9 +314,12 @@ def long_lines(program):
 
 
 def main():
+    ask = argparse.ArgumentParser(description="Sends lines that mean harm to a follower.")
+    ask.add_argument("--seed", type=int, default=1)
+    ask.add_argument("--sanitized", action="store_true", help="the program is one that the sanitizer checks")
+    given = ask.parse_args()
     program = built("indexset_follower")
-    seed = int(sys.argv[1]) if len(sys.argv) > 1 else 1
-    counts = [compare(program, seed), long_lines(program)]
+    counts = [compare(program, given.seed), long_lines(program, followed_sanitized if given.sanitized else followed)]
     passed, failed = (sum(count) for count in zip(*counts))
     print(f"{passed} passed, {failed} failed")
     sys.exit(1 if failed else 0)
