@@ -1,13 +1,11 @@
 #!/usr/bin/env python3
 """Writes docs/CONTRACTS.md and docs/GLOSSARY.md from the sources.
 
-Usage: docs/write.py           writes both pages
-       docs/write.py --check   fails where a page differs from what would be written
-
 CONTRACTS.md has each public call of the library crates with its clauses. GLOSSARY.md has the terms, from
 the comment at the head of the words that indexset passes on, and each word that the clauses use, with the
 comment beside its definition.
 """
+import argparse
 import pathlib
 import re
 import sys
@@ -238,11 +236,14 @@ def glossary():
 
 
 def main():
+    ask = argparse.ArgumentParser(description="Writes docs/CONTRACTS.md and docs/GLOSSARY.md from the sources.")
+    ask.add_argument("--check", action="store_true", help="write nothing, and fail where a page differs from what would be written")
+    given = ask.parse_args()
     pages = {"CONTRACTS.md": contracts(), "GLOSSARY.md": glossary()}
     stale = []
     for name, text in pages.items():
         file = ROOT / "docs" / name
-        if "--check" not in sys.argv[1:]:
+        if not given.check:
             file.write_text(text, encoding="utf-8")
         elif not file.exists() or file.read_text(encoding="utf-8") != text:
             stale.append(name)
