@@ -19,8 +19,27 @@ pub mod base {
 /// Trees whose changes go out as events. There are no threads: each has one owner. The module has the
 /// Rust crate's name.
 pub mod concurrent {
-    pub use indexset_log::{map, set};
-    pub use indexset_multi::multimap;
+    /// The logged set, its iterators, and its nodes.
+    pub mod set {
+        pub use indexset_log::set::BTreeSet;
+        pub use indexset_log::set::iter::Iter;
+        pub use indexset_log::set::nodes::Nodes;
+        pub use indexset_log::set::range::Range;
+    }
+
+    /// The logged map and its iterators.
+    pub mod map {
+        pub use indexset_log::map::BTreeMap;
+        pub use indexset_log::map::iter::Iter;
+        pub use indexset_log::map::range::Range;
+    }
+
+    /// The multimap and its iterators.
+    pub mod multimap {
+        pub use indexset_multi::multimap::BTreeMultiMap;
+        pub use indexset_multi::multimap::iter::Iter;
+        pub use indexset_multi::multimap::range::{Range, RawRange};
+    }
 }
 
 /// The events of a tree's changes, and laws on lists of them.

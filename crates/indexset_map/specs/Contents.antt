@@ -1,5 +1,5 @@
 -- What a contract sees of a map: its pairs in order, how long the nodes are that hold them, and how long a node is at most.
-use Rattle.std.specs.Prelude.{◌≡◌, ℕ, List, [], ◌∷◌, map, refl, if◌then◌else◌, length, remove, slice_get, slice_set}
+use Rattle.std.specs.Prelude.{◌≡◌, ℕ, List, [], ◌∷◌, map, refl, if◌then◌else◌, length, remove, slice_get, slice_set, take, drop}
 use Rattle.std.specs.Coded.{Coded, code_by, coded×, coded_ℕ, coded_list}
 use Rattle.std.specs.List.{fold}
 use Rattle.std.specs.Option.{option_map_or}
@@ -7,18 +7,28 @@ use Rattle.std.proofs.Common.{ap, Some, None, length-set}
 use Rattle.std.specs.declared.cmp.Ordering.{Ordering}
 use Rattle.indexset_core.specs.declared.pair.Pair.{Pair}
 use Rattle.indexset_core.specs.Nodes.{node_lengths}
-use Rattle.indexset_spine.specs.Cut.{Cut, items}
-use Rattle.indexset_core.specs.Pairs.{pair, entry_of, valued, has_key, key_rank, set_value_at, set_value, put_value, without_key}
+use Rattle.indexset_spine.specs.Cut.{Cut, cut, items}
+use Rattle.indexset_core.specs.Pairs.{by_key, pair, entry_of, valued, has_key, key_rank, set_value_at, set_value, put_value, without_key}
 use Rattle.indexset_spine.specs.Lengths.{lengths_with, lengths_without}
+use Rattle.indexset_set.specs.SetNodes.{nodes_put_all}
 
 pub record Contents (K V : Type 0) : Type 0 where
   pub pairs : List (Pair K V)
   pub lengths : List ℕ
   pub size : ℕ
 
+-- the list in parts of these lengths
+unfoldable pub parts : {X : Type 0} → List ℕ → List X → List (List X)
+parts [] l = []
+parts (n ∷ ns) l = take n l ∷ parts ns (drop n l)
+
 module _ {K V : Type 0} where
   abbrev pub contents : Cut (Pair K V) → Contents K V
   contents s = record { pairs = items s; lengths = node_lengths s.nodes; size = s.size }
+
+  -- the set that holds the pairs of a map
+  abbrev pub set_of : Contents K V → Cut (Pair K V)
+  set_of m = cut (parts m.lengths m.pairs) m.size
 
   -- no pairs, in one empty node
   abbrev pub no_pairs : ℕ → Contents K V
@@ -52,6 +62,14 @@ module _ {K V : Type 0} where
     -- the map, once each entry was put in its place in turn
     abbrev pub with_all : Contents K V → List (K × V) → Contents K V
     with_all m entries = fold (λ n e. with_entry n e.0 e.1) m entries
+
+    -- the map, once each pair of ps was put in its place in turn, for any pair of an equal key
+    abbrev pub with_pairs_put : Contents K V → List (Pair K V) → Contents K V
+    with_pairs_put m ps = contents (cut (nodes_put_all (by_key cmp) (set_of m) ps) m.size)
+
+    -- some first pairs of ps were put in turn, which made n of the map, and the others are left
+    abbrev pub PutsSomePairs : Contents K V → List (Pair K V) → Contents K V → List (Pair K V) → Type 0
+    PutsSomePairs m ps n rest = (k : ℕ) × (n ≡ with_pairs_put m (take k ps)) × (rest ≡ drop k ps)
 
     -- the map without the pair of the key
     abbrev pub without_entry : Contents K V → K → Contents K V

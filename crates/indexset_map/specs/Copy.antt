@@ -2,6 +2,7 @@
 use Rattle.std.specs.Prelude.{◌≡◌, List, [], ◌∷◌}
 use Rattle.std.specs.List.{AllZip, fold}
 use Rattle.std.specs.declared.cmp.Ordering.{Ordering}
+use Rattle.std.specs.declared.cmp.Ordering.TheVariants.{Equal}
 use Rattle.indexset_core.specs.declared.pair.Pair.{Pair}
 use Rattle.indexset_core.specs.Order.{IsAscending, keep}
 use Rattle.indexset_core.specs.Pairs.{by_key}
@@ -22,3 +23,10 @@ module _ {K V : Type 0} (C : K → K → Type 0) (D : V → V → Type 0) where
     pub in_turn : (IsAscending (by_key cmp) clones → ⊥) → copy ≡ contents (cut (nodes_kept_all (by_key cmp) (cut ([] ∷ []) m.size) clones) m.size)
     pub pairs : copy.pairs ≡ fold (keep (by_key cmp)) [] clones
     pub size : copy.size ≡ m.size
+
+  -- a copy that has a clone of each pair in its place where clones of keys are equal to their sources, and is the same map where clones are identical to them
+  pub record IsMapClone (cmp : K → K → Ordering) (m copy : Contents K V) : Type 0 where
+    pub copied : IsMapCopy cmp m copy
+    pub cloned : ((x y : K) → C x y → cmp x y ≡ Equal) → AllZip IsPairClone m.pairs copy.pairs
+    pub lengths : ((x y : K) → C x y → cmp x y ≡ Equal) → copy.lengths ≡ m.lengths
+    pub ok : ((x y : K) → C x y → y ≡ x) → ((x y : V) → D x y → y ≡ x) → copy ≡ m

@@ -3,6 +3,7 @@ ghost use Rattle.std.specs.Prelude.{◌≡◌, ◌<◌, [], true, false, IfOk, O
 ghost use Rattle.std.specs.List.{All};
 ghost use Rattle.std.specs.Ordering.{is_lt};
 ghost use Rattle.indexset_core.specs.Pairs.{by_key, pair_keys, pairs_below, pairs_from};
+ghost use Rattle.indexset_map.specs.Contents.{with_pairs_put, PutsSomePairs};
 ghost use Rattle.indexset_set.specs.SetAlgebra.{put_all, MovesSome};
 
 use super::BTreeMap;
@@ -46,11 +47,13 @@ impl<K: Ord + Drop, V: Drop> BTreeMap<K, V> {
     /// ```
     pub fn append(&mut self, other: &mut Self) -> Result<(), Refusal>
         ensures ok { OnOk result (self.new.pairs ≡ put_all (by_key K.cmp) self.old.pairs other.old.pairs) }
+        ensures nodes { OnOk result (self.new ≡ with_pairs_put K.cmp self.old other.old.pairs) }
         ensures emptied { OnOk result (other.new.pairs ≡ []) }
         ensures size { self.new.size ≡ self.old.size }
         ensures other_size { other.new.size ≡ other.old.size }
         ensures refusal { IfErr result (λ e. e ≡ Refusal.Memory) }
         ensures err { OnErr result (MovesSome (by_key K.cmp) self.old.pairs other.old.pairs self.new.pairs other.new.pairs) }
+        ensures err_nodes { OnErr result (PutsSomePairs K.cmp self.old other.old.pairs self.new other.new.pairs) }
         ensures some_left { OnErr result (0 < length other.new.pairs) }
     {
         self.set.append(&mut other.set)

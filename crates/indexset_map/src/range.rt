@@ -11,7 +11,7 @@ ghost use Rattle.indexset_spine.specs.Lengths.{place_of};
 use super::BTreeMap;
 use super::iter::IterMap;
 use indexset_core::probe::ByKey;
-use indexset_set::Bounds;
+use indexset_set::{Bounds, inner};
 use indexset_spine::spot::Spot;
 use std::ops::Bound;
 
@@ -63,8 +63,8 @@ impl<K: Ord, V> BTreeMap<K, V> {
     {
         // The pairs ascend, as in `locate`.
         let _len = self.set.len();
-        let spot = self.set.start_of(start.map(ByKey::new));
-        let position = self.set.position(&spot);
+        let spot = inner::start_of(&self.set, start.map(ByKey::new));
+        let position = inner::position(&self.set, &spot);
         (spot, position)
     }
 

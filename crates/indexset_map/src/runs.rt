@@ -7,6 +7,7 @@ ghost use Rattle.indexset_map.specs.Contents.{with_all, with_entry};
 use super::BTreeMap;
 use indexset_core::pair::Pair;
 use indexset_core::refusal::Refusal;
+use indexset_set::inner;
 
 impl<K: Ord + Drop, V: Drop> BTreeMap<K, V> {
     // Inserts an entry, where the pairs of a run are yet to go behind those of the map: one whose
@@ -24,7 +25,7 @@ impl<K: Ord + Drop, V: Drop> BTreeMap<K, V> {
     {
         // A set says here how long its nodes are, before and after.
         let _count = self.set.node_count();
-        let joined = self.set.join_run(run, Pair { key, value });
+        let joined = inner::join_run(&mut self.set, run, Pair { key, value });
         let _left = self.set.node_count();
         match joined {
             Ok(None) => Ok(()),
@@ -44,7 +45,7 @@ impl<K: Ord + Drop, V: Drop> BTreeMap<K, V> {
         ensures refusal { IfErr result (λ e. e ≡ Refusal.Memory) }
     {
         let _count = self.set.node_count();
-        self.set.take_run(run)?;
+        inner::take_run(&mut self.set, run)?;
         Ok(())
     }
 }

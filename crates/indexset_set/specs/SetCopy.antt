@@ -2,6 +2,7 @@
 use Rattle.std.specs.Prelude.{◌≡◌, List, [], ◌∷◌}
 use Rattle.std.specs.List.{AllZip, fold}
 use Rattle.std.specs.declared.cmp.Ordering.{Ordering}
+use Rattle.std.specs.declared.cmp.Ordering.TheVariants.{Equal}
 use Rattle.indexset_core.specs.Nodes.{joined}
 use Rattle.indexset_core.specs.Order.{IsAscending, keep}
 use Rattle.indexset_spine.specs.Cut.{Cut, cut, items}
@@ -15,3 +16,9 @@ pub record IsSetCopy {T : Type 0} (cmp : T → T → Ordering) (C : T → T → 
   pub in_turn : (IsAscending cmp (joined clones) → ⊥) → copy.nodes ≡ nodes_kept_all cmp (cut ([] ∷ []) s.size) (joined clones)
   pub elements : items copy ≡ fold (keep cmp) [] (joined clones)
   pub size : copy.size ≡ s.size
+
+-- a copy that has a clone of each element in its place where clones are equal to their sources, and is the same set where they are identical to them
+pub record IsSetClone {T : Type 0} (cmp : T → T → Ordering) (C : T → T → Type 0) (s copy : Cut T) : Type 0 where
+  pub copied : IsSetCopy cmp C s copy
+  pub cloned : ((x y : T) → C x y → cmp x y ≡ Equal) → AllZip (AllZip C) s.nodes copy.nodes
+  pub ok : ((x y : T) → C x y → y ≡ x) → copy ≡ s

@@ -11,6 +11,7 @@ mod difference_walk;
 mod intersection_walk;
 mod merge;
 mod symmetric_walk;
+mod traits;
 mod union_walk;
 
 use super::BTreeSet;

@@ -52,6 +52,7 @@ impl<T: Ord + Drop> BTreeSet<T> {
         ensures rest { IfOk result (λ s. items s ≡ not_below T.cmp (items self.old) value.now) }
         ensures all_below { OnOk result (All (λ x. is_lt (T.cmp x value.now) ≡ true) (items self.new)) }
         ensures all_from { IfOk result (λ s. All (λ x. is_lt (T.cmp x value.now) ≡ false) (items s)) }
+        ensures whole { IfOk result (λ s. items self.old ≡ items self.new ++ items s) }
         ensures size { self.new.size ≡ self.old.size }
         ensures rest_size { IfOk result (λ s. s.size ≡ self.old.size) }
         ensures refusal { IfErr result (λ e. e ≡ Refusal.Memory) }

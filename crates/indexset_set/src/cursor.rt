@@ -8,6 +8,7 @@ ghost use Rattle.indexset_set.specs.SetCursor.{item_at, one_back, one_on, standi
 ghost use Rattle.indexset_set.specs.SetProbes.{FindsInOrder};
 
 use super::BTreeSet;
+use super::inner::{element, spot_near};
 use indexset_core::probe::Probe;
 use indexset_spine::spot::Spot;
 use std::marker::Model;
@@ -159,7 +160,7 @@ impl<'a, T: Ord> Cursor<'a, T> {
         ensures { self.new ≡ record { list = self.old.list; position = i } }
     {
         if i < self.set.len() {
-            let spot = self.set.spot_near(self.node, self.start, i);
+            let spot = spot_near(self.set, self.node, self.start, i);
             self.node = spot.node;
             self.start = i - spot.offset;
         }
@@ -173,8 +174,8 @@ impl<'a, T: Ord> Cursor<'a, T> {
         if i >= self.set.len() {
             return None;
         }
-        let spot = self.set.spot_near(self.node, self.start, i);
-        Some(self.set.element(&spot))
+        let spot = spot_near(self.set, self.node, self.start, i);
+        Some(element(self.set, &spot))
     }
 
     // One on, and from the end place the first position.

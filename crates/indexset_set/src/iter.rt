@@ -28,20 +28,6 @@ impl<'a, T> Model for Iter<'a, T> {
     ghost view = { λ a. a.rest };
 }
 
-impl<'a, T: Ord> Iter<'a, T> {
-    /// Returns all elements, in order.
-    pub fn new(set: &'a BTreeSet<T>) -> Self
-        ensures rest { result ≡ items set.now }
-        ensures ascending { IsAscending T.cmp result }
-        ensures runs { ShowsInOrder (deref {X = T}) }
-        ensures runs_back { ShowsInReverse (deref {X = T}) }
-    {
-        Iter {
-            rest: set.spine.iter(),
-        }
-    }
-}
-
 impl<'a, T> Iter<'a, T> {
     // The remaining elements of a spine's iterator.
     pub(super) fn of(rest: iter::Iter<'a, T>) -> Self
@@ -100,7 +86,7 @@ impl<T: Ord> BTreeSet<T> {
         ensures runs { ShowsInOrder (deref {X = T}) }
         ensures runs_back { ShowsInReverse (deref {X = T}) }
     {
-        Iter::new(self)
+        Iter::of(self.spine.iter())
     }
 }
 

@@ -10,6 +10,7 @@ ghost use Rattle.indexset_set.specs.SetCopy.{IsSetCopy};
 ghost use Rattle.indexset_set.specs.SetNodes.{nodes_kept_all};
 
 use super::BTreeSet;
+use super::inner::take_run;
 use indexset_core::constants::DEFAULT_INNER_SIZE;
 use indexset_core::refusal::{Refusal, Refused};
 use indexset_spine::spine::Spine;
@@ -85,7 +86,7 @@ impl<T: Ord + Drop> BTreeSet<T> {
         for value in rest {
             set.keep_behind(&mut run, value)?;
         }
-        set.take_run(&mut run)?;
+        take_run(&mut set, &mut run)?;
         Ok(set)
     }
 
@@ -110,7 +111,7 @@ impl<T: Ord + Drop> BTreeSet<T> {
     /// Rust crate.)
     ///
     /// ```
-    /// let set = BTreeSet::from_sorted(alloc, vec![in alloc; 10, 20, 30]?).map_err(|refused| refused.cause)?;
+    /// let set = BTreeSet::from_sorted(alloc, vec![in alloc; 10, 20, 30]?)?;
     /// let unsorted = BTreeSet::from_sorted(alloc, vec![in alloc; 10, 10]?);
     /// assert!(rt; set.len() == 3 && unsorted.is_err());
     /// ```

@@ -5,16 +5,16 @@ ghost use Rattle.std.specs.Option.{option_copied_mut, option_map};
 ghost use Rattle.std.specs.Borrow.{sem};
 ghost use Rattle.std.specs.List.Retain.{RetainsInTurn};
 ghost use Rattle.std.specs.Ordering.{is_eq};
-ghost use Rattle.indexset_spine.specs.Cut.{items, IsItemSpot, position_of};
+ghost use Rattle.indexset_spine.specs.Cut.{items};
 ghost use Rattle.indexset_core.specs.Digits.{digits};
 ghost use Rattle.indexset_core.specs.Parted.{less_count};
 ghost use Rattle.indexset_set.specs.SetProbes.{FindsInOrder};
 ghost use Rattle.indexset_core.specs.Pairs.{entry_of, CalledOnPair};
 
 use super::BTreeSet;
+use super::inner::value_in;
 use indexset_core::pair::Pair;
 use indexset_core::probe::Probe;
-use indexset_spine::spot::Spot;
 
 impl<K: Ord, V> BTreeSet<Pair<K, V>> {
     ghost use Rattle.indexset_set.specs.SetLends.{lends_value, lends_pair, lends_pair_if, lends_value_if};
@@ -42,7 +42,7 @@ impl<K: Ord, V> BTreeSet<Pair<K, V>> {
     {
         let spot = self.spine.locate_by(probe);
         if spot.found {
-            Some(self.value_in(spot))
+            Some(value_in(self, spot))
         } else {
             None
         }
@@ -67,33 +67,13 @@ impl<K: Ord, V> BTreeSet<Pair<K, V>> {
         i < self.spine.len()
     }
 
-    /// Returns the key at a position with a mutable reference to its value.
-    pub fn pair_at_mut(&mut self, i: usize) -> (&K, &mut V)
+    // Returns the key at a position with a mutable reference to its value.
+    fn pair_at_mut(&mut self, i: usize) -> (&K, &mut V)
         requires { i < length (items self.old) }
         ensures* writes_back { sem 𝓛 (lends_pair K.row V.row K.Ord self.entry i result) }
         ensures value { option_map entry_of (slice_get (items self.old) i) ≡ Some (result.0.now, result.1.now) }
     {
         let pair = self.spine.get_mut(i).unwrap();
-        (&pair.key, &mut pair.value)
-    }
-
-    /// Returns a mutable reference to the value at a spot.
-    pub fn value_in(&mut self, spot: Spot) -> &mut V
-        requires { IsItemSpot self.old.nodes spot }
-        ensures* writes_back { sem 𝓛 (lends_value K.row V.row K.Ord self.entry (position_of self.old.nodes spot) result) }
-        ensures value { option_map (λ p. p.value) (slice_get (items self.old) (position_of self.old.nodes spot)) ≡ Some result.now }
-    {
-        let pair = self.spine.item_mut(spot);
-        &mut pair.value
-    }
-
-    /// Returns the key at a spot with a mutable reference to its value.
-    pub fn pair_in_mut(&mut self, spot: Spot) -> (&K, &mut V)
-        requires { IsItemSpot self.old.nodes spot }
-        ensures* writes_back { sem 𝓛 (lends_pair K.row V.row K.Ord self.entry (position_of self.old.nodes spot) result) }
-        ensures value { option_map entry_of (slice_get (items self.old) (position_of self.old.nodes spot)) ≡ Some (result.0.now, result.1.now) }
-    {
-        let pair = self.spine.item_mut(spot);
         (&pair.key, &mut pair.value)
     }
 

@@ -1,8 +1,8 @@
 //! The elements between two bounds, or between two positions.
-ghost use Rattle.std.specs.Prelude.{◌≡◌, IsTrue, min};
+ghost use Rattle.std.specs.Prelude.{◌≡◌, IsTrue};
 ghost use Rattle.std.specs.List.{count_by};
 ghost use Rattle.std.specs.Map.Iter.{ShowsInOrder, ShowsInReverse, deref};
-ghost use Rattle.std.specs.Range.Bound.{bound_map, start_index, end_index};
+ghost use Rattle.std.specs.Range.Bound.{bound_map};
 ghost use Rattle.indexset_core.specs.Bounds.{IfBounded, are_ordered, in_positions, in_range, is_before, is_up_to_end};
 ghost use Rattle.indexset_core.specs.Order.{IsAscending};
 ghost use Rattle.indexset_spine.specs.Cut.{items};
@@ -10,6 +10,7 @@ ghost use Rattle.indexset_set.specs.SetProbes.{FindsInOrder};
 
 use super::BTreeSet;
 use super::bounds::Bounds;
+use super::inner::{end_position, first_position};
 use super::iter::Iter;
 use indexset_core::probe::{ByItem, Probe};
 use std::ops::Bound;
@@ -85,27 +86,5 @@ impl<T: Ord> BTreeSet<T> {
         ensures { result ≡ count_by (is_up_to_end (λ x p. P.answer p x) end) (items self.now) }
     {
         self.spine.position(&self.spine.end_of(end))
-    }
-}
-
-// Returns the first position that is not before the start, or the length where there is none.
-pub fn first_position(start: Bound<usize>, len: usize) -> usize
-    ensures { result ≡ min (start_index start) len }
-{
-    match start {
-        Bound::Included(i) => i.min(len),
-        Bound::Excluded(i) => i.saturating_add(1).min(len),
-        Bound::Unbounded => 0,
-    }
-}
-
-/// Returns the first position past the end, or the length where there is none.
-pub fn end_position(end: Bound<usize>, len: usize) -> usize
-    ensures { result ≡ min (end_index end len) len }
-{
-    match end {
-        Bound::Included(i) => i.saturating_add(1).min(len),
-        Bound::Excluded(i) => i.min(len),
-        Bound::Unbounded => len,
     }
 }

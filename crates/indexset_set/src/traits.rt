@@ -3,6 +3,7 @@
 ghost use Rattle.std.specs.Prelude.{◌≡◌, List, [], fold};
 ghost use Rattle.indexset_core.specs.Order.{keep};
 ghost use Rattle.indexset_core.specs.declared.constants.TheConstants.{DEFAULT_INNER_SIZE};
+ghost use Rattle.indexset_set.specs.SetCopy.{IsSetClone};
 ghost use Rattle.indexset_spine.specs.Cut.{items};
 
 use super::BTreeSet;
@@ -16,8 +17,7 @@ impl<T: Ord + fmt::Debug> fmt::Debug for BTreeSet<T> {
 }
 
 impl<T: Ord + Clone> Clone for BTreeSet<T> {
-    // Where clones of elements are identical to them, it is of the same elements and node size.
-    ghost is_clone = { λ s copy. (((x y : T) → T.is_clone x y → y ≡ x) → items copy ≡ items s) × (copy.size ≡ s.size) };
+    ghost is_clone = { λ s copy. IsSetClone T.cmp T.is_clone s copy };
 
     /// Does as the inherent `clone` does, and fails with `AllocError`.
     fn clone(&self) -> Result<BTreeSet<T>, AllocError> {

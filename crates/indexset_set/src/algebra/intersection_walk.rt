@@ -9,7 +9,7 @@ use std::iter::FusedIterator;
 use std::marker::Model;
 
 /// The remaining elements of one set of those that have an equal one in another.
-#[derive(Debug, Drop)]
+#[derive(Drop)]
 pub struct Intersection<'a, T: Ord> {
     pub(super) merge: Merge<'a, T>,
 }

@@ -17,13 +17,13 @@ pub(crate) enum Side<X> {
 }
 
 /// The remaining items of two lists, merged.
-#[derive(Debug, Drop)]
+#[derive(Drop)]
 pub(crate) struct Merge<'a, T: Ord> {
     // The next item of each list, and what follows it there.
-    next_left: Option<&'a T>,
-    next_right: Option<&'a T>,
-    left: Iter<'a, T>,
-    right: Iter<'a, T>,
+    pub(super) next_left: Option<&'a T>,
+    pub(super) next_right: Option<&'a T>,
+    pub(super) left: Iter<'a, T>,
+    pub(super) right: Iter<'a, T>,
 }
 
 impl<'a, T: Ord> Model for Merge<'a, T> {

@@ -9,7 +9,7 @@ use std::iter::FusedIterator;
 use std::marker::Model;
 
 /// The remaining elements of those that one of two sets has alone.
-#[derive(Debug, Drop)]
+#[derive(Drop)]
 pub struct SymmetricDifference<'a, T: Ord> {
     pub(super) merge: Merge<'a, T>,
 }

@@ -9,7 +9,7 @@ use std::iter::FusedIterator;
 use std::marker::Model;
 
 /// The remaining elements of either of two sets.
-#[derive(Debug, Drop)]
+#[derive(Drop)]
 pub struct Union<'a, T: Ord> {
     pub(super) merge: Merge<'a, T>,
 }

@@ -13,4 +13,4 @@ returns-clause-value g c = ap (option_map entry_of) (pair_read c.self.inside.set
 pub returns-clause-rest : goal.returns-clause-rest
 returns-clause-rest g c =
     let out = c.remove_at-key.ensures in
-    taken_out c.self.inside.set c.args.self.now c.args.spot c.self.view_is c.remove_at-key.new.self c.requires out.rest out.nodes out.size
+    taken_out c.self.inside.set c.args.self.now c.args.spot c.self.view_is c.remove_at-key.new.set c.requires out.rest out.nodes out.size

@@ -1,0 +1,109 @@
+//! Values in ascending order, gathered in a run that goes in by blocks.
+ghost use Rattle.std.specs.Prelude.{◌≡◌, [], ◌∷◌, ◌++◌, None, true, false, ◌<◌, IsTrue, IfOk, IfSome, OnOk, IfErr, OnErr, vec_len, vec_capacity};
+ghost use Rattle.indexset_core.specs.Order.{IsAscending};
+ghost use Rattle.indexset_spine.specs.Cut.{items, with_all_last};
+
+use crate::BTreeSet;
+use indexset_core::refusal::{Refusal, Refused};
+
+/// Puts a value that is above all behind a run, whose values are yet to go behind the elements,
+/// and returns `None`. Any other value it returns, once it has moved the run. It makes one
+/// comparison. Fails with `Memory`: a failed call hands the value back, and has moved a prefix
+/// of the run.
+pub fn join_run<T: Ord + Drop>(
+    set: &mut BTreeSet<T>,
+    run: &mut Vec<T>,
+    value: T,
+) -> Result<Option<T>, Refused<T>>
+    requires order { IsAscending T.cmp (items set.old ++ run.old.items) }
+    ensures order { OnOk result (IsAscending T.cmp (items set.new ++ run.new.items)) }
+    ensures items { IfOk result (λ back. back ≡ None → items set.new ++ run.new.items ≡ items set.old ++ (run.old.items ++ value ∷ [])) }
+    ensures nodes { IfOk result (λ back. back ≡ None → with_all_last set.old.size set.new.nodes run.new.items ≡ with_all_last set.old.size set.old.nodes (run.old.items ++ value ∷ [])) }
+    ensures back { IfOk result (λ back. IfSome back (λ v. v ≡ value)) }
+    ensures emptied { IfOk result (λ back. IfSome back (λ _. run.new.items ≡ [])) }
+    ensures moved { IfOk result (λ back. IfSome back (λ _. set.new.nodes ≡ with_all_last set.old.size set.old.nodes run.old.items)) }
+    ensures size { set.new.size ≡ set.old.size }
+    ensures given_back { IfErr result (λ e. (e.value ≡ value) × (e.cause ≡ Refusal.Memory)) }
+    ensures err { OnErr result (items set.new ++ run.new.items ≡ items set.old ++ run.old.items) }
+    ensures err_nodes { OnErr result (with_all_last set.old.size set.new.nodes run.new.items ≡ with_all_last set.old.size set.old.nodes run.old.items) }
+{
+    let _count = set.node_count();
+    let joins = is_above(set, run.as_slice(), &value);
+    match ready_run(set, run, joins) {
+        Ok(()) if joins => {
+            run.push_reserved(value);
+            Ok(None)
+        }
+        Ok(()) => {
+            let _len = set.len();
+            Ok(Some(value))
+        }
+        Err(cause) => Err(Refused { value, cause }),
+    }
+}
+
+// Has a run ready for a value: with room for it if it joins, else moved. A failed call has moved
+// a prefix.
+fn ready_run<T: Ord + Drop>(
+    set: &mut BTreeSet<T>,
+    run: &mut Vec<T>,
+    joins: bool,
+) -> Result<(), Refusal>
+    requires order { IsAscending T.cmp (items set.old ++ run.old.items) }
+    ensures items { items set.new ++ run.new.items ≡ items set.old ++ run.old.items }
+    ensures nodes { with_all_last set.old.size set.new.nodes run.new.items ≡ with_all_last set.old.size set.old.nodes run.old.items }
+    ensures room { OnOk result (joins ≡ true → vec_len run.new < vec_capacity run.new) }
+    ensures emptied { OnOk result (joins ≡ false → run.new.items ≡ []) }
+    ensures size { set.new.size ≡ set.old.size }
+    ensures refusal { IfErr result (λ e. e ≡ Refusal.Memory) }
+{
+    if !joins {
+        return take_run(set, run);
+    }
+    take_full_run(set, run)?;
+    run.reserve(1)?;
+    Ok(())
+}
+
+/// Moves the values of a run behind the elements, by blocks and with no comparison. Fails with
+/// `Memory`: a failed call has moved a prefix.
+pub fn take_run<T: Ord + Drop>(set: &mut BTreeSet<T>, run: &mut Vec<T>) -> Result<(), Refusal>
+    requires order { IsAscending T.cmp (items set.old ++ run.old.items) }
+    ensures items { items set.new ++ run.new.items ≡ items set.old ++ run.old.items }
+    ensures nodes { with_all_last set.old.size set.new.nodes run.new.items ≡ with_all_last set.old.size set.old.nodes run.old.items }
+    ensures emptied { OnOk result (run.new.items ≡ []) }
+    ensures size { set.new.size ≡ set.old.size }
+    ensures refusal { IfErr result (λ e. e ≡ Refusal.Memory) }
+{
+    let _count = set.spine.node_count();
+    set.spine.append_items(run)
+}
+
+// Does the same where the run fills the half of a node, so that it goes whole into one that was
+// just halved.
+fn take_full_run<T: Ord + Drop>(set: &mut BTreeSet<T>, run: &mut Vec<T>) -> Result<(), Refusal>
+    requires order { IsAscending T.cmp (items set.old ++ run.old.items) }
+    ensures items { items set.new ++ run.new.items ≡ items set.old ++ run.old.items }
+    ensures nodes { with_all_last set.old.size set.new.nodes run.new.items ≡ with_all_last set.old.size set.old.nodes run.old.items }
+    ensures size { set.new.size ≡ set.old.size }
+    ensures refusal { IfErr result (λ e. e ≡ Refusal.Memory) }
+{
+    if run.len() < set.maximum_node_size() / 2 {
+        return Ok(());
+    }
+    take_run(set, run)
+}
+
+// Returns whether a value is above the elements and a run behind them, by one comparison.
+fn is_above<T: Ord>(set: &BTreeSet<T>, run: &[T], value: &T) -> bool
+    requires order { IsAscending T.cmp (items set.now ++ run.now) }
+    ensures { IsTrue result → IsAscending T.cmp (items set.now ++ (run.now ++ value.now ∷ [])) }
+{
+    if let Some(last) = run.last() {
+        return last.cmp(value).is_lt();
+    }
+    match set.spine.last_spot() {
+        Some(last) => set.spine.item(&last).cmp(value).is_lt(),
+        None => true,
+    }
+}
