@@ -7,7 +7,7 @@ use Rattle.indexset_core.specs.declared.refusal.Refusal.{Refusal}
 use Rattle.indexset_core.specs.declared.refusal.Refusal.TheVariants as refusals
 use Rattle.std.below.core.specs.declared.int.u64.TheConstants.{MAX}
 use Rattle.indexset_log.specs.Tree.{refusal_for}
-use Rattle.indexset_handle.specs.declared.status.TheConstants.{NO, YES, MEMORY, NONE, NUMBERS, UNFIT}
+use Rattle.indexset_handle.specs.declared.status.TheConstants.{NO, YES, MEMORY, NONE, HELD, NUMBERS, UNFIT}
 
 -- a status that is one number is no other
 pub not_at : {P : Type 0} (s m n : ℕ) → s ≡ m → eqb m n ≡ false → s ≡ n → P
@@ -26,14 +26,15 @@ pub record IsRefused (s : ℕ) (cause : Refusal) : Type 0 where
   pub least : MEMORY ≤ s
   pub most : s ≤ NUMBERS
   pub not_none : s ≢ NONE
+  pub not_held : s ≢ HELD
 
 pub is_refused : (s t : ℕ) (cause why : Refusal) → s ≡ t → cause ≡ why → (why ≡ refusals.Memory) ⊎ (why ≡ refusals.Numbers) → (t ≡ MEMORY ↔ (cause ≡ refusals.Memory)) → (t ≡ NUMBERS ↔ (cause ≡ refusals.Numbers)) → IsRefused s why
 is_refused s t cause why is same (inl m) memory numbers =
     let at : s ≡ MEMORY = is ∙ memory.1 (same ∙ m) in
-    record { memory = λ h. m; numbers = λ h. not_at s MEMORY NUMBERS at refl h; least = omega (arith, at); most = omega (arith, at); not_none = λ h. not_at s MEMORY NONE at refl h }
+    record { memory = λ h. m; numbers = λ h. not_at s MEMORY NUMBERS at refl h; least = omega (arith, at); most = omega (arith, at); not_none = λ h. not_at s MEMORY NONE at refl h; not_held = λ h. not_at s MEMORY HELD at refl h }
 is_refused s t cause why is same (inr n) memory numbers =
     let at : s ≡ NUMBERS = is ∙ numbers.1 (same ∙ n) in
-    record { memory = λ h. not_at s NUMBERS MEMORY at refl h; numbers = λ h. n; least = omega (arith, at); most = omega (arith, at); not_none = λ h. not_at s NUMBERS NONE at refl h }
+    record { memory = λ h. not_at s NUMBERS MEMORY at refl h; numbers = λ h. n; least = omega (arith, at); most = omega (arith, at); not_none = λ h. not_at s NUMBERS NONE at refl h; not_held = λ h. not_at s NUMBERS HELD at refl h }
 
 pub for_events : (next n : ℕ) → (refusal_for next n ≡ refusals.Memory) ⊎ (refusal_for next n ≡ refusals.Numbers)
 for_events next n = either (nat_lt MAX (next + n)) where

@@ -14,7 +14,7 @@ ghost use Rattle.indexset_handle.specs.Events.{record_of};
 use indexset_handle::event::Event;
 use indexset_handle::log_calls::{insert_told, remove_told};
 use indexset_handle::log_handle::LogHandle;
-use indexset_handle::status::{MEMORY, NO, NONE, NUMBERS, UNFIT, YES, of_refusal};
+use indexset_handle::status::{HELD, MEMORY, NO, NONE, NUMBERS, UNFIT, YES, of_refusal};
 use indexset_handle::write::write;
 use std::alloc::Global;
 
@@ -35,16 +35,19 @@ pub extern "C" fn indexset_log_insert(
     ensures ok { result ≤ YES → IfSome log.old.slot.value (λ m. log.new.slot.value ≡ Some (record { nodes = with_put (by_key nat_cmp) m.size m.nodes (pair key value); size = m.size; next = m.next + told.new })) }
     ensures told { result ≤ YES → IfSome log.old.slot.value (λ m. told.new ≡ length (put_events (by_key nat_cmp) m.size m.nodes (pair key value))) }
     ensures events { result ≤ YES → IfSome log.old.slot.value (λ m. events.new ≡ written told.new (map record_of (numbered_from m.next (put_events (by_key nat_cmp) m.size m.nodes (pair key value)))) events.old) }
+    ensures led { result ≤ YES → IfSome log.old.slot.value (λ m. IfSome log.new.slot.value (λ n.
+        replay (by_key nat_cmp) m.nodes (numbered_from m.next
+        (put_events (by_key nat_cmp) m.size m.nodes (pair key value))) ≡ Some n.nodes)) }
     ensures few { told.new ≤ 3 }
     ensures unwritten { result ≢ NO → before.new ≡ before.old }
     ensures untold { MEMORY ≤ result → told.new ≡ 0 }
     ensures no_events { MEMORY ≤ result → events.new ≡ events.old }
     ensures same { MEMORY ≤ result → log.new.slot.value ≡ log.old.slot.value }
     ensures none { result ≡ NONE ↔ (log.old.slot.value ≡ None) }
-    ensures unfit { result ≡ UNFIT → length events.old < 3 }
+    ensures unfit { result ≡ UNFIT ↔ ((log.old.slot.value ≢ None) × (length events.old < 3)) }
     ensures memory { result ≡ MEMORY → IfSome log.old.slot.value (λ m. refusal_for m.next (length (put_events (by_key nat_cmp) m.size m.nodes (pair key value))) ≡ refusals.Memory) }
     ensures numbers { result ≡ NUMBERS → IfSome log.old.slot.value (λ m. refusal_for m.next (length (put_events (by_key nat_cmp) m.size m.nodes (pair key value))) ≡ refusals.Numbers) }
-    ensures status { result ≤ UNFIT }
+    ensures status { (result ≤ UNFIT) × (result ≢ HELD) }
 {
     *told = 0;
     let Some(mut held) = log.take(alloc) else {
@@ -90,10 +93,10 @@ pub extern "C" fn indexset_log_remove(
     ensures untold { result ≢ YES → told.new ≡ 0 }
     ensures no_events { result ≢ YES → events.new ≡ events.old }
     ensures same { result ≢ YES → log.new.slot.value ≡ log.old.slot.value }
-    ensures unfit { result ≡ UNFIT → length events.old < 3 }
+    ensures unfit { result ≡ UNFIT ↔ ((log.old.slot.value ≢ None) × (length events.old < 3)) }
     ensures memory { result ≡ MEMORY → IfSome log.old.slot.value (λ m. refusal_for m.next (length (key_removal_events nat_cmp m.size m.nodes key)) ≡ refusals.Memory) }
     ensures numbers { result ≡ NUMBERS → IfSome log.old.slot.value (λ m. refusal_for m.next (length (key_removal_events nat_cmp m.size m.nodes key)) ≡ refusals.Numbers) }
-    ensures status { result ≤ UNFIT }
+    ensures status { (result ≤ UNFIT) × (result ≢ NONE) × (result ≢ HELD) }
 {
     *told = 0;
     let Some(mut held) = log.take(alloc) else {

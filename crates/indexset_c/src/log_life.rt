@@ -21,6 +21,7 @@ pub extern "C" fn indexset_log_new(
     ensures refused { result ≢ YES → log.new.slot.value ≡ log.old.slot.value }
     ensures held { result ≡ HELD ↔ (is_some log.old.slot.value ≡ true) }
     ensures unfit { is_some log.old.slot.value ≡ false → (result ≡ UNFIT ↔ (size < 2)) }
+    ensures status { result ≢ YES → result ≢ HELD → result ≢ UNFIT → result ≡ MEMORY }
 {
     if let Some(held) = log.take(alloc) {
         log.put(held);

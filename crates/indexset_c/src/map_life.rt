@@ -14,6 +14,7 @@ pub extern "C" fn indexset_map_new(alloc: Global, map: &mut MapHandle) -> u32
     ensures made { result ≡ YES → is_some map.new.slot.value ≡ true }
     ensures refused { result ≢ YES → map.new.slot.value ≡ map.old.slot.value }
     ensures held { result ≡ HELD ↔ (is_some map.old.slot.value ≡ true) }
+    ensures status { result ≢ YES → result ≢ HELD → result ≡ MEMORY }
 {
     if let Some(held) = map.take(alloc) {
         map.put(held);
@@ -39,6 +40,7 @@ pub extern "C" fn indexset_map_clone(alloc: Global, map: &mut MapHandle, to: &mu
     ensures none { result ≡ NONE ↔ (map.old.slot.value ≡ None) }
     ensures held { map.old.slot.value ≢ None → (result ≡ HELD ↔ (is_some to.old.slot.value ≡ true)) }
     ensures same { map.new.slot.value ≡ map.old.slot.value }
+    ensures status { result ≢ YES → result ≢ NONE → result ≢ HELD → result ≡ MEMORY }
 {
     let Some(held) = map.take(alloc) else {
         return NONE;

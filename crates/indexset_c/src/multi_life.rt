@@ -1,6 +1,6 @@
 //! Calls that make, empty and free a multimap, and tell its length.
 ghost use Rattle.std.specs.Prelude.{◌≡◌, ◌≢◌, ◌↔◌, [], Some, None, true, length, is_some};
-ghost use Rattle.indexset_handle.specs.Elements.{numbered_pairs};
+ghost use Rattle.indexset_handle.specs.Elements.{fresh_multi, numbered_pairs};
 
 use indexset_handle::multi_handle::MultiHandle;
 use indexset_handle::status::{HELD, MEMORY, YES};
@@ -11,9 +11,10 @@ use std::alloc::Global;
 #[unsafe(no_mangle)]
 pub extern "C" fn indexset_multi_new(alloc: Global, multi: &mut MultiHandle) -> u32
     ensures empty { result ≡ YES → numbered_pairs multi.new.slot.value ≡ [] }
-    ensures made { result ≡ YES → is_some multi.new.slot.value ≡ true }
+    ensures made { result ≡ YES → multi.new.slot.value ≡ Some fresh_multi }
     ensures refused { result ≢ YES → multi.new.slot.value ≡ multi.old.slot.value }
     ensures held { result ≡ HELD ↔ (is_some multi.old.slot.value ≡ true) }
+    ensures status { result ≢ YES → result ≢ HELD → result ≡ MEMORY }
 {
     if let Some(held) = multi.take(alloc) {
         multi.put(held);
@@ -41,6 +42,7 @@ pub extern "C" fn indexset_multi_free(alloc: Global, multi: &mut MultiHandle)
 pub extern "C" fn indexset_multi_clear(alloc: Global, multi: &mut MultiHandle)
     ensures empty { numbered_pairs multi.new.slot.value ≡ [] }
     ensures there { is_some multi.new.slot.value ≡ is_some multi.old.slot.value }
+    ensures fresh { multi.old.slot.value ≢ None → multi.new.slot.value ≡ Some fresh_multi }
 {
     let Some(mut held) = multi.take(alloc) else {
         return;

@@ -1,8 +1,8 @@
 //! Calls of a set that take many keys at once.
-ghost use Rattle.std.specs.Prelude.{◌≡◌, ◌≢◌, ◌<◌, ◌≤◌, ◌↔◌, None, length, map, min, slice_index_or, take};
+ghost use Rattle.std.specs.Prelude.{◌≡◌, ◌≢◌, ◌<◌, ◌≤◌, ◌↔◌, None, false, length, map, min, slice_index_or, take};
 ghost use Rattle.std.specs.List.{AllWithin, fold};
 ghost use Rattle.std.specs.Ordering.{nat_cmp};
-ghost use Rattle.indexset_core.specs.Order.{keep, rank};
+ghost use Rattle.indexset_core.specs.Order.{has_equal, keep, rank};
 ghost use Rattle.indexset_handle.specs.Elements.{element_at, elements, written};
 
 use indexset_handle::set_calls::{element_each, insert_each, rank_each};
@@ -22,6 +22,8 @@ pub extern "C" fn indexset_set_insert_all(
     ensures kept { elements set.new.slot.value ≡ fold (keep nat_cmp) (elements set.old.slot.value) (take taken.new keys.now) }
     ensures all { result ≡ YES → taken.new ≡ length keys.now }
     ensures some { result ≡ MEMORY → taken.new < length keys.now }
+    ensures stop { result ≡ MEMORY → has_equal nat_cmp (elements set.new.slot.value)
+        (slice_index_or keys.now taken.new 0) ≡ false }
     ensures none { result ≡ NONE ↔ (set.old.slot.value ≡ None) }
     ensures same { result ≡ NONE → set.new.slot.value ≡ set.old.slot.value }
     ensures status { (result ≢ NO) × (result ≤ NONE) }

@@ -14,6 +14,7 @@ pub extern "C" fn indexset_set_new(alloc: Global, set: &mut SetHandle) -> u32
     ensures made { result ≡ YES → is_some set.new.slot.value ≡ true }
     ensures refused { result ≢ YES → set.new.slot.value ≡ set.old.slot.value }
     ensures held { result ≡ HELD ↔ (is_some set.old.slot.value ≡ true) }
+    ensures status { result ≢ YES → result ≢ HELD → result ≡ MEMORY }
 {
     if let Some(held) = set.take(alloc) {
         set.put(held);
@@ -39,6 +40,7 @@ pub extern "C" fn indexset_set_clone(alloc: Global, set: &mut SetHandle, to: &mu
     ensures none { result ≡ NONE ↔ (set.old.slot.value ≡ None) }
     ensures held { set.old.slot.value ≢ None → (result ≡ HELD ↔ (is_some to.old.slot.value ≡ true)) }
     ensures same { set.new.slot.value ≡ set.old.slot.value }
+    ensures status { result ≢ YES → result ≢ NONE → result ≢ HELD → result ≡ MEMORY }
 {
     let Some(held) = set.take(alloc) else {
         return NONE;

@@ -7,6 +7,7 @@ pub mod Output
 pub mod Passing
 pub mod Programs
 pub mod Readings
+pub mod RequestLines
 pub mod Lines
 pub mod Rows
 pub mod Runs

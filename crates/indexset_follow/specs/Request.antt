@@ -1,5 +1,5 @@
 -- What a line asks of a follower, and how it is written.
-use Rattle.std.specs.Prelude.{ℕ, if◌then◌else◌, List, ◌∷◌, ◌++◌, Option, None, Some, codes}
+use Rattle.std.specs.Prelude.{ℕ, ◌<◌, ◌^◌, if◌then◌else◌, List, ◌∷◌, ◌++◌, Option, None, Some, codes}
 use Rattle.std.specs.Fmt.{decimal}
 use Rattle.std.specs.Option.{option_map, option_and_then, option_map_or}
 use Rattle.std.specs.Str.{bytes_eq}
@@ -17,6 +17,17 @@ request_line Len = codes "len"
 request_line First = codes "first"
 request_line Last = codes "last"
 request_line (Range a b) = codes "range " ++ decimal a ++ 32 ∷ decimal b
+
+-- the numbers of a request are of 64 bits
+abbrev pub RequestFits : Request → Type 0
+RequestFits (Start n) = n < 2 ^ 64
+RequestFits Nodes = Unit {0}
+RequestFits Snapshot = Unit {0}
+RequestFits (Get k) = k < 2 ^ 64
+RequestFits Len = Unit {0}
+RequestFits First = Unit {0}
+RequestFits Last = Unit {0}
+RequestFits (Range a b) = (a < 2 ^ 64) × (b < 2 ^ 64)
 
 -- the request of one word
 abbrev pub word_request : List ℕ → Option Request

@@ -16,7 +16,9 @@ ghost use Rattle.indexset_follow.specs.EventLine.{Event, EventFits, event_of};
 ghost use Rattle.indexset_follow.specs.Follow.{State, snapshot_text, start_state, state, state_after};
 ghost use Rattle.indexset_follow.specs.NodeLine.{NodeFits, node_line, node_of};
 ghost use Rattle.indexset_follow.specs.Passed.{IsPassedOver, ReplyFits};
+ghost use Rattle.indexset_follow.specs.Request.{RequestFits, request_line, request_of};
 ghost use Rattle.indexset_follow.specs.Told.{IsAmong, event_lines, events_of_lines, output_lines};
+ghost use Rattle.indexset_follow.specs.declared.request.Request.{Request};
 ghost use Rattle.indexset_log.specs.Replay.{replay, IsNumberedFrom};
 ghost use Rattle.indexset_replica.specs.Delivery.{IsSubsequence};
 
@@ -32,6 +34,13 @@ pub fn node_meaning_is_spelling()
     ensures spelled { (line : List ℕ) (n : List (Pair ℕ ℕ)) → NodeFits n
         → (node_of line ≡ Some n) ↔ (line ≡ node_line n) }
     ensures fits { (line : List ℕ) (n : List (Pair ℕ ℕ)) → node_of line ≡ Some n → NodeFits n }
+{}
+
+/// The same of the line of a request.
+pub fn request_meaning_is_spelling()
+    ensures spelled { (line : List ℕ) (r : Request) → RequestFits r
+        → (request_of line ≡ Some r) ↔ (line ≡ request_line r) }
+    ensures fits { (line : List ℕ) (r : Request) → request_of line ≡ Some r → RequestFits r }
 {}
 
 /// Let the events be numbered without a gap and lead from some nodes on, and let a follower hold what the

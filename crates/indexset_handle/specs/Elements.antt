@@ -2,6 +2,7 @@
 use Rattle.std.specs.Prelude.{ℕ, List, [], ◌∷◌, ◌++◌, Option, take, drop, slice_get, slice_index_or}
 use Rattle.std.specs.Option.{option_map, option_map_or, unwrap_or}
 use Rattle.std.specs.Ordering.{nat_cmp}
+use Rattle.indexset_core.specs.declared.constants.TheConstants.{DEFAULT_INNER_SIZE}
 use Rattle.indexset_core.specs.declared.multipair.MultiPair.{MultiPair}
 use Rattle.indexset_core.specs.declared.pair.Pair.{Pair}
 use Rattle.indexset_core.specs.Nodes.{joined}
@@ -45,6 +46,10 @@ value_or ps w k = unwrap_or (value_of nat_cmp ps k) w
 -- the numbered pairs in order: none where there is no multimap
 abbrev pub numbered_pairs : Option (MultiTree ℕ ℕ) → List (MultiPair ℕ ℕ)
 numbered_pairs multi = option_map_or (λ m. joined m.nodes) multi []
+
+-- an empty multimap, as it is made
+abbrev pub fresh_multi : MultiTree ℕ ℕ
+fresh_multi = record { nodes = []; size = DEFAULT_INNER_SIZE; next = 0; pair_next = 0 }
 
 -- the values of a key, in the order in which they came
 abbrev pub values_of : List (MultiPair ℕ ℕ) → ℕ → List ℕ

@@ -29,6 +29,9 @@ pub fn insert_told(
     ensures ok { OnOk result (log.new ≡ record { nodes = with_put (by_key nat_cmp) log.old.size log.old.nodes (pair key value); size = log.old.size; next = log.old.next + length (put_events (by_key nat_cmp) log.old.size log.old.nodes (pair key value)) }) }
     ensures events { OnOk result (events.new ≡ written (length (put_events (by_key nat_cmp) log.old.size log.old.nodes (pair key value))) (map record_of (numbered_from log.old.next (put_events (by_key nat_cmp) log.old.size log.old.nodes (pair key value)))) events.old) }
     ensures refusal { IfErr result (λ e. e ≡ refusal_for log.old.next (length (put_events (by_key nat_cmp) log.old.size log.old.nodes (pair key value)))) }
+    ensures led { OnOk result (replay (by_key nat_cmp) log.old.nodes (numbered_from log.old.next
+        (put_events (by_key nat_cmp) log.old.size log.old.nodes (pair key value)))
+        ≡ Some log.new.nodes) }
     ensures unchanged { OnErr result (log.new ≡ log.old) }
     ensures unwritten { OnErr result (events.new ≡ events.old) }
 {

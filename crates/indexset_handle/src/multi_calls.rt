@@ -8,7 +8,7 @@ ghost use Rattle.indexset_multi.specs.Keys.{equal_pair, pairs_of};
 ghost use Rattle.indexset_handle.specs.Elements.{values_of, written};
 ghost use Rattle.indexset_core.specs.MultiPairs.{by_number, numbered_pair};
 ghost use Rattle.indexset_core.specs.Order.{put};
-ghost use Rattle.indexset_multi.specs.Tree.{insertion_refusal};
+ghost use Rattle.indexset_multi.specs.Tree.{after_insertion, insertion_refusal};
 
 use crate::multi_slot::{MultiMap, MultiRange};
 use indexset_core::refusal::Refusal;
@@ -35,6 +35,7 @@ pub fn has_pair(multi: &MultiMap, key: u64, value: u64) -> bool
 /// Adds a value that a key does not have.
 pub fn insert_new(multi: &mut MultiMap, key: u64, value: u64) -> Result<(), Refusal>
     requires { equal_pair nat_cmp nat_eq (joined multi.old.nodes) key value ≡ None }
+    ensures tree { OnOk result (multi.new ≡ after_insertion nat_cmp nat_eq multi.old key value) }
     ensures ok { OnOk result (joined multi.new.nodes ≡ put (by_number nat_cmp) (joined multi.old.nodes) (numbered_pair key value multi.old.pair_next)) }
     ensures last { OnOk result (values_of (joined multi.new.nodes) key ≡ values_of (joined multi.old.nodes) key ++ value ∷ []) }
     ensures others { OnOk result ((other : ℕ) → is_eq (nat_cmp other key) ≡ false → pairs_of nat_cmp (joined multi.new.nodes) other ≡ pairs_of nat_cmp (joined multi.old.nodes) other) }

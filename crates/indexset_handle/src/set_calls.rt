@@ -1,8 +1,8 @@
 //! What the calls of a set do with it.
-ghost use Rattle.std.specs.Prelude.{◌≡◌, ◌<◌, ◌≤◌, length, map, min, slice_index_or, take};
+ghost use Rattle.std.specs.Prelude.{◌≡◌, ◌<◌, ◌≤◌, false, length, map, min, slice_index_or, take};
 ghost use Rattle.std.specs.List.{AllWithin, fold};
 ghost use Rattle.std.specs.Ordering.{nat_cmp};
-ghost use Rattle.indexset_core.specs.Order.{keep, rank};
+ghost use Rattle.indexset_core.specs.Order.{has_equal, keep, rank};
 ghost use Rattle.indexset_spine.specs.Cut.{items};
 ghost use Rattle.indexset_handle.specs.Elements.{element_at, written};
 
@@ -41,6 +41,8 @@ pub fn rank_each(set: &BTreeSet<u64>, keys: &[u64], out: &mut [usize]) -> usize
 pub fn insert_each(set: &mut BTreeSet<u64>, keys: &[u64]) -> usize
     ensures count { result ≤ length keys.now }
     ensures kept { items set.new ≡ fold (keep nat_cmp) (items set.old) (take result keys.now) }
+    ensures stop { result < length keys.now → has_equal nat_cmp (items set.new)
+        (slice_index_or keys.now result 0) ≡ false }
 {
     let mut count = 0;
     while count < keys.len() {

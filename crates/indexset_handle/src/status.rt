@@ -1,5 +1,5 @@
 //! What a call returns that can fail.
-ghost use Rattle.std.specs.Prelude.{◌≡◌, ◌↔◌};
+ghost use Rattle.std.specs.Prelude.{◌≡◌, ◌≢◌, ◌↔◌};
 ghost use Rattle.indexset_handle.specs.Replicas.{status_of};
 
 use indexset_core::refusal::Refusal;
@@ -29,6 +29,7 @@ pub const UNFIT: u32 = 6;
 pub fn of_refusal(cause: Refusal) -> u32
     ensures memory { result ≡ MEMORY ↔ (cause ≡ Refusal.Memory) }
     ensures numbers { result ≡ NUMBERS ↔ (cause ≡ Refusal.Numbers) }
+    ensures others { cause ≢ Refusal.Memory → cause ≢ Refusal.Numbers → result ≡ UNFIT }
 {
     match cause {
         Refusal::Memory => MEMORY,

@@ -2,7 +2,7 @@
 pub use Rattle.indexset_log.proofs.Attaches.{Attaches, ascending_answer, attaches_node, filled_first, map_insert, not_refused, refused_empty, refused_overlap, refused_unsorted}
 pub use Rattle.indexset_log.proofs.Changed.{Changed, Told, either_way, if_ok_map, removal_changed, told, unchanged}
 pub use Rattle.indexset_log.proofs.Changes.{Leads, key_removal_leads, nothing_leads, put_leads, removal_leads}
-pub use Rattle.indexset_log.proofs.Clones.{clones_numbered, zip_on}
+pub use Rattle.indexset_log.proofs.Clones.{clones_numbered, event_same, zip_on}
 pub use Rattle.indexset_log.proofs.Follows.{only_large}
 pub use Rattle.indexset_log.proofs.Joins.{at_pair, first_list, next_list, two_seen}
 pub use Rattle.indexset_log.proofs.PlaceTakes.{place_contents, place_events}

@@ -1,7 +1,7 @@
 -- Where the places of a search stand.
 use Rattle.std.proofs.Common.{◌≡◌, ℕ, suc, ◌+◌, ◌-◌, ◌<◌, ◌≤◌, Bool, true, false, if◌then◌else◌, List, [], ◌∷◌, length, take, Result, Ok, Err, IfOk, IfErr, Ordering, Option, Some, None, is_some, slice_get, refl, ap, sym, ◌∙◌, subst, arith, length-append}
 use Rattle.std.specs.Cmp.{IsTotalOrder}
-use Rattle.std.specs.List.{All, between, find, position}
+use Rattle.std.specs.List.{All, find, position}
 use Rattle.std.specs.Ordering.{is_lt, is_eq}
 use Rattle.std.proofs.lemmas.List.{take_all}
 use Rattle.std.specs.Result.{result_ok}

@@ -17,7 +17,7 @@ module _ {T : Type 0} where
       let half = length (node_at ns k) / 2 in
       splice ns k (k + 1) (take half (node_at ns k) ∷ drop half (node_at ns k) ∷ [])
 
-  -- the nodes after the item at place i of the node at place k is removed and small neighbours are joined
+  -- the nodes after the item at place i of the node at place k is removed and small neighbours are merged
   abbrev pub with_taken : ℕ → List (List T) → ℕ → ℕ → List (List T)
   with_taken size ns k i = option_map_or (with_joined (item_removed ns k i)) (join_after size ns k i) (item_removed ns k i)
 

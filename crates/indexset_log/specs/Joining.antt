@@ -8,7 +8,7 @@ module _ {T : Type 0} where
   abbrev pub are_small : ℕ → List (List T) → ℕ → Bool
   are_small h ns j = nat_lt (j + 1) (length ns) && nat_le (length (node_at ns j) + length (node_at ns (j + 1))) h
 
-  -- the first of the two nodes that are joined where the node at place k has lost an item: it and the one after it, else the one before it and it
+  -- the first of the two nodes that are merged where the node at place k has lost an item: it and the one after it, else the one before it and it
   abbrev pub join_place : ℕ → List (List T) → ℕ → Option ℕ
   join_place h ns k = if are_small h ns k then Some k else if nat_lt 0 k && are_small h ns (k - 1) then Some (k - 1) else None
 
@@ -20,7 +20,7 @@ module _ {T : Type 0} where
   abbrev pub item_removed : List (List T) → ℕ → ℕ → List (List T)
   item_removed ns k i = if length (node_at ns k) == 1 then remove ns k else set ns k (remove (node_at ns k) i)
 
-  -- the first of the two nodes that are joined once that item is gone: an emptied node has none
+  -- the first of the two nodes that are merged once that item is gone: an emptied node has none
   abbrev pub join_after : ℕ → List (List T) → ℕ → ℕ → Option ℕ
   join_after size ns k i = if length (node_at ns k) == 1 then None else join_place (size / 2) (item_removed ns k i) k
 

@@ -1,5 +1,6 @@
 -- Tests of nodes.
-use Rattle.std.specs.Prelude.{Bool, true, false, List, [], ◌∷◌, ◌&&◌}
+use Rattle.std.specs.Prelude.{◌≡◌, ℕ, Bool, true, false, List, [], ◌∷◌, ◌&&◌, map, min, sum_by}
+use Rattle.std.below.core.specs.declared.int.usize.TheConstants.{MAX}
 use Rattle.std.specs.declared.cmp.Ordering.{Ordering}
 use Rattle.std.specs.Ordering.{is_lt}
 use Rattle.std.specs.List.{list_all}
@@ -20,6 +21,10 @@ abbrev pub is_ascending : {T : Type 0} → (T → T → Ordering) → List T →
 is_ascending cmp [] = true
 is_ascending cmp (x ∷ xs) = list_all (λ y. is_lt (cmp x y)) xs && is_ascending cmp xs
 
--- whether no node is empty, and the joining is ascending: the test of `IsNodeList`
+-- whether no node is empty, and the concatenation is ascending: the test of `IsNodeList`
 unfoldable pub are_nodes : {T : Type 0} → (T → T → Ordering) → List (List T) → Bool
 are_nodes cmp ns = list_all is_filled ns && is_ascending cmp (joined ns)
+
+-- the nodes, whose items these lists are, have room for so many in all, or for no fewer where that is MAX
+abbrev pub AddsUp : {N T : Type 0} → (N → List T) → (N → ℕ) → List (List T) → ℕ → Type 0
+AddsUp {N} list room lists total = (ns : List N) × (map list ns ≡ lists) × (total ≡ min MAX (sum_by room ns))

@@ -84,7 +84,7 @@ abbrev pub replay : {T : Type 0} → (T → T → Ordering) → List (List T) �
 replay cmp ns [] = Some ns
 replay cmp ns (e ∷ es) = option_and_then (λ r. replay cmp r es) (step cmp ns e)
 
--- the event joins nodes
+-- the event merges nodes
 abbrev pub is_joining : {T : Type 0} → ChangeEvent T → Bool
 is_joining (numbered.InsertAt id m v i) = false
 is_joining (numbered.RemoveAt id m v i) = false
@@ -93,7 +93,7 @@ is_joining (numbered.RemoveNode id m) = false
 is_joining (numbered.SplitNode id m k) = false
 is_joining (numbered.MergeNodes id m w) = true
 
--- replay by the events that there were before nodes were joined
+-- replay by the events that there were before nodes were merged
 abbrev pub earlier_replay : {T : Type 0} → (T → T → Ordering) → List (List T) → List (ChangeEvent T) → Option (List (List T))
 earlier_replay cmp ns [] = Some ns
 earlier_replay cmp ns (e ∷ es) = option_and_then (λ r. earlier_replay cmp r es) (if is_joining e then None else step cmp ns e)

@@ -59,15 +59,15 @@ checked_put_events cmp size ns v = if has_equal cmp (joined ns) v then [] else p
 abbrev pub taking_event : {T : Type 0} → List T → ℕ → T → ChangeEventUnassigned T
 taking_event n i x = if length n == 1 then RemoveNode x else RemoveAt (last_of n x) x i
 
--- joining: the node at place j and the one after it become one, each named by its last item
+-- a merge: the node at place j and the one after it become one, each named by its last item
 abbrev pub joining_event : {T : Type 0} → List (List T) → T → ℕ → ChangeEventUnassigned T
 joining_event ns d j = MergeNodes (last_of (node_at ns j) d) (last_of (node_at ns (j + 1)) d)
 
--- the item x at place i of the node at place k is removed, and small neighbours are joined
+-- the item x at place i of the node at place k is removed, and small neighbours are merged
 abbrev pub taking_events : {T : Type 0} → ℕ → List (List T) → ℕ → ℕ → T → List (ChangeEventUnassigned T)
 taking_events size ns k i x = taking_event (node_at ns k) i x ∷ option_map_or (λ j. joining_event (item_removed ns k i) x j ∷ []) (join_after size ns k i) []
 
--- how many events that gives, by where nodes are joined
+-- how many events that gives, by where nodes are merged
 abbrev pub count_with : Option ℕ → ℕ
 count_with None = 1
 count_with (Some j) = 2

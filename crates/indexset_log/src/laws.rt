@@ -19,7 +19,7 @@ pub fn replay_in_parts<T: Ord>()
     ensures { (ns : List (List T)) (first rest : List (ChangeEvent T)) → replay T.cmp ns (first ++ rest) ≡ option_and_then (λ middle. replay T.cmp middle rest) (replay T.cmp ns first) }
 {}
 
-/// Events among which none joins nodes lead where they led before nodes were joined.
+/// Events among which none merges nodes lead where they led before nodes were merged.
 pub fn earlier_events_replayed<T: Ord>()
     ensures { (ns : List (List T)) (events : List (ChangeEvent T)) → list_any is_joining events ≡ false → earlier_replay T.cmp ns events ≡ replay T.cmp ns events }
 {}
@@ -61,7 +61,7 @@ pub fn events_at_numbers()
     ensures no_such_node { step_plain nat_cmp ((0 ∷ 1 ∷ []) ∷ []) (RemoveAt 5 1 1) ≡ None }
 {}
 
-/// What is joined after a removal, and what a joining makes of nodes, at numbers.
+/// What is merged after a removal, and what a merge makes of nodes, at numbers.
 #[tactic(auto, unfolding(crate::specs::Nodes::are_nodes, crate::specs::Replay::step_plain, crate::specs::Table::removal_events))]
 pub fn joins_at_numbers()
     ensures both_too_large { removal_events nat_cmp 4 ((0 ∷ 1 ∷ []) ∷ (2 ∷ 3 ∷ []) ∷ (4 ∷ 5 ∷ []) ∷ []) 3 ≡ RemoveAt 3 3 1 ∷ [] }
@@ -89,7 +89,7 @@ pub fn spaced_kept<T: Ord>()
     ensures removal { (size : ℕ) (ns : List (List T)) (k i : ℕ) → 2 ≤ size → IsLawful T.cmp size ns → k < length ns → i < length (node_at ns k) → IsSpaced (size / 2) ns → IsSpaced (size / 2) (with_taken size ns k i) }
 {}
 
-/// Nodes of at most two or three items are never joined.
+/// Nodes of at most two or three items are never merged.
 pub fn small_sizes_join_nothing<T>()
     ensures { (size : ℕ) (ns : List (List T)) (k i : ℕ) → size < 4 → All (λ n. 1 ≤ n) (node_lengths ns) → i < length (node_at ns k) → join_after size ns k i ≡ None }
 {}

@@ -11,6 +11,7 @@ ghost use Rattle.indexset_core.specs.Pairs.{by_key, has_key, pair_of};
 ghost use Rattle.indexset_core.specs.declared.refusal.Refusal.TheVariants.{Memory};
 ghost use Rattle.indexset_log.specs.Attach.{attached, attach_refusal, nodes_refusal};
 ghost use Rattle.indexset_log.specs.Located.{located};
+ghost use Rattle.indexset_log.specs.Nodes.{AddsUp};
 
 mod ends;
 pub mod iter;
@@ -131,7 +132,8 @@ impl<K: Ord + Clone + Drop, V: Clone + Drop, Node: NodeLike<Pair<K, V>>> BTreeMa
     /// Returns how many pairs there is room for: the sum of the nodes' capacities, which stops at
     /// `usize::MAX`.
     pub fn capacity(&self) -> usize
-        ensures { length (joined self.now.nodes) ≤ result }
+        ensures enough { length (joined self.now.nodes) ≤ result }
+        ensures sum { AddsUp Node.list Node.room self.now.nodes result }
     {
         self.set.capacity()
     }
@@ -177,7 +179,7 @@ impl<K: Ord + Clone + Drop, V: Clone + Drop, Node: NodeLike<Pair<K, V>>> BTreeMa
     ///
     /// ```
     /// let mut tree: map::BTreeMap<u64, u64, Vec<Pair<u64, u64>>> = map::BTreeMap::new(alloc);
-    /// tree.insert(1, 10).map_err(|refused| refused.cause)?;
+    /// tree.insert(1, 10)?;
     /// assert!(rt; tree.get(&1).is_some_and(|pair| pair.value == 10));
     /// ```
     pub fn get(&self, key: &K) -> Option<&Pair<K, V>>

@@ -120,7 +120,7 @@ pub(crate) fn fit_together(left: usize, right: usize, most: usize) -> bool
     left <= most && right <= most - left
 }
 
-/// Removes the item at a place, and joins the node at `left` with the one after it: the item is in
+/// Removes the item at a place, and merges the node at `left` with the one after it: the item is in
 /// either. Room is reserved first. A failed call leaves the items as they are.
 pub(crate) fn take_and_join<T: Ord + Drop, Node: NodeLike<T>>(
     nodes: &mut Vec<Node>,

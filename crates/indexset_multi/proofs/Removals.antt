@@ -1,10 +1,12 @@
 -- The first pairs of a key removed one after another.
 use Rattle.std.proofs.Common.{◌≡◌, ℕ, zero, suc, ◌+◌, ◌-◌, ◌/◌, ◌≤◌, Bool, true, false, not, cond, List, [], ◌∷◌, ◌++◌, length, drop, filter, find, Option, Some, None, is_some, Ordering, refl, ap, sym, ◌∙◌, subst, add-one, arith, length-append}
 use Rattle.std.specs.Cmp.{IsTotalOrder}
+use Rattle.std.specs.List.{AllZip}
 use Rattle.std.specs.Option.{option_map}
 use Rattle.std.specs.Ordering.{is_eq}
 use Rattle.std.proofs.lemmas.Bool.{false≢true}
 use Rattle.std.proofs.lemmas.List.{length-drop}
+use Rattle.std.proofs.lemmas.List.Elements.{same_from_all_zip}
 use Rattle.std.proofs.lemmas.List.Sums.{count_by-le-length, length-filter}
 use Rattle.std.proofs.lemmas.Option.{none-some}
 use Rattle.indexset_core.specs.declared.multipair.MultiPair.{MultiPair}
@@ -13,11 +15,13 @@ use Rattle.indexset_core.specs.Nodes.{joined}
 use Rattle.indexset_log.specs.declared.change.ChangeEvent.{ChangeEvent}
 use Rattle.indexset_log.specs.declared.change.ChangeEventUnassigned.{ChangeEventUnassigned}
 use Rattle.indexset_log.specs.Joining.{IsSpaced}
-use Rattle.indexset_log.specs.Replay.{replay, numbered_from, IsNumberedFrom}
+use Rattle.indexset_log.specs.Clones.{IsEventClone, IsTold}
+use Rattle.indexset_log.specs.Replay.{assigned, replay, numbered_from}
 use Rattle.indexset_log.specs.Tree.{IsTree}
-use Rattle.indexset_log.proofs.CallerLemmas.{lawful_ascends, length-numbered, numbered_is, numbered-append, replay-append}
+use Rattle.indexset_log.proofs.CallerLemmas.{clones_numbered, event_same, lawful_ascends, length-numbered, numbered_is, numbered-append, replay-append, zip_on}
 use Rattle.indexset_multi.specs.Keys.{first_pair, pairs_of, without_key}
-use Rattle.indexset_multi.specs.Tree.{IsLedBy, IsLedTo, MultiTree, after_removal, after_removals, pair_removal_events}
+use Rattle.indexset_multi.specs.Told.{IsToldOn}
+use Rattle.indexset_multi.specs.Tree.{IsLedBy, IsLedTo, MultiTree, after_removal, after_removals, first_events, key_events, pair_removal_events, removals_events}
 use Rattle.indexset_multi.proofs.Lists.{first_pair_gone, others_left_first, rest_left_first}
 use Rattle.indexset_multi.proofs.Takes.{pair_changed, pair_tree}
 
@@ -86,6 +90,12 @@ led_once cmp m n es replayed next = record {
   next = next ∙ ap (λ c. m.next + c) (sym (length-numbered m.next es));
 }
 
+numbered_on : {T : Type 0} (s : ℕ) (a b : List (ChangeEventUnassigned T)) → numbered_from s (a ++ b) ≡ numbered_from s a ++ numbered_from (s + length a) b
+numbered_on s [] b = let e : s ≡ s + 0 = omega arith in ap (λ n. numbered_from n b) e
+numbered_on s (e ∷ a) b =
+    let e' : s + 1 + length a ≡ s + suc (length a) = omega arith in
+    ap (λ l. assigned s e ∷ l) (numbered_on (s + 1) a b ∙ ap (λ n. numbered_from (s + 1) a ++ numbered_from n b) e')
+
 -- the trees after the first pairs of a key are removed, one after another
 module _ {K V : Type 0} {cmp : K → K → Ordering} (o : IsTotalOrder cmp) (old : MultiTree K V) {most len : ℕ} (t : IsTree (by_number cmp) most old.nodes old.size len) (k : K) where
   pub record Gone (n : ℕ) (now : MultiTree K V) : Type 0 where
@@ -94,6 +104,8 @@ module _ {K V : Type 0} {cmp : K → K → Ordering} (o : IsTotalOrder cmp) (old
     pub rest : without_key cmp (joined now.nodes) k ≡ without_key cmp (joined old.nodes) k
     pub others : (other : K) → is_eq (cmp other k) ≡ false → pairs_of cmp (joined now.nodes) other ≡ pairs_of cmp (joined old.nodes) other
     pub led : IsLedTo cmp old now
+    pub table : replay (by_number cmp) old.nodes (numbered_from old.next (removals_events cmp old k n)) ≡ Some now.nodes
+    pub next : now.next ≡ old.next + length (removals_events cmp old k n)
     pub size : now.size ≡ old.size
     pub spaced : IsSpaced (old.size / 2) old.nodes → IsSpaced (now.size / 2) now.nodes
     pub pair_next : now.pair_next ≡ old.pair_next
@@ -105,6 +117,8 @@ module _ {K V : Type 0} {cmp : K → K → Ordering} (o : IsTotalOrder cmp) (old
     rest = refl;
     others = λ other ne. refl;
     led = led_nowhere cmp old;
+    table = refl;
+    next = omega arith;
     size = refl;
     spaced = λ s. s;
     pair_next = refl;
@@ -121,6 +135,8 @@ module _ {K V : Type 0} {cmp : K → K → Ordering} (o : IsTotalOrder cmp) (old
         rest = ap (λ l. without_key cmp l k) d.contents ∙ (rest_left_first cmp o k (joined m.nodes) ∙ g.rest);
         others = λ other ne. ap (λ l. pairs_of cmp l other) d.contents ∙ (others_left_first cmp o k (joined m.nodes) other ne ∙ g.others other ne);
         led = led_further cmp old m (after_removal cmp m first) g.led (led_once cmp m (after_removal cmp m first) (pair_removal_events cmp m.size m.nodes first) d.table d.next);
+        table = rw (numbered_on old.next (removals_events cmp old k n) (first_events cmp m k)) (replay-append (by_number cmp) old.nodes (numbered_from old.next (removals_events cmp old k n)) (numbered_from (old.next + length (removals_events cmp old k n)) (first_events cmp m k)) ∙ rw (g.table, ← g.next) d.table);
+        next = omega (arith, d.next, g.next, length-append (removals_events cmp old k n) (first_events cmp m k));
         size = g.size;
         spaced = λ s. d.spaced (g.spaced s);
         pair_next = g.pair_next;
@@ -132,6 +148,16 @@ module _ {K V : Type 0} {cmp : K → K → Ordering} (o : IsTotalOrder cmp) (old
 
     pub one_more : {new : MultiTree K V} → new ≡ after_removal cmp now (first_pair cmp (joined now.nodes) k) → new ≡ after_removals cmp old k (n + 1)
     one_more e = rw add-one (e ∙ ap (λ t. after_removal cmp t (first_pair cmp (joined t.nodes) k)) is)
+
+    -- what was told of one more
+    pub told_more : (C : MultiPair K V → MultiPair K V → Type 0) (fs gs : List (ChangeEvent (MultiPair K V))) → IsTold C old.next (removals_events cmp old k n) fs → IsToldOn C now.next (first_events cmp now k) fs gs → IsTold C old.next (removals_events cmp old k (n + 1)) gs
+    told_more C fs gs before on =
+        let g = now_gone in
+        let s = old.next in
+        let a = removals_events cmp old k n in
+        let b = first_events cmp (after_removals cmp old k n) k in
+        let more : AllZip (IsEventClone C) (numbered_from (s + length a) b) on.told = subst (λ (t : MultiTree K V). AllZip (IsEventClone C) (numbered_from (s + length a) (first_events cmp t k)) on.told) is (rw g.next at on.clones) in
+        rw (add-one, on.added, numbered_on s a b) (zip_on (IsEventClone C) (numbered_from s a) (numbered_from (s + length a) b) fs on.told before more)
 
     -- a removal that found a pair was not the last
     pub more_left : is_some (first_pair cmp (joined now.nodes) k) ≡ true → n + 1 ≤ length (pairs_of cmp (joined old.nodes) k)
@@ -146,6 +172,24 @@ module _ {K V : Type 0} {cmp : K → K → Ordering} (o : IsTotalOrder cmp) (old
 
       pub tree_is : now ≡ after_removals cmp old k (length (pairs_of cmp (joined old.nodes) k) - length (pairs_of cmp (joined now.nodes) k))
       tree_is = is ∙ ap (after_removals cmp old k) (sym number)
+
+      pub told_is : (C : MultiPair K V → MultiPair K V → Type 0) (fs : List (ChangeEvent (MultiPair K V))) → IsTold C old.next (removals_events cmp old k n) fs → IsTold C old.next (key_events cmp old now k) fs
+      told_is C fs told = subst (λ m. IsTold C old.next (removals_events cmp old k m) fs) (sym number) told
+
+      pub table_is : replay (by_number cmp) old.nodes (numbered_from old.next (key_events cmp old now k)) ≡ Some now.nodes
+      table_is = let g = now_gone in subst (λ m. replay (by_number cmp) old.nodes (numbered_from old.next (removals_events cmp old k m)) ≡ Some now.nodes) (sym number) g.table
+
+      -- the told events lead to the tree, where clones are identical to their sources
+      pub led_by : (C : MultiPair K V → MultiPair K V → Type 0) (fs : List (ChangeEvent (MultiPair K V))) → IsTold C old.next (removals_events cmp old k n) fs → ((p q : MultiPair K V) → C p q → q ≡ p) → IsLedBy cmp old now fs
+      led_by C fs told same =
+          let g = now_gone in
+          let es = removals_events cmp old k n in
+          let is_table = same_from_all_zip (IsEventClone C) (numbered_from old.next es) fs told (event_same C same) in
+          record {
+            numbered = clones_numbered C old.next es fs told;
+            replayed = rw is_table g.table;
+            next = omega (arith, g.next, ap (λ l. length l) is_table, length-numbered old.next es);
+          }
 
       pub left_is : pairs_of cmp (joined now.nodes) k ≡ drop (length (pairs_of cmp (joined old.nodes) k) - length (pairs_of cmp (joined now.nodes) k)) (pairs_of cmp (joined old.nodes) k)
       left_is = let g = now_gone in g.gone ∙ ap (λ i. drop i (pairs_of cmp (joined old.nodes) k)) (sym number)
@@ -170,13 +214,6 @@ module _ {K V : Type 0} {cmp : K → K → Ordering} (o : IsTotalOrder cmp) (old
 
 pub removed_fit : {K V : Type 0} (cmp : K → K → Ordering) (l : List (MultiPair K V)) (k : K) → length (pairs_of cmp l k) ≤ length l
 removed_fit cmp l k = rw (length-filter (λ p. is_eq (cmp p.key k)) l) (count_by-le-length (λ p. is_eq (cmp p.key k)) l)
-
-pub led_by_more : {K V : Type 0} (cmp : K → K → Ordering) (m n p : MultiTree K V) (a b all : List (ChangeEvent (MultiPair K V))) → IsLedBy cmp m n a → all ≡ a ++ b → IsNumberedFrom n.next b → replay (by_number cmp) n.nodes b ≡ Some p.nodes → p.next ≡ n.next + length b → IsLedBy cmp m p all
-led_by_more cmp m n p a b all led is numbered replayed next = rw is (record {
-  numbered = numbered-append m.next a b led.numbered (rw (← led.next) numbered);
-  replayed = replay-append (by_number cmp) m.nodes a b ∙ rw led.replayed replayed;
-  next = omega (arith, led.next, next, length-append a b);
-})
 
 pub some_mapped : {A B : Type 0} (f : A → B) (o : Option A) → is_some (option_map f o) ≡ is_some o
 some_mapped f None = refl

@@ -1,5 +1,5 @@
 -- What one equation says of the removal of a pair.
-use Rattle.std.proofs.Common.{◌≡◌, ℕ, ◌+◌, ◌/◌, zero, suc, ◌<◌, ◌≤◌, List, [], ◌∷◌, length, Option, None, Some, Result, Ok, Err, OnOk, OnErr, Ordering, slice_get, refl, ap, sym, ◌∙◌, subst, arith}
+use Rattle.std.proofs.Common.{◌≡◌, ℕ, ◌+◌, ◌/◌, zero, suc, ◌<◌, ◌≤◌, List, [], ◌∷◌, length, Option, None, Some, is_some, true, Result, Ok, Err, OnOk, OnErr, Ordering, slice_get, refl, ap, sym, ◌∙◌, subst, arith}
 use Rattle.std.specs.Cmp.{IsTotalOrder}
 use Rattle.std.specs.Option.{unwrap_or}
 use Rattle.indexset_core.specs.declared.multipair.MultiPair.{MultiPair}
@@ -40,6 +40,13 @@ some_read : {T : Type 0} (l : List T) (i : ℕ) → i < length l → (x : T) × 
 some_read [] i lt = absurd (omega arith)
 some_read (x ∷ xs) zero lt = (x, refl)
 some_read (x ∷ xs) (suc i) lt = some_read xs i (omega arith)
+
+-- a pair stands at a place of one
+pub item_there : {T : Type 0} (ns : List (List T)) (place : Option (ℕ × ℕ)) (p : ℕ × ℕ) → place ≡ Some p → IsItemPlace ns place → is_some (placed_item ns place) ≡ true
+item_there ns place p is at =
+    let inside = rw is at at in
+    let there = some_read (node_at ns p.0) p.1 inside.1 in
+    rw is (ap is_some there.1)
 
 module _ {K V : Type 0} {cmp : K → K → Ordering} (o : IsTotalOrder cmp) (old : MultiTree K V) {most len : ℕ} (t : IsTree (by_number cmp) most old.nodes old.size len) where
   -- the events lead to lawful nodes

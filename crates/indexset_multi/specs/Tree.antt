@@ -1,5 +1,5 @@
 -- What a multimap is, and what an insertion and a removal make of it.
-use Rattle.std.specs.Prelude.{◌≡◌, ℕ, zero, suc, ◌+◌, ◌==◌, ◌&&◌, length, Bool, List, [], Option, Some, is_none, if◌then◌else◌}
+use Rattle.std.specs.Prelude.{◌≡◌, ℕ, zero, suc, ◌+◌, ◌-◌, ◌++◌, ◌==◌, ◌&&◌, length, Bool, List, [], Option, Some, is_none, if◌then◌else◌}
 use Rattle.std.below.core.specs.declared.int.u64.TheConstants.{MAX}
 use Rattle.std.specs.Option.{option_map_or, unwrap_or}
 use Rattle.std.specs.declared.cmp.Ordering.{Ordering}
@@ -14,7 +14,7 @@ use Rattle.indexset_log.specs.Edits.{with_put}
 use Rattle.indexset_log.specs.Replay.{replay, numbered_from, IsNumberedFrom}
 use Rattle.indexset_log.specs.Table.{put_events, removal_events}
 use Rattle.indexset_log.specs.Tree.{refusal_for}
-use Rattle.indexset_multi.specs.Keys.{first_pair, kept_number}
+use Rattle.indexset_multi.specs.Keys.{first_pair, kept_number, pairs_of}
 
 -- its nodes, their greatest size, the number of the next event, and that of the next new pair
 pub record MultiTree (K V : Type 0) : Type 0 where
@@ -42,6 +42,23 @@ after_removal cmp m pair =
 abbrev pub after_removals : {K V : Type 0} → (K → K → Ordering) → MultiTree K V → K → ℕ → MultiTree K V
 after_removals cmp m k zero = m
 after_removals cmp m k (suc n) = let t = after_removals cmp m k n in after_removal cmp t (first_pair cmp (joined t.nodes) k)
+
+-- the events of the removal of the key's first pair
+abbrev pub first_events : {K V : Type 0} → (K → K → Ordering) → MultiTree K V → K → List (ChangeEventUnassigned (MultiPair K V))
+first_events cmp m k = pair_removal_events cmp m.size m.nodes (first_pair cmp (joined m.nodes) k)
+
+-- the events of those n removals, one after another
+abbrev pub removals_events : {K V : Type 0} → (K → K → Ordering) → MultiTree K V → K → ℕ → List (ChangeEventUnassigned (MultiPair K V))
+removals_events cmp m k zero = []
+removals_events cmp m k (suc n) = removals_events cmp m k n ++ first_events cmp (after_removals cmp m k n) k
+
+-- the events of the removals of a key's first pairs that lead from the first tree to the second
+abbrev pub key_events : {K V : Type 0} → (K → K → Ordering) → MultiTree K V → MultiTree K V → K → List (ChangeEventUnassigned (MultiPair K V))
+key_events cmp m n k = removals_events cmp m k (length (pairs_of cmp (joined m.nodes) k) - length (pairs_of cmp (joined n.nodes) k))
+
+-- q is p, with clones of its key and of its value
+abbrev pub IsPairClone : {K V : Type 0} → (K → K → Type 0) → (V → V → Type 0) → MultiPair K V → MultiPair K V → Type 0
+IsPairClone C D p q = C p.key q.key × (D p.value q.value × (q.discriminator ≡ p.discriminator))
 
 -- the events, numbered from the first's next one, lead from its nodes to the second's, whose next number comes after them
 pub record IsLedBy {K V : Type 0} (cmp : K → K → Ordering) (m n : MultiTree K V) (events : List (ChangeEvent (MultiPair K V))) : Type 0 where

@@ -3,6 +3,7 @@ ghost use Rattle.std.specs.Prelude.{◌≡◌, ◌==◌, ◌≤◌, [], length, 
 ghost use Rattle.std.specs.Map.Iter.{ShowsInOrder, ShowsInReverse, deref};
 ghost use Rattle.indexset_core.specs.MultiPairs.{by_number};
 ghost use Rattle.indexset_core.specs.Nodes.{joined, IsLawful};
+ghost use Rattle.indexset_log.specs.Nodes.{AddsUp};
 ghost use Rattle.indexset_log.specs.Located.{located};
 ghost use Rattle.indexset_log.specs.Tree.{IsTree};
 ghost use Rattle.indexset_multi.specs.Keys.{AreNumberedBelow, has_pair_of};
@@ -124,7 +125,8 @@ impl<K: Ord + Clone + Drop, V: Eq + Clone + Drop, Node: NodeLike<MultiPair<K, V>
     /// Returns how many pairs there is room for: the sum of the nodes' capacities, which stops at
     /// `usize::MAX`.
     pub fn capacity(&self) -> usize
-        ensures { length (joined self.now.nodes) ≤ result }
+        ensures enough { length (joined self.now.nodes) ≤ result }
+        ensures sum { AddsUp Node.list Node.room self.now.nodes result }
     {
         self.set.capacity()
     }

@@ -1,3 +1,4 @@
 pub mod Copies
+pub mod Count
 pub mod Delivery
 pub mod Replica

@@ -179,7 +179,7 @@ fn split_node<T: Ord + Clone + Drop>(
     Ok(())
 }
 
-// Joins the node of that name with the one after it, which has the second name.
+// Merges the node of that name with the one after it, which has the second name.
 fn merge_nodes<T: Ord + Clone + Drop>(
     nodes: &mut Vec<Vec<T>>,
     name: &T,

@@ -17,7 +17,7 @@ impl<T: Ord + Clone + Drop> Replica<T> {
     /// ```
     /// // A snapshot: the nodes of a tree, and the number of its next event.
     /// let nodes = vec![in alloc; vec![in alloc; 1, 2]?, vec![in alloc; 5]?]?;
-    /// let copy = Replica::from_nodes(nodes, 3).map_err(|refused| refused.cause)?;
+    /// let copy = Replica::from_nodes(nodes, 3)?;
     /// assert!(rt; copy.len() == 3 && copy.last() == Some(&5) && copy.next() == 3);
     /// ```
     pub fn from_nodes(nodes: Vec<Vec<T>>, next: u64) -> Result<Self, Refused<Vec<Vec<T>>>>

@@ -1,13 +1,117 @@
 //! The items of a replica in order, and how many there are.
-ghost use Rattle.std.specs.Prelude.{◌≡◌, length, min};
-ghost use Rattle.std.specs.Map.Iter.{ShowsInOrder, ShowsInReverse, deref};
-ghost use Rattle.indexset_core.specs.Nodes.{joined};
+ghost use Rattle.std.specs.Prelude.{◌≡◌, ◌≤◌, length, min, IfSome};
+ghost use Rattle.std.specs.Iterator.{UpTo, at_most};
+ghost use Rattle.std.specs.Iterator.SizeHint.{IsWithinCount};
+ghost use Rattle.std.specs.List.{between};
+ghost use Rattle.std.specs.Map.Iter.{TakesFirst, TakesLast, ShowsInOrder, ShowsInReverse, deref};
+ghost use Rattle.indexset_core.specs.Nodes.{joined, vec_items};
+ghost use Rattle.indexset_core.specs.Places.{IsPlace, items_before};
+ghost use Rattle.indexset_replica.specs.Count.{counted, hint_for};
 
 use super::Replica;
 use indexset_core::walk::{ReadVec, Walk};
+use std::alloc::AllocError;
+use std::iter::FusedIterator;
+use std::marker::Model;
 
 /// The remaining items of a replica, from both ends.
-pub type Iter<'a, T> = Walk<'a, T, Vec<T>, ReadVec>;
+#[derive(Drop)]
+pub struct Iter<'a, T> {
+    rest: Walk<'a, T, Vec<T>, ReadVec>,
+}
+
+impl<'a, T> Model for Iter<'a, T> {
+    ghost use Rattle.std.specs.Prelude.{List};
+
+    ghost Value = { List T };
+
+    ghost view = { λ a. a.rest };
+}
+
+impl<'a, T> Iter<'a, T> {
+    // Returns the items of all nodes.
+    fn over(nodes: &'a [Vec<T>]) -> Self
+        ensures { result ≡ joined (vec_items nodes.now) }
+    {
+        Iter {
+            rest: Walk::over(nodes),
+        }
+    }
+
+    // Returns the items from one place, a node and an offset, to before another.
+    pub(super) fn between(nodes: &'a [Vec<T>], from: (usize, usize), to: (usize, usize)) -> Self
+        requires from { IsPlace (vec_items nodes.now) from }
+        requires to { IsPlace (vec_items nodes.now) to }
+        requires order { items_before (vec_items nodes.now) from ≤ items_before (vec_items nodes.now) to }
+        ensures { result ≡ between (items_before (vec_items nodes.now) from) (items_before (vec_items nodes.now) to) (joined (vec_items nodes.now)) }
+    {
+        Iter {
+            rest: Walk::between(nodes, from, to),
+        }
+    }
+}
+
+impl<'a, T> Iterator for Iter<'a, T> {
+    type Item = &'a T;
+
+    ghost next_gives = { TakesFirst deref };
+
+    ghost remaining = { λ rest. at_most (length rest) };
+
+    fn next(&mut self) -> Option<&'a T> {
+        self.rest.next()
+    }
+
+    /// Returns how many items remain, by adding up the lengths of the nodes.
+    fn size_hint(&self) -> (usize, Option<usize>)
+        ensures lower { IsWithinCount result.0 (at_most (length self.now)) }
+        ensures upper { IfSome result.1 (UpTo (at_most (length self.now))) }
+        ensures exact { result ≡ hint_for (length self.now) }
+    {
+        match count_left(self.rest.clone().unwrap()) {
+            Some(count) => (count, Some(count)),
+            None => (usize::MAX, None),
+        }
+    }
+}
+
+// Returns how many items a walk gives, or `None` where they are more than a usize can say.
+fn count_left<T>(walk: Walk<'_, T, Vec<T>, ReadVec>) -> Option<usize>
+    ensures { result ≡ counted (length walk.entry) }
+{
+    let mut rest = walk;
+    let mut count: usize = 0;
+    loop {
+        let run = rest.next_run();
+        if run.is_empty() {
+            return Some(count);
+        }
+        count = count.checked_add(run.len())?;
+    }
+}
+
+impl<'a, T> DoubleEndedIterator for Iter<'a, T> {
+    ghost next_back_gives = { TakesLast deref };
+
+    fn next_back(&mut self) -> Option<&'a T> {
+        self.rest.next_back()
+    }
+}
+
+impl<'a, T> FusedIterator for Iter<'a, T> {}
+
+impl<'a, T> Clone for Iter<'a, T> {
+    ghost use Rattle.std.specs.Prelude.{◌≡◌, ⊤};
+
+    ghost is_clone = { λ walk copy. copy ≡ walk };
+
+    ghost is_infallible = { λ _. ⊤ };
+
+    fn clone(&self) -> Result<Self, AllocError> {
+        let rest = self.rest.clone()?;
+        Ok(Iter { rest })
+    }
+}
 
 impl<T: Ord + Clone + Drop> Replica<T> {
     /// Returns how many items are held, or `usize::MAX` where there are more. A replica does not

@@ -24,7 +24,7 @@ impl<T: Ord + Clone + Drop> Replica<T> {
     /// ```
     /// // The items from 10 on that are below 20.
     /// let nodes = vec![in alloc; vec![in alloc; 5, 10]?, vec![in alloc; 15, 20]?]?;
-    /// let copy = Replica::from_nodes(nodes, 4).map_err(|refused| refused.cause)?;
+    /// let copy = Replica::from_nodes(nodes, 4)?;
     /// let teens = copy.range((Bound::Included(&10), Bound::Excluded(&20)));
     /// assert!(rt; teens.copied().eq([10, 15]));
     /// ```

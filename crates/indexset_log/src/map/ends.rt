@@ -38,7 +38,7 @@ impl<K: Ord + Clone + Drop, V: Clone + Drop, Node: NodeLike<Pair<K, V>>> BTreeMa
     }
 
     /// Removes the pair of the least key, if any, and returns it with the events, which are those of
-    /// `remove_cdc` of that key. A node that is left small is joined with a small neighbour. Fails with
+    /// `remove_cdc` of that key. A node that is left small is merged with a small neighbour. Fails with
     /// `Numbers` where the events do not fit the counter, else with `Memory`. A failed call changes
     /// nothing.
     pub fn pop_first_cdc(
@@ -67,7 +67,7 @@ impl<K: Ord + Clone + Drop, V: Clone + Drop, Node: NodeLike<Pair<K, V>>> BTreeMa
     }
 
     /// Removes the pair of the least key, if any, and returns it. It uses up as many numbers as
-    /// `pop_first_cdc`, and fails with `Numbers` where they do not fit. It allocates only where it joins
+    /// `pop_first_cdc`, and fails with `Numbers` where they do not fit. It allocates only where it merges
     /// two nodes of a type that allocates, and else does not fail with `Memory`. A failed call changes
     /// nothing.
     pub fn pop_first(&mut self) -> Result<Option<(K, V)>, Refusal>
@@ -80,7 +80,7 @@ impl<K: Ord + Clone + Drop, V: Clone + Drop, Node: NodeLike<Pair<K, V>>> BTreeMa
         ensures unchanged { OnErr result (self.new ≡ self.old) }
         // What callers prove by.
         ensures contents { OnOk result (joined self.new.nodes ≡ drop 1 (joined self.old.nodes)) }
-        ensures replay { OnOk result (replay (by_key K.cmp) self.old.nodes (numbered_from self.old.next (removal_events_at (by_key K.cmp) self.old.size self.old.nodes 0)) ≡ Some self.new.nodes) }
+        ensures table { OnOk result (replay (by_key K.cmp) self.old.nodes (numbered_from self.old.next (removal_events_at (by_key K.cmp) self.old.size self.old.nodes 0)) ≡ Some self.new.nodes) }
         ensures few { length (removal_events_at (by_key K.cmp) self.old.size self.old.nodes 0) ≤ 3 }
         ensures size { self.new.size ≡ self.old.size }
         ensures spaced { IsSpaced (self.old.size / 2) self.old.nodes → IsSpaced (self.new.size / 2) self.new.nodes }
@@ -92,7 +92,7 @@ impl<K: Ord + Clone + Drop, V: Clone + Drop, Node: NodeLike<Pair<K, V>>> BTreeMa
     }
 
     /// Removes the pair of the greatest key, if any, and returns it with the events, which are those of
-    /// `remove_cdc` of that key. A node that is left small is joined with a small neighbour. Fails with
+    /// `remove_cdc` of that key. A node that is left small is merged with a small neighbour. Fails with
     /// `Numbers` where the events do not fit the counter, else with `Memory`. A failed call changes
     /// nothing.
     pub fn pop_last_cdc(
@@ -121,7 +121,7 @@ impl<K: Ord + Clone + Drop, V: Clone + Drop, Node: NodeLike<Pair<K, V>>> BTreeMa
     }
 
     /// Removes the pair of the greatest key, if any, and returns it. It uses up as many numbers as
-    /// `pop_last_cdc`, and fails with `Numbers` where they do not fit. It allocates only where it joins
+    /// `pop_last_cdc`, and fails with `Numbers` where they do not fit. It allocates only where it merges
     /// two nodes of a type that allocates, and else does not fail with `Memory`. A failed call changes
     /// nothing.
     pub fn pop_last(&mut self) -> Result<Option<(K, V)>, Refusal>
@@ -134,7 +134,7 @@ impl<K: Ord + Clone + Drop, V: Clone + Drop, Node: NodeLike<Pair<K, V>>> BTreeMa
         ensures unchanged { OnErr result (self.new ≡ self.old) }
         // What callers prove by.
         ensures contents { OnOk result (joined self.new.nodes ≡ take (length (joined self.old.nodes) - 1) (joined self.old.nodes)) }
-        ensures replay { OnOk result (replay (by_key K.cmp) self.old.nodes (numbered_from self.old.next (removal_events_at (by_key K.cmp) self.old.size self.old.nodes (length (joined self.old.nodes) - 1))) ≡ Some self.new.nodes) }
+        ensures table { OnOk result (replay (by_key K.cmp) self.old.nodes (numbered_from self.old.next (removal_events_at (by_key K.cmp) self.old.size self.old.nodes (length (joined self.old.nodes) - 1))) ≡ Some self.new.nodes) }
         ensures few { length (removal_events_at (by_key K.cmp) self.old.size self.old.nodes (length (joined self.old.nodes) - 1)) ≤ 3 }
         ensures size { self.new.size ≡ self.old.size }
         ensures spaced { IsSpaced (self.old.size / 2) self.old.nodes → IsSpaced (self.new.size / 2) self.new.nodes }

@@ -4,9 +4,10 @@ ghost use Rattle.std.specs.Option.{option_map};
 ghost use Rattle.indexset_core.specs.Nodes.{joined};
 ghost use Rattle.indexset_core.specs.Order.{put, keep};
 ghost use Rattle.indexset_core.specs.Pairs.{by_key, has_key, pair, value_of};
-ghost use Rattle.indexset_log.specs.Clones.{IsTold};
+ghost use Rattle.indexset_log.specs.Clones.{AreIdentical, IsTold};
 ghost use Rattle.indexset_log.specs.Edits.{after_put, after_checked_put, with_put, with_checked_put};
 ghost use Rattle.indexset_log.specs.Joining.{IsSpaced};
+ghost use Rattle.indexset_log.specs.Keys.{KeepsOthers};
 ghost use Rattle.indexset_log.specs.Replay.{replay, numbered_from, IsNumberedFrom};
 ghost use Rattle.indexset_log.specs.Table.{put_events, checked_put_events};
 ghost use Rattle.indexset_log.specs.Tree.{refusal_for};
@@ -25,7 +26,7 @@ impl<K: Ord + Clone + Drop, V: Clone + Drop, Node: NodeLike<Pair<K, V>>> BTreeMa
     /// // The events of a change, applied to a copy.
     /// let mut tree: map::BTreeMap<u64, u64, Vec<Pair<u64, u64>>> = map::BTreeMap::new(alloc);
     /// let mut copy = Replica::new(alloc, 0);
-    /// let (_, events) = tree.insert_cdc(1, 10).map_err(|refused| refused.cause)?;
+    /// let (_, events) = tree.insert_cdc(1, 10)?;
     /// for event in &events {
     ///     copy.apply(event)?;
     /// }
@@ -46,6 +47,7 @@ impl<K: Ord + Clone + Drop, V: Clone + Drop, Node: NodeLike<Pair<K, V>>> BTreeMa
         ensures contents { OnOk result (joined self.new.nodes ≡ put (by_key K.cmp) (joined self.old.nodes) (pair key value)) }
         ensures there { OnOk result (has_key K.cmp (joined self.new.nodes) key ≡ true) }
         ensures written { OnOk result (value_of K.cmp (joined self.new.nodes) key ≡ Some value) }
+        ensures others { OnOk result (KeepsOthers K.cmp self.old.nodes self.new.nodes key) }
         ensures nodes { OnOk result (self.new.nodes ≡ with_put (by_key K.cmp) self.old.size self.old.nodes (pair key value)) }
         ensures events { ((x y : K) → K.is_clone x y → y ≡ x) → ((x y : V) → V.is_clone x y → y ≡ x) → IfOk result (λ r. r.1.items ≡ numbered_from self.old.next (put_events (by_key K.cmp) self.old.size self.old.nodes (pair key value))) }
         ensures numbered { IfOk result (λ r. IsNumberedFrom self.old.next r.1.items) }
@@ -78,10 +80,15 @@ impl<K: Ord + Clone + Drop, V: Clone + Drop, Node: NodeLike<Pair<K, V>>> BTreeMa
         // What callers prove by.
         ensures contents { OnOk result (joined self.new.nodes ≡ keep (by_key K.cmp) (joined self.old.nodes) (pair key value)) }
         ensures there { OnOk result (has_key K.cmp (joined self.new.nodes) key ≡ true) }
+        ensures written { IfOk result (λ r. IfSome r (λ _.
+            value_of K.cmp (joined self.new.nodes) key ≡ Some value)) }
         ensures nodes { OnOk result (self.new.nodes ≡ with_checked_put (by_key K.cmp) self.old.size self.old.nodes (pair key value)) }
         ensures events { ((x y : K) → K.is_clone x y → y ≡ x) → ((x y : V) → V.is_clone x y → y ≡ x) → IfOk result (λ r. IfSome r (λ events. events.items ≡ numbered_from self.old.next (checked_put_events (by_key K.cmp) self.old.size self.old.nodes (pair key value)))) }
         ensures numbered { IfOk result (λ r. IfSome r (λ events. IsNumberedFrom self.old.next events.items)) }
-        ensures replay { OnOk result (replay (by_key K.cmp) self.old.nodes (numbered_from self.old.next (checked_put_events (by_key K.cmp) self.old.size self.old.nodes (pair key value))) ≡ Some self.new.nodes) }
+        ensures replay { AreIdentical K.is_clone → AreIdentical V.is_clone → IfOk result (λ r.
+            IfSome r (λ events.
+            replay (by_key K.cmp) self.old.nodes events.items ≡ Some self.new.nodes)) }
+        ensures table { OnOk result (replay (by_key K.cmp) self.old.nodes (numbered_from self.old.next (checked_put_events (by_key K.cmp) self.old.size self.old.nodes (pair key value))) ≡ Some self.new.nodes) }
         ensures few { IfOk result (λ r. IfSome r (λ events. length events.items ≤ 3)) }
         ensures size { self.new.size ≡ self.old.size }
         ensures spaced { IsSpaced (self.old.size / 2) self.old.nodes → IsSpaced (self.new.size / 2) self.new.nodes }
@@ -103,8 +110,9 @@ impl<K: Ord + Clone + Drop, V: Clone + Drop, Node: NodeLike<Pair<K, V>>> BTreeMa
         ensures contents { OnOk result (joined self.new.nodes ≡ put (by_key K.cmp) (joined self.old.nodes) (pair key value)) }
         ensures there { OnOk result (has_key K.cmp (joined self.new.nodes) key ≡ true) }
         ensures written { OnOk result (value_of K.cmp (joined self.new.nodes) key ≡ Some value) }
+        ensures others { OnOk result (KeepsOthers K.cmp self.old.nodes self.new.nodes key) }
         ensures nodes { OnOk result (self.new.nodes ≡ with_put (by_key K.cmp) self.old.size self.old.nodes (pair key value)) }
-        ensures replay { OnOk result (replay (by_key K.cmp) self.old.nodes (numbered_from self.old.next (put_events (by_key K.cmp) self.old.size self.old.nodes (pair key value))) ≡ Some self.new.nodes) }
+        ensures table { OnOk result (replay (by_key K.cmp) self.old.nodes (numbered_from self.old.next (put_events (by_key K.cmp) self.old.size self.old.nodes (pair key value))) ≡ Some self.new.nodes) }
         ensures few { length (put_events (by_key K.cmp) self.old.size self.old.nodes (pair key value)) ≤ 3 }
         ensures size { self.new.size ≡ self.old.size }
         ensures spaced { IsSpaced (self.old.size / 2) self.old.nodes → IsSpaced (self.new.size / 2) self.new.nodes }
@@ -127,8 +135,10 @@ impl<K: Ord + Clone + Drop, V: Clone + Drop, Node: NodeLike<Pair<K, V>>> BTreeMa
         // What callers prove by.
         ensures contents { OnOk result (joined self.new.nodes ≡ keep (by_key K.cmp) (joined self.old.nodes) (pair key value)) }
         ensures there { OnOk result (has_key K.cmp (joined self.new.nodes) key ≡ true) }
+        ensures written { IfOk result (λ r. IfSome r (λ _.
+            value_of K.cmp (joined self.new.nodes) key ≡ Some value)) }
         ensures nodes { OnOk result (self.new.nodes ≡ with_checked_put (by_key K.cmp) self.old.size self.old.nodes (pair key value)) }
-        ensures replay { OnOk result (replay (by_key K.cmp) self.old.nodes (numbered_from self.old.next (checked_put_events (by_key K.cmp) self.old.size self.old.nodes (pair key value))) ≡ Some self.new.nodes) }
+        ensures table { OnOk result (replay (by_key K.cmp) self.old.nodes (numbered_from self.old.next (checked_put_events (by_key K.cmp) self.old.size self.old.nodes (pair key value))) ≡ Some self.new.nodes) }
         ensures few { length (checked_put_events (by_key K.cmp) self.old.size self.old.nodes (pair key value)) ≤ 3 }
         ensures size { self.new.size ≡ self.old.size }
         ensures spaced { IsSpaced (self.old.size / 2) self.old.nodes → IsSpaced (self.new.size / 2) self.new.nodes }

@@ -25,7 +25,7 @@ impl<K: Ord + Clone + Drop, V: Clone + Drop, Node: NodeLike<Pair<K, V>>> BTreeMa
     /// // The pairs of the keys from 10 on that are below 20.
     /// let mut tree: map::BTreeMap<u64, u64, Vec<Pair<u64, u64>>> = map::BTreeMap::new(alloc);
     /// for key in [5, 10, 15, 20] {
-    ///     tree.insert(key, 0).map_err(|refused| refused.cause)?;
+    ///     tree.insert(key, 0)?;
     /// }
     /// let teens = tree.range((Bound::Included(&10), Bound::Excluded(&20)));
     /// assert!(rt; teens.map(|(key, _)| *key).eq([10, 15]));

@@ -38,7 +38,7 @@ impl<T: Ord + Clone + Drop, Node: NodeLike<T>> BTreeSet<T, Node> {
     }
 
     /// Removes the least item, if any, and returns it with the events, which are those of
-    /// `remove_cdc` of that item. A node that is left small is joined with a small neighbour. Fails
+    /// `remove_cdc` of that item. A node that is left small is merged with a small neighbour. Fails
     /// with `Numbers` where the events do not fit the counter, else with `Memory`. A failed call
     /// changes nothing.
     pub fn pop_first_cdc(&mut self) -> Result<(Option<T>, Vec<ChangeEvent<T>>), Refusal>
@@ -68,7 +68,7 @@ impl<T: Ord + Clone + Drop, Node: NodeLike<T>> BTreeSet<T, Node> {
 
     /// Removes the least item, if any, and returns it. It uses up as many numbers as
     /// `pop_first_cdc`, and fails with `Numbers` where they do not fit. It allocates only where it
-    /// joins two nodes of a type that allocates, and else does not fail with `Memory`. A failed call
+    /// merges two nodes of a type that allocates, and else does not fail with `Memory`. A failed call
     /// changes nothing.
     pub fn pop_first(&mut self) -> Result<Option<T>, Refusal>
         ensures tree { OnOk result (self.new ≡ after_removal_at T.cmp self.old 0) }
@@ -80,7 +80,7 @@ impl<T: Ord + Clone + Drop, Node: NodeLike<T>> BTreeSet<T, Node> {
         ensures unchanged { OnErr result (self.new ≡ self.old) }
         // What callers prove by.
         ensures contents { OnOk result (joined self.new.nodes ≡ drop 1 (joined self.old.nodes)) }
-        ensures replay { OnOk result (replay T.cmp self.old.nodes (numbered_from self.old.next (removal_events_at T.cmp self.old.size self.old.nodes 0)) ≡ Some self.new.nodes) }
+        ensures table { OnOk result (replay T.cmp self.old.nodes (numbered_from self.old.next (removal_events_at T.cmp self.old.size self.old.nodes 0)) ≡ Some self.new.nodes) }
         ensures few { length (removal_events_at T.cmp self.old.size self.old.nodes 0) ≤ 3 }
         ensures size { self.new.size ≡ self.old.size }
         ensures spaced { IsSpaced (self.old.size / 2) self.old.nodes → IsSpaced (self.new.size / 2) self.new.nodes }
@@ -94,7 +94,7 @@ impl<T: Ord + Clone + Drop, Node: NodeLike<T>> BTreeSet<T, Node> {
     }
 
     /// Removes the greatest item, if any, and returns it with the events, which are those of
-    /// `remove_cdc` of that item. A node that is left small is joined with a small neighbour. Fails
+    /// `remove_cdc` of that item. A node that is left small is merged with a small neighbour. Fails
     /// with `Numbers` where the events do not fit the counter, else with `Memory`. A failed call
     /// changes nothing.
     pub fn pop_last_cdc(&mut self) -> Result<(Option<T>, Vec<ChangeEvent<T>>), Refusal>
@@ -124,7 +124,7 @@ impl<T: Ord + Clone + Drop, Node: NodeLike<T>> BTreeSet<T, Node> {
 
     /// Removes the greatest item, if any, and returns it. It uses up as many numbers as
     /// `pop_last_cdc`, and fails with `Numbers` where they do not fit. It allocates only where it
-    /// joins two nodes of a type that allocates, and else does not fail with `Memory`. A failed call
+    /// merges two nodes of a type that allocates, and else does not fail with `Memory`. A failed call
     /// changes nothing.
     pub fn pop_last(&mut self) -> Result<Option<T>, Refusal>
         ensures tree { OnOk result (self.new ≡ after_removal_at T.cmp self.old (length (joined self.old.nodes) - 1)) }
@@ -136,7 +136,7 @@ impl<T: Ord + Clone + Drop, Node: NodeLike<T>> BTreeSet<T, Node> {
         ensures unchanged { OnErr result (self.new ≡ self.old) }
         // What callers prove by.
         ensures contents { OnOk result (joined self.new.nodes ≡ take (length (joined self.old.nodes) - 1) (joined self.old.nodes)) }
-        ensures replay { OnOk result (replay T.cmp self.old.nodes (numbered_from self.old.next (removal_events_at T.cmp self.old.size self.old.nodes (length (joined self.old.nodes) - 1))) ≡ Some self.new.nodes) }
+        ensures table { OnOk result (replay T.cmp self.old.nodes (numbered_from self.old.next (removal_events_at T.cmp self.old.size self.old.nodes (length (joined self.old.nodes) - 1))) ≡ Some self.new.nodes) }
         ensures few { length (removal_events_at T.cmp self.old.size self.old.nodes (length (joined self.old.nodes) - 1)) ≤ 3 }
         ensures size { self.new.size ≡ self.old.size }
         ensures spaced { IsSpaced (self.old.size / 2) self.old.nodes → IsSpaced (self.new.size / 2) self.new.nodes }

@@ -4,6 +4,7 @@ ghost use Rattle.std.specs.Iterator.{UpTo, at_most};
 ghost use Rattle.std.specs.Iterator.SizeHint.{IsWithinCount};
 ghost use Rattle.std.specs.Map.Iter.{TakesFirst, TakesLast, ShowsInOrder, ShowsInReverse, deref};
 ghost use Rattle.indexset_core.specs.Nodes.{joined};
+ghost use Rattle.indexset_log.specs.Nodes.{AddsUp};
 
 use super::BTreeSet;
 use crate::nodes::capacity_of;
@@ -80,7 +81,8 @@ impl<T: Ord + Clone + Drop, Node: NodeLike<T>> BTreeSet<T, Node> {
     /// Returns how many items there is room for: the sum of the nodes' capacities, which stops at
     /// `usize::MAX`.
     pub fn capacity(&self) -> usize
-        ensures { length (joined self.now.nodes) ≤ result }
+        ensures enough { length (joined self.now.nodes) ≤ result }
+        ensures sum { AddsUp Node.list Node.room self.now.nodes result }
     {
         // The number of items fits.
         let _len = self.len;

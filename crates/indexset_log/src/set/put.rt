@@ -3,7 +3,7 @@ ghost use Rattle.std.specs.Prelude.{◌≡◌, ◌+◌, ◌/◌, ◌≤◌, [], 
 ghost use Rattle.indexset_core.specs.Nodes.{joined};
 ghost use Rattle.indexset_core.specs.Order.{put, keep, has_equal, equal_element};
 ghost use Rattle.indexset_log.specs.Aim.{IsAim, IsAimed, count_for, is_present};
-ghost use Rattle.indexset_log.specs.Clones.{IsTold};
+ghost use Rattle.indexset_log.specs.Clones.{AreIdentical, IsTold};
 ghost use Rattle.indexset_log.specs.Edits.{after_put, after_checked_put, with_put, with_checked_put};
 ghost use Rattle.indexset_log.specs.Joining.{IsSpaced};
 ghost use Rattle.indexset_log.specs.Replay.{replay, numbered_from, IsNumberedFrom};
@@ -27,7 +27,7 @@ impl<T: Ord + Clone + Drop, Node: NodeLike<T>> BTreeSet<T, Node> {
     ///
     /// ```
     /// let mut tree: set::BTreeSet<u64, Vec<u64>> = set::BTreeSet::new(alloc);
-    /// let (old, events) = tree.put_cdc(5).map_err(|refused| refused.cause)?;
+    /// let (old, events) = tree.put_cdc(5)?;
     /// let made = ChangeEvent::CreateNode { event_id: Id::from(0), max_value: 5 };
     /// assert!(rt; old.is_none() && events.as_slice() == [made].as_slice());
     /// ```
@@ -78,7 +78,9 @@ impl<T: Ord + Clone + Drop, Node: NodeLike<T>> BTreeSet<T, Node> {
         ensures fits { OnOk result (self.old.next + length (checked_put_events T.cmp self.old.size self.old.nodes value) ≤ u64.MAX) }
         ensures events { ((x y : T) → T.is_clone x y → y ≡ x) → IfOk result (λ r. IfSome r (λ events. events.items ≡ numbered_from self.old.next (checked_put_events T.cmp self.old.size self.old.nodes value))) }
         ensures numbered { IfOk result (λ r. IfSome r (λ events. IsNumberedFrom self.old.next events.items)) }
-        ensures replay { OnOk result (replay T.cmp self.old.nodes (numbered_from self.old.next (checked_put_events T.cmp self.old.size self.old.nodes value)) ≡ Some self.new.nodes) }
+        ensures replay { AreIdentical T.is_clone → IfOk result (λ r. IfSome r (λ events.
+            replay T.cmp self.old.nodes events.items ≡ Some self.new.nodes)) }
+        ensures table { OnOk result (replay T.cmp self.old.nodes (numbered_from self.old.next (checked_put_events T.cmp self.old.size self.old.nodes value)) ≡ Some self.new.nodes) }
         ensures few { IfOk result (λ r. IfSome r (λ events. length events.items ≤ 3)) }
         ensures spaced { IsSpaced (self.old.size / 2) self.old.nodes → IsSpaced (self.new.size / 2) self.new.nodes }
     {
@@ -110,7 +112,7 @@ impl<T: Ord + Clone + Drop, Node: NodeLike<T>> BTreeSet<T, Node> {
         ensures size { self.new.size ≡ self.old.size }
         ensures next { OnOk result (self.new.next ≡ self.old.next + length (put_events T.cmp self.old.size self.old.nodes value)) }
         ensures fits { OnOk result (self.old.next + length (put_events T.cmp self.old.size self.old.nodes value) ≤ u64.MAX) }
-        ensures replay { OnOk result (replay T.cmp self.old.nodes (numbered_from self.old.next (put_events T.cmp self.old.size self.old.nodes value)) ≡ Some self.new.nodes) }
+        ensures table { OnOk result (replay T.cmp self.old.nodes (numbered_from self.old.next (put_events T.cmp self.old.size self.old.nodes value)) ≡ Some self.new.nodes) }
         ensures few { length (put_events T.cmp self.old.size self.old.nodes value) ≤ 3 }
         ensures spaced { IsSpaced (self.old.size / 2) self.old.nodes → IsSpaced (self.new.size / 2) self.new.nodes }
     {
@@ -125,7 +127,7 @@ impl<T: Ord + Clone + Drop, Node: NodeLike<T>> BTreeSet<T, Node> {
     ///
     /// ```
     /// let mut tree: set::BTreeSet<u64, Vec<u64>> = set::BTreeSet::new(alloc);
-    /// tree.insert(5).map_err(|refused| refused.cause)?;
+    /// tree.insert(5)?;
     /// assert!(rt; tree.contains(&5) && tree.events_issued() == 1);
     /// ```
     #[tactic(auto, unfolding(indexset_core::specs::Order::keep, crate::specs::Edits::with_checked_put, crate::specs::Table::checked_put_events))]
@@ -143,7 +145,7 @@ impl<T: Ord + Clone + Drop, Node: NodeLike<T>> BTreeSet<T, Node> {
         ensures size { self.new.size ≡ self.old.size }
         ensures next { OnOk result (self.new.next ≡ self.old.next + length (checked_put_events T.cmp self.old.size self.old.nodes value)) }
         ensures fits { OnOk result (self.old.next + length (checked_put_events T.cmp self.old.size self.old.nodes value) ≤ u64.MAX) }
-        ensures replay { OnOk result (replay T.cmp self.old.nodes (numbered_from self.old.next (checked_put_events T.cmp self.old.size self.old.nodes value)) ≡ Some self.new.nodes) }
+        ensures table { OnOk result (replay T.cmp self.old.nodes (numbered_from self.old.next (checked_put_events T.cmp self.old.size self.old.nodes value)) ≡ Some self.new.nodes) }
         ensures few { length (checked_put_events T.cmp self.old.size self.old.nodes value) ≤ 3 }
         ensures spaced { IsSpaced (self.old.size / 2) self.old.nodes → IsSpaced (self.new.size / 2) self.new.nodes }
     {

@@ -90,7 +90,7 @@ impl<T: Ord + Clone + Drop, Node: NodeLike<T>> BTreeSet<T, Node> {
     /// ```
     /// let mut tree: set::BTreeSet<u64, Vec<u64>> = set::BTreeSet::new(alloc);
     /// for number in [5, 10, 15] {
-    ///     tree.insert(number).map_err(|refused| refused.cause)?;
+    ///     tree.insert(number)?;
     /// }
     /// let upper = tree.range((Bound::Included(&10), Bound::Unbounded));
     /// assert!(rt; upper.copied().eq([10, 15]));

@@ -58,7 +58,7 @@ impl<T: Ord + Clone + Drop, Node: NodeLike<T>> BTreeSet<T, Node> {
         })
     }
 
-    // Returns the event of the node at `left` and the one after it that are joined once the item at
+    // Returns the event of the node at `left` and the one after it that are merged once the item at
     // a place is gone.
     fn joining_event(
         &self,

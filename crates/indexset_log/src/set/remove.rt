@@ -18,12 +18,12 @@ use indexset_core::refusal::Refusal;
 
 impl<T: Ord + Clone + Drop, Node: NodeLike<T>> BTreeSet<T, Node> {
     /// Removes the equal item, if any, and returns it with the events. A node that is left small is
-    /// joined with a small neighbour. Fails with `Numbers` where the events do not fit the counter, else
+    /// merged with a small neighbour. Fails with `Numbers` where the events do not fit the counter, else
     /// with `Memory`. A failed call changes nothing.
     ///
     /// ```
     /// let mut tree: set::BTreeSet<u64, Vec<u64>> = set::BTreeSet::new(alloc);
-    /// tree.insert(5).map_err(|refused| refused.cause)?;
+    /// tree.insert(5)?;
     /// let (removed, events) = tree.remove_cdc(&5)?;
     /// assert!(rt; removed == Some(5) && events.len() == 1);
     /// ```
@@ -53,7 +53,7 @@ impl<T: Ord + Clone + Drop, Node: NodeLike<T>> BTreeSet<T, Node> {
         self.remove_from_cdc(place)
     }
 
-    /// Removes the item at a place, and returns it with the events. A node that is left small is joined
+    /// Removes the item at a place, and returns it with the events. A node that is left small is merged
     /// with a small neighbour. Fails as `remove_cdc` does, and then changes nothing.
     pub fn remove_at_cdc(
         &mut self,
@@ -89,7 +89,7 @@ impl<T: Ord + Clone + Drop, Node: NodeLike<T>> BTreeSet<T, Node> {
     }
 
     /// Removes the equal item, if any, and returns it. It uses up as many numbers as `remove_cdc`, and
-    /// fails with `Numbers` where they do not fit. It allocates only where it joins two nodes of a type
+    /// fails with `Numbers` where they do not fit. It allocates only where it merges two nodes of a type
     /// that allocates, and else does not fail with `Memory`. A failed call changes nothing.
     pub fn remove(&mut self, value: &T) -> Result<Option<T>, Refusal>
         ensures tree { OnOk result (self.new ≡ after_removal T.cmp self.old value.now) }
@@ -102,7 +102,7 @@ impl<T: Ord + Clone + Drop, Node: NodeLike<T>> BTreeSet<T, Node> {
         // What callers prove by.
         ensures contents { OnOk result (joined self.new.nodes ≡ without T.cmp (joined self.old.nodes) value.now) }
         ensures gone { OnOk result (has_equal T.cmp (joined self.new.nodes) value.now ≡ false) }
-        ensures replay { OnOk result (replay T.cmp self.old.nodes (numbered_from self.old.next (removal_events T.cmp self.old.size self.old.nodes value.now)) ≡ Some self.new.nodes) }
+        ensures table { OnOk result (replay T.cmp self.old.nodes (numbered_from self.old.next (removal_events T.cmp self.old.size self.old.nodes value.now)) ≡ Some self.new.nodes) }
         ensures few { length (removal_events T.cmp self.old.size self.old.nodes value.now) ≤ 3 }
         ensures size { self.new.size ≡ self.old.size }
         ensures spaced { IsSpaced (self.old.size / 2) self.old.nodes → IsSpaced (self.new.size / 2) self.new.nodes }
@@ -116,7 +116,7 @@ impl<T: Ord + Clone + Drop, Node: NodeLike<T>> BTreeSet<T, Node> {
     }
 
     /// Removes the item at a place, and returns it. It uses up as many numbers as `remove_at_cdc`, and
-    /// fails with `Numbers` where they do not fit. It allocates only where it joins two nodes of a type
+    /// fails with `Numbers` where they do not fit. It allocates only where it merges two nodes of a type
     /// that allocates, and else does not fail with `Memory`. A failed call changes nothing.
     pub fn remove_at(&mut self, node: usize, offset: usize) -> Result<T, Refusal>
         requires node { node < length self.old.nodes }
@@ -129,7 +129,7 @@ impl<T: Ord + Clone + Drop, Node: NodeLike<T>> BTreeSet<T, Node> {
         ensures unchanged { OnErr result (self.new ≡ self.old) }
         // What callers prove by.
         ensures nodes { OnOk result (self.new.nodes ≡ with_taken self.old.size self.old.nodes node offset) }
-        ensures replay { IfOk result (λ item. replay T.cmp self.old.nodes (numbered_from self.old.next (taking_events self.old.size self.old.nodes node offset item)) ≡ Some self.new.nodes) }
+        ensures table { IfOk result (λ item. replay T.cmp self.old.nodes (numbered_from self.old.next (taking_events self.old.size self.old.nodes node offset item)) ≡ Some self.new.nodes) }
         ensures few { taking_count self.old.size self.old.nodes node offset ≤ 3 }
         ensures size { self.new.size ≡ self.old.size }
         ensures spaced { IsSpaced (self.old.size / 2) self.old.nodes → IsSpaced (self.new.size / 2) self.new.nodes }
@@ -141,6 +141,22 @@ impl<T: Ord + Clone + Drop, Node: NodeLike<T>> BTreeSet<T, Node> {
         let join = self.join_after(node);
         self.check_removal(join)?;
         self.take(node, offset, join)
+    }
+
+    /// Returns why a removal of the item at a place would be refused: with `Numbers` where too few
+    /// are left for its events, else with `Memory`. (Not in the Rust crate.)
+    pub fn removal_refusal(&self, node: usize, offset: usize) -> Refusal
+        requires node { node < length self.now.nodes }
+        requires offset { offset < length (node_at self.now.nodes node) }
+        ensures { result ≡ refusal_for self.now.next
+            (taking_count self.now.size self.now.nodes node offset) }
+    {
+        // The offset is that of an item of the node, which decides nothing here.
+        let _offset = offset;
+        match self.check_removal(self.join_after(node)) {
+            Ok(()) => Refusal::Memory,
+            Err(cause) => cause,
+        }
     }
 
     // Removes the item at a place, if any, and returns it with the events.
@@ -191,7 +207,7 @@ impl<T: Ord + Clone + Drop, Node: NodeLike<T>> BTreeSet<T, Node> {
         }
     }
 
-    // Returns the first of the two nodes that are joined once a node has lost an item, whichever it
+    // Returns the first of the two nodes that are merged once a node has lost an item, whichever it
     // is.
     fn join_after(&self, node: usize) -> Option<usize>
         requires { node < length self.now.nodes }
@@ -248,7 +264,7 @@ impl<T: Ord + Clone + Drop, Node: NodeLike<T>> BTreeSet<T, Node> {
         Ok(())
     }
 
-    // Removes the item at a place, and joins the nodes named. A failed call changes nothing.
+    // Removes the item at a place, and merges the nodes named. A failed call changes nothing.
     fn take(&mut self, node: usize, offset: usize, join: Option<usize>) -> Result<T, Refusal>
         requires node { node < length self.old.nodes }
         requires offset { offset < length (node_at self.old.nodes node) }
@@ -267,7 +283,7 @@ impl<T: Ord + Clone + Drop, Node: NodeLike<T>> BTreeSet<T, Node> {
         }
     }
 
-    // Removes the item at a place, and joins the node at `left` with the one after it. A failed call
+    // Removes the item at a place, and merges the node at `left` with the one after it. A failed call
     // changes nothing.
     fn take_joining(&mut self, node: usize, offset: usize, left: usize) -> Result<T, Refusal>
         requires node { node < length self.old.nodes }

@@ -10,7 +10,7 @@ use std::ops::Bound;
 
 impl<T: Ord + Clone + Drop> BTreeSet<T, Vec<T>> {
     /// Removes the items that satisfy both bounds. Each node loses just its own, and one that is left
-    /// empty is removed. No nodes are joined, no event is emitted, no number is used up and nothing is
+    /// empty is removed. No nodes are merged, no event is emitted, no number is used up and nothing is
     /// allocated. Bounds that are the wrong way round hold nothing. (The Rust crate panics there.)
     pub fn remove_range(&mut self, range: (Bound<&T>, Bound<&T>))
         ensures nodes { self.new.nodes ≡ without_range T.cmp self.old.nodes (bound_map (λ v. v.now) range.entry.0) (bound_map (λ v. v.now) range.entry.1) }

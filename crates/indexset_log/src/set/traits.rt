@@ -16,7 +16,7 @@ impl<T: Ord + Clone + Drop + fmt::Debug, Node: NodeLike<T>> fmt::Debug for BTree
 /// ```
 /// let mut tree: set::BTreeSet<u64, Vec<u64>> = set::BTreeSet::with_maximum_node_size(alloc, 2);
 /// for item in [1, 2, 3] {
-///     tree.insert(item).map_err(|refused| refused.cause)?;
+///     tree.insert(item)?;
 /// }
 /// assert_eq!(rt; format!(in alloc; "{tree}")?.as_str(), "[1] [2, 3]");
 /// ```

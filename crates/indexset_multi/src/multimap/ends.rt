@@ -41,7 +41,7 @@ impl<K: Ord + Clone + Drop, V: Eq + Clone + Drop, Node: NodeLike<MultiPair<K, V>
     /// ```
     /// let mut tags: multimap::BTreeMultiMap<u64, u64, Vec<MultiPair<u64, u64>>> = multimap::BTreeMultiMap::new(alloc);
     /// for (tag, document) in [(2, 100), (2, 101), (1, 100)] {
-    ///     tags.insert(tag, document).map_err(|refused| refused.cause)?;
+    ///     tags.insert(tag, document)?;
     /// }
     /// assert!(rt; tags.first_key_value() == Some((&1, &100)));
     /// assert!(rt; tags.last_key_value() == Some((&2, &101)));
@@ -56,14 +56,14 @@ impl<K: Ord + Clone + Drop, V: Eq + Clone + Drop, Node: NodeLike<MultiPair<K, V>
     }
 
     /// Removes the first pair of the least key, if any, and returns it with the events, which are those of
-    /// `remove_some_cdc` of that key. It makes no comparison. A node that is left small is joined with a
+    /// `remove_some_cdc` of that key. It makes no comparison. A node that is left small is merged with a
     /// small neighbour. Fails with `Numbers` where the events do not fit the counter, else with `Memory`. A
     /// failed call changes nothing.
     ///
     /// ```
     /// let mut tags: multimap::BTreeMultiMap<u64, u64, Vec<MultiPair<u64, u64>>> = multimap::BTreeMultiMap::new(alloc);
     /// for (tag, document) in [(2, 100), (1, 100), (1, 101)] {
-    ///     tags.insert(tag, document).map_err(|refused| refused.cause)?;
+    ///     tags.insert(tag, document)?;
     /// }
     /// let (removed, events) = tags.pop_first_cdc()?;
     /// assert!(rt; removed == Some((1, 100)) && events.len() == 1);
@@ -96,7 +96,7 @@ impl<K: Ord + Clone + Drop, V: Eq + Clone + Drop, Node: NodeLike<MultiPair<K, V>
 
     /// Removes the first pair of the least key, if any, and returns it, without a comparison. It uses up as
     /// many numbers as `pop_first_cdc`, and fails with `Numbers` where they do not fit. It allocates only
-    /// where it joins two nodes of a type that allocates, and else does not fail with `Memory`. A failed call
+    /// where it merges two nodes of a type that allocates, and else does not fail with `Memory`. A failed call
     /// changes nothing.
     pub fn pop_first(&mut self) -> Result<Option<(K, V)>, Refusal>
         ensures tree { OnOk result (self.new ≡ after_removal K.cmp self.old (slice_get (joined self.old.nodes) 0)) }
@@ -112,7 +112,7 @@ impl<K: Ord + Clone + Drop, V: Eq + Clone + Drop, Node: NodeLike<MultiPair<K, V>
         ensures fits { OnOk result (self.old.next + length (pair_removal_events K.cmp self.old.size self.old.nodes (slice_get (joined self.old.nodes) 0)) ≤ u64.MAX) }
         ensures no_memory { length (pair_removal_events K.cmp self.old.size self.old.nodes (slice_get (joined self.old.nodes) 0)) ≤ 1 → self.old.next + length (pair_removal_events K.cmp self.old.size self.old.nodes (slice_get (joined self.old.nodes) 0)) ≤ u64.MAX → IsOk result }
         ensures never { Node.allocates ≡ false → self.old.next + length (pair_removal_events K.cmp self.old.size self.old.nodes (slice_get (joined self.old.nodes) 0)) ≤ u64.MAX → IsOk result }
-        ensures replay { OnOk result (replay (by_number K.cmp) self.old.nodes (numbered_from self.old.next (pair_removal_events K.cmp self.old.size self.old.nodes (slice_get (joined self.old.nodes) 0))) ≡ Some self.new.nodes) }
+        ensures table { OnOk result (replay (by_number K.cmp) self.old.nodes (numbered_from self.old.next (pair_removal_events K.cmp self.old.size self.old.nodes (slice_get (joined self.old.nodes) 0))) ≡ Some self.new.nodes) }
         ensures few { length (pair_removal_events K.cmp self.old.size self.old.nodes (slice_get (joined self.old.nodes) 0)) ≤ 3 }
         ensures spaced { IsSpaced (self.old.size / 2) self.old.nodes → IsSpaced (self.new.size / 2) self.new.nodes }
     {
@@ -121,7 +121,7 @@ impl<K: Ord + Clone + Drop, V: Eq + Clone + Drop, Node: NodeLike<MultiPair<K, V>
     }
 
     /// Removes the last pair of the greatest key, if any, and returns it with the events. It makes no
-    /// comparison. A node that is left small is joined with a small neighbour. Fails as `pop_first_cdc` does,
+    /// comparison. A node that is left small is merged with a small neighbour. Fails as `pop_first_cdc` does,
     /// and then changes nothing.
     pub fn pop_last_cdc(
         &mut self,
@@ -151,13 +151,13 @@ impl<K: Ord + Clone + Drop, V: Eq + Clone + Drop, Node: NodeLike<MultiPair<K, V>
 
     /// Removes the last pair of the greatest key, if any, and returns it, without a comparison. It uses up as
     /// many numbers as `pop_last_cdc`, and fails with `Numbers` where they do not fit. It allocates only where
-    /// it joins two nodes of a type that allocates, and else does not fail with `Memory`. A failed call
+    /// it merges two nodes of a type that allocates, and else does not fail with `Memory`. A failed call
     /// changes nothing.
     ///
     /// ```
     /// let mut tags: multimap::BTreeMultiMap<u64, u64, Vec<MultiPair<u64, u64>>> = multimap::BTreeMultiMap::new(alloc);
     /// for (tag, document) in [(2, 100), (1, 100), (2, 101)] {
-    ///     tags.insert(tag, document).map_err(|refused| refused.cause)?;
+    ///     tags.insert(tag, document)?;
     /// }
     /// assert!(rt; tags.pop_last()? == Some((2, 101)) && tags.pop_last()? == Some((2, 100)));
     /// ```
@@ -175,7 +175,7 @@ impl<K: Ord + Clone + Drop, V: Eq + Clone + Drop, Node: NodeLike<MultiPair<K, V>
         ensures fits { OnOk result (self.old.next + length (pair_removal_events K.cmp self.old.size self.old.nodes (slice_get (joined self.old.nodes) (length (joined self.old.nodes) - 1))) ≤ u64.MAX) }
         ensures no_memory { length (pair_removal_events K.cmp self.old.size self.old.nodes (slice_get (joined self.old.nodes) (length (joined self.old.nodes) - 1))) ≤ 1 → self.old.next + length (pair_removal_events K.cmp self.old.size self.old.nodes (slice_get (joined self.old.nodes) (length (joined self.old.nodes) - 1))) ≤ u64.MAX → IsOk result }
         ensures never { Node.allocates ≡ false → self.old.next + length (pair_removal_events K.cmp self.old.size self.old.nodes (slice_get (joined self.old.nodes) (length (joined self.old.nodes) - 1))) ≤ u64.MAX → IsOk result }
-        ensures replay { OnOk result (replay (by_number K.cmp) self.old.nodes (numbered_from self.old.next (pair_removal_events K.cmp self.old.size self.old.nodes (slice_get (joined self.old.nodes) (length (joined self.old.nodes) - 1)))) ≡ Some self.new.nodes) }
+        ensures table { OnOk result (replay (by_number K.cmp) self.old.nodes (numbered_from self.old.next (pair_removal_events K.cmp self.old.size self.old.nodes (slice_get (joined self.old.nodes) (length (joined self.old.nodes) - 1)))) ≡ Some self.new.nodes) }
         ensures few { length (pair_removal_events K.cmp self.old.size self.old.nodes (slice_get (joined self.old.nodes) (length (joined self.old.nodes) - 1))) ≤ 3 }
         ensures spaced { IsSpaced (self.old.size / 2) self.old.nodes → IsSpaced (self.new.size / 2) self.new.nodes }
     {

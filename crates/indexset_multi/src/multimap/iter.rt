@@ -90,8 +90,8 @@ impl<K: Ord + Clone + Drop, V: Eq + Clone + Drop, Node: NodeLike<MultiPair<K, V>
     ///
     /// ```
     /// let mut tags: multimap::BTreeMultiMap<u64, u64, Vec<MultiPair<u64, u64>>> = multimap::BTreeMultiMap::new(alloc);
-    /// tags.insert(1, 100).map_err(|refused| refused.cause)?;
-    /// tags.insert(1, 101).map_err(|refused| refused.cause)?;
+    /// tags.insert(1, 100)?;
+    /// tags.insert(1, 101)?;
     /// let mut documents = 0u64;
     /// for (_, document) in &tags {
     ///     documents = documents.wrapping_add(*document);

@@ -169,7 +169,7 @@ impl<K: Ord + Clone + Drop, V: Eq + Clone + Drop, Node: NodeLike<MultiPair<K, V>
     ///
     /// ```
     /// let mut tags: multimap::BTreeMultiMap<u64, u64, Vec<MultiPair<u64, u64>>> = multimap::BTreeMultiMap::new(alloc);
-    /// tags.insert(1, 100).map_err(|refused| refused.cause)?;
+    /// tags.insert(1, 100)?;
     /// assert!(rt; tags.get(&1).eq([(&1, &100)]) && tags.get(&2).len() == 0);
     /// ```
     pub fn get(&self, key: &K) -> Range<'_, K, V, Node>
@@ -201,7 +201,7 @@ impl<K: Ord + Clone + Drop, V: Eq + Clone + Drop, Node: NodeLike<MultiPair<K, V>
     /// // The pairs of the keys from 10 on that are below 20.
     /// let mut tags: multimap::BTreeMultiMap<u64, u64, Vec<MultiPair<u64, u64>>> = multimap::BTreeMultiMap::new(alloc);
     /// for (tag, document) in [(5, 1), (10, 1), (10, 2), (20, 1)] {
-    ///     tags.insert(tag, document).map_err(|refused| refused.cause)?;
+    ///     tags.insert(tag, document)?;
     /// }
     /// let teens = tags.range((Bound::Included(&10), Bound::Excluded(&20)));
     /// assert!(rt; teens.eq([(&10, &1), (&10, &2)]));

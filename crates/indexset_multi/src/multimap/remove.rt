@@ -26,7 +26,7 @@ impl<K: Ord + Clone + Drop, V: Eq + Clone + Drop, Node: NodeLike<MultiPair<K, V>
     Node,
 > {
     /// Removes the first pair of a key, if any, and returns it with the events, by one search. A node that
-    /// is left small is joined with a small neighbour. Fails with `Numbers` where the events do not fit
+    /// is left small is merged with a small neighbour. Fails with `Numbers` where the events do not fit
     /// the counter, else with `Memory`. A failed call changes nothing.
     pub fn remove_some_cdc(
         &mut self,
@@ -58,7 +58,7 @@ impl<K: Ord + Clone + Drop, V: Eq + Clone + Drop, Node: NodeLike<MultiPair<K, V>
     }
 
     /// Removes the first pair of a key, if any, and returns it. It uses up as many numbers as
-    /// `remove_some_cdc`, and fails with `Numbers` where they do not fit. It allocates only where it joins
+    /// `remove_some_cdc`, and fails with `Numbers` where they do not fit. It allocates only where it merges
     /// two nodes of a type that allocates, and else does not fail with `Memory`. A failed call changes
     /// nothing.
     pub fn remove_some(&mut self, key: &K) -> Result<Option<(K, V)>, Refusal>
@@ -77,7 +77,7 @@ impl<K: Ord + Clone + Drop, V: Eq + Clone + Drop, Node: NodeLike<MultiPair<K, V>
         ensures fits { OnOk result (self.old.next + length (pair_removal_events K.cmp self.old.size self.old.nodes (first_pair K.cmp (joined self.old.nodes) key.now)) ≤ u64.MAX) }
         ensures no_memory { length (pair_removal_events K.cmp self.old.size self.old.nodes (first_pair K.cmp (joined self.old.nodes) key.now)) ≤ 1 → self.old.next + length (pair_removal_events K.cmp self.old.size self.old.nodes (first_pair K.cmp (joined self.old.nodes) key.now)) ≤ u64.MAX → IsOk result }
         ensures never { Node.allocates ≡ false → self.old.next + length (pair_removal_events K.cmp self.old.size self.old.nodes (first_pair K.cmp (joined self.old.nodes) key.now)) ≤ u64.MAX → IsOk result }
-        ensures replay { OnOk result (replay (by_number K.cmp) self.old.nodes (numbered_from self.old.next (pair_removal_events K.cmp self.old.size self.old.nodes (first_pair K.cmp (joined self.old.nodes) key.now))) ≡ Some self.new.nodes) }
+        ensures table { OnOk result (replay (by_number K.cmp) self.old.nodes (numbered_from self.old.next (pair_removal_events K.cmp self.old.size self.old.nodes (first_pair K.cmp (joined self.old.nodes) key.now))) ≡ Some self.new.nodes) }
         ensures few { length (pair_removal_events K.cmp self.old.size self.old.nodes (first_pair K.cmp (joined self.old.nodes) key.now)) ≤ 3 }
         ensures spaced { IsSpaced (self.old.size / 2) self.old.nodes → IsSpaced (self.new.size / 2) self.new.nodes }
     {
@@ -87,7 +87,7 @@ impl<K: Ord + Clone + Drop, V: Eq + Clone + Drop, Node: NodeLike<MultiPair<K, V>
 
     /// Removes the first pair of a key whose value is equal, if any, and returns it with the events. Other
     /// such pairs of the key stay. It compares keys as `get` does, and then the values of the key's pairs,
-    /// one by one. A node that is left small is joined with a small neighbour. Fails as `remove_some_cdc`
+    /// one by one. A node that is left small is merged with a small neighbour. Fails as `remove_some_cdc`
     /// does, and then changes nothing.
     pub fn remove_cdc(
         &mut self,
@@ -121,12 +121,12 @@ impl<K: Ord + Clone + Drop, V: Eq + Clone + Drop, Node: NodeLike<MultiPair<K, V>
 
     /// Removes the first pair of a key whose value is equal, if any, and returns it. It compares, and uses
     /// up numbers, as `remove_cdc` does, and fails with `Numbers` where they do not fit. It allocates only
-    /// where it joins two nodes of a type that allocates, and else does not fail with `Memory`. A failed
+    /// where it merges two nodes of a type that allocates, and else does not fail with `Memory`. A failed
     /// call changes nothing.
     ///
     /// ```
     /// let mut tags: multimap::BTreeMultiMap<u64, u64, Vec<MultiPair<u64, u64>>> = multimap::BTreeMultiMap::new(alloc);
-    /// tags.insert(1, 100).map_err(|refused| refused.cause)?;
+    /// tags.insert(1, 100)?;
     /// let removed = tags.remove(&1, &100)?;
     /// assert!(rt; removed == Some((1, 100)) && !tags.contains_key(&1));
     /// ```
@@ -146,7 +146,7 @@ impl<K: Ord + Clone + Drop, V: Eq + Clone + Drop, Node: NodeLike<MultiPair<K, V>
         ensures fits { OnOk result (self.old.next + length (pair_removal_events K.cmp self.old.size self.old.nodes (equal_pair K.cmp V.eq (joined self.old.nodes) key.now value.now)) ≤ u64.MAX) }
         ensures no_memory { length (pair_removal_events K.cmp self.old.size self.old.nodes (equal_pair K.cmp V.eq (joined self.old.nodes) key.now value.now)) ≤ 1 → self.old.next + length (pair_removal_events K.cmp self.old.size self.old.nodes (equal_pair K.cmp V.eq (joined self.old.nodes) key.now value.now)) ≤ u64.MAX → IsOk result }
         ensures never { Node.allocates ≡ false → self.old.next + length (pair_removal_events K.cmp self.old.size self.old.nodes (equal_pair K.cmp V.eq (joined self.old.nodes) key.now value.now)) ≤ u64.MAX → IsOk result }
-        ensures replay { OnOk result (replay (by_number K.cmp) self.old.nodes (numbered_from self.old.next (pair_removal_events K.cmp self.old.size self.old.nodes (equal_pair K.cmp V.eq (joined self.old.nodes) key.now value.now))) ≡ Some self.new.nodes) }
+        ensures table { OnOk result (replay (by_number K.cmp) self.old.nodes (numbered_from self.old.next (pair_removal_events K.cmp self.old.size self.old.nodes (equal_pair K.cmp V.eq (joined self.old.nodes) key.now value.now))) ≡ Some self.new.nodes) }
         ensures few { length (pair_removal_events K.cmp self.old.size self.old.nodes (equal_pair K.cmp V.eq (joined self.old.nodes) key.now value.now)) ≤ 3 }
         ensures spaced { IsSpaced (self.old.size / 2) self.old.nodes → IsSpaced (self.new.size / 2) self.new.nodes }
     {
@@ -155,7 +155,7 @@ impl<K: Ord + Clone + Drop, V: Eq + Clone + Drop, Node: NodeLike<MultiPair<K, V>
     }
 
     // Returns where the first pair of a key stands.
-    fn first_place(&self, key: &K) -> Option<(usize, usize)>
+    pub(super) fn first_place(&self, key: &K) -> Option<(usize, usize)>
         ensures place { IsItemPlace self.now.nodes result }
         ensures pair { placed_item self.now.nodes result ≡ first_pair K.cmp (joined self.now.nodes) key.now }
     {
@@ -173,7 +173,7 @@ impl<K: Ord + Clone + Drop, V: Eq + Clone + Drop, Node: NodeLike<MultiPair<K, V>
     }
 
     // Removes the pair at a place, where one is given, and returns it with the events.
-    fn take_cdc(
+    pub(super) fn take_cdc(
         &mut self,
         place: Option<(usize, usize)>,
     ) -> Result<(Option<(K, V)>, Vec<ChangeEvent<MultiPair<K, V>>>), Refusal>

@@ -1,11 +1,15 @@
 //! Removal of all pairs of a key.
-ghost use Rattle.std.specs.Prelude.{◌≡◌, ◌-◌, ◌/◌, [], drop, length, false, is_some, IfOk, OnOk, IfErr, OnErr};
+ghost use Rattle.std.specs.Prelude.{◌≡◌, ◌-◌, ◌/◌, [], drop, length, false, true, is_some, Some, IfOk, OnOk, IfErr, OnErr, IsOk};
 ghost use Rattle.std.specs.Ordering.{is_eq};
+ghost use Rattle.indexset_core.specs.MultiPairs.{by_number};
 ghost use Rattle.indexset_core.specs.Nodes.{joined};
+ghost use Rattle.indexset_log.specs.Clones.{IsTold};
 ghost use Rattle.indexset_log.specs.Joining.{IsSpaced};
+ghost use Rattle.indexset_log.specs.Replay.{IsNumberedFrom, numbered_from, replay};
 ghost use Rattle.indexset_log.specs.Tree.{refusal_for};
 ghost use Rattle.indexset_multi.specs.Keys.{first_pair, pairs_of, without_key};
-ghost use Rattle.indexset_multi.specs.Tree.{IsLedBy, IsLedTo, MultiTree, after_removal, after_removals, pair_removal_events};
+ghost use Rattle.indexset_multi.specs.Told.{IsToldOn};
+ghost use Rattle.indexset_multi.specs.Tree.{IsLedBy, IsLedTo, IsPairClone, after_removal, after_removals, first_events, key_events, pair_removal_events};
 
 use super::BTreeMultiMap;
 use indexset_core::moves::move_tail;
@@ -30,7 +34,7 @@ impl<K: Ord + Clone + Drop, V: Eq + Clone + Drop, Node: NodeLike<MultiPair<K, V>
         ensures left { pairs_of K.cmp (joined self.new.nodes) key.now ≡ drop (length (pairs_of K.cmp (joined self.old.nodes) key.now) - length (pairs_of K.cmp (joined self.new.nodes) key.now)) (pairs_of K.cmp (joined self.old.nodes) key.now) }
         ensures rest { without_key K.cmp (joined self.new.nodes) key.now ≡ without_key K.cmp (joined self.old.nodes) key.now }
         ensures others { (other : K) → is_eq (K.cmp other key.now) ≡ false → pairs_of K.cmp (joined self.new.nodes) other ≡ pairs_of K.cmp (joined self.old.nodes) other }
-        ensures replay { IsLedTo K.cmp self.old self.new }
+        ensures led { IsLedTo K.cmp self.old self.new }
         ensures size { self.new.size ≡ self.old.size }
         ensures spaced { IsSpaced (self.old.size / 2) self.old.nodes → IsSpaced (self.new.size / 2) self.new.nodes }
         ensures pair_next { self.new.pair_next ≡ self.old.pair_next }
@@ -47,9 +51,10 @@ impl<K: Ord + Clone + Drop, V: Eq + Clone + Drop, Node: NodeLike<MultiPair<K, V>
     }
 
     /// Removes all pairs of a key, as `remove_all` does, and returns how many they were, and the events.
-    /// Fails where one of these removals does, or with `Memory` where there is none for the list of
-    /// events: the pairs before it are gone, and their events are handed back; it and those after it
-    /// stay. (Not in the Rust crate.)
+    /// Fails where one of these removals does, or where the list of events has no room for more, with
+    /// `Numbers` where too few are left for that removal, else with `Memory`: the pairs before it are
+    /// gone, and their events are handed back; it and those after it stay. Where the key has no pair it
+    /// allocates nothing. (Not in the Rust crate.)
     pub fn remove_all_cdc(
         &mut self,
         key: &K,
@@ -64,6 +69,16 @@ impl<K: Ord + Clone + Drop, V: Eq + Clone + Drop, Node: NodeLike<MultiPair<K, V>
         ensures left { pairs_of K.cmp (joined self.new.nodes) key.now ≡ drop (length (pairs_of K.cmp (joined self.old.nodes) key.now) - length (pairs_of K.cmp (joined self.new.nodes) key.now)) (pairs_of K.cmp (joined self.old.nodes) key.now) }
         ensures rest { without_key K.cmp (joined self.new.nodes) key.now ≡ without_key K.cmp (joined self.old.nodes) key.now }
         ensures others { (other : K) → is_eq (K.cmp other key.now) ≡ false → pairs_of K.cmp (joined self.new.nodes) other ≡ pairs_of K.cmp (joined self.old.nodes) other }
+        ensures clones { IfOk result (λ r. IsTold (IsPairClone K.is_clone V.is_clone) self.old.next
+            (key_events K.cmp self.old self.new key.now) r.1.items) }
+        ensures clones_before { IfErr result (λ e. IsTold (IsPairClone K.is_clone V.is_clone)
+            self.old.next (key_events K.cmp self.old self.new key.now) e.value.items) }
+        ensures refusal { IfErr result (λ e. e.cause ≡ refusal_for self.new.next
+            (length (first_events K.cmp self.new key.now))) }
+        ensures no_event { pairs_of K.cmp (joined self.old.nodes) key.now ≡ [] → IsOk result }
+        ensures numbered { IfOk result (λ r. IsNumberedFrom self.old.next r.1.items) }
+        ensures table { replay (by_number K.cmp) self.old.nodes (numbered_from self.old.next
+            (key_events K.cmp self.old self.new key.now)) ≡ Some self.new.nodes }
         ensures replay { ((x y : K) → K.is_clone x y → y ≡ x) → ((x y : V) → V.is_clone x y → y ≡ x) → IfOk result (λ r. IsLedBy K.cmp self.old self.new r.1.items) }
         ensures replay_before { ((x y : K) → K.is_clone x y → y ≡ x) → ((x y : V) → V.is_clone x y → y ≡ x) → IfErr result (λ e. IsLedBy K.cmp self.old self.new e.value.items) }
         ensures size { self.new.size ≡ self.old.size }
@@ -98,13 +113,29 @@ impl<K: Ord + Clone + Drop, V: Eq + Clone + Drop, Node: NodeLike<MultiPair<K, V>
     ) -> Result<bool, Refusal>
         ensures tree { OnOk result (self.new ≡ after_removal K.cmp self.old (first_pair K.cmp (joined self.old.nodes) key.now)) }
         ensures found { IfOk result (λ found. found ≡ is_some (first_pair K.cmp (joined self.old.nodes) key.now)) }
-        ensures replay { ((x y : K) → K.is_clone x y → y ≡ x) → ((x y : V) → V.is_clone x y → y ≡ x) → (m : MultiTree K V) → IsLedBy K.cmp m self.old events.old.items → IsLedBy K.cmp m self.new events.new.items }
+        ensures told { IfOk result (λ found. found ≡ true
+            → IsToldOn (IsPairClone K.is_clone V.is_clone) self.old.next
+            (first_events K.cmp self.old key.now) events.old.items events.new.items) }
+        ensures untold { IfOk result (λ found.
+            found ≡ false → events.new.items ≡ events.old.items) }
+        ensures refusal { IfErr result (λ e. e ≡ refusal_for self.old.next
+            (length (first_events K.cmp self.old key.now))) }
+        ensures there { OnErr result
+            (is_some (first_pair K.cmp (joined self.old.nodes) key.now) ≡ true) }
+        ensures kept { OnErr result (events.new.items ≡ events.old.items) }
         ensures unchanged { OnErr result (self.new ≡ self.old) }
     {
+        // What holds of the nodes.
+        self.rule();
+        let Some((node, offset)) = self.first_place(key) else {
+            return Ok(false);
+        };
         // There is room for the events before the pair goes.
-        events.reserve(3)?;
-        let (pair, mut more) = self.remove_some_cdc(key)?;
+        let Ok(()) = events.reserve(3) else {
+            return Err(self.set.removal_refusal(node, offset));
+        };
+        let (_, mut more) = self.take_cdc(Some((node, offset)))?;
         move_tail(&mut more, 0, events);
-        Ok(pair.is_some())
+        Ok(true)
     }
 }

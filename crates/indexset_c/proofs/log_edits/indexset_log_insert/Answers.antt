@@ -1,11 +1,11 @@
-use Rattle.std.proofs.Common.{◌≡◌, Some, None, length, refl, ap, sym, ◌∙◌}
+use Rattle.std.proofs.Common.{◌≡◌, Some, None, length, refl, ap, sym, ◌∙◌, arith}
 use Rattle.std.proofs.lemmas.Bool.{leb-true}
 use Rattle.std.proofs.lemmas.Option.{none-some}
 use Rattle.std.specs.Ordering.{nat_cmp}
 use Rattle.indexset_core.specs.Pairs.{by_key, pair}
 use Rattle.indexset_log.specs.Table.{put_events}
 use Rattle.indexset_log.specs.Tree.{refusal_for}
-use Rattle.indexset_handle.specs.declared.status.TheConstants.{NO, YES, MEMORY, NONE, NUMBERS, UNFIT}
+use Rattle.indexset_handle.specs.declared.status.TheConstants.{NO, YES, MEMORY, NONE, HELD, NUMBERS, UNFIT}
 use Rattle.indexset_c.proofs.StatusLemmas.{IsRefused, for_events, is_refused, not_at, not_least, not_most, refused_not_done, refused_not_no, refused_not_none, refused_not_unfit, refused_not_yes, refused_status}
 use Rattle.indexset_c.proofs.log_edits.indexset_log_insert.Goals.{in-Ok+then-write, in-Ok+else-write, in-Err}
 use Rattle.indexset_c.proofs.log_edits.indexset_log_insert.Goals as goal
@@ -19,16 +19,17 @@ returns-in_default c =
       ok = λ h. tt;
       told = λ h. tt;
       events = λ h. tt;
+      led = λ h. tt;
       few = leb-true 0 3 refl;
       unwritten = λ h. refl;
       untold = λ h. refl;
       no_events = λ h. refl;
       same = λ h. c.in_default.ensures.left;
       none = (λ h. refl, λ h. refl);
-      unfit = λ h. not_at 3 NONE UNFIT refl refl h;
+      unfit = (λ h. not_at 3 NONE UNFIT refl refl h, λ h. absurd (h.0 refl));
       memory = λ h. tt;
       numbers = λ h. tt;
-      status = leb-true NONE UNFIT refl;
+      status = (leb-true NONE UNFIT refl, λ h. not_at 3 NONE HELD refl refl h);
     }
 
 pub returns-then-events-lt3 : goal.returns-then-events-lt3
@@ -40,16 +41,17 @@ returns-then-events-lt3 c =
       ok = λ h. not_most 6 UNFIT YES refl refl h;
       told = λ h. not_most 6 UNFIT YES refl refl h;
       events = λ h. not_most 6 UNFIT YES refl refl h;
+      led = λ h. not_most 6 UNFIT YES refl refl h;
       few = leb-true 0 3 refl;
       unwritten = λ h. refl;
       untold = λ h. refl;
       no_events = λ h. refl;
       same = λ h. c.put.ensures;
       none = (λ h. not_at 6 UNFIT NONE refl refl h, λ h. absurd (none-some _ (sym h)));
-      unfit = λ h. c.if-events-lt3.true;
+      unfit = (λ h. ((λ e. absurd (none-some _ (sym e))), c.if-events-lt3.true), λ h. refl);
       memory = λ h. not_at 6 UNFIT MEMORY refl refl h;
       numbers = λ h. not_at 6 UNFIT NUMBERS refl refl h;
-      status = leb-true 6 UNFIT refl;
+      status = (leb-true 6 UNFIT refl, λ h. not_at 6 UNFIT HELD refl refl h);
     }
 
 pub returns : goal.returns
@@ -66,16 +68,17 @@ returns c =
             ok = λ h. rw told (new ∙ ap Some e.ok);
             told = λ h. told;
             events = λ h. rw told e.events;
+            led = λ h. rw new e.led;
             few = rw w.told-is e.few;
             unwritten = λ h. absurd (h w.status-is);
             untold = λ h. not_least s NO MEMORY w.status-is refl h;
             no_events = λ h. not_least s NO MEMORY w.status-is refl h;
             same = λ h. not_least s NO MEMORY w.status-is refl h;
             none = (λ h. not_at s NO NONE w.status-is refl h, λ h. absurd (none-some _ (sym h)));
-            unfit = λ h. not_at s NO UNFIT w.status-is refl h;
+            unfit = (λ h. not_at s NO UNFIT w.status-is refl h, λ h. absurd (omega (arith, c.if-events-lt3.false, h.1)));
             memory = λ h. not_at s NO MEMORY w.status-is refl h;
             numbers = λ h. not_at s NO NUMBERS w.status-is refl h;
-            status = rw w.status-is (leb-true NO UNFIT refl);
+            status = (rw w.status-is (leb-true NO UNFIT refl), λ h. not_at s NO HELD w.status-is refl h);
           }
       | in-Ok+else-write w ↦
           let e = w.in-Ok.ensures in let told : c.match-insert_told.told ≡ n = w.told-is ∙ e.told in
@@ -85,16 +88,17 @@ returns c =
             ok = λ h. rw told (new ∙ ap Some e.ok);
             told = λ h. told;
             events = λ h. rw told e.events;
+            led = λ h. rw new e.led;
             few = rw w.told-is e.few;
             unwritten = λ h. w.before-is ∙ w.write.ensures.unwritten w.if-write.false;
             untold = λ h. not_least s YES MEMORY w.status-is refl h;
             no_events = λ h. not_least s YES MEMORY w.status-is refl h;
             same = λ h. not_least s YES MEMORY w.status-is refl h;
             none = (λ h. not_at s YES NONE w.status-is refl h, λ h. absurd (none-some _ (sym h)));
-            unfit = λ h. not_at s YES UNFIT w.status-is refl h;
+            unfit = (λ h. not_at s YES UNFIT w.status-is refl h, λ h. absurd (omega (arith, c.if-events-lt3.false, h.1)));
             memory = λ h. not_at s YES MEMORY w.status-is refl h;
             numbers = λ h. not_at s YES NUMBERS w.status-is refl h;
-            status = rw w.status-is (leb-true YES UNFIT refl);
+            status = (rw w.status-is (leb-true YES UNFIT refl), λ h. not_at s YES HELD w.status-is refl h);
           }
       | in-Err w ↦
           let e = w.in-Err.ensures in
@@ -105,15 +109,16 @@ returns c =
             ok = λ h. refused_not_done s _ r h;
             told = λ h. refused_not_done s _ r h;
             events = λ h. refused_not_done s _ r h;
+            led = λ h. refused_not_done s _ r h;
             few = rw w.told-is (leb-true 0 3 refl);
             unwritten = λ h. w.before-is;
             untold = λ h. w.told-is;
             no_events = λ h. e.unwritten;
             same = λ h. new ∙ ap Some e.unchanged;
             none = (λ h. refused_not_none s _ r h, λ h. absurd (none-some _ (sym h)));
-            unfit = λ h. refused_not_unfit s _ r h;
+            unfit = (λ h. refused_not_unfit s _ r h, λ h. absurd (omega (arith, c.if-events-lt3.false, h.1)));
             memory = r.memory;
             numbers = r.numbers;
-            status = refused_status s _ r;
+            status = (refused_status s _ r, r.not_held);
           }
     ])

@@ -1,11 +1,11 @@
-use Rattle.std.proofs.Common.{◌≡◌, Some, None, length, refl, ap, sym, ◌∙◌}
+use Rattle.std.proofs.Common.{◌≡◌, Some, None, length, refl, ap, sym, ◌∙◌, arith}
 use Rattle.std.proofs.lemmas.Bool.{leb-true}
 use Rattle.std.proofs.lemmas.Option.{none-some}
 use Rattle.std.specs.Ordering.{nat_cmp}
 use Rattle.indexset_core.specs.Pairs.{without_key}
 use Rattle.indexset_log.specs.Keys.{key_removal_events}
 use Rattle.indexset_log.specs.Tree.{refusal_for}
-use Rattle.indexset_handle.specs.declared.status.TheConstants.{NO, YES, MEMORY, NUMBERS, UNFIT}
+use Rattle.indexset_handle.specs.declared.status.TheConstants.{NO, YES, MEMORY, NONE, HELD, NUMBERS, UNFIT}
 use Rattle.indexset_c.proofs.StatusLemmas.{IsRefused, for_events, is_refused, not_at, not_most, refused_not_done, refused_not_no, refused_not_unfit, refused_not_yes, refused_status}
 use Rattle.indexset_c.proofs.log_edits.indexset_log_remove.Goals.{in-Ok+then-write, in-Ok+else-write, in-Err}
 use Rattle.indexset_c.proofs.log_edits.indexset_log_remove.Goals as goal
@@ -28,10 +28,10 @@ returns-in_default c =
       untold = λ h. refl;
       no_events = λ h. refl;
       same = λ h. left;
-      unfit = λ h. not_at 0 NO UNFIT refl refl h;
+      unfit = (λ h. not_at 0 NO UNFIT refl refl h, λ h. absurd (h.0 refl));
       memory = λ h. tt;
       numbers = λ h. tt;
-      status = leb-true NO UNFIT refl;
+      status = (leb-true NO UNFIT refl, (λ h. not_at 0 NO NONE refl refl h), (λ h. not_at 0 NO HELD refl refl h));
     }
 
 pub returns-then-events-lt3 : goal.returns-then-events-lt3
@@ -51,10 +51,10 @@ returns-then-events-lt3 c =
       untold = λ h. refl;
       no_events = λ h. refl;
       same = λ h. put;
-      unfit = λ h. c.if-events-lt3.true;
+      unfit = (λ h. ((λ e. absurd (none-some _ (sym e))), c.if-events-lt3.true), λ h. refl);
       memory = λ h. not_at 6 UNFIT MEMORY refl refl h;
       numbers = λ h. not_at 6 UNFIT NUMBERS refl refl h;
-      status = leb-true 6 UNFIT refl;
+      status = (leb-true 6 UNFIT refl, (λ h. not_at 6 UNFIT NONE refl refl h), (λ h. not_at 6 UNFIT HELD refl refl h));
     }
 
 pub returns : goal.returns
@@ -79,10 +79,10 @@ returns c =
             untold = λ h. absurd (h w.status-is);
             no_events = λ h. absurd (h w.status-is);
             same = λ h. absurd (h w.status-is);
-            unfit = λ h. not_at s YES UNFIT w.status-is refl h;
+            unfit = (λ h. not_at s YES UNFIT w.status-is refl h, λ h. absurd (omega (arith, c.if-events-lt3.false, h.1)));
             memory = λ h. not_at s YES MEMORY w.status-is refl h;
             numbers = λ h. not_at s YES NUMBERS w.status-is refl h;
-            status = rw w.status-is (leb-true YES UNFIT refl);
+            status = (rw w.status-is (leb-true YES UNFIT refl), (λ h. not_at s YES NONE w.status-is refl h), (λ h. not_at s YES HELD w.status-is refl h));
           }
       | in-Ok+else-write w ↦
           let e = w.in-Ok.ensures in let told : c.match-remove_told.told ≡ n = w.told-is ∙ e.told in
@@ -101,10 +101,10 @@ returns c =
             untold = λ h. w.told-is ∙ gone.0;
             no_events = λ h. e.events ∙ rw zero refl;
             same = λ h. new ∙ ap Some gone.1;
-            unfit = λ h. not_at s NO UNFIT w.status-is refl h;
+            unfit = (λ h. not_at s NO UNFIT w.status-is refl h, λ h. absurd (omega (arith, c.if-events-lt3.false, h.1)));
             memory = λ h. not_at s NO MEMORY w.status-is refl h;
             numbers = λ h. not_at s NO NUMBERS w.status-is refl h;
-            status = rw w.status-is (leb-true NO UNFIT refl);
+            status = (rw w.status-is (leb-true NO UNFIT refl), (λ h. not_at s NO NONE w.status-is refl h), (λ h. not_at s NO HELD w.status-is refl h));
           }
       | in-Err w ↦
           let e = w.in-Err.ensures in
@@ -123,9 +123,9 @@ returns c =
             untold = λ h. w.told-is;
             no_events = λ h. e.unwritten;
             same = λ h. new ∙ ap Some e.unchanged;
-            unfit = λ h. refused_not_unfit s _ r h;
+            unfit = (λ h. refused_not_unfit s _ r h, λ h. absurd (omega (arith, c.if-events-lt3.false, h.1)));
             memory = r.memory;
             numbers = r.numbers;
-            status = refused_status s _ r;
+            status = (refused_status s _ r, r.not_none, r.not_held);
           }
     ])

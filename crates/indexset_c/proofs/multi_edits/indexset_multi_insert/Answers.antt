@@ -5,7 +5,7 @@ use Rattle.std.specs.Ordering.{nat_cmp}
 use Rattle.indexset_core.specs.Nodes.{joined}
 use Rattle.indexset_multi.specs.Keys.{equal_pair, pairs_of}
 use Rattle.indexset_multi.specs.Tree.{MultiTree, insertion_refusal}
-use Rattle.indexset_handle.specs.declared.status.TheConstants.{NO, YES, MEMORY, NONE, NUMBERS}
+use Rattle.indexset_handle.specs.declared.status.TheConstants.{NO, YES, MEMORY, NONE, HELD, NUMBERS}
 use Rattle.indexset_handle.specs.Elements.{numbered_pairs, values_of}
 use Rattle.indexset_c.proofs.MultiLemmas.{for_insertion}
 use Rattle.indexset_c.proofs.StatusLemmas.{IsRefused, is_refused, not_at, refused_not_no, refused_not_none, refused_not_yes}
@@ -24,7 +24,8 @@ returns-in_default c =
       none = (λ h. refl, λ h. refl);
       memory = λ h. tt;
       numbers = λ h. tt;
-      status = leb-true NONE NUMBERS refl;
+      tree = λ h. tt;
+      status = (leb-true NONE NUMBERS refl, λ h. not_at 3 NONE HELD refl refl h);
     }
 
 pub returns-then-has_pair : goal.returns-then-has_pair
@@ -39,7 +40,8 @@ returns-then-has_pair c =
       none = (λ h. not_at 0 NO NONE refl refl h, λ h. absurd (none-some _ (sym h)));
       memory = λ h. not_at 0 NO MEMORY refl refl h;
       numbers = λ h. not_at 0 NO NUMBERS refl refl h;
-      status = leb-true 0 NUMBERS refl;
+      tree = λ h. not_at 0 NO YES refl refl h;
+      status = (leb-true 0 NUMBERS refl, λ h. not_at 0 NO HELD refl refl h);
     }
 
 pub returns : goal.returns
@@ -60,7 +62,8 @@ returns c =
             none = (λ h. not_at s YES NONE w.status-is refl h, λ h. absurd (none-some _ (sym h)));
             memory = λ h. not_at s YES MEMORY w.status-is refl h;
             numbers = λ h. not_at s YES NUMBERS w.status-is refl h;
-            status = rw w.status-is (leb-true YES NUMBERS refl);
+            tree = λ h. new ∙ ap Some e.tree;
+            status = (rw w.status-is (leb-true YES NUMBERS refl), λ h. not_at s YES HELD w.status-is refl h);
           }
       | in-Err w ↦
           let e = w.in-Err.ensures in
@@ -74,6 +77,7 @@ returns c =
             none = (λ h. refused_not_none s _ r h, λ h. absurd (none-some _ (sym h)));
             memory = r.memory;
             numbers = r.numbers;
-            status = r.most;
+            tree = λ h. refused_not_yes s _ r h;
+            status = (r.most, r.not_held);
           }
     ])

@@ -5,7 +5,7 @@ use Rattle.indexset_core.specs.Nodes.{joined}
 use Rattle.indexset_log.specs.Tree.{refusal_for}
 use Rattle.indexset_multi.specs.Keys.{equal_pair, pairs_of}
 use Rattle.indexset_multi.specs.Tree.{MultiTree, pair_removal_events}
-use Rattle.indexset_handle.specs.declared.status.TheConstants.{NO, YES, MEMORY, NUMBERS}
+use Rattle.indexset_handle.specs.declared.status.TheConstants.{NO, YES, MEMORY, NONE, HELD, NUMBERS}
 use Rattle.indexset_handle.specs.Elements.{numbered_pairs}
 use Rattle.indexset_c.proofs.MultiLemmas.{no_pair, none_removed, pair_there}
 use Rattle.indexset_c.proofs.StatusLemmas.{IsRefused, for_events, is_refused, not_at, refused_not_no, refused_not_yes}
@@ -23,7 +23,8 @@ returns-in_default c =
       same = λ h. c.in_default.ensures.left;
       memory = λ h. tt;
       numbers = λ h. tt;
-      status = leb-true 0 NUMBERS refl;
+      tree = λ h. not_at 0 NO YES refl refl h;
+      status = (leb-true 0 NUMBERS refl, (λ h. not_at 0 NO NONE refl refl h), (λ h. not_at 0 NO HELD refl refl h));
     }
 
 pub returns : goal.returns
@@ -42,7 +43,8 @@ returns c =
             same = λ h. absurd (h w.status-is);
             memory = λ h. not_at s YES MEMORY w.status-is refl h;
             numbers = λ h. not_at s YES NUMBERS w.status-is refl h;
-            status = rw w.status-is (leb-true YES NUMBERS refl);
+            tree = λ h. new ∙ ap Some e.tree;
+            status = (rw w.status-is (leb-true YES NUMBERS refl), (λ h. not_at s YES NONE w.status-is refl h), (λ h. not_at s YES HELD w.status-is refl h));
           }
       | in-Ok-None w ↦
           let e = w.in-Ok-None.ensures in let answer = sym w.in-Ok-None.field-0-is ∙ e.answer in
@@ -54,7 +56,8 @@ returns c =
             same = λ h. new ∙ ap Some (e.tree ∙ none_removed m p (no_pair p answer));
             memory = λ h. not_at s NO MEMORY w.status-is refl h;
             numbers = λ h. not_at s NO NUMBERS w.status-is refl h;
-            status = rw w.status-is (leb-true NO NUMBERS refl);
+            tree = λ h. not_at s NO YES w.status-is refl h;
+            status = (rw w.status-is (leb-true NO NUMBERS refl), (λ h. not_at s NO NONE w.status-is refl h), (λ h. not_at s NO HELD w.status-is refl h));
           }
       | in-Err w ↦
           let e = w.in-Err.ensures in
@@ -67,6 +70,7 @@ returns c =
             same = λ h. new ∙ ap Some e.unchanged;
             memory = r.memory;
             numbers = r.numbers;
-            status = r.most;
+            tree = λ h. refused_not_yes s _ r h;
+            status = (r.most, r.not_none, r.not_held);
           }
     ])

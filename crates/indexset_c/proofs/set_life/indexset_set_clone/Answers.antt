@@ -14,6 +14,7 @@ returns-in_default c =
       none = (λ h. sym none, λ h. refl);
       held = λ some. absurd (some (sym none));
       same = c.in_default.ensures.left ∙ none;
+      status = λ made there held. absurd (there refl);
     }
 
 pub returns-in-Some-take : goal.returns-in-Some-take
@@ -26,6 +27,7 @@ returns-in-Some-take c =
       none = (λ h. not_at 4 HELD NONE refl refl h, λ h. absurd (none-some _ (sym (was ∙ h))));
       held = λ some. (λ h. sym (ap is_some there), λ h. refl);
       same = c.put-in-Some-take.ensures ∙ was;
+      status = λ made there held. absurd (held refl);
     }
 
 pub returns-in_default-cloned : goal.returns-in_default-cloned
@@ -38,6 +40,7 @@ returns-in_default-cloned c =
       none = (λ h. not_at 2 MEMORY NONE refl refl h, λ h. absurd (none-some _ (sym (was ∙ h))));
       held = λ some. (λ h. not_at 2 MEMORY HELD refl refl h, λ h. absurd (false≢true (ap is_some empty ∙ h)));
       same = c.put-2.ensures ∙ was;
+      status = λ made there held. refl;
     }
 
 pub returns-in-Ok-new : goal.returns-in-Ok-new
@@ -50,6 +53,7 @@ returns-in-Ok-new c =
       none = (λ h. not_at 1 YES NONE refl refl h, λ h. absurd (none-some _ (sym (was ∙ h))));
       held = λ some. (λ h. not_at 1 YES HELD refl refl h, λ h. absurd (false≢true (ap is_some empty ∙ h)));
       same = c.put-2.ensures ∙ was;
+      status = λ made there held. absurd (made refl);
     }
 
 pub returns : goal.returns
@@ -62,4 +66,5 @@ returns c =
       none = (λ h. not_at 2 MEMORY NONE refl refl h, λ h. absurd (none-some _ (sym (was ∙ h))));
       held = λ some. (λ h. not_at 2 MEMORY HELD refl refl h, λ h. absurd (false≢true (ap is_some empty ∙ h)));
       same = c.put-2.ensures ∙ was;
+      status = λ made there held. refl;
     }

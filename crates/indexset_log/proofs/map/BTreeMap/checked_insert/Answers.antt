@@ -1,5 +1,6 @@
 use Rattle.std.proofs.Common.{rules, ap, ◌∙◌}
 use Rattle.std.proofs.lemmas.Result.{err_from_is_err_and}
+use Rattle.indexset_log.proofs.Beside.{added_written}
 use Rattle.indexset_log.proofs.map.BTreeMap.checked_insert.Goals as goal
 
 pub returns-in_err-added : goal.returns-in_err-added
@@ -16,8 +17,9 @@ returns-in_err-added g c =
       unchanged = done.unchanged;
       contents = tt;
       there = tt;
+      written = tt;
       nodes = tt;
-      replay = tt;
+      table = tt;
       few = done.few;
       size = done.size;
       spaced = done.spaced;
@@ -37,8 +39,9 @@ returns g c =
       unchanged = tt;
       contents = done.contents;
       there = done.there;
+      written = added_written g.met.K.Ord.total _ _ c.args.key c.args.value c.then_some.result (search rules) done.contents;
       nodes = done.nodes;
-      replay = done.replay;
+      table = done.table;
       few = done.few;
       size = done.size;
       spaced = done.spaced;

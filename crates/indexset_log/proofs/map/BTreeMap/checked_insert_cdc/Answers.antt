@@ -1,5 +1,6 @@
 use Rattle.std.proofs.Common.{ap, ◌∙◌}
 use Rattle.std.proofs.lemmas.Result.{err_from_is_err_and}
+use Rattle.indexset_log.proofs.Beside.{added_written}
 use Rattle.indexset_log.proofs.Clones.{pair_same}
 use Rattle.indexset_log.proofs.map.BTreeMap.checked_insert_cdc.Goals as goal
 
@@ -18,10 +19,12 @@ returns-in_err-put_cdc_checked g c =
       unchanged = done.unchanged;
       contents = tt;
       there = tt;
+      written = tt;
       nodes = tt;
       events = λ _ _. tt;
       numbered = tt;
-      replay = tt;
+      replay = λ _ _. tt;
+      table = tt;
       few = tt;
       size = done.size;
       spaced = done.spaced;
@@ -42,10 +45,12 @@ returns g c =
       unchanged = tt;
       contents = done.contents;
       there = done.there;
+      written = added_written g.met.K.Ord.total _ _ c.args.key c.args.value c.in_ok-put_cdc_checked.field-0 done.answer done.contents;
       nodes = done.nodes;
       events = λ hk hv. done.events (pair_same hk hv);
       numbered = done.numbered;
-      replay = done.replay;
+      replay = λ hk hv. done.replay (pair_same hk hv);
+      table = done.table;
       few = done.few;
       size = done.size;
       spaced = done.spaced;

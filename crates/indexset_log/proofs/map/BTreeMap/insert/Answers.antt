@@ -2,6 +2,7 @@ use Rattle.std.proofs.Common.{rules, ap, ◌∙◌}
 use Rattle.std.proofs.lemmas.Result.{err_from_is_err_and}
 use Rattle.indexset_core.proofs.CallerLemmas.{value_put}
 use Rattle.indexset_core.specs.Pairs.{value_of}
+use Rattle.indexset_log.proofs.Beside.{others_put}
 use Rattle.indexset_log.proofs.map.BTreeMap.insert.Goals as goal
 
 pub returns-in_err-old : goal.returns-in_err-old
@@ -18,8 +19,9 @@ returns-in_err-old g c =
       contents = tt;
       there = tt;
       written = tt;
+      others = tt;
       nodes = tt;
-      replay = tt;
+      table = tt;
       few = done.few;
       size = done.size;
       spaced = done.spaced;
@@ -39,8 +41,9 @@ returns g c =
       contents = done.contents;
       there = done.there;
       written = ap (λ l. value_of g.K.Ord.cmp l c.args.key) done.contents ∙ value_put g.K.Ord.cmp g.met.K.Ord.total _ c.args.key c.args.value;
+      others = others_put g.met.K.Ord.total c.args.self.now.nodes c.put.new.self.nodes c.args.key c.args.value done.contents;
       nodes = done.nodes;
-      replay = done.replay;
+      table = done.table;
       few = done.few;
       size = done.size;
       spaced = done.spaced;

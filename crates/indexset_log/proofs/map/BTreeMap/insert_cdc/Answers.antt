@@ -2,6 +2,7 @@ use Rattle.std.proofs.Common.{ap, ◌∙◌}
 use Rattle.std.proofs.lemmas.Result.{err_from_is_err_and}
 use Rattle.indexset_core.proofs.CallerLemmas.{value_put}
 use Rattle.indexset_core.specs.Pairs.{value_of}
+use Rattle.indexset_log.proofs.Beside.{others_put}
 use Rattle.std.specs.Option.{option_map}
 use Rattle.indexset_log.proofs.Clones.{pair_same}
 use Rattle.indexset_log.proofs.map.BTreeMap.insert_cdc.Goals as goal
@@ -19,6 +20,7 @@ returns g c =
       contents = done.contents;
       there = done.there;
       written = ap (λ l. value_of g.K.Ord.cmp l c.args.key) done.contents ∙ value_put g.K.Ord.cmp g.met.K.Ord.total _ c.args.key c.args.value;
+      others = others_put g.met.K.Ord.total c.args.self.now.nodes c.put_cdc.new.self.nodes c.args.key c.args.value done.contents;
       nodes = done.nodes;
       events = λ hk hv. done.events (pair_same hk hv);
       numbered = done.numbered;
@@ -45,6 +47,7 @@ returns-in_err-old g c =
       contents = tt;
       there = tt;
       written = tt;
+      others = tt;
       nodes = tt;
       events = λ _ _. tt;
       numbered = tt;

@@ -8,6 +8,7 @@ use Rattle.indexset_log.specs.Edits.{after_taken}
 use Rattle.indexset_log.specs.Replay.{numbered_from, replay}
 use Rattle.indexset_log.specs.Table.{taking_count, taking_events}
 use Rattle.indexset_log.specs.Tree.{refusal_for}
+use Rattle.indexset_log.proofs.Beside.{others_removed}
 use Rattle.indexset_log.proofs.Keys.{key_after, key_count, key_removal_few, key_taken, no_key, no_key_after}
 use Rattle.indexset_log.proofs.Takes.{some_taken}
 use Rattle.indexset_log.proofs.map.BTreeMap.remove.Goals as goal
@@ -46,7 +47,7 @@ returns-in_ok-pair-in-Ok g c =
     let item = rw c.self.view_is at done.item in
     let tree = subst (λ t. c.remove_at.new.self ≡ after_taken t k i) c.self.view_is done.tree in
     let nodes = ap (λ t. t.nodes) tree in
-    let replayed = subst (λ t. replay (by_key g.K.Ord.cmp) t.nodes (numbered_from t.next (taking_events t.size t.nodes k i c.in_ok-pair-in-Ok.pair)) ≡ Some c.remove_at.new.self.nodes) c.self.view_is done.replay in
+    let replayed = subst (λ t. replay (by_key g.K.Ord.cmp) t.nodes (numbered_from t.next (taking_events t.size t.nodes k i c.in_ok-pair-in-Ok.pair)) ≡ Some c.remove_at.new.self.nodes) c.self.view_is done.table in
     let fits = subst (λ t. t.next + taking_count t.size t.nodes k i ≤ MAX) c.self.view_is done.fits in
     let taken = key_taken g.met.K.Ord.total c.locate.ensures.lawful c.args.key.now c.locate.ensures.place c.in-Ok.is item in
     let count = key_count g.met.K.Ord.total c.locate.ensures.lawful c.args.key.now c.locate.ensures.place c.in-Ok.is in
@@ -55,7 +56,8 @@ returns-in_ok-pair-in-Ok g c =
       answer = rw taken.pair_is refl;
       contents = ap joined nodes ∙ taken.contents;
       gone = ap (λ l. has_key g.K.Ord.cmp l c.args.key.now) (ap joined nodes ∙ taken.contents) ∙ key_gone g.K.Ord.cmp (joined c.args.self.now.nodes) c.args.key.now;
-      replay = rw taken.events replayed;
+      others = others_removed g.met.K.Ord.total c.args.self.now.nodes c.remove_at.new.self.nodes c.args.key.now (ap joined nodes ∙ taken.contents);
+      table = rw taken.events replayed;
       few = key_removal_few g.K.Ord.cmp c.args.self.now.size c.args.self.now.nodes c.args.key.now;
       size = rw c.self.view_is at done.size;
       spaced = rw c.self.view_is at done.spaced;
@@ -76,7 +78,8 @@ returns-in-Err g c =
       answer = rw none.pair_is refl;
       contents = none.contents;
       gone = ap (λ l. has_key g.K.Ord.cmp l c.args.key.now) none.contents ∙ key_gone g.K.Ord.cmp (joined c.args.self.now.nodes) c.args.key.now;
-      replay = rw none.events refl;
+      others = others_removed g.met.K.Ord.total c.args.self.now.nodes c.args.self.now.nodes c.args.key.now none.contents;
+      table = rw none.events refl;
       few = key_removal_few g.K.Ord.cmp c.args.self.now.size c.args.self.now.nodes c.args.key.now;
       size = refl;
       spaced = λ spaced. spaced;

@@ -12,6 +12,7 @@ use Rattle.indexset_log.specs.Replay.{numbered_from, replay}
 use Rattle.indexset_log.specs.Table.{taking_count, taking_events}
 use Rattle.indexset_log.specs.Tree.{refusal_for}
 use Rattle.indexset_log.proofs.Clones.{pair_same}
+use Rattle.indexset_log.proofs.Beside.{others_removed}
 use Rattle.indexset_log.proofs.Keys.{key_after, key_count, key_taken, no_key, no_key_after}
 use Rattle.indexset_log.proofs.Takes.{some_taken}
 use Rattle.indexset_log.proofs.map.BTreeMap.remove_cdc.Goals as goal
@@ -43,6 +44,7 @@ returns-in_ok-pair-in-Ok g c =
       answer = rw taken.pair_is refl;
       contents = ap joined nodes ∙ taken.contents;
       gone = ap (λ l. has_key g.K.Ord.cmp l c.args.key.now) (ap joined nodes ∙ taken.contents) ∙ key_gone g.K.Ord.cmp (joined c.args.self.now.nodes) c.args.key.now;
+      others = others_removed g.met.K.Ord.total c.args.self.now.nodes c.remove_at_cdc.new.self.nodes c.args.key.now (ap joined nodes ∙ taken.contents);
       clones = rw taken.events clones;
       events = λ hk hv. rw taken.events (subst (λ t. c.in_ok-pair-in-Ok.events.items ≡ numbered_from t.next (taking_events t.size t.nodes k i c.in_ok-pair-in-Ok.pair)) c.self.view_is (done.events (pair_same hk hv)));
       numbered = rw c.self.view_is at done.numbered;
@@ -70,6 +72,7 @@ returns-in-Err g c =
       unchanged = tt;
       contents = none.contents;
       gone = ap (λ l. has_key g.K.Ord.cmp l c.args.key.now) none.contents ∙ key_gone g.K.Ord.cmp (joined c.args.self.now.nodes) c.args.key.now;
+      others = others_removed g.met.K.Ord.total c.args.self.now.nodes c.args.self.now.nodes c.args.key.now none.contents;
       events = λ hk hv. rw none.events (grind (arith, common_steps));
       numbered = grind (arith, common_steps);
       replay = λ _ _. rw c.new.ensures.items refl;

@@ -35,7 +35,7 @@ returns-then-finds_equal g c =
       size = refl;
       next = ap (λ t. t.next) tree;
       fits = rw none (search rules);
-      replay = rw none refl;
+      table = rw none refl;
       few = rw none (omega arith);
       spaced = λ s. s;
     }
@@ -58,7 +58,7 @@ returns-in-Ok g c =
       size = d.size;
       next = d.next;
       fits = rw (absent_events g.T.Ord.cmp c.args.self.now c.args.value absent) c.in-Ok.ensures.fits;
-      replay = d.table;
+      table = d.table;
       few = d.few;
       spaced = d.spaced;
     }

@@ -23,7 +23,7 @@ returns g c =
       size = either_way r d (λ d. d.size) done.unchanged (ap (λ t. t.size));
       next = on_ok_map r d (λ d. d.next);
       fits = done.fits;
-      replay = on_ok_map r d (λ d. d.table);
+      table = on_ok_map r d (λ d. d.table);
       few = three_at_most g.T.Ord.cmp c.args.self.now.size c.args.value c.args.self.now.nodes;
       spaced = either_way r d (λ d. d.spaced) done.unchanged same_spaced;
     }

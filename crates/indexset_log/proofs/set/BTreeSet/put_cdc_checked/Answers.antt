@@ -42,7 +42,8 @@ returns-then-finds_equal g c =
       fits = rw none (search rules);
       events = λ _. tt;
       numbered = tt;
-      replay = rw none refl;
+      replay = λ _. tt;
+      table = rw none refl;
       few = tt;
       spaced = λ s. s;
     }
@@ -70,7 +71,8 @@ returns-in-Ok g c =
       fits = rw events c.in-Ok.ensures.fits;
       events = s.events;
       numbered = s.numbered;
-      replay = d.table;
+      replay = s.replay;
+      table = d.table;
       few = s.few;
       spaced = d.spaced;
     }

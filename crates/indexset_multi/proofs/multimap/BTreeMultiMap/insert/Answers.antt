@@ -65,7 +65,7 @@ returns g c =
       pair_next = ap (λ q. q.1) c.in_ok-pair.ensures.answer;
       fits = rw (pair, same, size, next) at done.fits;
       number_left = sym c.in_ok-pair.ensures.refusal;
-      replay = rw (pair, same, size, next) at done.replay;
+      table = rw (pair, same, size, next) at done.table;
       few = rw (pair, same, size) at done.few;
       spaced = subst (λ t. IsSpaced (t.size / 2) t.nodes → IsSpaced (after.size / 2) after.nodes) c.self.view_is done.spaced;
     }

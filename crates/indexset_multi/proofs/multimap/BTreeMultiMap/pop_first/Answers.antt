@@ -52,14 +52,14 @@ returns g c =
     let size : c.self.inside.set.size ≡ c.args.self.now.size = ap (λ t. t.size) c.self.view_is in
     let next : c.self.inside.set.next ≡ c.args.self.now.next = ap (λ t. t.next) c.self.view_is in
     let m = c.args.self.now in
-    let replayed = rw (told, same, next) at done.replay in
+    let replayed = rw (told, same, next) at done.table in
     let all = rw (told, next) at done.next in
     let pair_next = ap (λ t. t.pair_next) c.self.view_is in
     record {
       tree = removal_tree g.K.Ord.cmp m (slice_get (joined m.nodes) 0) replayed (done.size ∙ size) all pair_next;
       answer = c.entry_of.ensures ∙ ap (option_map key_and_value) (rw same at done.answer);
       contents = rw same at done.contents;
-      replay = replayed;
+      table = replayed;
       few = rw told at done.few;
       size = done.size ∙ size;
       spaced = rw (same, size) at done.spaced;

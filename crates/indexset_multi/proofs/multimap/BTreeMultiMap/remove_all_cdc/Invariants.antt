@@ -1,14 +1,15 @@
 use Rattle.std.proofs.Common.{◌≡◌, ◌-◌, ◌≤◌, length}
 use Rattle.indexset_core.specs.Nodes.{joined}
+use Rattle.indexset_log.specs.Clones.{IsTold}
 use Rattle.indexset_multi.specs.Keys.{pairs_of}
-use Rattle.indexset_multi.specs.Tree.{IsLedBy, after_removals}
+use Rattle.indexset_multi.specs.Tree.{IsPairClone, after_removals, removals_events}
 use Rattle.indexset_multi.proofs.multimap.BTreeMultiMap.remove_all_cdc.Given as goal
 
 abbrev pub invariant-loop-count : goal.invariant-loop-count
 invariant-loop-count g l = record {
   tree : l.self ≡ after_removals g.K.Ord.cmp l.initial.self l.key l.count;
   within : l.count ≤ length (pairs_of g.K.Ord.cmp (joined l.initial.self.nodes) l.key);
-  led : ((x y : g.row.K.Denot) → g.K.Clone.is_clone x y → y ≡ x) → ((x y : g.row.V.Denot) → g.V.Clone.is_clone x y → y ≡ x) → IsLedBy g.K.Ord.cmp l.initial.self l.self l.events.items;
+  told : IsTold (IsPairClone g.K.Clone.is_clone g.V.Clone.is_clone) l.initial.self.next (removals_events g.K.Ord.cmp l.initial.self l.key l.count) l.events.items;
 }
 
 abbrev pub decreases-loop-count : goal.decreases-loop-count

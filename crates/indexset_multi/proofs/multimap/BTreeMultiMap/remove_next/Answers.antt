@@ -1,23 +1,34 @@
-use Rattle.std.proofs.Common.{◌≡◌, ◌+◌, ◌++◌, is_some, length, sym, ap, ◌∙◌}
+use Rattle.std.proofs.Common.{◌≡◌, ◌≤◌, Some, is_some, length, ap, sym, ◌∙◌, arith}
 use Rattle.std.proofs.lemmas.Slice.Zip.{AllZip-long}
-use Rattle.indexset_core.specs.Nodes.{joined}
 use Rattle.indexset_log.specs.Replay.{numbered_from}
+use Rattle.indexset_log.specs.Tree.{refusal_for}
 use Rattle.indexset_log.proofs.CallerLemmas.{length-numbered}
-use Rattle.indexset_multi.specs.Keys.{first_pair, key_and_value}
-use Rattle.indexset_multi.specs.Tree.{pair_removal_events}
-use Rattle.indexset_multi.proofs.Removals.{drop_none, led_by_more, some_mapped}
+use Rattle.indexset_multi.specs.Places.{placed_item}
+use Rattle.indexset_multi.specs.Tree.{first_events, pair_removal_events}
+use Rattle.indexset_multi.proofs.Takes.{item_there, pair_removal_few, taken_count}
 use Rattle.indexset_multi.proofs.multimap.BTreeMultiMap.remove_next.Goals as goal
+
+pub returns-in_default-reserve-clause-refusal : goal.returns-in_default-reserve-clause-refusal
+returns-in_default-reserve-clause-refusal g c =
+    let cmp = g.K.Ord.cmp in
+    let m = c.args.self.now in
+    let next = ap (λ t. t.next) c.self.view_is in
+    let count : length (first_events cmp m c.args.key.now) ≡ _ = ap (λ p. length (pair_removal_events cmp m.size m.nodes p)) (sym c.first_place.ensures.pair) ∙ taken_count cmp g.met.K.Ord.total c.self.view_is c.rule.ensures.tree c.in-Some.is c.first_place.ensures.place in
+    c.removal_refusal.ensures ∙ (λ i. refusal_for (next i) (sym count i))
+
+pub returns-in_default-reserve-clause-there : goal.returns-in_default-reserve-clause-there
+returns-in_default-reserve-clause-there g c =
+    ap is_some (sym c.first_place.ensures.pair) ∙ item_there c.args.self.now.nodes c.first_place.result _ c.in-Some.is c.first_place.ensures.place
+
+pub move_tail-requires-clause-room : goal.move_tail-requires-clause-room
+move_tail-requires-clause-room g c =
+    let m = c.args.self.now in
+    let told = pair_removal_events g.K.Ord.cmp m.size m.nodes (placed_item m.nodes (Some (c.in-Some.node, c.in-Some.offset))) in
+    let many : length c.in_ok-more.more.items ≡ length told = AllZip-long _ (numbered_from m.next told) c.in_ok-more.more.items c.in_ok-more.ensures.told ∙ length-numbered m.next told in
+    let few : length told ≤ 3 = pair_removal_few g.K.Ord.cmp m.size m.nodes (placed_item m.nodes (Some (c.in-Some.node, c.in-Some.offset))) in
+    let same = ap (λ l. length l) c.reserve.ensures.items in
+    omega (arith, many, few, same, c.in-Ok.ensures.ok, c.in-Ok.ensures.len)
 
 pub returns-clause-found : goal.returns-clause-found
 returns-clause-found g c =
-    c.is_some.ensures ∙ (ap is_some c.in_ok-pair.ensures.answer ∙ some_mapped key_and_value (first_pair g.K.Ord.cmp (joined c.args.self.now.nodes) c.args.key.now))
-
-pub returns-clause-replay : goal.returns-clause-replay
-returns-clause-replay g c hk hv m led =
-    let cmp = g.K.Ord.cmp in
-    let now = c.args.self.now in
-    let done = c.in_ok-pair.ensures in
-    let told = pair_removal_events cmp now.size now.nodes (first_pair cmp (joined now.nodes) c.args.key.now) in
-    let many : length c.in_ok-pair.more.items ≡ length told = AllZip-long _ (numbered_from now.next told) c.in_ok-pair.more.items done.clones ∙ length-numbered now.next told in
-    let all : c.move_tail.new.other.items ≡ c.args.events.now.items ++ c.in_ok-pair.more.items = c.move_tail.ensures.moved ∙ (ap (λ l. c.reserve.new.self.items ++ l) (drop_none c.in_ok-pair.more.items) ∙ ap (λ l. l ++ c.in_ok-pair.more.items) c.reserve.ensures.items) in
-    led_by_more cmp m now c.remove_some_cdc.new.self c.args.events.now.items c.in_ok-pair.more.items c.move_tail.new.other.items led all done.numbered (done.replay hk hv) (done.next ∙ ap (λ n. now.next + n) (sym many))
+    sym (ap is_some (sym c.first_place.ensures.pair) ∙ item_there c.args.self.now.nodes c.first_place.result _ c.in-Some.is c.first_place.ensures.place)

@@ -35,7 +35,7 @@ returns g c =
       fits = rw is at done.fits;
       no_memory = rw is at done.no_memory;
       never = rw is at done.never;
-      replay = on_ok_map r d.changed (λ d. d.table);
+      table = on_ok_map r d.changed (λ d. d.table);
       few = pair_removal_few cmp m.size m.nodes (first_pair cmp l k);
       spaced = d.spaced;
     }
