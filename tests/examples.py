@@ -1,24 +1,39 @@
 #!/usr/bin/env python3
-"""Runs each example of the documentation of the public calls, without proofs.
+"""Runs each example of the documentation, without proofs. The last line is 'N passed, M failed'.
 
-An example stands between two lines ``` of a doc comment. It is the body of a function that has `rt` and
-`alloc`, and these names: BTreeMap, BTreeSet, set, map, multimap, Replica, Pair, MultiPair, ChangeEvent, Id,
-ByStr, OnKey, Bound. A line that starts with `# ` is not shown, and runs. The last line is 'N passed, M failed'.
+Doc comments: an example stands between two lines ``` and is the body of a test, in which a line that
+starts with `# ` is not shown. Pages: each block of Rust, and each block of shell with the block of text
+after it, which must be its output. A block of Rust with a `use` or a `fn` at the margin is a module, any
+other the body of a test. A comment before the block,
+
+    <!-- run with let mut board = BTreeSet::from_iter(alloc, [30, 10])?; -->
+
+gives the lines that go before a body, or the test of a module; `<!-- not run: why -->` leaves the block
+out. A line `EXPRESSION // TEXT` asserts that the value is printed so by `{:?}`. A function of a page that
+has clauses must stand, word for word, in a crate of proved callers.
+
+A test has `rt` and `alloc`. It has the names of `NAMES`, but in a module that imports its own.
 """
+
+import argparse
+import dataclasses
+import json
 import pathlib
 import re
 import shutil
 import subprocess
 import sys
 import tempfile
+from collections.abc import Iterator
 
 TOP = pathlib.Path(__file__).resolve().parent.parent
 CRATES = ["core", "text", "spine", "set", "map", "log", "multi", "replica"]
-HEAD = """//! The examples of the documentation.
-#![tactic(auto)]
-"""
+PROVED = ["indexset_callers", "indexset_uses"]
+PAGES = ["*.md", "docs/*.md", "bindings/*.md", "examples/**/*.md"]
+HEAD = "//! The examples of the documentation.\n#![tactic(auto)]\n"
 NAMES = """use indexset::base::multipair::MultiPair;
 use indexset::base::pair::Pair;
+use indexset::base::refusal::Refusal;
 use indexset::cdc::change::{ChangeEvent, Id};
 use indexset::concurrent::{map, multimap, set};
 use indexset::replica::Replica;
@@ -30,13 +45,36 @@ use std::test::Fail;
 LISTS = "anyhow bytes std_collections indexset " + " ".join(f"indexset_{it}" for it in CRATES)
 
 
-def examples(file):
-    """The examples of a file, each with the name of its item."""
-    doc, found = None, []
+@dataclasses.dataclass(frozen=True)
+class Block:
+    """A block of a page, with what the comment before it says."""
+
+    name: str
+    language: str
+    lines: list[str]
+    given: list[str]
+    left_out: str
+
+
+@dataclasses.dataclass
+class Sources:
+    """The text of the crate of examples: its root, its modules, and how many tests they have."""
+
+    root: list[str]
+    modules: dict[str, str]
+    tests: int = 0
+
+
+def doc_examples(file: pathlib.Path) -> Iterator[tuple[str, list[str]]]:
+    """The examples of a source file, each with the name of its item."""
+    doc: list[str] | None = None
+    found: list[list[str]] = []
     for line in file.read_text(encoding="utf-8").splitlines():
         text = line.strip()
         if text in ("/// ```", "/// ```rust"):
-            doc = [] if doc is None else found.append(doc)
+            if doc is not None:
+                found.append(doc)
+            doc = [] if doc is None else None
         elif doc is not None:
             doc.append(re.sub(r"^/// ?(# )?", "", text))
         elif item := re.search(r"\b(?:fn|struct|enum|trait|type) (\w+)", text):
@@ -44,36 +82,131 @@ def examples(file):
             found = []
 
 
-def written():
-    """The text of the tests, a function an example, and how many there are."""
-    out, count = [HEAD, NAMES], 0
+def page_blocks(page: pathlib.Path) -> list[Block]:
+    """The blocks of a page, in order. Each starts and ends with a line ``` at the margin."""
+    text = page.read_text(encoding="utf-8")
+    name = "_".join(page.relative_to(TOP).with_suffix("").parts).lower()
+    found: list[Block] = []
+    said_before = r"(?:^<!-- (run with|not run:)((?:(?!-->).)*)-->\n+)?"
+    form = re.compile(said_before + r"^```(\w*)\n(.*?)^```$", re.M | re.S)
+    for kind, said, language, body in form.findall(text):
+        given = said.strip().splitlines() if kind == "run with" else []
+        left_out = " ".join(said.split()) if kind == "not run:" else ""
+        lines = body.splitlines()
+        found.append(Block(f"{name}_{len(found) + 1}", language, lines, given, left_out))
+    return found
+
+
+def asserted(line: str) -> str:
+    """A line that says what its expression prints, as an assertion."""
+    says = re.fullmatch(r"( *)(\S.*?);? +// (.*)", line)
+    if says is None or says[2].startswith("//"):
+        return line
+    text = json.dumps(says[3], ensure_ascii=False)
+    return f'{says[1]}assert!(rt; format!(in alloc; "{{:?}}", {says[2]})?.as_str() == {text});'
+
+
+def test_of(name: str, lines: list[str]) -> str:
+    """A test with these lines as its body."""
+    body = "\n".join(f"    {asserted(it)}".rstrip() for it in lines)
+    head = f"#[test]\nfn {name}(rt: HostRuntime) -> Result<(), std::test::Fail> {{\n"
+    return f"{head}    let alloc = rt.alloc();\n{body}\n    Ok(())\n}}\n"
+
+
+def add_rust(block: Block, sources: Sources) -> None:
+    """Adds a block of Rust to the crate of examples."""
+    sources.tests += 1
+    if not any(re.match(r"(pub )?(use|fn) ", it) for it in block.lines):
+        sources.root.append(test_of(block.name, block.given + block.lines))
+        return
+    names = "" if any(it.startswith("use ") for it in block.lines) else NAMES
+    text = "\n".join([f"//! {block.name}", names, *block.lines, "", test_of("runs", block.given)])
+    sources.modules[block.name] = text
+    sources.root.insert(1, f"mod {block.name};\n")
+
+
+def written(blocks: list[Block]) -> Sources:
+    """The crate of all examples."""
+    sources = Sources([HEAD, NAMES], {})
     for crate in CRATES:
         src = TOP / f"crates/indexset_{crate}/src"
         for file in sorted(src.rglob("*.rt")):
             place = "_".join(file.relative_to(src).with_suffix("").parts)
-            for item, lines in examples(file):
-                count += 1
-                body = "\n".join(f"    {it}".rstrip() for it in lines)
-                name = f"{crate}_{place}_{item}_{count}".lower()
-                out.append(f"#[test]\nfn {name}(rt: HostRuntime) -> Result<(), Fail> {{\n    let alloc = rt.alloc();\n{body}\n    Ok(())\n}}\n")
-    return "\n".join(out), count
+            for item, lines in doc_examples(file):
+                sources.tests += 1
+                name = f"{crate}_{place}_{item}_{sources.tests}".lower()
+                sources.root.append(test_of(name, lines))
+    for block in blocks:
+        if block.language == "rust":
+            add_rust(block, sources)
+    return sources
 
 
-def main():
-    text, count = written()
+def unproved(blocks: list[Block]) -> list[str]:
+    """The functions with clauses that no crate of proved callers has word for word."""
+    files = [file for it in PROVED for file in (TOP / "crates" / it / "src").rglob("*.rt")]
+    proved = "\n".join(file.read_text(encoding="utf-8") for file in files)
+    found = []
+    for block in blocks:
+        shown = "\n".join(block.lines) + "\n" if block.language == "rust" else ""
+        for item in re.findall(r"^pub fn .*?^}$", shown, re.M | re.S):
+            if re.search(r"^ +(requires|ensures)\b", item, re.M) and item not in proved:
+                found.append(f"{block.name}: not proved as it stands: {item.splitlines()[0]}")
+    return found
+
+
+def shell_faults(blocks: list[Block], room: str) -> tuple[int, list[str]]:
+    """How many blocks of shell print the block of text after them, and what the others print."""
+    passed, faults = 0, []
+    for block, after in zip(blocks, blocks[1:] + blocks[-1:]):
+        if block.language != "sh":
+            continue
+        command = "\n".join(block.lines)
+        done = subprocess.run(["bash", "-c", command], cwd=room, capture_output=True, text=True)
+        if after.language == "text" and done.stdout.splitlines() == after.lines:
+            passed += 1
+        else:
+            faults.append(f"{block.name}: {done.stdout}{done.stderr[-2000:]}")
+    return passed, faults
+
+
+def run_tests(sources: Sources, room: str, show: bool) -> int:
+    """Runs the crate of examples, and returns how many of its tests passed."""
+    crate = pathlib.Path(room, "crates/indexset_examples/src")
+    crate.mkdir(parents=True)
+    (crate / "lib.rt").write_text("\n".join(sources.root), encoding="utf-8")
+    for name, text in sources.modules.items():
+        (crate / f"{name}.rt").write_text(text, encoding="utf-8")
+    with open(f"{room}/crates.txt", "a", encoding="utf-8") as lists:
+        lists.write(f"indexset_examples: {LISTS}\n")
+    done = subprocess.run(["rt", "try", "--test"], cwd=crate.parent, capture_output=True, text=True)
+    passed = len(re.findall(r"(?m)^test .* \.\.\. ok$", done.stdout))
+    if done.returncode or passed != sources.tests:
+        print("\n".join([*sources.root, *sources.modules.values()]) if show else "")
+        print(done.stdout[-6000:], done.stderr[-3000:])
+    return passed if done.returncode == 0 else min(passed, sources.tests - 1)
+
+
+def main() -> int:
+    parser = argparse.ArgumentParser(description="Runs each example of the documentation, without proofs.")
+    parser.add_argument("--show", action="store_true", help="print the tests where one fails")
+    show = parser.parse_args().show
+    pages = sorted({page for it in PAGES for page in TOP.glob(it)})
+    every = [block for page in pages for block in page_blocks(page)]
+    blocks = [it for it in every if not it.left_out]
+    sources = written(blocks)
     with tempfile.TemporaryDirectory() as room:
         shutil.copy(TOP / "HANDLES", room)
+        shutil.copy(TOP / "crates.txt", room)
         shutil.copytree(TOP / "crates", f"{room}/crates", ignore=shutil.ignore_patterns("out", "must-fail"))
-        crate = pathlib.Path(room, "crates/indexset_examples/src")
-        crate.mkdir(parents=True)
-        (crate / "lib.rt").write_text(text, encoding="utf-8")
-        pathlib.Path(room, "crates.txt").write_text((TOP / "crates.txt").read_text() + f"indexset_examples: {LISTS}\n")
-        done = subprocess.run(["rt", "try", "--test"], cwd=crate.parent, capture_output=True, text=True)
-    passed = len(re.findall(r"(?m)^test .* \.\.\. ok$", done.stdout))
-    if done.returncode or passed != count:
-        print(text if "--show" in sys.argv else "", done.stdout[-6000:], done.stderr[-3000:])
-    print(f"{passed} passed, {count - passed} failed")
-    sys.exit(done.returncode != 0 or passed != count)
+        printed, faults = shell_faults(blocks, room)
+        passed = run_tests(sources, room, show)
+    faults += unproved(blocks)
+    print(*(f"{it.name} is not run: {it.left_out}" for it in every if it.left_out), *faults, sep="\n")
+    failed = sources.tests - passed + len(faults)
+    print(f"{passed + printed} passed, {failed} failed")
+    return int(failed > 0)
 
 
-main()
+if __name__ == "__main__":
+    sys.exit(main())

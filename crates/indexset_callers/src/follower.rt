@@ -1,9 +1,9 @@
 //! A map and a copy of it elsewhere, which gets the events of the map with losses, repeats and in any
 //! order.
-ghost use Rattle.std.specs.Prelude.{◌≡◌, ◌<◌, true, [], length, Some, IfOk, OnOk, OnErr};
+ghost use Rattle.std.specs.Prelude.{◌≡◌, ◌==◌, ◌<◌, true, [], length, take, Some, IfOk, OnOk, OnErr};
 ghost use Rattle.std.specs.List.{All};
 ghost use Rattle.std.specs.Ordering.{nat_cmp};
-ghost use Rattle.indexset.specs.Words.{by_key, joined, replay, value_of, IsBeginning, IsNumberedFrom};
+ghost use Rattle.indexset.specs.Words.{by_key, joined, pair, put, replay, value_of, IsBeginning, IsNumberedFrom};
 
 use indexset::base::pair::Pair;
 use indexset::base::refusal::Refusal;
@@ -46,22 +46,25 @@ impl Primary {
         self.events.len()
     }
 
-    /// Sets the balance of an account.
+    /// Sets the balance of an account, and keeps all others and all events.
     pub fn set(&mut self, account: u64, balance: u64) -> Result<(), Refusal>
         ensures held { OnOk result (value_of nat_cmp (joined self.new.map.nodes) account ≡ Some balance) }
+        ensures contents { OnOk result (joined self.new.map.nodes ≡ put (by_key nat_cmp) (joined self.old.map.nodes) (pair account balance)) }
+        ensures kept { OnOk result (take (length self.old.events.items) self.new.events.items ≡ self.old.events.items) }
         ensures same { OnErr result (self.new.map ≡ self.old.map) }
         ensures no_event { OnErr result (self.new.events.items ≡ self.old.events.items) }
     {
         set_and_keep(&mut self.map, &mut self.events, account, balance)
     }
 
-    /// Delivers the events at these places to a copy, and returns whether it has then got all. Whatever
-    /// is returned, it holds what a beginning of the events leads to: it passes over each that is not the
-    /// next.
+    /// Delivers the events at these places to a copy, which passes over each that is not the next, and
+    /// returns whether it has then got all. Whatever is returned, it holds what a beginning of the events
+    /// leads to.
     pub fn deliver(&self, copy: &mut Replica<Balance>, order: &[usize]) -> Result<bool, Refusal>
         requires at { IsBeginning (by_key nat_cmp) 0 [] self.now.events.items copy.old }
         requires inside { All (λ place. place < length self.now.events.items) order.now }
         ensures beginning { IsBeginning (by_key nat_cmp) 0 [] self.now.events.items copy.new }
+        ensures all { IfOk result (λ all. all ≡ (copy.new.next == length self.now.events.items)) }
         ensures all_came { IfOk result (λ all. all ≡ true → copy.new.nodes ≡ self.now.map.nodes) }
     {
         deliver_some(&self.map, self.events.as_slice(), copy, order)
@@ -82,6 +85,8 @@ fn set_and_keep(
     ensures numbered { IsNumberedFrom 0 events.new.items }
     ensures counted { map.new.next ≡ length events.new.items }
     ensures held { OnOk result (value_of nat_cmp (joined map.new.nodes) account ≡ Some balance) }
+    ensures contents { OnOk result (joined map.new.nodes ≡ put (by_key nat_cmp) (joined map.old.nodes) (pair account balance)) }
+    ensures kept { OnOk result (take (length events.old.items) events.new.items ≡ events.old.items) }
     ensures same { OnErr result (map.new ≡ map.old) }
     ensures no_event { OnErr result (events.new.items ≡ events.old.items) }
 {
@@ -107,6 +112,7 @@ fn deliver_some(
     requires at { IsBeginning (by_key nat_cmp) 0 [] events.now copy.old }
     requires inside { All (λ place. place < length events.now) order.now }
     ensures beginning { IsBeginning (by_key nat_cmp) 0 [] events.now copy.new }
+    ensures all { IfOk result (λ all. all ≡ (copy.new.next == length events.now)) }
     ensures all_came { IfOk result (λ all. all ≡ true → copy.new.nodes ≡ map.now.nodes) }
 {
     let issued = map.events_issued();

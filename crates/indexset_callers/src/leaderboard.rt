@@ -1,8 +1,8 @@
 //! A leaderboard: players by their scores, the best first, read page by page.
-ghost use Rattle.std.specs.Prelude.{◌≡◌, ◌<◌, ◌+◌, ◌*◌, ◌^◌, true, not, Some, IfOk, IfSome, OnOk, OnErr, length, take, drop, slice_get};
+ghost use Rattle.std.specs.Prelude.{◌≡◌, ◌<◌, ◌+◌, ◌*◌, ◌^◌, true, not, IfOk, OnOk, OnErr, length, take, drop};
 ghost use Rattle.std.specs.declared.cmp.Ordering.TheVariants.{Less};
 ghost use Rattle.std.specs.List.{AllWithin};
-ghost use Rattle.indexset.specs.Words.{has_equal, items, keep, rank};
+ghost use Rattle.indexset.specs.Words.{has_equal, index_of, items, keep, rank};
 
 use indexset::BTreeSet;
 use indexset::base::refusal::Refused;
@@ -30,18 +30,16 @@ pub fn add(board: &mut Board, entry: Entry) -> Result<bool, Refused<Entry>>
     board.insert(entry)
 }
 
-/// The place of an entry, counted from 0, and so how many are better.
+/// The place of an entry, counted from 0, and so how many are better; or `None` if it is absent.
 pub fn place(board: &Board, entry: Entry) -> Option<usize>
-    ensures there { IfSome result (λ place. slice_get (items board.now) place ≡ Some entry) }
-    ensures better { IfSome result (λ place. place ≡ rank ⟦<Entry as Ord>⟧.cmp (items board.now) entry) }
+    ensures { result ≡ index_of ⟦<Entry as Ord>⟧.cmp (items board.now) entry }
 {
-    let place = board.rank(&entry);
-    let there = board.get_index(place) == Some(&entry);
-    there.then_some(place)
+    board.index_of(&entry)
 }
 
-/// How many entries are better than this one: those before its place.
+/// How many entries are better than this one, which may be absent: those before its place.
 pub fn better(board: &Board, entry: Entry) -> usize
+    ensures count { result ≡ rank ⟦<Entry as Ord>⟧.cmp (items board.now) entry }
     ensures inside { has_equal ⟦<Entry as Ord>⟧.cmp (items board.now) entry ≡ true → result < length (items board.now) }
     ensures before { AllWithin (λ other. ⟦<Entry as Ord>⟧.cmp other entry ≡ Less) (items board.now) 0 result }
 {

@@ -2,13 +2,12 @@
 ghost use Rattle.std.specs.Prelude.{◌≡◌, ℕ, List, nat_eq, true, false, not, is_some, length, IfOk, OnOk, OnErr};
 ghost use Rattle.std.specs.Ordering.{is_eq, nat_cmp};
 ghost use Rattle.std.specs.Cmp.Lexicographic.{slice_cmp};
-ghost use Rattle.indexset.specs.Words.{entries, equal_pair, joined, pairs_of, without_first};
+ghost use Rattle.indexset.specs.Words.{by_number, entries, equal_pair, inserted_pair, joined, pairs_of, put, without_first};
 
 use bytes::ByteStr;
 use indexset::base::multipair::MultiPair;
 use indexset::base::refusal::{Refusal, Refused};
-use indexset::concurrent::multimap::BTreeMultiMap;
-use indexset::concurrent::multimap::range::Range;
+use indexset::concurrent::multimap::{BTreeMultiMap, Range};
 
 /// A document under a tag.
 pub type Listed = MultiPair<ByteStr, u64>;
@@ -16,10 +15,12 @@ pub type Listed = MultiPair<ByteStr, u64>;
 /// The numbers of documents by tag.
 pub type Index = BTreeMultiMap<ByteStr, u64, Vec<Listed>>;
 
-/// Lists a document under a tag, and returns whether it was not listed there.
+/// Lists a document under a tag, behind those that it has, and returns whether it was not listed there.
+/// All other documents stay.
 pub fn add(index: &mut Index, tag: ByteStr, document: u64) -> Result<bool, Refused<(ByteStr, u64)>>
     ensures new { IfOk result (λ new. new ≡ not (is_some (equal_pair (slice_cmp nat_cmp) nat_eq (joined index.old.nodes) tag document))) }
     ensures listed { OnOk result (is_some (equal_pair (slice_cmp nat_cmp) nat_eq (joined index.new.nodes) tag document) ≡ true) }
+    ensures contents { OnOk result (joined index.new.nodes ≡ put (by_number (slice_cmp nat_cmp)) (joined index.old.nodes) (inserted_pair (slice_cmp nat_cmp) nat_eq index.old tag document)) }
     ensures other_tags { OnOk result ((other : List ℕ) → is_eq (slice_cmp nat_cmp other tag) ≡ false → pairs_of (slice_cmp nat_cmp) (joined index.new.nodes) other ≡ pairs_of (slice_cmp nat_cmp) (joined index.old.nodes) other) }
     ensures same { OnErr result (index.new ≡ index.old) }
 {

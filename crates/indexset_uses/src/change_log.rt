@@ -1,7 +1,7 @@
 //! A change log: the events that a copy of a tree elsewhere needs.
 ghost use Rattle.std.specs.Prelude.{◌≡◌, ◌≤◌, length, true, Some, IfOk, IfErr, OnErr, OnOk};
 ghost use Rattle.std.specs.Ordering.{nat_cmp};
-ghost use Rattle.indexset.specs.Words.{IsNumberedFrom, joined, put, replay, value_of, without};
+ghost use Rattle.indexset.specs.Words.{IsNumberedFrom, by_key, joined, keep, pair, put, replay, value_of, without};
 
 use indexset::base::pair::Pair;
 use indexset::base::refusal::{Refusal, Refused};
@@ -28,7 +28,9 @@ pub fn put(tree: &mut Numbers, value: u64) -> Result<Vec<ChangeEvent<u64>>, Refu
 
 /// Inserts a number, and returns whether it is present, as it then always is.
 pub fn hold(tree: &mut Numbers, value: u64) -> Result<bool, Refused<u64>>
-    ensures { IfOk result (λ there. there ≡ true) }
+    ensures there { IfOk result (λ there. there ≡ true) }
+    ensures contents { OnOk result (joined tree.new.nodes ≡ keep nat_cmp (joined tree.old.nodes) value) }
+    ensures same { OnErr result (tree.new ≡ tree.old) }
 {
     tree.insert(value)?;
     Ok(tree.contains(&value))
@@ -52,6 +54,7 @@ pub type Quotes = BTreeMap<u64, u64, Vec<Pair<u64, u64>>>;
 /// Sets the price of an item, and returns the price that is found for it, as it then always is.
 pub fn quote(quotes: &mut Quotes, item: u64, price: u64) -> Result<Option<u64>, Refused<(u64, u64)>>
     ensures now { OnOk result (value_of nat_cmp (joined quotes.new.nodes) item ≡ Some price) }
+    ensures contents { OnOk result (joined quotes.new.nodes ≡ put (by_key nat_cmp) (joined quotes.old.nodes) (pair item price)) }
     ensures told { IfOk result (λ told. told ≡ Some price) }
     ensures same { OnErr result (quotes.new ≡ quotes.old) }
 {

@@ -1,14 +1,15 @@
 //! Counts: of what two sets have, and of the comparisons of a search.
-ghost use Rattle.std.specs.Prelude.{◌≡◌, ◌+◌, ◌≤◌, length, position, None, Some, IfSome, IfOk, IfErr};
+ghost use Rattle.std.specs.Prelude.{◌≡◌, ◌+◌, ◌≤◌, ◌^◌, length, position, None, Some, IfSome, IfNone, IfOk, IfErr};
 ghost use Rattle.std.specs.Ordering.{is_eq, nat_cmp};
-ghost use Rattle.indexset.specs.Words.{digits, intersection, items, union};
+ghost use Rattle.indexset.specs.Words.{digits, intersection, items, rank, union};
 
 use indexset::BTreeSet;
 use indexset::base::probe::{ByItem, Counting};
 
-/// Returns how many elements either set has, where their number fits.
+/// Returns how many elements the two sets have, or `None` where the sum of their lengths overflows.
 pub fn count_of_either(a: &BTreeSet<u64>, b: &BTreeSet<u64>) -> Option<usize>
-    ensures { IfSome result (λ n. n ≡ length (union nat_cmp (items a.now) (items b.now))) }
+    ensures count { IfSome result (λ n. n ≡ length (union nat_cmp (items a.now) (items b.now))) }
+    ensures many { IfNone result (2 ^ 64 ≤ length (items a.now) + length (items b.now)) }
 {
     // More than this many there are not.
     let _most = a.len().checked_add(b.len())?;
@@ -24,22 +25,16 @@ pub fn count_of_both(a: &BTreeSet<u64>, b: &BTreeSet<u64>) -> usize
     a.intersection(b).count()
 }
 
-/// Returns how many comparisons a search makes.
-pub fn questions(set: &BTreeSet<u64>, key: u64) -> u64
-    ensures { result ≤ digits (length set.now.nodes) + digits set.now.size + 1 }
+/// Returns where a key is, or how many keys are below it, and how many comparisons the search made.
+pub fn place_of(set: &BTreeSet<u64>, key: u64) -> (Result<usize, usize>, u64)
+    ensures found { IfOk result.0 (λ i. position (λ x. is_eq (nat_cmp x key)) (items set.now) ≡ Some i) }
+    ensures absent { IfErr result.0 (λ _. position (λ x. is_eq (nat_cmp x key)) (items set.now) ≡ None) }
+    ensures below { IfErr result.0 (λ i. i ≡ rank nat_cmp (items set.now) key) }
+    ensures few { result.1 ≤ digits (length set.now.nodes) + digits set.now.size + 1 }
 {
     // Shows the proof that the elements are in order.
     let _len = set.len();
     let mut probe = Counting::new(ByItem::new(&key));
-    let _place = set.locate_by(&mut probe);
-    probe.asked()
-}
-
-/// Returns where a key is, or how many keys are below it.
-pub fn place_of(set: &BTreeSet<u64>, key: u64) -> Result<usize, usize>
-    ensures found { IfOk result (λ i. position (λ x. is_eq (nat_cmp x key)) (items set.now) ≡ Some i) }
-    ensures absent { IfErr result (λ _. position (λ x. is_eq (nat_cmp x key)) (items set.now) ≡ None) }
-{
-    let _len = set.len();
-    set.locate_by(&mut Counting::new(ByItem::new(&key)))
+    let place = set.locate_by(&mut probe);
+    (place, probe.asked())
 }

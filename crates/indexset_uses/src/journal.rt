@@ -1,5 +1,5 @@
 //! A journal: the events of all calls on a set since it was empty, kept in one list.
-ghost use Rattle.std.specs.Prelude.{◌≡◌, [], length, Some, IfErr, OnErr, OnOk};
+ghost use Rattle.std.specs.Prelude.{◌≡◌, [], length, take, Some, IfErr, OnErr, OnOk};
 ghost use Rattle.std.specs.Ordering.{nat_cmp};
 ghost use Rattle.indexset.specs.Words.{IsNumberedFrom, joined, put, replay, without};
 
@@ -8,8 +8,8 @@ use indexset::base::refusal::{Refusal, Refused};
 use indexset::cdc::change::ChangeEvent;
 use indexset::cdc::laws;
 
-/// Inserts a number, and appends the events of the call. Whatever it returns, the events of the journal,
-/// replayed from nothing, lead to the nodes of the set.
+/// Inserts a number, and appends the events of the call to the journal, which keeps all before them.
+/// Whatever it returns, the journal replayed from nothing leads to the nodes of the set.
 pub fn insert(
     tree: &mut Numbers,
     journal: &mut Vec<ChangeEvent<u64>>,
@@ -22,6 +22,7 @@ pub fn insert(
     ensures numbered { IsNumberedFrom 0 journal.new.items }
     ensures next { tree.new.next ≡ length journal.new.items }
     ensures contents { OnOk result (joined tree.new.nodes ≡ put nat_cmp (joined tree.old.nodes) value) }
+    ensures kept { take (length journal.old.items) journal.new.items ≡ journal.old.items }
     ensures given_back { IfErr result (λ refused. refused.value ≡ value) }
     ensures same { OnErr result (tree.new ≡ tree.old) }
 {

@@ -11,6 +11,7 @@ mod leaderboard;
 mod listing;
 mod names;
 mod order_book;
+mod orders;
 mod prices;
 mod runs;
 mod stock;
@@ -82,8 +83,9 @@ fn show_counts(rt: &HostRuntime) -> Result<()> {
 fn show_counts_of(rt: &HostRuntime, low: &BTreeSet<u64>, high: &BTreeSet<u64>) -> Result<()> {
     println!(rt; "either: {:?}", counting::count_of_either(low, high))?;
     println!(rt; "both: {}", counting::count_of_both(low, high))?;
-    println!(rt; "place of 950: {:?}", counting::place_of(high, 950))?;
-    println!(rt; "few questions: {}", counting::questions(high, 950) <= 17)?;
+    let (place, comparisons) = counting::place_of(high, 950);
+    println!(rt; "place of 950: {place:?}")?;
+    println!(rt; "few comparisons: {}", comparisons <= 17)?;
     Ok(())
 }
 

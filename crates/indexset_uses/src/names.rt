@@ -3,7 +3,7 @@ ghost use Rattle.std.specs.Prelude.{◌≡◌, false, Some, OnOk};
 ghost use Rattle.std.specs.Option.{option_copied};
 ghost use Rattle.std.specs.Ordering.{nat_cmp};
 ghost use Rattle.std.specs.Cmp.Lexicographic.{slice_cmp};
-ghost use Rattle.indexset.specs.Words.{has_key, joined, value_of};
+ghost use Rattle.indexset.specs.Words.{by_key, has_key, joined, pair, put, value_of, without_key};
 
 use crate::copies::apply_all;
 use bytes::ByteStr;
@@ -30,6 +30,7 @@ pub fn set_text(
     requires { copy.old.nodes ≡ names.old.nodes }
     ensures same { OnOk result (copy.new.nodes ≡ names.new.nodes) }
     ensures held { OnOk result (value_of (slice_cmp nat_cmp) (joined copy.new.nodes) name ≡ Some text) }
+    ensures contents { OnOk result (joined names.new.nodes ≡ put (by_key (slice_cmp nat_cmp)) (joined names.old.nodes) (pair name text)) }
 {
     let (_, events) = names.insert_cdc(name, text)?;
     apply_all(copy, events.as_slice())
@@ -41,6 +42,7 @@ pub fn forget(names: &mut Names, copy: &mut Replica<Named>, name: &ByteStr) -> R
     requires { copy.old.nodes ≡ names.old.nodes }
     ensures same { OnOk result (copy.new.nodes ≡ names.new.nodes) }
     ensures gone { OnOk result (has_key (slice_cmp nat_cmp) (joined copy.new.nodes) name.now ≡ false) }
+    ensures contents { OnOk result (joined names.new.nodes ≡ without_key (slice_cmp nat_cmp) (joined names.old.nodes) name.now) }
 {
     let (_, events) = names.remove_cdc(name)?;
     apply_all(copy, events.as_slice())

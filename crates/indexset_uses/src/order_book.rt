@@ -4,7 +4,7 @@ ghost use Rattle.indexset.specs.Words.{items};
 
 use indexset::BTreeSet;
 
-/// Returns the highest bid and the lowest ask, removed where the bid is not below the ask.
+/// Removes the highest bid and the lowest ask, and returns them, if that bid is not below that ask.
 pub fn take_match(bids: &mut BTreeSet<u64>, asks: &mut BTreeSet<u64>) -> Option<(u64, u64)>
     ensures bid { IfSome result (λ pair. slice_get (items bids.old) (length (items bids.old) - 1) ≡ Some pair.0) }
     ensures ask { IfSome result (λ pair. slice_get (items asks.old) 0 ≡ Some pair.1) }

@@ -2,7 +2,7 @@
 ghost use Rattle.std.specs.Prelude.{◌≡◌, ◌+◌, ◌-◌, ◌^◌, Some, None, IfOk, OnErr, length, min, unwrap_or};
 ghost use Rattle.std.specs.Ordering.{nat_cmp};
 ghost use Rattle.std.specs.declared.ops.Bound.TheVariants.{Excluded, Unbounded};
-ghost use Rattle.indexset.specs.Words.{pairs_within, value_of, written};
+ghost use Rattle.indexset.specs.Words.{pairs_within, value_of, with_entry, without_entry, written};
 
 use indexset::BTreeMap;
 use indexset::base::refusal::Refused;
@@ -15,6 +15,7 @@ pub fn set_price(
     price: u64,
 ) -> Result<Option<u64>, Refused<(u64, u64)>>
     ensures now { IfOk result (λ now. now ≡ Some price) }
+    ensures contents { IfOk result (λ _. prices.new ≡ with_entry nat_cmp prices.old item price) }
     ensures same { OnErr result (prices.new ≡ prices.old) }
 {
     prices.insert(item, price)?;
@@ -36,6 +37,7 @@ pub fn price_or(
 ) -> Result<u64, Refused<(u64, u64)>>
     ensures price { IfOk result (λ price. price ≡ unwrap_or (value_of nat_cmp prices.old.pairs item) usual) }
     ensures now { IfOk result (λ price. value_of nat_cmp prices.new.pairs item ≡ Some price) }
+    ensures contents { IfOk result (λ price. prices.new ≡ with_entry nat_cmp prices.old item price) }
     ensures same { OnErr result (prices.new ≡ prices.old) }
 {
     let price = prices.entry(item).or_insert(usual)?;
@@ -55,7 +57,8 @@ pub fn raise(prices: &mut BTreeMap<u64, u64>)
 
 /// Removes the price of an item, and returns the price that it has then: none.
 pub fn forget(prices: &mut BTreeMap<u64, u64>, item: u64) -> Option<u64>
-    ensures { result ≡ None }
+    ensures none { result ≡ None }
+    ensures contents { prices.new ≡ without_entry nat_cmp prices.old item }
 {
     prices.remove(&item);
     prices.get(&item).copied()

@@ -2,7 +2,7 @@
 ghost use Rattle.std.specs.Prelude.{◌≡◌, Some, OnOk};
 ghost use Rattle.std.specs.Ordering.{nat_cmp};
 ghost use Rattle.std.specs.Cmp.Lexicographic.{slice_cmp};
-ghost use Rattle.indexset.specs.Words.{joined, value_of};
+ghost use Rattle.indexset.specs.Words.{by_key, joined, pair, put, value_of, without_key};
 
 use crate::copies::apply_all;
 use bytes::ByteStr;
@@ -29,6 +29,7 @@ pub fn set_count(
     requires { copy.old.nodes ≡ stock.old.nodes }
     ensures same { OnOk result (copy.new.nodes ≡ stock.new.nodes) }
     ensures held { OnOk result (value_of (slice_cmp nat_cmp) (joined copy.new.nodes) name ≡ Some count) }
+    ensures contents { OnOk result (joined stock.new.nodes ≡ put (by_key (slice_cmp nat_cmp)) (joined stock.old.nodes) (pair name count)) }
 {
     let (_, events) = stock.insert_cdc(name, count)?;
     apply_all(copy, events.as_slice())
@@ -37,7 +38,8 @@ pub fn set_count(
 /// Removes a name from a stock and from a copy with the same nodes: both then have the same nodes again.
 pub fn forget(stock: &mut Stock, copy: &mut Replica<Count>, name: &ByteStr) -> Result<(), Refusal>
     requires { copy.old.nodes ≡ stock.old.nodes }
-    ensures { OnOk result (copy.new.nodes ≡ stock.new.nodes) }
+    ensures same { OnOk result (copy.new.nodes ≡ stock.new.nodes) }
+    ensures contents { OnOk result (joined stock.new.nodes ≡ without_key (slice_cmp nat_cmp) (joined stock.old.nodes) name.now) }
 {
     let (_, events) = stock.remove_cdc(name)?;
     apply_all(copy, events.as_slice())

@@ -3,7 +3,7 @@
 ghost use Rattle.std.specs.Prelude.{◌≡◌, ◌+◌, ◌≤◌, ℕ, List, length, false, map, Some, IfOk, OnOk, OnErr, string_bytes};
 ghost use Rattle.std.specs.List.{AllZip};
 ghost use Rattle.std.specs.String.{string_cmp};
-ghost use Rattle.indexset.specs.Words.{by_key, has_key, joined, numbered_from, pair, put, put_events, unassigned, value_of, without_key, AreCopies, IsClonedStep, IsEventClone, IsNumberedFrom};
+ghost use Rattle.indexset.specs.Words.{by_key, has_key, joined, key_removal_events, numbered_from, pair, put, put_events, unassigned, value_of, without_key, AreCopies, IsClonedStep, IsEventClone, IsNumberedFrom};
 
 use crate::copies::apply_all;
 use bytes::ByteStr;
@@ -49,6 +49,7 @@ pub fn set_in_both(
 ) -> Result<(), Refusal>
     requires { AreCopies (by_key string_cmp) (λ p q. (string_bytes q.key ≡ string_bytes p.key) × (q.value ≡ p.value)) counts.old.nodes copy.old.nodes }
     ensures copies { OnOk result (AreCopies (by_key string_cmp) (λ p q. (string_bytes q.key ≡ string_bytes p.key) × (q.value ≡ p.value)) counts.new.nodes copy.new.nodes) }
+    ensures contents { OnOk result (joined counts.new.nodes ≡ put (by_key string_cmp) (joined counts.old.nodes) (pair name count)) }
     ensures same { OnOk result (map (map {B = List ℕ × ℕ} (λ p. (string_bytes p.key, p.value))) copy.new.nodes ≡ map (map {B = List ℕ × ℕ} (λ p. (string_bytes p.key, p.value))) counts.new.nodes) }
 {
     clones::texts();
@@ -58,12 +59,15 @@ pub fn set_in_both(
     apply_all(copy, events.as_slice())
 }
 
-/// Removes a name, and returns the events, at most three, numbered in turn.
+/// Removes a name, and returns the events, at most three. They are numbered in turn, and are those of
+/// the removal with clones of its names.
 pub fn forget(counts: &mut Counts, name: &String) -> Result<Vec<ChangeEvent<Count>>, Refusal>
     ensures contents { OnOk result (joined counts.new.nodes ≡ without_key string_cmp (joined counts.old.nodes) name.now) }
     ensures gone { OnOk result (has_key string_cmp (joined counts.new.nodes) name.now ≡ false) }
     ensures numbered { IfOk result (λ events. IsNumberedFrom counts.old.next events.items) }
     ensures few { IfOk result (λ events. length events.items ≤ 3) }
+    ensures told { IfOk result (λ events. AllZip (IsEventClone (λ p q. (string_bytes q.key ≡ string_bytes p.key) × (q.value ≡ p.value)))
+        (numbered_from counts.old.next (key_removal_events string_cmp counts.old.size counts.old.nodes name.now)) events.items) }
     ensures same { OnErr result (counts.new ≡ counts.old) }
 {
     let (_, events) = counts.remove_cdc(name)?;

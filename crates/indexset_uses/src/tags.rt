@@ -2,14 +2,13 @@
 ghost use Rattle.std.specs.Prelude.{◌≡◌, ℕ, List, nat_eq, false, true, is_some, Some, IfOk, OnOk, OnErr};
 ghost use Rattle.std.specs.Ordering.{is_eq, nat_cmp};
 ghost use Rattle.std.specs.Cmp.Lexicographic.{pointwise, slice_cmp};
-ghost use Rattle.indexset.specs.Words.{by_number, entries, equal_pair, joined, pairs_of, replay, without_first};
+ghost use Rattle.indexset.specs.Words.{by_number, entries, equal_pair, inserted_pair, joined, pairs_of, put, replay, without_first, IsNumberedFrom};
 
 use bytes::ByteStr;
 use indexset::base::multipair::MultiPair;
 use indexset::base::refusal::{Refusal, Refused};
 use indexset::cdc::change::ChangeEvent;
-use indexset::concurrent::multimap::BTreeMultiMap;
-use indexset::concurrent::multimap::range::Range;
+use indexset::concurrent::multimap::{BTreeMultiMap, Range};
 
 /// A document under a tag.
 pub type Tagged = MultiPair<ByteStr, ByteStr>;
@@ -25,8 +24,10 @@ pub fn add(
     document: ByteStr,
 ) -> Result<Vec<ChangeEvent<Tagged>>, Refused<(ByteStr, ByteStr)>>
     ensures there { OnOk result (is_some (equal_pair (slice_cmp nat_cmp) (pointwise nat_eq) (joined tags.new.nodes) tag document) ≡ true) }
+    ensures contents { OnOk result (joined tags.new.nodes ≡ put (by_number (slice_cmp nat_cmp)) (joined tags.old.nodes) (inserted_pair (slice_cmp nat_cmp) (pointwise nat_eq) tags.old tag document)) }
     ensures others { OnOk result ((other : List ℕ) → is_eq (slice_cmp nat_cmp other tag) ≡ false → pairs_of (slice_cmp nat_cmp) (joined tags.new.nodes) other ≡ pairs_of (slice_cmp nat_cmp) (joined tags.old.nodes) other) }
     ensures replay { IfOk result (λ events. replay (by_number (slice_cmp nat_cmp)) tags.old.nodes events.items ≡ Some tags.new.nodes) }
+    ensures numbered { IfOk result (λ events. IsNumberedFrom tags.old.next events.items) }
     ensures same { OnErr result (tags.new ≡ tags.old) }
 {
     let (_, events) = tags.insert_cdc(tag, document)?;
@@ -43,6 +44,7 @@ pub fn remove(
     ensures gone { OnOk result (pairs_of (slice_cmp nat_cmp) (joined tags.new.nodes) tag.now ≡ without_first (λ pair. pointwise nat_eq pair.value document.now) (pairs_of (slice_cmp nat_cmp) (joined tags.old.nodes) tag.now)) }
     ensures others { OnOk result ((other : List ℕ) → is_eq (slice_cmp nat_cmp other tag.now) ≡ false → pairs_of (slice_cmp nat_cmp) (joined tags.new.nodes) other ≡ pairs_of (slice_cmp nat_cmp) (joined tags.old.nodes) other) }
     ensures replay { IfOk result (λ events. replay (by_number (slice_cmp nat_cmp)) tags.old.nodes events.items ≡ Some tags.new.nodes) }
+    ensures numbered { IfOk result (λ events. IsNumberedFrom tags.old.next events.items) }
     ensures same { OnErr result (tags.new ≡ tags.old) }
 {
     let (_, events) = tags.remove_cdc(tag, document)?;

@@ -1,0 +1,40 @@
+//! Orders by customer: a multimap, in which a key has several values.
+ghost use Rattle.std.specs.Prelude.{◌≡◌, ℕ, false, length, nat_eq, OnOk, OnErr};
+ghost use Rattle.std.specs.Ordering.{is_eq, nat_cmp};
+ghost use Rattle.indexset.specs.Words.{by_number, inserted_pair, joined, pairs_of, put, without_first};
+
+use indexset::base::multipair::MultiPair;
+use indexset::base::refusal::{Refusal, Refused};
+use indexset::concurrent::multimap::BTreeMultiMap;
+
+/// Orders by customer.
+pub type Orders = BTreeMultiMap<u64, u64, Vec<MultiPair<u64, u64>>>;
+
+/// Files an order under its customer, behind those that the customer has.
+pub fn file(orders: &mut Orders, customer: u64, order: u64) -> Result<(), Refused<(u64, u64)>>
+    ensures filed { OnOk result (joined orders.new.nodes ≡ put (by_number nat_cmp)
+        (joined orders.old.nodes) (inserted_pair nat_cmp nat_eq orders.old customer order)) }
+    ensures same { OnErr result (orders.new ≡ orders.old) }
+{
+    orders.insert(customer, order)?;
+    Ok(())
+}
+
+/// Removes an order of a customer, if there is one.
+pub fn cancel(orders: &mut Orders, customer: u64, order: u64) -> Result<(), Refusal>
+    ensures gone { OnOk result (pairs_of nat_cmp (joined orders.new.nodes) customer ≡ without_first
+        (λ p. nat_eq p.value order) (pairs_of nat_cmp (joined orders.old.nodes) customer)) }
+    ensures others { OnOk result ((other : ℕ) → is_eq (nat_cmp other customer) ≡ false →
+        pairs_of nat_cmp (joined orders.new.nodes) other ≡ pairs_of nat_cmp (joined orders.old.nodes) other) }
+    ensures same { OnErr result (orders.new ≡ orders.old) }
+{
+    orders.remove(&customer, &order)?;
+    Ok(())
+}
+
+/// How many orders a customer has.
+pub fn count(orders: &Orders, customer: u64) -> usize
+    ensures { result ≡ length (pairs_of nat_cmp (joined orders.now.nodes) customer) }
+{
+    orders.get(&customer).len()
+}
