@@ -20,6 +20,11 @@ static struct requests reads = {"REFUSE_READ", 0, 0};
 static struct requests writes = {"REFUSE_WRITE", 0, 0};
 static long on, short_read, report = -1, failed, blocks;
 
+/* A program that the sanitizer checks has its calls under these names. */
+extern void *__interceptor_malloc(size_t) __attribute__((weak));
+extern void *__interceptor_realloc(void *, size_t) __attribute__((weak));
+extern void __interceptor_free(void *) __attribute__((weak));
+
 static void *(*next_malloc)(size_t);
 static void *(*next_realloc)(void *, size_t);
 static void (*next_free)(void *);
@@ -31,10 +36,14 @@ static long number(const char *name) {
     return text ? atol(text) : 0;
 }
 
+static void find(void) {
+    next_malloc = __interceptor_malloc ? __interceptor_malloc : dlsym(RTLD_NEXT, "malloc");
+    next_realloc = __interceptor_realloc ? __interceptor_realloc : dlsym(RTLD_NEXT, "realloc");
+    next_free = __interceptor_free ? __interceptor_free : dlsym(RTLD_NEXT, "free");
+}
+
 __attribute__((constructor)) static void begin(void) {
-    next_malloc = dlsym(RTLD_NEXT, "malloc");
-    next_realloc = dlsym(RTLD_NEXT, "realloc");
-    next_free = dlsym(RTLD_NEXT, "free");
+    find();
     next_read = dlsym(RTLD_NEXT, "read");
     next_write = dlsym(RTLD_NEXT, "write");
     on = number("REFUSE_ON");
@@ -65,7 +74,7 @@ static int fails(struct requests *all) {
 
 void *malloc(size_t size) {
     if (!next_malloc) {
-        next_malloc = dlsym(RTLD_NEXT, "malloc");
+        find();
     }
     if (fails(&memory)) {
         errno = ENOMEM;

@@ -1,75 +1,31 @@
-//! Scripts of the logged map, the multimap and the replica.
+//! Calls of the player's own, of any tree and of a replica.
 //!
 //! `quietly`, `numbers` and `count` before a call leave its events out of the answer, or tell only their
 //! numbers, or how many they are. `snapshot` makes the replica one of the tree's nodes, and `go_on 4` a tree
 //! of node size 4.
+//! `within 17` before a call tells how often it compares, where that is more than 17 times, and `clones 2`
+//! leaves two clones of items to be made.
 
-use indexset_core::pair::Pair;
-use indexset_core::refusal::Refused;
-use indexset_play::script::{Stop, Subject, play, read, tell, tell_option};
+use crate::meter::Meter;
+use indexset_play::player::Swept;
+use indexset_play::script::{Stop, Subject, read, tell};
 use std::alloc::Global;
-use std::fmt::Display;
 use std::str::SplitWhitespace;
-use std::test::Fail;
 
-/// A subject, and calls that tell less of what it answers.
+/// A subject whose items share a meter.
+pub trait Metering: Swept {
+    /// The meter.
+    fn meter(&self) -> &Meter;
+}
+
+/// A subject, with the calls of the player's own.
 #[derive(Drop)]
-pub struct Brief<S: Subject + Drop> {
+pub struct Brief<S: Metering> {
     alloc: Global,
     subject: S,
 }
 
-/// Plays a script on a subject.
-pub fn play_on<S: Subject + Drop>(alloc: Global, subject: S, script: &str) -> Result<(), Fail> {
-    play(alloc, &mut Brief { alloc, subject }, script)
-}
-
-/// The pair of a key and a value.
-pub fn pair_of(pair: Option<(u64, char)>) -> Option<Pair<u64, char>> {
-    let (key, value) = pair?;
-    Some(Pair { key, value })
-}
-
-/// Writes the pair that a refused call hands back.
-pub fn pair_back<X>(answer: &mut String, made: Result<X, Refused<(u64, char)>>) -> Result<X, Stop> {
-    match made {
-        Ok(value) => Ok(value),
-        Err(refused) => {
-            tell_option(answer, pair_of(Some(refused.value)))?;
-            Err(Stop::Refused(refused.cause))
-        }
-    }
-}
-
-/// Writes a text as one word, with a line for each blank.
-pub fn tell_text<D: Display>(alloc: Global, answer: &mut String, shown: &D) -> Result<(), Stop> {
-    let text = format!(in alloc; "{shown}")?;
-    for (place, word) in text.split(' ').enumerate() {
-        answer.push_str(if place == 0 { " " } else { "_" })?;
-        answer.push_str(word)?;
-    }
-    Ok(())
-}
-
-/// Writes the pair at an end, or `none`.
-pub fn tell_end(answer: &mut String, end: Option<(&u64, &char)>) -> Result<(), Stop> {
-    match end {
-        Some((key, value)) => Ok(write!(answer, " {key}:{value}")?),
-        None => tell(answer, "none"),
-    }
-}
-
-/// Writes whether there is room for as many items as the next word says.
-pub fn tell_room(
-    capacity: usize,
-    words: &mut SplitWhitespace<'_>,
-    answer: &mut String,
-) -> Result<(), Stop> {
-    let count: usize = read(words)?;
-    tell(answer, count <= capacity)
-}
-
-impl<S: Subject + Drop> Brief<S> {
+impl<S: Metering> Brief<S> {
     /// What a call without words answers.
     fn answer_of(&mut self, name: &str) -> Result<String, Stop> {
         let mut answer = String::new(self.alloc);
@@ -111,9 +67,26 @@ impl<S: Subject + Drop> Brief<S> {
         self.subject
             .call(name, &mut text.split_whitespace(), answer)
     }
+
+    /// Makes a call, and writes how often it compared where that is too often.
+    fn call_within(
+        &mut self,
+        words: &mut SplitWhitespace<'_>,
+        answer: &mut String,
+    ) -> Result<(), Stop> {
+        let most: u64 = read(words)?;
+        let name = words.next().ok_or(Stop::Word)?;
+        self.subject.meter().asked.set(0);
+        self.subject.call(name, words, answer)?;
+        let asked = self.subject.meter().asked.get();
+        if most < asked {
+            write!(answer, " asked {asked}")?;
+        }
+        Ok(())
+    }
 }
 
-impl<S: Subject + Drop> Subject for Brief<S> {
+impl<S: Metering> Subject for Brief<S> {
     fn call(
         &mut self,
         name: &str,
@@ -127,7 +100,39 @@ impl<S: Subject + Drop> Subject for Brief<S> {
                 let size = words.next().ok_or(Stop::Word)?;
                 self.pass_on("from_nodes", size, answer)
             }
+            "within" => self.call_within(words, answer),
+            "clones" => {
+                let left = read(words)?;
+                self.subject.meter().clones.set(left);
+                Ok(())
+            }
             _ => self.subject.call(name, words, answer),
+        }
+    }
+}
+
+impl<S: Metering> Swept for Brief<S> {
+    fn make(alloc: Global, size: usize) -> Result<Self, Stop> {
+        let subject = S::make(alloc, size)?;
+        Ok(Brief { alloc, subject })
+    }
+
+    fn show(&self, text: &mut String) -> Result<(), Stop> {
+        self.subject.show(text)
+    }
+
+    fn part(
+        &mut self,
+        name: &str,
+        words: &mut SplitWhitespace<'_>,
+        number: usize,
+    ) -> Result<bool, Stop> {
+        match name {
+            "quietly" | "numbers" | "count" => {
+                let name = words.next().ok_or(Stop::Word)?;
+                self.subject.part(name, words, number)
+            }
+            _ => self.subject.part(name, words, number),
         }
     }
 }

@@ -1,29 +1,46 @@
 //! Events that a script is told, and a replica that follows them.
 
-use crate::item::{Item, read_event, read_node, read_nodes, tell_events, tell_node};
-use indexset_core::refusal::Refused;
+use crate::event::tell_events;
+use crate::item::{Item, Source};
+use crate::node::{Whole, read_nodes, tell_nodes};
+use crate::order::{deliver, deliver_part};
+use crate::partial::Partial;
+use indexset_core::node::NodeLike;
 use indexset_log::change::ChangeEvent;
-use indexset_play::script::{Stop, Subject, read, tell, tell_option};
+use indexset_log::set::nodes::Nodes;
+use indexset_play::script::{Stop, read, tell, tell_option};
 use indexset_replica::Replica;
 use std::alloc::Global;
 use std::fmt::Display;
+use std::mem;
 use std::str::SplitWhitespace;
 
-/// A replica, and the events that it is to follow.
+/// Whether these are the same items.
+fn are_same<T: Item>(items: &[T], others: &[T]) -> bool {
+    items.len() == others.len()
+        && items
+            .iter()
+            .zip(others)
+            .all(|(item, other)| item.is_same(other))
+}
+
+/// A replica, the events that it is to follow, and how many of them it has followed.
 #[derive(Drop)]
 pub struct Copy<T: Item> {
-    alloc: Global,
-    pub replica: Replica<T>,
-    pub told: Vec<ChangeEvent<T>>,
+    replica: Replica<T>,
+    told: Vec<ChangeEvent<T>>,
+    followed: usize,
+    partial: Partial,
 }
 
 impl<T: Item> Copy<T> {
     /// A replica without nodes, and no event.
     pub fn new(alloc: Global) -> Self {
         Copy {
-            alloc,
             replica: Replica::new(alloc, 0),
             told: Vec::new(alloc),
+            followed: 0,
+            partial: Partial::new(alloc),
         }
     }
 
@@ -48,82 +65,144 @@ impl<T: Item> Copy<T> {
         self.tell_events(answer, events)
     }
 
-    /// Applies the events that were kept.
-    pub fn follow(&mut self) -> Result<(), Stop> {
-        for event in self.told.iter() {
-            self.replica.apply(event)?;
+    /// Writes the answer of a call that does nothing where the item is there.
+    pub fn tell_checked(
+        &mut self,
+        answer: &mut String,
+        events: Option<Vec<ChangeEvent<T>>>,
+    ) -> Result<(), Stop> {
+        match events {
+            Some(events) => self.tell_cdc(answer, (Some("some"), events)),
+            None => tell(answer, "none"),
         }
-        self.told.clear();
+    }
+
+    /// Applies the next event that was kept; whether there was one.
+    fn follow_next(&mut self) -> Result<bool, Stop> {
+        let Some(event) = self.told.get(self.followed) else {
+            return Ok(false);
+        };
+        self.replica.apply(event)?;
+        self.followed = self.followed.saturating_add(1);
+        Ok(true)
+    }
+
+    /// Applies the events that were kept.
+    fn follow_all(&mut self) -> Result<(), Stop> {
+        for _ in self.followed..self.told.len() {
+            self.follow_next()?;
+        }
         Ok(())
     }
 
+    /// Applies the events that were kept, and writes the nodes.
+    fn follow(&mut self, answer: &mut String) -> Result<(), Stop> {
+        self.follow_all()?;
+        tell_nodes(answer, self.replica.nodes())
+    }
+
+    /// Applies the events that were kept; whether the replica then has these nodes.
+    pub fn is_followed<N: NodeLike<T>>(&mut self, nodes: Nodes<'_, N>) -> Result<bool, Stop> {
+        self.follow_all()?;
+        let copies = self.replica.nodes();
+        let is_same = nodes.len() == copies.len()
+            && nodes.zip(copies).all(|(node, copy)| are_same(
+                node.iter().as_slice(),
+                copy.as_slice(),
+            ));
+        Ok(is_same)
+    }
+
     /// Makes the replica one of these nodes.
-    fn start(&mut self, words: &mut SplitWhitespace<'_>) -> Result<(), Stop> {
+    fn start(&mut self, source: &Source, words: &mut SplitWhitespace<'_>) -> Result<(), Stop> {
         let next = read(words)?;
-        let nodes = read_nodes(self.alloc, words)?;
+        let nodes = read_nodes::<T, Vec<T>, Whole>(source, words)?;
         self.replica = Replica::from_nodes(nodes, next)?;
         Ok(())
     }
 
-    fn attach(&mut self, words: &mut SplitWhitespace<'_>) -> Result<(), Stop> {
-        let node = read_node(self.alloc, words)?.ok_or(Stop::Word)?;
-        self.replica.attach(node)?;
-        Ok(())
+    /// The nodes of the replica, and the number that it awaits.
+    pub fn take(&mut self, alloc: Global) -> (Vec<Vec<T>>, u64) {
+        let next = self.replica.next();
+        let replica = mem::replace(&mut self.replica, Replica::new(alloc, 0));
+        (replica.into_nodes(), next)
     }
 
-    fn apply(&mut self, words: &mut SplitWhitespace<'_>) -> Result<(), Stop> {
-        let event = read_event(words)?;
-        Ok(self.replica.apply(&event)?)
-    }
-
-    fn tell_followed(&mut self, answer: &mut String) -> Result<(), Stop> {
-        self.follow()?;
-        self.tell_copy(answer)
-    }
-
-    /// Writes the nodes of the replica.
-    fn tell_copy(&self, answer: &mut String) -> Result<(), Stop> {
-        for node in self.replica.nodes().iter() {
-            tell_node(answer, node.as_slice())?;
+    fn look_for(
+        &self,
+        source: &Source,
+        name: &str,
+        words: &mut SplitWhitespace<'_>,
+        answer: &mut String,
+    ) -> Result<(), Stop> {
+        let item = T::read_item(source, words)?;
+        if name == "copy_get" {
+            tell_option(answer, self.replica.get(&item))
+        } else {
+            tell(answer, self.replica.contains(&item))
         }
-        Ok(())
     }
-}
 
-impl<T: Item> Subject for Copy<T> {
-    fn call(
+    /// Makes the calls of the replica.
+    pub fn call(
         &mut self,
+        source: &Source,
         name: &str,
         words: &mut SplitWhitespace<'_>,
         answer: &mut String,
     ) -> Result<(), Stop> {
         match name {
-            "replica" => self.start(words),
-            "attach" => self.attach(words),
-            "apply" => self.apply(words),
-            "follow" => self.tell_followed(answer),
-            "copy" => self.tell_copy(answer),
+            "replica" => self.start(source, words),
+            "follow" => self.follow(answer),
+            "copy" => tell_nodes(answer, self.replica.nodes()),
             "next" => tell(answer, self.replica.next()),
+            "events" => tell(answer, self.told.len()),
+            "copy_get" | "copy_contains" => self.look_for(source, name, words, answer),
+            "deliver" => {
+                let Copy {
+                    replica,
+                    told,
+                    partial,
+                    ..
+                } = self;
+                deliver(source.alloc, replica, told.as_slice(), partial, words)
+            }
             _ => Err(Stop::NoCall),
         }
     }
-}
 
-/// Writes the item that a refused call hands back.
-pub fn given_back<X, T: Item>(answer: &mut String, made: Result<X, Refused<T>>) -> Result<X, Stop> {
-    match made {
-        Ok(value) => Ok(value),
-        Err(refused) => {
-            tell(answer, &refused.value)?;
-            Err(Stop::Refused(refused.cause))
+    /// Does a part of a call of the replica.
+    pub fn part(
+        &mut self,
+        source: &Source,
+        name: &str,
+        words: &mut SplitWhitespace<'_>,
+    ) -> Result<bool, Stop> {
+        match name {
+            "follow" | "is_followed" => self.follow_next(),
+            "deliver" => {
+                let Copy {
+                    replica,
+                    told,
+                    partial,
+                    ..
+                } = self;
+                deliver_part(source.alloc, replica, told.as_slice(), partial, words)
+            }
+            _ => Ok(false),
         }
     }
-}
 
-/// The answer of a call that was made, or `refused` with the reason.
-pub fn told(answer: &mut String, made: Result<(), Stop>) -> Result<(), Stop> {
-    match made {
-        Err(Stop::Refused(cause)) => Ok(write!(answer, " refused {cause:?}")?),
-        other => other,
+    /// Writes what it is.
+    pub fn show(&self, text: &mut String) -> Result<(), Stop> {
+        tell_nodes(text, self.replica.nodes())?;
+        let Copy { told, followed, .. } = self;
+        write!(
+            text,
+            " next {} of {} at {followed}",
+            self.replica.next(),
+            told.len()
+        )?;
+        self.partial.show(text)
     }
 }

@@ -1,22 +1,30 @@
-//! What the tests of the logged family play on: logged sets, maps and multimaps, each with a replica that
-//! follows it, and replicas alone, called by the lines of a script (`indexset_play::script`). Events and
-//! nodes have a short form, to be typed in a test and compared ([`told`]).
+//! What the scripts of the logged family are played on: logged sets, maps and multimaps, each with a replica
+//! that follows it, replicas alone, lists of commands, and the program. See [`indexset_play::player`].
 #![tactic(auto)]
 
-pub mod array_maps;
-pub mod array_multimaps;
-mod bodies;
 pub mod brief;
-pub mod copies;
+pub mod command;
 pub mod copy;
+pub mod event;
+pub mod events;
 pub mod item;
-pub mod made;
-mod map_bodies;
-pub mod maps;
-mod multimap_bodies;
-pub mod multimaps;
+pub mod map;
+pub mod meter;
+pub mod multimap;
 pub mod node;
+pub mod order;
+pub mod pair;
+pub mod partial;
+pub mod plain_command;
+pub mod plain_run;
+pub mod program;
+pub mod replica;
+pub mod run;
 pub mod set;
-pub mod told;
+pub mod source;
+pub mod subjects;
+pub mod text;
 pub mod trees;
 pub mod vec_set;
+
+pub use subjects::play;

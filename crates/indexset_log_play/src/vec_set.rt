@@ -1,50 +1,48 @@
-//! Scripts of the logged set in vectors, and of numbers in vectors and in other nodes.
+//! Scripts of the logged set in vectors.
 
-use crate::copy::told;
-use crate::item::{Item, read_items, read_node};
-use crate::set::{Sets, read_range};
-use indexset_core::node::NodeLike;
+use crate::brief::Metering;
+use crate::item::{Item, read_items, read_range};
+use crate::meter::Meter;
+use crate::node::Whole;
+use crate::set::Sets;
 use indexset_log::set::BTreeSet;
-use indexset_play::script::{Stop, Subject, play};
+use indexset_play::player::Swept;
+use indexset_play::script::{Stop, Subject, read};
 use std::alloc::Global;
 use std::str::SplitWhitespace;
-use std::test::Fail;
 
 /// A logged set of nodes that are vectors, with the calls of such sets alone.
 #[derive(Drop)]
 pub struct VecSets<T: Item> {
-    pub sets: Sets<T, Vec<T>>,
+    pub sets: Sets<T, Vec<T>, Whole>,
 }
 
 impl<T: Item> VecSets<T> {
-    fn make(
-        &mut self,
-        name: &str,
-        words: &mut SplitWhitespace<'_>,
-        answer: &mut String,
-    ) -> Result<(), Stop> {
-        let alloc = self.sets.alloc;
-        match name {
-            "from" => self.make_of_items(words),
-            "attach_node" => {
-                let node = read_node(alloc, words)?.ok_or(Stop::Word)?;
-                self.sets.attach(node, answer)
-            }
-            "remove_range" => self.remove_range(words),
-            _ => self.sets.call(name, words, answer),
-        }
+    fn make_of_items(&mut self, name: &str, words: &mut SplitWhitespace<'_>) -> Result<(), Stop> {
+        let alloc = self.sets.source.alloc;
+        let items = read_items(&self.sets.source, words)?;
+        let set = if name == "from" {
+            BTreeSet::from(alloc, items)?
+        } else {
+            BTreeSet::from_iter(alloc, items)?
+        };
+        self.sets.replace(set);
+        Ok(())
     }
-}
 
-impl<T: Item> VecSets<T> {
-    fn make_of_items(&mut self, words: &mut SplitWhitespace<'_>) -> Result<(), Stop> {
-        let alloc = self.sets.alloc;
-        self.sets.set = BTreeSet::from(alloc, read_items(alloc, words)?)?;
+    /// Replaces the set by that of the replica's nodes, whose next event is the one that this awaits.
+    fn make_of_copy(&mut self, words: &mut SplitWhitespace<'_>) -> Result<(), Stop> {
+        let size = read(words)?;
+        if size < 2 {
+            return Err(Stop::NoCall);
+        }
+        let (nodes, next) = self.sets.copy.take(self.sets.source.alloc);
+        self.sets.set = BTreeSet::from_nodes(nodes, size, next)?;
         Ok(())
     }
 
     fn remove_range(&mut self, words: &mut SplitWhitespace<'_>) -> Result<(), Stop> {
-        let (start, end) = read_range::<T>(words)?;
+        let (start, end) = read_range::<T>(&self.sets.source, words)?;
         self.sets.set.remove_range((start.as_ref(), end.as_ref()));
         Ok(())
     }
@@ -57,31 +55,37 @@ impl<T: Item> Subject for VecSets<T> {
         words: &mut SplitWhitespace<'_>,
         answer: &mut String,
     ) -> Result<(), Stop> {
-        let made = self.make(name, words, answer);
-        told(answer, made)
+        match name {
+            "from" | "from_iter" => self.make_of_items(name, words),
+            "from_copy" => self.make_of_copy(words),
+            "remove_range" => self.remove_range(words),
+            _ => self.sets.call(name, words, answer),
+        }
     }
 }
 
-/// Plays a script of sets of the size, of nodes that are vectors.
-fn play_size<T: Item>(alloc: Global, size: usize, script: &str) -> Result<(), Fail> {
-    let sets: Sets<T, Vec<T>> = Sets::new(alloc, size)?;
-    play(alloc, &mut VecSets { sets }, script)
+impl<T: Item> Swept for VecSets<T> {
+    fn make(alloc: Global, size: usize) -> Result<Self, Stop> {
+        let sets = Sets::make(alloc, size)?;
+        Ok(VecSets { sets })
+    }
+
+    fn show(&self, text: &mut String) -> Result<(), Stop> {
+        self.sets.show(text)
+    }
+
+    fn part(
+        &mut self,
+        name: &str,
+        words: &mut SplitWhitespace<'_>,
+        number: usize,
+    ) -> Result<bool, Stop> {
+        self.sets.part(name, words, number)
+    }
 }
 
-/// Plays a script of sets of these items, of nodes that are vectors.
-pub fn play_set<T: Item>(alloc: Global, script: &str) -> Result<(), Fail> {
-    play_size::<T>(alloc, 2, script)
-}
-
-/// Plays a script of sets of numbers, of vectors and of these nodes.
-pub fn play_numbers<N: NodeLike<u64>>(alloc: Global, script: &str) -> Result<(), Fail> {
-    play_set::<u64>(alloc, script)?;
-    let mut sets: Sets<u64, N> = Sets::new(alloc, 2)?;
-    play(alloc, &mut sets, script)
-}
-
-/// Plays a script of sets of numbers of the node size 2, and of the size 1024.
-pub fn play_sizes(alloc: Global, script: &str) -> Result<(), Fail> {
-    play_size::<u64>(alloc, 2, script)?;
-    play_size::<u64>(alloc, 1024, script)
+impl<T: Item> Metering for VecSets<T> {
+    fn meter(&self) -> &Meter {
+        self.sets.meter()
+    }
 }

@@ -1,38 +1,9 @@
-//! Events compared and shown.
+//! Events without numbers, and numbers of events.
 
-use indexset_core::multipair::MultiPair;
 use indexset_core::pair::Pair;
 use indexset_log::change::{ChangeEvent, ChangeEventUnassigned, Id};
-use indexset_log_play::item::{Item, read_event};
-use indexset_play::script::{Stop, Subject, play, tell};
 use std::alloc::Global;
-use std::str::SplitWhitespace;
 use std::test::Fail;
-
-/// The texts of events.
-#[derive(Drop)]
-struct Texts;
-
-/// Writes the text of the event that the words left are.
-fn tell_text<T: Item>(words: &mut SplitWhitespace<'_>, answer: &mut String) -> Result<(), Stop> {
-    tell(answer, read_event::<T>(words)?)
-}
-
-impl Subject for Texts {
-    fn call(
-        &mut self,
-        name: &str,
-        words: &mut SplitWhitespace<'_>,
-        answer: &mut String,
-    ) -> Result<(), Stop> {
-        match name {
-            "text" => tell_text::<u64>(words, answer),
-            "text_of_pairs" => tell_text::<Pair<u64, char>>(words, answer),
-            "text_of_numbered" => tell_text::<MultiPair<u64, char>>(words, answer),
-            _ => Err(Stop::NoCall),
-        }
-    }
-}
 
 /// Whether a number is shown in a width of three.
 fn is_shown_in_width(alloc: Global, number: Id) -> bool {
@@ -43,43 +14,23 @@ fn is_shown_in_width(alloc: Global, number: Id) -> bool {
 }
 
 #[test]
-fn events_as_text(rt: HostRuntime) -> Result<(), Fail> {
+fn numbers_as_text(rt: HostRuntime) {
     assert!(rt; is_shown_in_width(rt.alloc(), Id::from(7)));
-    play(rt.alloc(), &mut Texts, TEXTS)
 }
 
-const TEXTS: &str = "
-text 7 insert 9 5 2 -> 7 insert 5 at 2 in the node of 9
-text 7 remove 9 5 2 -> 7 remove 5 at 2 in the node of 9
-text 7 create 9 -> 7 create the node of 9
-text 7 drop 9 -> 7 drop the node of 9
-text 7 split 9 2 -> 7 split the node of 9 at 2
-text 7 merge 9 12 -> 7 merge the node of 9 with the node of 12
-text_of_pairs 7 create 1:a -> 7 create the node of 1:a
-text_of_numbered 7 create 1:a #0 -> 7 create the node of 1:a #0
-";
-
-// One event of each kind, of the number 7.
-const SIX_EVENTS: [&str; 6] = [
-    "7 insert 9 5 2",
-    "7 remove 9 5 2",
-    "7 create 9",
-    "7 drop 9",
-    "7 split 9 2",
-    "7 merge 9 12",
-];
-
-/// The event of a text.
-fn event_of(text: &str) -> Result<ChangeEvent<u64>, Stop> {
-    read_event(&mut text.split_whitespace())
-}
-
-/// Whether the events of two texts are equal where the texts are.
-fn is_compared(left: &str, right: &str) -> bool {
-    match (event_of(left), event_of(right)) {
-        (Ok(event), Ok(other)) => (event == other) == (left == right),
-        _ => false,
-    }
+#[test]
+fn numbers_one_after_another(rt: HostRuntime) {
+    let next = Id::from(5).is_next_for(Id::from(4));
+    let none = Id::from(0).is_next_for(Id::from(18446744073709551615));
+    let plain = u64::from(Id::from(7)) == 7 && Id::default().inner() == 0;
+    let event_id = Id::from(9);
+    let change = ChangeEventUnassigned::CreateNode { max_value: 3 }.assign_id(event_id);
+    let told = change
+        == ChangeEvent::CreateNode {
+            event_id,
+            max_value: 3,
+        };
+    assert!(rt; next && !none && plain && told);
 }
 
 /// A split of the node of 9.
@@ -90,36 +41,19 @@ fn split_at(split_index: usize) -> ChangeEventUnassigned<u64> {
     }
 }
 
-/// A clone of an event, with a number.
-fn numbered(event: &ChangeEventUnassigned<u64>, id: u64) -> Result<ChangeEvent<u64>, Stop> {
-    Ok(event.clone()?.assign_id(Id::from(id)))
-}
-
-/// Whether an event is the one told where its number is 7, and another where it is 8.
-fn is_numbered(event: &ChangeEventUnassigned<u64>, told: &ChangeEvent<u64>) -> bool {
-    match (numbered(event, 7), numbered(event, 8)) {
-        (Ok(seventh), Ok(eighth)) => seventh == *told && eighth != *told,
-        _ => false,
-    }
-}
-
-/// Whether a split at 2 is the one told, and one at 3 is another.
-fn is_split_numbered() -> bool {
-    let split = split_at(2);
-    match event_of(SIX_EVENTS[4]) {
-        Ok(told) => is_numbered(&split, &told) && split != split_at(3),
-        Err(_) => false,
-    }
-}
-
 #[test]
-fn events_are_equal_where_each_part_is(rt: HostRuntime) {
-    for left in SIX_EVENTS {
-        for right in SIX_EVENTS {
-            assert!(rt; is_compared(left, right), "{left} and {right}");
-        }
-    }
-    assert!(rt; is_split_numbered());
+fn events_with_and_without_a_number(rt: HostRuntime) -> Result<(), Fail> {
+    let split = split_at(2);
+    let told = ChangeEvent::SplitNode {
+        event_id: Id::from(7),
+        max_value: 9,
+        split_index: 2,
+    };
+    assert!(rt; split != split_at(3));
+    let seventh = split.clone()?.assign_id(Id::from(7));
+    let eighth = split.assign_id(Id::from(8));
+    assert!(rt; seventh == told && eighth != told);
+    Ok(())
 }
 
 /// The creation of the node of a pair.

@@ -1,6 +1,6 @@
 //! A person at a terminal, who types a line once the reply to the one before is on the screen.
 
-use crate::program::run_buffered;
+use indexset_log_play::program::run_buffered;
 use std::cell::Cell;
 use std::io::{self, ErrorKind, Read, Write};
 

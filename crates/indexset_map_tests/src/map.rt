@@ -6,24 +6,14 @@ use indexset_map::{BTreeMap, IterMap};
 use indexset_play::sized::map_of;
 use std::alloc::Global;
 
-mod bulk;
 mod clones;
-mod compare;
 mod counted;
-mod cursor;
-mod edits;
 mod entries;
 mod floats;
-mod iter;
 mod lending;
-mod lookup;
-mod make;
-mod maps;
-mod range;
 mod range_forms;
-mod tagged;
+mod shown;
 mod text;
-mod walks;
 
 // Puts a pair, and lets it go where memory is refused.
 fn put<K: Ord + Drop, V: Drop>(
@@ -32,18 +22,6 @@ fn put<K: Ord + Drop, V: Drop>(
     value: V,
 ) -> Result<Option<V>, Refusal> {
     map.insert(key, value).map_err(|refused| refused.cause)
-}
-
-// The keys from 0 up to, but not with, the end, each with ten times itself, put in from the greatest
-// down.
-fn tens(alloc: Global, size: usize, end: u64) -> Result<BTreeMap<u64, u64>, Refusal>
-    requires { 2 ≤ size }
-{
-    let mut map = BTreeMap::with_maximum_node_size(alloc, size)?;
-    for key in (0..end).rev() {
-        put(&mut map, key, key.wrapping_mul(10))?;
-    }
-    Ok(map)
 }
 
 // Five pairs whose keys lie apart.

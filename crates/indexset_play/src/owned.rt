@@ -1,17 +1,19 @@
-//! Keys that own a block, and what is made of them.
+//! Keys that own a block.
 ghost use Rattle.std.proofs.Common.{rules};
+ghost use Rattle.std.specs.Hash as fed;
 ghost use Rattle.std.specs.Prelude.{IfOk, ◌≡◌, nat_eq};
 ghost use Rattle.std.specs.Cmp.{partial_order_from_own_ties};
 ghost use Rattle.std.specs.Cmp.Rules.{comparing};
 ghost use Rattle.std.specs.Ordering.{nat_cmp, as_partial_cmp};
 
-use indexset_core::refusal::Refusal;
 use std::alloc::{AllocError, Global};
 use std::cmp::Ordering;
+use std::fmt;
+use std::hash::{Hash, Hasher};
 use std::marker::Model;
 
 /// A number in a block of its own, so that a clone of it asks for memory.
-#[derive(Drop)]
+#[derive(Debug, Drop)]
 pub struct Owned {
     block: Box<u64>,
 }
@@ -38,6 +40,12 @@ impl Owned {
         ensures { result ≡ self.now }
     {
         *self.block
+    }
+}
+
+impl fmt::Display for Owned {
+    fn fmt<W: fmt::Write>(&self, f: &mut fmt::Formatter<W>) -> fmt::Result {
+        write!(f, "{}", self.number())
     }
 }
 
@@ -89,12 +97,12 @@ impl Ord for Owned {
     }
 }
 
-/// The numbers, each in a block of its own, in a list with no room to spare.
-pub fn owned_node(alloc: Global, numbers: &[u64]) -> Result<Vec<Owned>, Refusal> {
-    let mut node = Vec::with_capacity(alloc, numbers.len())?;
-    for number in numbers {
-        let item = Owned::new(alloc, *number)?;
-        node.push(item).map_err(|_| Refusal::Memory)?;
+impl Hash for Owned {
+    ghost hash_input = { fed.u64 };
+
+    ghost respects_eq = { Prim.search rules };
+
+    fn hash<H: Hasher>(&self, state: &mut H) {
+        self.number().hash(state);
     }
-    Ok(node)
 }

@@ -4,7 +4,7 @@ use std::fmt;
 
 /// A key with a tag that its order does not read.
 #[derive(Clone, Copy, Debug)]
-#[derive_where(PartialEq, Eq, PartialOrd, Ord)]
+#[derive_where(PartialEq, Eq, PartialOrd, Ord, Hash)]
 pub struct Tagged {
     pub key: u64,
     #[derive_where(skip(EqHashOrd))]

@@ -1,4 +1,5 @@
-//! The crate that a user lists has everything by the paths of the Rust crate.
+//! The crate that a user lists has everything by the paths of the Rust crate: here each type, trait
+//! and constant of it is named by its path, so that one that is missing does not compile.
 
 use indexset::base::bounds::bounds_are_ordered;
 use indexset::base::constants::DEFAULT_INNER_SIZE;
@@ -12,6 +13,91 @@ use indexset::replica::Replica;
 use indexset::{BTreeMap, BTreeSet, IntoIterMap, IterMap, RangeMap};
 use std::ops::Bound;
 use std::test::Fail;
+
+// The types of the crate's root.
+type Root<'a> = (
+    (indexset::BTreeSet<u64>, indexset::BTreeMap<u64, char>),
+    (indexset::Iter<'a, u64>, indexset::IntoIter<u64>),
+    (indexset::Union<'a, u64>, indexset::Difference<'a, u64>),
+    (
+        indexset::SymmetricDifference<'a, u64>,
+        indexset::Intersection<'a, u64>,
+    ),
+    (indexset::Range<'a, u64>, indexset::Cursor<'a, u64>),
+    (
+        indexset::VacantEntry<'a, u64, char>,
+        indexset::OccupiedEntry<'a, u64, char>,
+        indexset::Entry<'a, u64, char>,
+    ),
+    (
+        indexset::IterMap<'a, u64, char>,
+        indexset::IntoIterMap<u64, char>,
+    ),
+    (
+        indexset::IntoKeys<u64, char>,
+        indexset::IntoValues<u64, char>,
+    ),
+    (
+        indexset::RangeMap<'a, u64, char>,
+        indexset::CursorMap<'a, u64, char>,
+    ),
+    (
+        indexset::Values<'a, u64, char>,
+        indexset::Keys<'a, u64, char>,
+    ),
+    (
+        indexset::IterMut<'a, u64, char>,
+        indexset::ValuesMut<'a, u64, char>,
+        indexset::RangeMut<'a, u64, char>,
+    ),
+);
+
+// The types of the logged family.
+type Logged<'a> = (
+    (
+        indexset::concurrent::set::BTreeSet<u64, Vec<u64>>,
+        indexset::concurrent::set::Iter<'a, u64, Vec<u64>>,
+        indexset::concurrent::set::Range<'a, u64, Vec<u64>>,
+    ),
+    (
+        indexset::concurrent::map::BTreeMap<u64, char, Entries>,
+        indexset::concurrent::map::Iter<'a, u64, char, Entries>,
+        indexset::concurrent::map::Range<'a, u64, char, Entries>,
+    ),
+    (
+        indexset::concurrent::multimap::BTreeMultiMap<u64, char, Numbered>,
+        indexset::concurrent::multimap::Iter<'a, u64, char, Numbered>,
+        indexset::concurrent::multimap::RawRange<'a, u64, char, Numbered>,
+        indexset::concurrent::multimap::Range<'a, u64, char, Numbered>,
+    ),
+);
+
+// The nodes of a logged map and of a multimap.
+type Entries = Vec<indexset::base::pair::Pair<u64, char>>;
+
+type Numbered = Vec<indexset::base::multipair::MultiPair<u64, char>>;
+
+// The types of events.
+type Events = (
+    indexset::cdc::change::Id,
+    indexset::cdc::change::ChangeEvent<u64>,
+    indexset::cdc::change::ChangeEventUnassigned<u64>,
+);
+
+// The trait of nodes.
+fn longest_node<N: indexset::base::node::NodeLike<u64>>(node: &N) -> usize {
+    node.capacity()
+}
+
+#[test]
+fn each_path_of_the_rust_crate(rt: HostRuntime) -> Result<(), Fail> {
+    let none: (Option<Root<'_>>, Option<Logged<'_>>, Option<Events>) = (None, None, None);
+    let sizes = indexset::base::constants::DEFAULT_CUTOFF
+        < indexset::base::constants::DEFAULT_INNER_SIZE;
+    let room = longest_node(&Vec::<u64>::with_capacity(rt.alloc(), 4)?);
+    assert!(rt; none.0.is_none() && none.1.is_none() && none.2.is_none() && sizes && room <= 4);
+    Ok(())
+}
 
 // Whether the values between two bounds are these, the last first.
 fn shows_backwards(range: RangeMap<'_, u64, char>, values: &[char]) -> bool {

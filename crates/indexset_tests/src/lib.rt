@@ -7,8 +7,6 @@
 #[cfg(test)]
 mod fenwick;
 #[cfg(test)]
-mod node;
-#[cfg(test)]
 mod probe;
 #[cfg(test)]
 mod refusal;

@@ -6,22 +6,10 @@ use indexset_set::BTreeSet;
 use std::alloc::Global;
 use std::ops::Range;
 
-mod algebra;
-mod bulk;
 mod clones;
-mod compare;
 mod counted;
-mod cursor;
-mod edits;
-mod iter;
-mod lookup;
-mod make;
 mod pairs;
-mod positions;
-mod range;
 mod range_forms;
-mod sets;
-mod tagged;
 mod traits;
 
 // Adds a value, and lets it go where memory is refused.

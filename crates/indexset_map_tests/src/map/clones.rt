@@ -1,5 +1,5 @@
-//! Clones that fail, many pairs, and iterators that tell a wrong number of pairs.
-use super::{put, shows, tens};
+//! Clones that fail, and iterators that tell a wrong number of pairs.
+use super::{put, shows};
 use indexset_core::refusal::Refusal;
 use indexset_map::BTreeMap;
 use indexset_play::misled::Misled;
@@ -47,47 +47,6 @@ fn clone_fails_at_each_key_and_value(rt: HostRuntime) -> Result<(), Fail> {
     }
     clones.set(6);
     assert!(rt; is_cloned(&map));
-    Ok(())
-}
-
-// Whether a key is inserted by its entry.
-fn is_entered(map: &mut BTreeMap<u64, u64>, key: u64) -> bool {
-    map.entry(key).or_insert(key).is_ok()
-}
-
-// Whether 100 001 keys go in behind those that are there.
-fn takes_many(map: &mut BTreeMap<u64, u64>) -> bool {
-    for key in 100_000..200_001 {
-        if !is_entered(map, key) {
-            return false;
-        }
-    }
-    true
-}
-
-// Whether the copy is split at 50 000, and the map is put behind what is cut off.
-fn splits_and_appends(copy: &mut BTreeMap<u64, u64>, map: &mut BTreeMap<u64, u64>) -> bool {
-    match copy.split_off(&50_000) {
-        Ok(mut rest) => {
-            rest.append(map).is_ok() && copy.len() == 50_000 && rest.len() == 200_001
-        }
-        Err(_) => false,
-    }
-}
-
-// Whether the map is copied, and the copy split and appended to.
-fn is_copied_and_split(map: &mut BTreeMap<u64, u64>) -> bool {
-    match map.clone() {
-        Ok(mut copy) => splits_and_appends(&mut copy, map),
-        Err(_) => false,
-    }
-}
-
-// Memory is ample here, so no call may fail, whatever the size.
-#[test]
-fn memory_is_found_for_many_pairs(rt: HostRuntime) -> Result<(), Fail> {
-    let mut map = tens(rt.alloc(), 1024, 100_000)?;
-    assert!(rt; takes_many(&mut map) && is_copied_and_split(&mut map));
     Ok(())
 }
 

@@ -1,5 +1,5 @@
-//! How often a call compares, told by keys that count, and how often `retain` asks.
-use super::{put, shows};
+//! How often a call compares, told by keys that count.
+use super::put;
 use indexset_core::refusal::Refusal;
 use indexset_map::{BTreeMap, Entry};
 use indexset_play::counted::Counted;
@@ -166,21 +166,5 @@ fn few_comparisons_of_calls_that_change(rt: HostRuntime) -> Result<(), Fail> {
         asked: &asked,
     };
     assert!(rt; splits_in_few(&mut map, &sought));
-    Ok(())
-}
-
-#[test]
-fn retain_asks_once_a_pair(rt: HostRuntime) -> Result<(), Fail> {
-    let mut map = BTreeMap::with_maximum_node_size(rt.alloc(), 2)?;
-    for key in 1..8 {
-        put(&mut map, key, 0u64)?;
-    }
-    let mut asked = 0u64;
-    map.retain(|key: &u64, value: &mut u64| -> bool {
-        asked = asked.wrapping_add(1);
-        *value = asked;
-        key % 2 == 1
-    });
-    assert!(rt; asked == 7 && shows(map.iter(), &[(1, 1), (3, 3), (5, 5), (7, 7)]));
     Ok(())
 }

@@ -1,6 +1,5 @@
-//! Clones that fail or come in another order, and clones of many elements.
+//! Clones that fail or come in another order.
 use super::add;
-use super::sets::play_at;
 use indexset_core::refusal::Refusal;
 use indexset_play::mirrored::Mirrored;
 use indexset_play::scarce::Scarce;
@@ -73,24 +72,4 @@ fn clones_that_descend_are_inserted_in_turn(rt: HostRuntime) -> Result<(), Fail>
     }
     assert!(rt; gives_a_mirrored_clone(&set) && set.len() == 4);
     Ok(())
-}
-
-// Memory is ample here, so no call may fail, whatever the size.
-const MANY_ELEMENTS: &str = "
-set 0..200001
-replace 200001 -> none
-clone
-swap
-split_off 100000
-len -> 100000
-# The upper part of the clone takes the whole set in.
-set 0..200002
-swap
-append
-len -> 200002
-";
-
-#[test]
-fn memory_is_found_for_many_elements(rt: HostRuntime) -> Result<(), Fail> {
-    play_at(rt.alloc(), 1024, MANY_ELEMENTS)
 }

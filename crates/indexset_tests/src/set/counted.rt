@@ -1,9 +1,8 @@
-//! How often a call compares, told by keys that count, and how often `retain` and `retain_pairs` ask.
+//! How often a call compares, told by keys that count, and how often `retain_pairs` asks.
 use super::{add, has_pairs, noughts};
 use indexset_core::pair::Pair;
 use indexset_core::refusal::Refusal;
 use indexset_play::counted::Counted;
-use indexset_play::sized::set_of;
 use indexset_set::BTreeSet;
 use std::alloc::Global;
 use std::cell::Cell;
@@ -133,22 +132,5 @@ fn asks_once_a_pair(set: &mut BTreeSet<Pair<u64, u64>>) -> bool {
 fn retain_pairs_asks_once_a_pair(rt: HostRuntime) -> Result<(), Fail> {
     let mut set = noughts(rt.alloc(), 1..8)?;
     assert!(rt; asks_once_a_pair(&mut set));
-    Ok(())
-}
-
-// Whether every second element is kept, and each is asked for once.
-fn keeps_every_second(set: &mut BTreeSet<u64>) -> bool {
-    let mut asked = 0u64;
-    set.retain(|_| {
-        asked = asked.wrapping_add(1);
-        asked % 2 == 1
-    });
-    asked == 7 && set.iter().eq(&[1, 3, 5, 7]) && set.node_count() == 4
-}
-
-#[test]
-fn every_second_kept(rt: HostRuntime) -> Result<(), Fail> {
-    let mut set = set_of(rt.alloc(), 2, &[1u64, 2, 3, 4, 5, 6, 7])?;
-    assert!(rt; keeps_every_second(&mut set));
     Ok(())
 }

@@ -39,19 +39,26 @@ fn shows_the_rest(alloc: Global, set: &BTreeSet<u64>) -> bool {
     matches!(walk.clone(), Ok(copy) if has_text(alloc, &copy, "[1, 2]"))
 }
 
-// Whether the elements of two sets have a text.
-fn shows_a_union(alloc: Global, left: &BTreeSet<u64>, right: &BTreeSet<u64>) -> bool {
-    let both = left.union(right);
-    matches!(format!(in alloc; "{both:?}"), Ok(text) if !text.is_empty())
+// Whether the iterators over 0 to 2 and 1 to 3, each after its first element, show the others.
+fn shows_what_remains(alloc: Global, left: &BTreeSet<u64>, right: &BTreeSet<u64>) -> bool {
+    let (mut either, mut both) = (left.union(right), left.intersection(right));
+    let (mut left_alone, mut alone) = (left.difference(right), left.symmetric_difference(right));
+    let shows_whole = has_text(alloc, &left_alone, "[0]") && has_text(alloc, &alone, "[0, 3]");
+    let firsts = (either.next(), both.next(), left_alone.next(), alone.next());
+    let shows_rest = has_text(alloc, &either, "[1, 2, 3]") && has_text(alloc, &both, "[2]");
+    let shows_others = has_text(alloc, &left_alone, "[]") && has_text(alloc, &alone, "[3]");
+    let takes = firsts == (Some(&0), Some(&1), Some(&0), Some(&0));
+    let stays = either.eq([1, 2, 3].iter()) && both.eq([2].iter()) && alone.eq([3].iter());
+    shows_whole && shows_rest && shows_others && takes && stays
 }
 
-// Whether a union with another set has a text, and so has a walk that owns that one.
+// Whether iterators over two sets show what remains, and one that owns a set how many.
 fn shows_another(alloc: Global, left: &BTreeSet<u64>) -> bool {
     let right: Result<BTreeSet<u64>, AllocError> = (1..4u64).collect(alloc);
     let Ok(right) = right else {
         return false;
     };
-    let is_shown = shows_a_union(alloc, left, &right);
+    let is_shown = shows_what_remains(alloc, left, &right);
     is_shown && has_text(alloc, &right.into_iter(), "IntoIter { left: 3, .. }")
 }
 
