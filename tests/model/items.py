@@ -1,0 +1,104 @@
+"""Items, and how a script spells them.
+
+A number is `7`, an item with a tag or with a value `7:a`, and a pair with a number `7:a #0`. A node is
+`[7:a,9:b]`. Two items are equal where their keys and numbers are: the order does not read the tag or value.
+"""
+
+from __future__ import annotations
+
+import re
+from collections.abc import Callable, Sequence
+from dataclasses import dataclass
+from typing import NamedTuple
+
+LARGEST = 2**64 - 1
+DEFAULT_SIZE = 1024
+NODE = re.compile(r"\[([^\[\]]*)\]")
+
+
+class Item(NamedTuple):
+    """A key, what else the order reads, and what it does not read."""
+
+    key: int
+    number: int = 0
+    value: str = ""
+
+
+class BadWord(Exception):
+    """A word that is missing, or is not what the call takes."""
+
+
+def order(item: Item) -> tuple[int, int]:
+    """What the order compares."""
+    return item[0], item[1]
+
+
+def read_natural(word: str) -> int:
+    """The number of a word, which fits 64 bits."""
+    if not re.fullmatch(r"[0-9]+", word) or int(word) > LARGEST:
+        raise BadWord(word)
+    return int(word)
+
+
+@dataclass(frozen=True)
+class Spelling:
+    """How the items of a subject are read and written."""
+
+    pattern: re.Pattern[str]
+    words: int
+    write: Callable[[Item], str]
+
+    def read(self, text: str) -> Item:
+        """The item of a text."""
+        found = self.pattern.fullmatch(text.strip())
+        if found is None:
+            raise BadWord(text)
+        key, value, number = (found.groupdict().get(name) for name in ("key", "value", "number"))
+        return Item(read_natural(key or ""), read_natural(number or "0"), value or "")
+
+    def take(self, words: list[str]) -> Item:
+        """The item of the first words, which it removes."""
+        text = " ".join(words[: self.words])
+        del words[: self.words]
+        return self.read(text)
+
+    def write_all(self, items: Sequence[Item]) -> str:
+        """The texts of items, with blanks between."""
+        return " ".join(map(self.write, items))
+
+    def read_node(self, text: str) -> list[Item]:
+        """The node of a text."""
+        found = NODE.fullmatch(text.strip())
+        if found is None:
+            raise BadWord(text)
+        return [self.read(it) for it in found[1].split(",") if it.strip()]
+
+    def read_nodes(self, text: str) -> list[list[Item]]:
+        """The nodes of a text."""
+        if NODE.sub("", text).strip():
+            raise BadWord(text)
+        return [self.read_node(found[0]) for found in NODE.finditer(text)]
+
+    def write_nodes(self, nodes: Sequence[Sequence[Item]]) -> str:
+        """The texts of nodes, with blanks between."""
+        return " ".join("[" + ",".join(map(self.write, node)) + "]" for node in nodes)
+
+
+def write_number(item: Item) -> str:
+    """A key alone."""
+    return str(item.key)
+
+
+def write_pair(item: Item) -> str:
+    """A key with its tag or value."""
+    return f"{item.key}:{item.value}"
+
+
+def write_numbered(item: Item) -> str:
+    """A key with its value, and the pair's number."""
+    return f"{item.key}:{item.value} #{item.number}"
+
+
+NUMBERS = Spelling(re.compile(r"(?P<key>\d+)"), 1, write_number)
+PAIRS = Spelling(re.compile(r"(?P<key>\d+):(?P<value>\S+)"), 1, write_pair)
+NUMBERED = Spelling(re.compile(r"(?P<key>\d+):(?P<value>\S+) +#(?P<number>\d+)"), 2, write_numbered)

@@ -1,0 +1,112 @@
+"""A logged tree: its nodes, its event numbers, and what a change of it gives.
+
+A change edits the nodes by the rules of nodes, gives the events of the event table, and fails unless the
+events, replayed on the nodes before it, lead to the nodes after it.
+"""
+
+from __future__ import annotations
+
+from collections.abc import Iterable, Sequence
+from dataclasses import dataclass, field
+
+import definitions
+from definitions import Bound, equal_to, in_range, is_ascending, joined
+from items import LARGEST, Item, Spelling, order
+from language import Refused
+from nodes import Event, Events, Node, Nodes, is_node_list, put_events, removal_events, replay, with_node
+from nodes import with_put, with_removal
+
+
+
+@dataclass
+class Tree:
+    """A tree of nodes of at most `size` items, whose next event has the number `next`."""
+
+    size: int
+    next: int = 0
+    nodes: Nodes = field(default_factory=list)
+
+    @property
+    def items(self) -> list[Item]:
+        """The contents."""
+        return joined(self.nodes)
+
+    def change(self, nodes: Nodes, items: Sequence[Item], events: list[Event]) -> Events:
+        """Makes the nodes those that a change leaves, and returns its events with their numbers."""
+        assert replay(self.nodes, events) == nodes and joined(nodes) == items and len(events) <= 3
+        assert is_node_list(nodes) and all(len(node) <= self.size for node in nodes)
+        if self.next + len(events) > LARGEST:
+            raise Refused("Numbers")
+        numbered = list(enumerate(events, self.next))
+        self.nodes, self.next = nodes, self.next + len(events)
+        return numbered
+
+    def put(self, item: Item) -> tuple[Item | None, Events]:
+        """Puts an item; the equal one that it replaces, and the events."""
+        old = equal_to(self.items, item)
+        events = put_events(self.nodes, self.size, item)
+        after = with_put(self.nodes, self.size, item)
+        return old, self.change(after, definitions.put(self.items, item), events)
+
+    def put_checked(self, item: Item) -> Events | None:
+        """Puts an item unless an equal one is there; the events."""
+        return None if equal_to(self.items, item) else self.put(item)[1]
+
+    def remove(self, item: Item) -> tuple[Item | None, Events]:
+        """Removes the item that is equal to this one; it, and the events."""
+        old = equal_to(self.items, item)
+        events = removal_events(self.nodes, self.size, item)
+        after = with_removal(self.nodes, self.size, item)
+        return old, self.change(after, definitions.without(self.items, item), events)
+
+    def remove_range(self, start: Bound, end: Bound) -> None:
+        """Removes the items of a range from each node; emptied nodes go."""
+        out = {order(it) for it in in_range(self.items, start, end)}
+        nodes = [[it for it in node if order(it) not in out] for node in self.nodes]
+        self.nodes = [node for node in nodes if node]
+
+    def attach(self, node: Node) -> None:
+        """Inserts a whole node."""
+        cause = refusal_of_node(node, self.size) or (None if fits(self.nodes, node) else "Overlaps")
+        if cause is not None:
+            raise Refused(cause)
+        self.nodes = with_node(self.nodes, node)
+
+    def place_of(self, item: Item) -> tuple[bool, int, int]:
+        """Whether an item is there, and the node and the place where it is or would be put."""
+        if not self.nodes:
+            return False, 0, 0
+        ahead = [node for node in self.nodes if order(node[-1]) < order(item)]
+        place = min(len(ahead), len(self.nodes) - 1)
+        node = self.nodes[place]
+        return equal_to(node, item) is not None, place, definitions.rank(node, item)
+
+
+def refusal_of_node(node: Sequence[Item], size: int) -> str | None:
+    """Why a node may not be in any tree of this node size, if so."""
+    if not node:
+        return "Empty"
+    if len(node) > size:
+        return "TooLarge"
+    return None if is_ascending(node) else "Unsorted"
+
+
+def fits(nodes: Sequence[Node], node: Node) -> bool:
+    """Whether a node lies before, between or behind these as a whole."""
+    return is_node_list(with_node(nodes, node))
+
+
+def refusal_of_nodes(nodes: Iterable[Node], size: int) -> str | None:
+    """Why these are not the nodes of a tree: what is wrong with the first that may not follow the others."""
+    before: list[Item] = []
+    for node in nodes:
+        cause = refusal_of_node(node, size)
+        if cause is not None or not is_ascending([*before, *node]):
+            return cause or "Overlaps"
+        before = node
+    return None
+
+
+def texts(events: Iterable[tuple[int, Event]], spelling: Spelling) -> list[str]:
+    """The texts of events."""
+    return [event.write(number, spelling) for number, event in events]

@@ -1,0 +1,96 @@
+"""The logged map that a script calls."""
+
+from __future__ import annotations
+
+from collections.abc import Sequence
+
+from definitions import equal_to
+from followed import Followed
+from items import PAIRS, Item, read_natural
+from language import Group, Refused, Words, none, one, shown
+from logged import Tree
+from nodes import Events
+
+
+class LoggedMaps(Followed):
+    """A logged map, and a replica that follows it."""
+
+    def __init__(self, size: int) -> None:
+        super().__init__(size, PAIRS)
+
+    def groups(self) -> Sequence[Group]:
+        return (self.fill, self.put, self.put_checked, self.remove, self.pop, self.find, *self.common())
+
+    def fill(self, name: str, words: Words) -> str | None:
+        """Makes an empty map of a node size."""
+        if name != "map":
+            return None
+        self.restart(Tree(read_natural(one(words))))
+        return ""
+
+    def put(self, name: str, words: Words) -> str | None:
+        """Stores a pair whole."""
+        if name not in ("insert", "insert_cdc"):
+            return None
+        try:
+            answer, events = self.put_pair(PAIRS.read(one(words)))
+        except Refused as refused:
+            raise Refused(refused.cause, one(words)) from None
+        return self.told(answer, events) if name == "insert_cdc" else answer
+
+    def put_pair(self, pair: Item) -> tuple[str, Events]:
+        """Puts a pair: the old value, and the events."""
+        old, events = self.tree.put(pair)
+        return "none" if old is None else old.value, events
+
+    def command(self, name: str, word: str) -> tuple[str, Events]:
+        match name:
+            case "insert":
+                return self.put_pair(PAIRS.read(word))
+            case "checked_insert":
+                events = self.tree.put_checked(PAIRS.read(word))
+                return shown(events is not None), events or []
+            case "remove":
+                old, events = self.tree.remove(Item(read_natural(word)))
+                return self.text(old), events
+            case _:
+                return super().command(name, word)
+
+    def put_checked(self, name: str, words: Words) -> str | None:
+        """Stores a pair unless its key is there."""
+        if name not in ("checked_insert", "checked_insert_cdc"):
+            return None
+        try:
+            events = self.tree.put_checked(PAIRS.read(one(words)))
+        except Refused as refused:
+            raise Refused(refused.cause, one(words)) from None
+        if events is None:
+            return "none"
+        return self.told("some", events) if name.endswith("_cdc") else "some"
+
+    def remove(self, name: str, words: Words) -> str | None:
+        """Removes the pair of a key."""
+        if name not in ("remove", "remove_cdc"):
+            return None
+        return self.removed(Item(read_natural(one(words))), name.endswith("_cdc"))
+
+    def pop(self, name: str, words: Words) -> str | None:
+        """Removes the pair at an end."""
+        if name not in ("pop_first", "pop_last", "pop_first_cdc", "pop_last_cdc"):
+            return None
+        none(words)
+        if not self.tree.items:
+            return "none"
+        return self.removed(self.tree.items[0 if name.startswith("pop_first") else -1], name.endswith("_cdc"))
+
+    def removed(self, pair: Item, is_told: bool) -> str:
+        """Removes a pair."""
+        old, events = self.tree.remove(pair)
+        return self.told(self.text(old), events) if is_told else self.text(old)
+
+    def find(self, name: str, words: Words) -> str | None:
+        """Looks for a key."""
+        if name not in ("get", "contains_key"):
+            return None
+        pair = equal_to(self.tree.items, Item(read_natural(one(words))))
+        return self.text(pair) if name == "get" else shown(pair is not None)

@@ -1,0 +1,140 @@
+"""The multimap that a script calls: its pairs stand by their keys, and then by their numbers."""
+
+from __future__ import annotations
+
+from collections.abc import Sequence
+
+from followed import Followed
+from items import LARGEST, NUMBERED, PAIRS, Item, read_natural, write_pair
+from language import Group, Refused, Words, none, one, shown
+from logged import Tree
+from nodes import Events, Node, Nodes
+from walks import NONE
+
+
+class MultiMaps(Followed):
+    """A multimap, and a replica that follows it."""
+
+    def __init__(self, size: int) -> None:
+        super().__init__(size, NUMBERED)
+        self.pair_next = 0
+
+    def groups(self) -> Sequence[Group]:
+        return (self.fill, self.put, self.remove, self.take, self.remove_all, self.find, *self.common())
+
+    def shown_item(self, item: Item | None) -> str:
+        return NONE if item is None else write_pair(item)
+
+    def restart(self, tree: Tree) -> None:
+        super().restart(tree)
+        self.pair_next = 1 + max((it.number for it in tree.items), default=-1)
+
+    def refusal_of_nodes(self, nodes: Nodes, size: int) -> str | None:
+        if any(it.number == LARGEST for node in nodes for it in node):
+            return "PairNumber"
+        return super().refusal_of_nodes(nodes, size)
+
+    def attach_node(self, node: Node) -> None:
+        if any(it.number == LARGEST for it in node):
+            raise Refused("PairNumber")
+        self.tree.attach(node)
+        self.pair_next = max(self.pair_next, *(it.number + 1 for it in node))
+
+    def pairs_of(self, key: int) -> list[Item]:
+        """The pairs of a key."""
+        return [it for it in self.tree.items if it.key == key]
+
+    def fill(self, name: str, words: Words) -> str | None:
+        """Makes an empty multimap of a node size."""
+        if name != "map":
+            return None
+        self.restart(Tree(read_natural(one(words))))
+        return ""
+
+    def put(self, name: str, words: Words) -> str | None:
+        """Replaces the first pair of an equal value, or adds a pair."""
+        if name not in ("insert", "insert_cdc"):
+            return None
+        try:
+            answer, events = self.put_pair(PAIRS.read(one(words)))
+        except Refused as refused:
+            raise Refused(refused.cause, one(words)) from None
+        return self.told(answer, events) if name == "insert_cdc" else answer
+
+    def put_pair(self, pair: Item) -> tuple[str, Events]:
+        """Puts a pair, with the number of the one that it replaces or with a new one; the old value."""
+        old = next(iter(self.equal_pairs(pair)), None)
+        if old is not None:
+            return old.value, self.tree.put(pair._replace(number=old.number))[1]
+        if self.pair_next == LARGEST:
+            raise Refused("Numbers")
+        events = self.tree.put(pair._replace(number=self.pair_next))[1]
+        self.pair_next += 1
+        return NONE, events
+
+    def equal_pairs(self, pair: Item) -> list[Item]:
+        """The pairs of a key whose value is equal."""
+        return [it for it in self.pairs_of(pair.key) if it.value == pair.value]
+
+    def remove(self, name: str, words: Words) -> str | None:
+        """Removes the first pair of a key whose value is equal."""
+        if name not in ("remove", "remove_cdc"):
+            return None
+        return self.removed(self.equal_pairs(PAIRS.read(one(words)))[:1], name.endswith("_cdc"))
+
+    def take(self, name: str, words: Words) -> str | None:
+        """Removes the first pair of a key, or the pair at an end."""
+        match name:
+            case "remove_some" | "remove_some_cdc":
+                pairs = self.pairs_of(read_natural(one(words)))[:1]
+            case "pop_first" | "pop_first_cdc":
+                none(words)
+                pairs = self.tree.items[:1]
+            case "pop_last" | "pop_last_cdc":
+                none(words)
+                pairs = self.tree.items[-1:]
+            case _:
+                return None
+        return self.removed(pairs, name.endswith("_cdc"))
+
+    def removed(self, pairs: Sequence[Item], is_told: bool) -> str:
+        """Removes a pair, if there is one."""
+        answer, events = self.gone(pairs)
+        return self.told(answer, events) if is_told else answer
+
+    def gone(self, pairs: Sequence[Item]) -> tuple[str, Events]:
+        """Removes pairs: the first, and the events of all."""
+        events = [event for pair in pairs for event in self.tree.remove(pair)[1]]
+        return self.shown_item(pairs[0] if pairs else None), events
+
+    def remove_all(self, name: str, words: Words) -> str | None:
+        """Removes the pairs of a key, one after another; how many they were."""
+        if name not in ("remove_all", "remove_all_cdc"):
+            return None
+        pairs = self.pairs_of(read_natural(one(words)))
+        events = self.gone(pairs)[1]
+        return self.told(str(len(pairs)), events) if name == "remove_all_cdc" else str(len(pairs))
+
+    def command(self, name: str, word: str) -> tuple[str, Events]:
+        match name:
+            case "insert":
+                return self.put_pair(PAIRS.read(word))
+            case "remove":
+                return self.gone(self.equal_pairs(PAIRS.read(word))[:1])
+            case "remove_some":
+                return self.gone(self.pairs_of(read_natural(word))[:1])
+            case _:
+                return super().command(name, word)
+
+    def find(self, name: str, words: Words) -> str | None:
+        """Looks for a key."""
+        if name not in ("contains_key", "get", "raw_get", "raw_get_back"):
+            return None
+        pairs = self.pairs_of(read_natural(one(words)))
+        match name:
+            case "contains_key":
+                return shown(bool(pairs))
+            case "get":
+                return " ".join(map(write_pair, pairs))
+            case _:
+                return self.spelling.write_all(pairs if name == "raw_get" else pairs[::-1])

@@ -1,0 +1,184 @@
+"""Lists of nodes, what one event does to them, and the events that a change of them gives.
+
+`put_events`, `removal_events` are the event table, `with_put`, `with_removal` say where an item goes and
+which nodes are cut or joined. Neither uses the other, and `replay` uses none of them: it finds a node by
+its last item.
+"""
+
+from __future__ import annotations
+
+from collections.abc import Iterable, Sequence
+from dataclasses import dataclass
+
+from definitions import equal_to, is_ascending, joined, put, rank, without
+from items import BadWord, Item, Spelling, order, read_natural
+
+Node = list[Item]
+Nodes = list[Node]
+KINDS = ("create", "drop", "insert", "remove", "split", "merge")
+
+
+@dataclass(frozen=True)
+class Event:
+    """An event without its number: the last item of its node, and what else it names."""
+
+    kind: str
+    last: Item
+    item: Item | None = None
+    index: int = 0
+
+    def write(self, number: int, spelling: Spelling) -> str:
+        """The text of the event with its number."""
+        words = [str(number), self.kind, spelling.write(self.last)]
+        if self.item is not None:
+            words.append(spelling.write(self.item))
+        if self.kind in ("insert", "remove", "split"):
+            words.append(str(self.index))
+        return " ".join(words)
+
+
+Events = list[tuple[int, Event]]
+
+
+def read_event(words: Sequence[str], spelling: Spelling) -> tuple[int, Event]:
+    """The event of its words, and its number."""
+    number, kind, *rest = words
+    last = spelling.take(rest)
+    item = spelling.take(rest) if kind in ("insert", "remove", "merge") else None
+    index = read_natural(rest.pop(0)) if kind in ("insert", "remove", "split") else 0
+    if kind not in KINDS or rest:
+        raise BadWord(" ".join(words))
+    return read_natural(number), Event(kind, last, item, index)
+
+
+def is_node_list(nodes: Sequence[Node]) -> bool:
+    """Whether these are nodes with items, whose concatenation is ascending."""
+    return all(nodes) and is_ascending(joined(nodes))
+
+
+def node_named(nodes: Sequence[Node], last: Item) -> int | None:
+    """The place of the node whose last item equals this one, if any."""
+    return next((i for i, node in enumerate(nodes) if order(node[-1]) == order(last)), None)
+
+
+def with_node(nodes: Sequence[Node], node: Node) -> Nodes:
+    """The nodes with one more, behind all that end below its last item."""
+    before = [it for it in nodes if order(it[-1]) < order(node[-1])]
+    return [*before, node, *nodes[len(before) :]]
+
+
+def edited(node: Node, event: Event) -> Nodes | None:
+    """The nodes that an event makes of the one that it names."""
+    i, rest = event.index, len(node) - event.index
+    if event.kind == "insert" and event.item is not None and rest >= 0:
+        return [[*node[:i], event.item, *node[i:]]]
+    if event.kind == "remove" and event.item is not None and rest > 0 and len(node) > 1:
+        return [[*node[:i], *node[i + 1 :]]] if order(node[i]) == order(event.item) else None
+    if event.kind == "split" and i > 0 and rest > 0:
+        return [node[:i], node[i:]]
+    return [] if event.kind == "drop" else None
+
+
+def step(nodes: Nodes, event: Event) -> Nodes | None:
+    """What an event makes of the nodes, or none where it does not apply."""
+    if event.kind == "create":
+        after: Nodes | None = with_node(nodes, [event.last])
+    elif (place := node_named(nodes, event.last)) is None:
+        after = None
+    elif event.kind == "merge":
+        follows = event.item is not None and node_named(nodes, event.item) == place + 1
+        after = [*nodes[:place], joined(nodes[place : place + 2]), *nodes[place + 2 :]] if follows else None
+    else:
+        parts = edited(nodes[place], event)
+        after = None if parts is None else [*nodes[:place], *parts, *nodes[place + 1 :]]
+    return after if after is not None and is_node_list(after) else None
+
+
+def replay(nodes: Nodes, events: Iterable[Event]) -> Nodes | None:
+    """What events make of the nodes in turn."""
+    after: Nodes | None = nodes
+    for event in events:
+        if after is None:
+            return None
+        after = step(after, event)
+    return after
+
+
+def target_of(nodes: Sequence[Node], item: Item) -> int:
+    """The first node whose last item is not below this one, else the last node."""
+    ahead = [node for node in nodes if order(node[-1]) < order(item)]
+    return min(len(ahead), len(nodes) - 1)
+
+
+def put_events(nodes: Sequence[Node], size: int, item: Item) -> list[Event]:
+    """The events of a put."""
+    if not nodes:
+        return [Event("create", item)]
+    node, cut = nodes[target_of(nodes, item)], []
+    if len(node) >= size:
+        half = len(node) // 2
+        cut = [Event("split", node[-1], None, half)]
+        node = node[:half] if order(item) <= order(node[half - 1]) else node[half:]
+    return [*cut, *placed(node, item)]
+
+
+def placed(node: Node, item: Item) -> list[Event]:
+    """The events of a put into a node that has room."""
+    old, index = equal_to(node, item), rank(node, item)
+    if old is None:
+        return [Event("insert", node[-1], item, index)]
+    if len(node) == 1:
+        return [Event("drop", old), Event("create", item)]
+    last = node[-2] if index == len(node) - 1 else node[-1]
+    return [Event("remove", node[-1], old, index), Event("insert", last, item, index)]
+
+
+def removal_events(nodes: Sequence[Node], size: int, item: Item) -> list[Event]:
+    """The events of the removal of an item that is equal to this one."""
+    place = next((i for i, node in enumerate(nodes) if equal_to(node, item)), None)
+    if place is None:
+        return []
+    node = nodes[place]
+    old = node[rank(node, item)]
+    if len(node) == 1:
+        return [Event("drop", old)]
+    left = without(node, item)
+    events = [Event("remove", node[-1], old, rank(node, item))]
+    for one, other in ((place, place + 1), (place - 1, place)):
+        pair = [left if i == place else nodes[i] for i in (one, other) if 0 <= i < len(nodes)]
+        if len(pair) == 2 and len(joined(pair)) <= size // 2:
+            return [*events, Event("merge", pair[0][-1], pair[1][-1])]
+    return events
+
+
+def with_put(nodes: Sequence[Node], size: int, item: Item) -> Nodes:
+    """The nodes after a put."""
+    if not nodes:
+        return [[item]]
+    place = target_of(nodes, item)
+    node = nodes[place]
+    parts = [node]
+    if len(node) >= size:
+        parts = [node[: len(node) // 2], node[len(node) // 2 :]]
+    goes = 1 if len(parts) == 2 and order(item) > order(parts[0][-1]) else 0
+    parts[goes] = put(parts[goes], item)
+    return [*nodes[:place], *parts, *nodes[place + 1 :]]
+
+
+def with_removal(nodes: Sequence[Node], size: int, item: Item) -> Nodes:
+    """The nodes after a removal: an emptied node goes, and a small one joins a small neighbour."""
+    after = [without(node, item) for node in nodes]
+    changed = next((i for i, node in enumerate(after) if len(node) != len(nodes[i])), None)
+    if changed is None or not after[changed]:
+        return [node for node in after if node]
+    most = size // 2
+    if changed + 1 < len(after) and len(after[changed]) + len(after[changed + 1]) <= most:
+        return join_at(after, changed)
+    if changed > 0 and len(after[changed - 1]) + len(after[changed]) <= most:
+        return join_at(after, changed - 1)
+    return after
+
+
+def join_at(nodes: Nodes, place: int) -> Nodes:
+    """The nodes with the one at the place and the next as one."""
+    return [*nodes[:place], nodes[place] + nodes[place + 1], *nodes[place + 2 :]]

@@ -1,0 +1,146 @@
+"""A set or a map without events: its ascending list, and its nodes where the rules fix them.
+
+Nodes hold at most `size` items, and none is empty unless it is the only one. An absent item goes into the
+node of the first item above it, or at the end of the last node; a full node is first cut at half its length,
+and the item then goes right unless it is below the first item there. An equal item is looked for before
+any cut. An emptied node goes. What `split_off` returns and what `from_sorted` makes may be cut anyhow.
+"""
+
+from __future__ import annotations
+
+from collections.abc import Iterable, Sequence
+from dataclasses import dataclass, field
+
+from definitions import digits, equal_to, is_ascending, joined, keep, put, rank, without
+from items import Item, order
+from language import Unfixed
+from nodes import Node, Nodes
+
+
+MOST_CHECKED = 256
+
+
+def one_empty_node() -> Nodes | None:
+    """The nodes of an empty collection."""
+    return [[]]
+
+
+@dataclass
+class Plain:
+    """A plain collection."""
+
+    size: int
+    items: list[Item] = field(default_factory=list)
+    nodes: Nodes | None = field(default_factory=one_empty_node)
+
+    def __post_init__(self) -> None:
+        self.check()
+
+    def check(self) -> None:
+        """Fails unless the list ascends and the nodes are its nodes."""
+        assert len(self.items) > MOST_CHECKED or is_ascending(self.items)
+        if not self.items:
+            self.nodes = [[]]
+        if self.nodes is not None:
+            assert joined(self.nodes) == self.items
+            assert max(map(len, self.nodes)) <= self.size
+            assert all(self.nodes) or len(self.nodes) == 1
+
+    def copy(self) -> Plain:
+        """The same list in the same nodes."""
+        return Plain(self.size, list(self.items), None if self.nodes is None else list(self.nodes))
+
+    def fixed_nodes(self) -> Nodes:
+        """The nodes, where the rules fix them."""
+        if self.nodes is None:
+            raise Unfixed("the nodes")
+        return self.nodes
+
+    def most_comparisons(self) -> int:
+        """The most that a search may make."""
+        return digits(len(self.fixed_nodes())) + digits(self.size) + 1
+
+    def insert(self, item: Item) -> bool:
+        """Adds an item unless an equal one is there."""
+        if equal_to(self.items, item):
+            return False
+        self.items = keep(self.items, item)
+        if self.nodes is not None:
+            self.nodes = with_new(self.nodes, self.size, item)
+        self.check()
+        return True
+
+    def replace(self, item: Item) -> Item | None:
+        """Puts an item, and returns the equal one that it replaces."""
+        old = equal_to(self.items, item)
+        if old is None:
+            self.insert(item)
+            return None
+        self.items = put(self.items, item)
+        if self.nodes is not None:
+            self.nodes = [put(it, item) if equal_to(it, item) else it for it in self.nodes]
+        self.check()
+        return old
+
+    def remove(self, item: Item) -> Item | None:
+        """Removes the item that is equal to this one, if any."""
+        old = equal_to(self.items, item)
+        self.items = without(self.items, item)
+        if old is not None and self.nodes is not None:
+            self.nodes = [node for node in (without(it, item) for it in self.nodes) if node]
+        self.check()
+        return old
+
+    def retain(self, kept: Iterable[Item]) -> None:
+        """Keeps some of the items, with the values that they now have."""
+        self.items = list(kept)
+        self.keep_in_nodes()
+
+    def keep_in_nodes(self) -> None:
+        """Leaves in the nodes what the list still has; nodes without items go."""
+        if self.nodes is not None:
+            held = {order(it): it for it in self.items}
+            nodes = [[held[order(it)] for it in node if order(it) in held] for node in self.nodes]
+            self.nodes = [node for node in nodes if node] or [[]]
+        self.check()
+
+    def split_off(self, item: Item) -> Plain:
+        """Keeps what is below an item, and returns the rest."""
+        return self.split_off_index(rank(self.items, item))
+
+    def split_off_index(self, place: int) -> Plain:
+        """Keeps the items before a position, and returns the rest."""
+        rest = Plain(self.size, self.items[place:], None)
+        self.retain(self.items[:place])
+        return rest
+
+    def append(self, other: Plain) -> None:
+        """Puts the items of another collection in turn, which loses them."""
+        for item in other.items:
+            self.replace(item)
+        other.clear()
+
+    def clear(self) -> None:
+        """Removes all items, and keeps one node."""
+        self.items, self.nodes = [], [[]]
+
+
+def with_new(nodes: Sequence[Node], size: int, item: Item) -> Nodes:
+    """The nodes with an item to which none is equal."""
+    above = (i for i, node in enumerate(nodes) if node and order(node[-1]) > order(item))
+    place = next(above, len(nodes) - 1)
+    parts = [nodes[place]]
+    if len(parts[0]) >= size:
+        half = len(parts[0]) // 2
+        parts = [parts[0][:half], parts[0][half:]]
+    goes = 1 if len(parts) == 2 and order(item) >= order(parts[1][0]) else 0
+    parts[goes] = put(parts[goes], item)
+    return [*nodes[:place], *parts, *nodes[place + 1 :]]
+
+
+def inserted(size: int, items: Iterable[Item]) -> Plain:
+    """A collection of items inserted in turn."""
+    made = Plain(size)
+    for item in items:
+        made.insert(item)
+    return made

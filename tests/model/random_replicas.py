@@ -1,0 +1,179 @@
+"""Random scripts of replicas: the events of a tree, with losses, repeats, and events that do not fit."""
+
+from __future__ import annotations
+
+from collections.abc import Sequence
+from dataclasses import replace
+
+from draw import Author, Draw, Make
+from items import LARGEST, NUMBERS, Item
+from logged import Tree
+from nodes import KINDS, Event, Events
+from replicas import Replicas
+
+WHOLE = ("nodes", "nodes", "text", "next", "len", "is_empty", "first", "last", "items")
+
+
+class ReplicaAuthor(Author):
+    """An author of scripts of replicas."""
+
+    def __init__(self, draw: Draw, model: Replicas, size: int) -> None:
+        super().__init__(draw, model)
+        self.copies, self.size, self.tree = model, size, Tree(size)
+        self.ahead: Events = []
+
+    def length(self) -> int:
+        return len(self.copies.replica.items)
+
+    def item(self, key: int) -> Item:
+        """An item of a key."""
+        return Item(key, 0, "" if self.copies.spelling is NUMBERS else self.draw.letter())
+
+    def near(self) -> int:
+        """A key that is held, or any."""
+        return self.draw.near(self.copies.replica.items)
+
+    def text(self, number: int, event: Event) -> str:
+        """The words of an event."""
+        return event.write(number, self.copies.spelling)
+
+    def next_event(self) -> tuple[int, Event]:
+        """The first event that the replica was not given, after changes of the tree until there is one."""
+        while not self.ahead:
+            if self.tree.next > LARGEST - 4:
+                return LARGEST, Event("create", self.item(self.near()))
+            grow, shrink = self.phase
+            item = self.item(self.draw.near(self.tree.items))
+            is_put = self.draw.rng.random() * (grow + shrink) < grow
+            self.ahead += (self.tree.put(item) if is_put else self.tree.remove(item))[1]
+        return self.ahead[0]
+
+    def adding(self) -> Sequence[tuple[int, Make]]:
+        return ((70, self.apply), (25, self.hostile), (6, self.keep), (6, self.deliver), (2, self.restart))
+
+    def removing(self) -> Sequence[tuple[int, Make]]:
+        return self.adding()
+
+    def looking(self) -> Sequence[tuple[int, Make]]:
+        rng = self.draw.rng
+        return (
+            (10, lambda: rng.choice(WHOLE)),
+            (8, self.find),
+            (4, self.range),
+            (3, lambda: f"walk {self.draw.steps(('next', 'next_back'))}"),
+            (6, lambda: f"expects {self.text(*self.turned(self.next_event()))}"),
+            (4, self.attach),
+        )
+
+    def apply(self) -> str:
+        """The next event; it is done with, whether the replica takes it or not."""
+        number, event = self.next_event()
+        if self.copies.replica.next != number or self.copies.replica.refusal(number, event):
+            return self.resume()
+        self.ahead = self.ahead[1:]
+        return f"apply {self.text(number, event)}"
+
+    def resume(self) -> str:
+        """Makes the replica one of the tree's nodes."""
+        if self.tree.next > LARGEST - 4 and self.draw.chance(0.1):
+            self.tree = Tree(self.size)
+        self.ahead = []
+        return f"from_nodes {self.tree.next} {self.copies.spelling.write_nodes(self.tree.nodes)}".rstrip()
+
+    def turned(self, told: tuple[int, Event]) -> tuple[int, Event]:
+        """An event with a number that may be too low or too high."""
+        number = told[0] + self.draw.rng.choice((0, 0, -1, 1, 2, -5))
+        return min(max(number, 0), LARGEST), told[1]
+
+    def hostile(self) -> str:
+        """An event with one part changed, or two; or one of the kind that the replica may know."""
+        number, event = self.next_event()
+        if self.copies.replica.nodes and self.draw.chance(0.5):
+            return f"apply {self.text(self.copies.replica.next, self.forged())}"
+        for _ in range(self.draw.rng.randint(1, 2)):
+            number, event = self.changed(number, event)
+        return f"apply {self.text(number, event)}"
+
+    def forged(self) -> Event:
+        """An event that names what the replica holds, or nearly."""
+        rng, nodes = self.draw.rng, self.copies.replica.nodes
+        node, other, kind = rng.choice(nodes), rng.choice(nodes), rng.choice(KINDS)
+        index = rng.randint(0, len(node) + 1)
+        match kind:
+            case "remove":
+                node = min(node, other, key=len)
+                index = rng.randint(0, len(node))
+                return Event(kind, node[-1], node[min(index, len(node) - 1)], index)
+            case "insert":
+                return Event(kind, node[-1], self.item(self.near()), index)
+            case "merge":
+                return Event(kind, node[-1], other[-1])
+            case "split":
+                return Event(kind, node[-1], None, index)
+            case _:
+                return Event(kind, self.item(self.near()))
+
+    def changed(self, number: int, event: Event) -> tuple[int, Event]:
+        """An event with one part changed."""
+        rng, replica = self.draw.rng, self.copies.replica
+        match rng.choice(("number", "kind", "last", "last", "item", "index", "index")):
+            case "number":
+                return self.turned((number, event))
+            case "kind":
+                kind, index = rng.choice(KINDS), rng.randint(0, self.size)
+                item = self.item(self.near()) if kind in ("insert", "remove", "merge") else None
+                return number, Event(kind, event.last, item, index)
+            case "last":
+                node = rng.choice(replica.nodes)[-1] if replica.nodes else self.item(self.near())
+                return number, replace(event, last=self.draw.held([node, self.item(self.near())]) or node)
+            case "item":
+                item = None if event.item is None else self.item(self.near())
+                return number, replace(event, item=item)
+            case _:
+                return number, replace(event, index=max(0, event.index + rng.choice((-1, 1, 2, 9))))
+
+    def keep(self) -> str:
+        """Keeps the next event to be delivered."""
+        number, event = self.next_event()
+        if self.draw.chance(0.9):
+            self.ahead = self.ahead[1:]
+        return f"event {self.text(number, event)}"
+
+    def deliver(self) -> str:
+        """Delivers some of the events that were kept, in any order."""
+        count = len(self.copies.events)
+        if count == 0:
+            return "next"
+        window = list(range(max(0, count - 9), count))
+        places = [place for place in window if self.draw.chance(0.9)] or [0]
+        places += [self.draw.rng.choice(places) for _ in range(self.draw.rng.randint(0, 3))]
+        if self.draw.chance(0.3):
+            self.draw.rng.shuffle(places)
+        return " ".join(["follow", *map(str, places)])
+
+    def restart(self) -> str:
+        """Begins anew, or where numbers run out."""
+        if self.length() and self.draw.chance(0.7):
+            return "len"
+        number = self.draw.rng.choice((0, 7, LARGEST - 30, LARGEST - 1, LARGEST))
+        self.tree, self.ahead = Tree(self.size, min(number, LARGEST - 1)), []
+        return f"new {number}"
+
+    def attach(self) -> str:
+        """Gives the replica a node, which may not fit."""
+        start, count = self.near(), self.draw.rng.randint(0, 3)
+        node = [self.item(start + i) for i in range(count)]
+        if self.draw.chance(0.2):
+            node = node[::-1]
+        return f"attach {self.copies.spelling.write_nodes([node])}"
+
+    def find(self) -> str:
+        """Looks for an item."""
+        item = self.item(self.near())
+        return f"{self.draw.rng.choice(('get', 'contains'))} {self.copies.spelling.write(item)}"
+
+    def range(self) -> str:
+        """A range of keys."""
+        name = self.draw.rng.choice(("range", "range_back"))
+        tag = "" if self.copies.spelling is NUMBERS else f":{self.draw.letter()}"
+        return f"{name} {self.draw.bounds(self.near, tag)}"
