@@ -26,11 +26,10 @@ def fields(pid):
 
 
 def label(pid):
-    """The crate that a process of the prover works on, and what for; None of a copy of another one, and
-    of what `bindings/early.py` runs."""
+    """The crate that a process of the prover works on, and what for; None of a copy of another one."""
     name, rest = fields(pid)
     at = os.readlink(f"/proc/{pid}/cwd")
-    if name != "rattle" or fields(rest[1])[0] == "rattle" or "/early-" in at:
+    if name != "rattle" or fields(rest[1])[0] == "rattle":
         return None
     words = pathlib.Path(f"/proc/{pid}/cmdline").read_bytes().decode(errors="replace").split("\0")
     crate = dict(zip(words, words[1:])).get("--crate-name")
