@@ -1,14 +1,35 @@
-"""CPU nanoseconds a call of the Python package beside `sortedcontainers`, in random order: the least of some runs.
+"""CPU nanoseconds an operation of the Python package beside `sortedcontainers`, in random order: the least of
+some runs, with the loop over the operations, and without the end of what they made.
 
 After `bindings/test.sh`:  PYTHONPATH=bindings/python/out python3 bench/bindings.py 1000 100000
 INDEXSET_BACKEND=ctypes has it go by ctypes.
 """
+import argparse
 import random
-import sys
 import time
+from collections import deque
 
 import indexset
-from sortedcontainers import SortedSet as Peer
+import sortedcontainers
+
+SLICE = 100
+
+
+def cost(call, *words):
+    start = time.thread_time()
+    kept = call(*words)
+    spent = time.thread_time() - start
+    del kept
+    return spent
+
+
+def least(call, *words):
+    """The same of what ends soon, the least of some runs in a row."""
+    first = cost(call, *words)
+    return min([first, *(cost(call, *words) for _ in range(20 if first < 0.001 else 0))])
+
+
+# ---- loops over an operation
 
 
 def each(call, items):
@@ -16,36 +37,140 @@ def each(call, items):
         call(item)
 
 
-def cost(call, *arguments):
-    start = time.thread_time()
-    call(*arguments)
-    return time.thread_time() - start
+def contains(held, items):
+    for item in items:
+        item in held
 
 
-def rows(count):
-    """The name of each row with our cost a call and that of the peer."""
+def at(held, items):
+    for item in items:
+        held[item]
+
+
+def slices(held, items):
+    for item in items:
+        held[item : item + SLICE]
+
+
+def set_at(held, items):
+    for item in items:
+        held[item] = item
+
+
+def delete(held, items):
+    for item in items:
+        del held[item]
+
+
+def first(held, items):
+    for _ in items:
+        next(iter(held))
+
+
+def ranges(held, items):
+    for item in items:
+        next(held.irange(item))
+
+
+def walk(held):
+    for _ in held:
+        pass
+
+
+def drain(iterable):
+    deque(iterable, 0)
+
+
+# ---- rows
+
+
+def of_set(lib, keys, drawn, positions, some):
+    """The name of each row of a set with the cost of all its operations and how many they are."""
+    held, count = lib.SortedSet(), len(keys)
+    yield "add", cost(each, held.add, keys), count
+    yield "in", cost(contains, held, drawn), count
+    yield "bisect_left", cost(each, held.bisect_left, drawn), count
+    yield "[position]", cost(at, held, positions), count
+    yield "a slice of 100", cost(slices, held, positions[:some]), some
+    yield "next(iter)", cost(first, held, positions[:some]), some
+    yield "next(irange)", cost(ranges, held, drawn[:some]), some
+    yield "iterate", least(walk, held), count
+    yield "list", least(list, held), count
+    yield "index", cost(each, held.index, drawn), count
+    yield "ranks", least(getattr(held, "ranks", lambda values: each(held.bisect_left, values)), drawn), count
+    yield "copy", least(held.copy), count
+    yield "update", cost(lib.SortedSet, keys), count
+    yield "remove", cost(each, held.remove, drawn), count
+
+
+def of_dict(lib, keys, drawn, positions, some):
+    held, count = lib.SortedDict(), len(keys)
+    yield "d[k] = v", cost(set_at, held, keys), count
+    yield "d[k]", cost(at, held, drawn), count
+    yield "k in d", cost(contains, held, drawn), count
+    yield "peekitem", cost(each, held.peekitem, positions), count
+    yield "items", least(lambda: drain(held.items())), count
+    yield "del d[k]", cost(delete, held, drawn), count
+
+
+def of_text(lib, keys, drawn, positions, some):
+    keys, drawn = ([f"key {key}" for key in items] for items in (keys, drawn))
+    held, count = lib.SortedDict(), len(keys)
+    yield "text: d[k] = v", cost(set_at, held, keys), count
+    yield "text: get", cost(each, held.get, drawn), count
+    yield "text: bisect_left", cost(each, held.bisect_left, drawn), count
+    yield "text: list", least(list, held), count
+    yield "text: del d[k]", cost(delete, held, drawn), count
+
+
+def of_list(lib, keys, drawn, positions, some):
+    held, count = lib.SortedList(), len(keys)
+    yield "list: add", cost(each, held.add, keys), count
+    yield "list: in", cost(contains, held, drawn), count
+    yield "list: [position]", cost(at, held, positions), count
+    yield "list: bisect_left", cost(each, held.bisect_left, drawn), count
+    yield "list: list", least(list, held), count
+    yield "list: remove", cost(each, held.remove, drawn), count
+
+
+def of_plain(lib, keys, drawn, positions, some):
+    """A dict beside both."""
+    yield "in, of a dict", cost(contains, dict.fromkeys(keys), drawn), len(keys)
+
+
+def run(rows, lib, count):
+    """Each row's name and its nanoseconds an operation."""
     rng = random.Random(count)
-    keys = list({rng.getrandbits(63) for _ in range(count)})
+    keys = list({rng.getrandbits(63) - (1 << 62) for _ in range(count)})
+    drawn = rng.sample(keys, len(keys))
     positions = [rng.randrange(count) for _ in keys]
-    ours, peer = indexset.SortedSet(), Peer()
-    yield "add", cost(each, ours.add, keys), cost(each, peer.add, keys)
-    rng.shuffle(keys)
-    yield "contains", cost(each, ours.__contains__, keys), cost(each, peer.__contains__, keys)
-    yield "bisect_left", cost(each, ours.bisect_left, keys), cost(each, peer.bisect_left, keys)
-    yield "[position]", cost(each, ours.__getitem__, positions), cost(each, peer.__getitem__, positions)
-    yield "ranks", cost(ours.ranks, keys), cost(each, peer.bisect_left, keys)
-    yield "iterate", cost(sum, ours), cost(sum, peer)
-    yield "remove", cost(each, ours.remove, keys), cost(each, peer.remove, keys)
+    for name, seconds, operations in rows(lib, keys, drawn, positions, min(count, 10000)):
+        yield name, seconds / operations * 1e9
 
 
-def compare(count):
+def compare(rows, count, times):
     """Prints each row, with the least costs of some runs."""
-    for run in zip(*(list(rows(count)) for _ in range(21 if count < 10000 else 3))):
-        ours, peer = (min(row[at] for row in run) / count * 1e9 for at in (1, 2))
-        print(f"{count:8} {run[0][0]:12} {ours:8.0f} {peer:8.0f}", flush=True)
+    found = {}
+    for _ in range(times):
+        for lib in (indexset, sortedcontainers):
+            for name, spent in run(rows, lib, count):
+                found.setdefault(name, {}).setdefault(lib, []).append(spent)
+    for name, spent in found.items():
+        ours, peer = (min(spent[lib]) for lib in (indexset, sortedcontainers))
+        ours, peer = (min(ours, peer),) * 2 if rows is of_plain else (ours, peer)
+        print(f"{count}\t{name}\t{ours:.0f}\t{peer:.0f}", flush=True)
+
+
+def main():
+    words = argparse.ArgumentParser(description=__doc__, formatter_class=argparse.RawDescriptionHelpFormatter)
+    words.add_argument("counts", type=int, nargs="+")
+    words.add_argument("--times", type=int, help="how many runs; more where there are few keys")
+    given = words.parse_args()
+    print(f"keys\trow\t{indexset.BACKEND}\tsortedcontainers")
+    for count in given.counts:
+        for rows in (of_set, of_dict, of_text, of_list, of_plain):
+            compare(rows, count, given.times or (21 if count < 10000 else 3))
 
 
 if __name__ == "__main__":
-    print(f"{'calls':>8} {'':12} {indexset.BACKEND:>8} {'peer':>8}")
-    for argument in sys.argv[1:]:
-        compare(int(argument))
+    main()

@@ -1,4 +1,4 @@
-"""The table of the C library beside pb_ds, and of the Python package beside sortedcontainers."""
+"""The tables of the C library beside pb_ds, and of the Python package beside sortedcontainers."""
 import importlib.util
 import os
 import subprocess
@@ -7,21 +7,28 @@ import sys
 import build
 from tables import table
 
-ROWS = {"insert": "insert, `add`", "contains": "contains, `in`", "rank": "rank, `bisect_left`", "at": "at, `[position]`", "remove": "remove"}
-NAMES = {"add": "insert", "bisect_left": "rank", "[position]": "at"}
+ROWS = {"insert": "insert", "contains": "contains", "rank": "rank", "at": "at", "remove": "remove"}
 OUT = build.TOP / "bindings"
+BACKENDS = {"extension": "the compiled module", "ctypes": "ctypes"}
 
 
 def read(text):
-    """The cells of what a program printed, by number of keys and row: our figure, the other's."""
+    """The cells of what the C program printed, by number of keys and row: our figure, the other's."""
     cells = {}
     for line in text.splitlines()[1:]:
         keys, row, ours, other = line.split()
-        cells[int(keys), NAMES.get(row, row)] = f"{ours}/{other}"
+        cells[int(keys), row] = f"{ours}/{other}"
     return cells
 
 
+def read_python(text):
+    """The same of Python's; the rows stand in the order in which they were printed."""
+    lines = [line.split("\t") for line in text.splitlines()[1:]]
+    return {(int(keys), row): f"{ours}/{other}" for keys, row, ours, other in lines}
+
+
 def c_cells(keys):
+    build.OUT.mkdir(exist_ok=True)
     made, library = build.OUT / "beside", OUT / "c/out/libindexset.a"
     built = library.exists() and build.ran("g++", "-O2", "-I", str(OUT / "c"), str(build.HERE / "beside.cpp"), str(library), "-o", str(made))
     if not built:
@@ -30,22 +37,31 @@ def c_cells(keys):
     return read(subprocess.run(["taskset", "-c", "0", made, *keys], check=True, capture_output=True, text=True).stdout)
 
 
-def python_cells(keys):
+def python_cells(keys, backend):
+    """None where the package is not built so."""
     package, library = OUT / "python/out", OUT / "c/out/libindexset.so"
-    if not (package / "indexset").is_dir() or not importlib.util.find_spec("sortedcontainers"):
-        print("Python is left out: it needs `bindings/test.sh` and `sortedcontainers`")
-        return {}
+    has_module = any((package / "indexset").glob("_fast*")) or backend == "ctypes"
+    if not (package / "indexset").is_dir() or not importlib.util.find_spec("sortedcontainers") or not has_module:
+        print(f"Python by {BACKENDS[backend]} is left out: it needs `bindings/test.sh` and `sortedcontainers`")
+        return None
     words = ["taskset", "-c", "0", sys.executable, str(build.HERE / "bindings.py"), *keys]
-    where = {**os.environ, "PYTHONPATH": str(package), "INDEXSET_LIBRARY": str(library)}
-    return read(subprocess.run(words, env=where, check=True, capture_output=True, text=True).stdout)
+    where = {**os.environ, "PYTHONPATH": str(package), "INDEXSET_LIBRARY": str(library), "INDEXSET_BACKEND": backend}
+    return read_python(subprocess.run(words, env=where, check=True, capture_output=True, text=True).stdout)
+
+
+def of_python(found, keys):
+    """The table of every row, with a column a backend and number of keys."""
+    head = ["Ours/`sortedcontainers`", *(f"{name}, {k:,}" for name in found for k in keys)]
+    rows = list(dict.fromkeys(row for cells in found.values() for _, row in cells))
+    return table(head, [[f"`{row}`", *(cells.get((k, row), "–") for cells in found.values() for k in keys)] for row in rows])
 
 
 def of_wrappers(keys):
+    """The two tables, or None where nothing can be measured."""
     words = [str(k) for k in keys]
-    found = [("C", c_cells(words)), ("Python", python_cells(words))]
-    if not any(cells for _, cells in found):
-        return None
-    head = ["Ours/the other", *(f"{name}, {k:,}" for name, _ in found for k in keys)]
-    lines = [[shown, *(cells.get((k, row), "–") for _, cells in found for k in keys)] for row, shown in ROWS.items()]
-    batch = "/".join(found[1][1].get((k, "ranks"), "–").split("/")[0] for k in keys)
-    return table(head, lines) + f"\n`ranks` of Python, one call for all keys, takes {batch} ns a key.\n"
+    in_c = c_cells(words)
+    found = {name: cells for name in BACKENDS if (cells := python_cells(words, name)) is not None}
+    lines = [[shown, *(in_c.get((k, row), "–") for k in keys)] for row, shown in ROWS.items()]
+    parts = [table(["Ours/pb_ds, in C", *(f"{k:,}" for k in keys)], lines)] if in_c else []
+    parts += [of_python(found, keys)] if found else []
+    return "\n".join(parts) or None

@@ -1,12 +1,12 @@
 #!/usr/bin/env bash
-# Builds both bindings, each in its folder out/, and runs their tests side by side. The last line counts
-# them.
+# Builds both bindings, each in its folder out/, and runs their tests side by side; what is missing here is
+# named in a line. The last line counts them.
 set -u
 cd "$(dirname "$0")"
 make -s -C c all || exit 1
 rm -rf python/out
 mkdir -p python/out/logs
-cp -r python/indexset python/test_*.py python/out
+cp -r python/indexset python/test_*.py python/peer_tests.py python/out
 export INDEXSET_LIBRARY="$PWD/c/out/libindexset.so" PYTHONDONTWRITEBYTECODE=1
 
 names=()
@@ -19,30 +19,54 @@ try() {
     names+=("$*")
 }
 
-# The package as pip makes it, where an environment can be made: it asks for nothing of the network.
-package() {
-    python3 -m venv python/out/fresh || return 0
-    python/out/fresh/bin/pip install -q --no-index ./python &&
-        env -u INDEXSET_LIBRARY python/out/fresh/bin/python -c 'import indexset; indexset.SortedSet([2, 1])'
+# Whether a command is here; a line says so where it is not.
+has() {
+    command -v "$1" > /dev/null || { echo "$1 is not installed: $2 is left out"; false; }
+}
+
+# The extension under sanitizers, in a folder of its own.
+sanitized() {
+    local preload
+    preload="$(gcc -print-file-name=libasan.so) $(gcc -print-file-name=libubsan.so)"
+    mkdir python/out/sanitized
+    cp -r python/indexset python/test_*.py python/out/sanitized
+    python3 python/build_fast.py --sanitize python/out/sanitized || return 1
+    for test in test_defects test_equals test_indexset test_kinds test_list test_text; do
+        LD_PRELOAD="$preload" ASAN_OPTIONS=detect_leaks=0 python3 "python/out/sanitized/$test.py" || return 1
+    done
 }
 
 try make -s -j "$(nproc)" -C c check
-try package
+try python3 python/test_package.py
+try env PYTHONPATH=python/out python3 -m doctest README.md
 backends=(ctypes)
-can_build='import cffi, os, sysconfig; assert os.path.exists(sysconfig.get_path("include") + "/Python.h")'
-if python3 -c "$can_build" 2> /dev/null; then
-    python3 -W ignore python/build_cffi.py python/out && backends+=(cffi) || try false cffi module
-fi
+python3 python/build_fast.py python/out && backends+=(extension)
 for backend in "${backends[@]}"; do
-    for test in test_indexset test_numbers test_text; do
+    for test in test_defects test_equals test_indexset test_kinds test_list test_logged test_numbers test_text; do
         try env "INDEXSET_BACKEND=$backend" python3 "python/out/$test.py"
     done
+    try env "INDEXSET_BACKEND=$backend" python3 python/out/peer_tests.py
 done
+if [ "${#backends[@]}" = 2 ] && has gcc "the extension under sanitizers"; then
+    try sanitized
+fi
+if has mypy "what the types say"; then
+    try mypy --strict --no-incremental --cache-dir=/dev/null python/indexset python/sample.py
+fi
+# Another Python with numpy, where the first has none.
+if ! python3 -c 'import numpy' 2> /dev/null; then
+    if /usr/bin/python3 -c 'import numpy' 2> /dev/null; then
+        try env INDEXSET_BACKEND=ctypes /usr/bin/python3 -W error python/out/test_equals.py
+    else
+        echo "numpy is not installed: its arrays are left out"
+    fi
+fi
 
 failed=0
 for i in "${!jobs[@]}"; do
     if wait "${jobs[$i]}"; then
-        tail -n 1 "python/out/logs/$i"
+        tail -n 1 "python/out/logs/$i" | grep . || echo "passed: ${names[$i]}"
+        case "${names[$i]}" in *peer_tests.py*) sed 's/^/    /' "python/out/logs/$i" ;; esac
     else
         failed=$((failed + 1))
         cat "python/out/logs/$i"

@@ -142,7 +142,7 @@ class Keys(unittest.TestCase):
         ]
         for kind, key, error in cases:
             numbers = SortedSet([1, 2], keys=kind)
-            for call in (numbers.add, numbers.bisect_left, numbers.bisect_right, lambda k: numbers.update([5, k])):
+            for call in (numbers.add, lambda k: numbers.update([5, k])):
                 self.assertRaises(error, call, key)
             self.assertEqual(list(numbers), [1, 2])
             self.assertNotIn(key, numbers)
@@ -289,7 +289,9 @@ class Dictionaries(unittest.TestCase):
 
     def test_object(self):
         ages = SortedDict([(2, "b"), (1, "a")])
-        self.assertRaises(OverflowError, ages.update, {3: "c", 1 << 70: "d"})
+        named = SortedDict(ages, keys="int64")
+        self.assertRaises(OverflowError, named.update, {3: "c", 1 << 70: "d"})
+        self.assertEqual((named, list(named)), (ages, [1, 2]))
         ages.update({})
         self.assertEqual((len(ages), ages.get_all([])), (2, []))
         self.assertEqual(repr(ages), "SortedDict({1: 'a', 2: 'b'})")
@@ -303,7 +305,8 @@ class Dictionaries(unittest.TestCase):
         del other[0]
         self.assertRaises(KeyError, other.__delitem__, 0)
         self.assertRaises(KeyError, other.__getitem__, "1")
-        self.assertRaises(OverflowError, other.__setitem__, 1 << 63, 1)
+        self.assertRaises(OverflowError, named.__setitem__, 1 << 63, 1)
+        self.assertRaises(TypeError, named.__setitem__, "1", 1)
         self.assertRaises(TypeError, other.__setitem__, "1", 1)
         self.assertEqual(other, {1: "a", 2: "b"})
         other.clear()

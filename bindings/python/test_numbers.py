@@ -49,7 +49,9 @@ class MultiDictionaries(unittest.TestCase):
         self.assertNotEqual(other, tags)
         self.assertRaises(KeyError, other.remove, 2, 0.5)
         self.assertRaises(KeyError, other.__getitem__, 7)
-        self.assertRaises(OverflowError, other.add, 1 << 63, 0)
+        named = SortedMultiDict(keys="int64", values="float64")
+        self.assertRaises(OverflowError, named.add, 1 << 63, 0)
+        self.assertRaises(TypeError, named.add, "1", 0)
         self.assertRaises(TypeError, other.add, "1", 0)
         self.assertRaises(ValueError, SortedMultiDict, keys="text")
         self.assertEqual(((2, "x") in other, 2 in other, other.discard("2", 1)), (False, False, False))
@@ -58,11 +60,11 @@ class MultiDictionaries(unittest.TestCase):
         self.assertRaises(IndexError, other.first)
 
 
-def made(nodes, change):
+def made(nodes, change, order=lambda key: key):
     """Makes a change of nodes, which are lists of pairs."""
     at = [node[-1][0] for node in nodes].index(change.node[0]) if change.kind != "create" else None
     if change.kind == "create":
-        nodes.insert(sum(node[-1][0] < change.node[0] for node in nodes), [change.node])
+        nodes.insert(sum(order(node[-1][0]) < order(change.node[0]) for node in nodes), [change.node])
     elif change.kind == "insert":
         nodes[at].insert(change.index, change.pair)
     elif change.kind == "remove":

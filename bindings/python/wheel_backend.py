@@ -1,21 +1,57 @@
-"""The build backend: `pip install` makes its wheel here, of the package and what `make` in ../c built.
+"""The build backend: what `pip install` asks for a wheel, a source distribution or an editable install.
 
-It needs nothing besides Python, so that it works in a fresh environment and without a network. Where cffi and
-Python's headers are at hand, as by `pip install --no-build-isolation` after cffi, the wheel has the module that
-cffi makes; else the package goes by ctypes.
+It needs nothing besides Python, so that it works in a fresh environment and without a network. The library is
+what `make -C bindings/c` built; a source distribution brings it along, for the platform that it was made on.
+Where a C compiler and Python's headers are, the wheel has the compiled module; else the package goes by ctypes.
 """
 import base64
+import ctypes
 import hashlib
-import importlib.util
+import io
 import pathlib
 import re
+import subprocess
 import sys
 import sysconfig
+import tarfile
 import tempfile
 import zipfile
 
 HERE = pathlib.Path(__file__).resolve().parent
-LIBRARY = HERE.parent / "c" / "out" / "libindexset.so"
+sys.path.insert(0, str(HERE))
+
+from build_fast import build, compiler
+
+TOP = HERE.parent.parent
+TEXTS = {"README.md": HERE.parent / "README.md", "LICENSE": TOP / "LICENSE"}
+NATIVE = {
+    "libindexset.so": HERE.parent / "c/out/libindexset.so",
+    "libindexset.a": HERE.parent / "c/out/libindexset.a",
+    "indexset.h": HERE.parent / "c/indexset.h",
+}
+
+
+def native(name):
+    """A file of the library: beside this one in a source distribution, else where make puts it."""
+    beside = HERE / "native" / name
+    return beside if beside.exists() else NATIVE[name]
+
+
+def text(name):
+    """A text of the repository, or of the source distribution."""
+    beside = HERE / name
+    return (beside if beside.exists() else TEXTS[name]).read_text()
+
+
+def check_library():
+    """Ends with one line where the library is missing, or is another platform's."""
+    library = native("libindexset.so")
+    if not library.exists():
+        sys.exit(f"indexset: {library} is missing; `make -C bindings/c` makes it")
+    try:
+        ctypes.CDLL(str(library))
+    except OSError as error:
+        sys.exit(f"indexset: the library does not fit this Python on {sysconfig.get_platform()}: {error}")
 
 
 def project(key):
@@ -23,25 +59,28 @@ def project(key):
     return re.search(rf'^{key} = "(.*)"$', (HERE / "pyproject.toml").read_text(), flags=re.M).group(1)
 
 
-def has_cffi():
-    """Whether a module of cffi can be compiled."""
-    header = pathlib.Path(sysconfig.get_path("include")) / "Python.h"
-    return importlib.util.find_spec("cffi") is not None and header.exists()
+def about():
+    """The metadata."""
+    listed = re.search(r"^classifiers = \[(.*?)\]", (HERE / "pyproject.toml").read_text(), flags=re.M | re.S)
+    lines = ["Metadata-Version: 2.1", f"Name: {project('name')}", f"Version: {project('version')}"]
+    lines += [f"Summary: {project('description')}", f"Requires-Python: {project('requires-python')}"]
+    lines += ["License: Apache-2.0", "License-File: LICENSE", "Description-Content-Type: text/markdown"]
+    lines += [f"Classifier: {name}" for name in re.findall(r'"(.*?)"', listed.group(1))]
+    return "\n".join(lines) + "\n\n" + text("README.md")
 
 
-def package(by_cffi):
-    """Each file of the package: its name and what it holds."""
-    for path in sorted((HERE / "indexset").iterdir()):
-        if path.suffix in (".py", ".typed"):
-            yield f"indexset/{path.name}", path.read_bytes()
-    yield "indexset/libindexset.so", LIBRARY.read_bytes()
-    if by_cffi:
-        sys.path.insert(0, str(HERE))
-        from build_cffi import builder
-
-        with tempfile.TemporaryDirectory() as folder:
-            built = pathlib.Path(builder.compile(tmpdir=folder))
-            yield f"indexset/{built.name}", built.read_bytes()
+def compiled():
+    """The compiled module's name and what it holds, or None where it cannot be made."""
+    if compiler() is None:
+        print("indexset: no C compiler or no Python.h: the package goes by ctypes")
+        return None
+    with tempfile.TemporaryDirectory() as folder:
+        try:
+            made = build(folder, HERE / "fast", native("indexset.h").parent, native("libindexset.a"))
+        except (OSError, subprocess.CalledProcessError) as error:
+            print(f"indexset: the compiled module was not made ({error}): the package goes by ctypes")
+            return None
+        return made.name, made.read_bytes()
 
 
 def record(name, content):
@@ -50,25 +89,57 @@ def record(name, content):
     return f"{name},sha256={digest},{len(content)}\n"
 
 
-def build_wheel(wheel_directory, config_settings=None, metadata_directory=None):
-    if not LIBRARY.exists():
-        raise FileNotFoundError(f"{LIBRARY} is missing: run `make -C bindings/c` first")
-    name, version, by_cffi = project("name"), project("version"), has_cffi()
+def write_wheel(folder, files, is_pure, has_module):
+    """Writes a wheel of files, whose tag says what it needs, and returns its name."""
+    name, version = project("name"), project("version")
     python = f"cp{sys.version_info.major}{sys.version_info.minor}"
     platform = re.sub(r"[-.]", "_", sysconfig.get_platform())
-    tag = f"{python}-{python}-{platform}" if by_cffi else f"py3-none-{platform}"
-    about = f"Metadata-Version: 2.1\nName: {name}\nVersion: {version}\nSummary: {project('description')}\n"
-    about += f"Requires-Python: {project('requires-python')}\n"
-    wheel = f"Wheel-Version: 1.0\nGenerator: {name}\nRoot-Is-Purelib: false\nTag: {tag}\n"
-    folder = f"{name}-{version}.dist-info"
-    files = [*package(by_cffi), (f"{folder}/METADATA", about.encode()), (f"{folder}/WHEEL", wheel.encode())]
-    lines = [record(*file) for file in files] + [f"{folder}/RECORD,,\n"]
+    tag = "py3-none-any" if is_pure else f"{python}-{python}-{platform}" if has_module else f"py3-none-{platform}"
+    wheel = f"Wheel-Version: 1.0\nGenerator: {name}\nRoot-Is-Purelib: {str(is_pure).lower()}\nTag: {tag}\n"
+    info = f"{name}-{version}.dist-info"
+    files = [*files, (f"{info}/METADATA", about().encode()), (f"{info}/WHEEL", wheel.encode()), (f"{info}/LICENSE", text("LICENSE").encode())]
+    lines = [record(*file) for file in files] + [f"{info}/RECORD,,\n"]
     made = f"{name}-{version}-{tag}.whl"
-    with zipfile.ZipFile(pathlib.Path(wheel_directory) / made, "w", zipfile.ZIP_DEFLATED) as out:
-        for file, content in [*files, (f"{folder}/RECORD", "".join(lines).encode())]:
+    with zipfile.ZipFile(pathlib.Path(folder) / made, "w", zipfile.ZIP_DEFLATED) as out:
+        for file, content in [*files, (f"{info}/RECORD", "".join(lines).encode())]:
             out.writestr(file, content)
     return made
 
 
+def sources():
+    """The files of the package."""
+    return [it for it in sorted((HERE / "indexset").iterdir()) if it.suffix in (".py", ".typed")]
+
+
+def build_wheel(wheel_directory, config_settings=None, metadata_directory=None):
+    check_library()
+    files = [(f"indexset/{path.name}", path.read_bytes()) for path in sources()]
+    files.append(("indexset/libindexset.so", native("libindexset.so").read_bytes()))
+    module = compiled()
+    if module is not None:
+        files.append((f"indexset/{module[0]}", module[1]))
+    return write_wheel(wheel_directory, files, False, module is not None)
+
+
+def build_editable(wheel_directory, config_settings=None, metadata_directory=None):
+    """The package where it is. It goes by ctypes, unless `build_fast.py` has made the module beside it."""
+    check_library()
+    return write_wheel(wheel_directory, [("indexset.pth", f"{HERE}\n".encode())], True, False)
+
+
 def build_sdist(sdist_directory, config_settings=None):
-    raise NotImplementedError("a source distribution would lack the library: make a wheel")
+    check_library()
+    folder = f"{project('name')}-{project('version')}"
+    names = ["pyproject.toml", "wheel_backend.py", "build_fast.py"]
+    files = [(name, (HERE / name).read_bytes()) for name in names]
+    files += [(f"indexset/{path.name}", path.read_bytes()) for path in sources()]
+    files += [(f"fast/{path.name}", path.read_bytes()) for path in sorted((HERE / "fast").iterdir())]
+    files += [(f"native/{name}", native(name).read_bytes()) for name in NATIVE]
+    files += [(name, text(name).encode()) for name in TEXTS]
+    files.append(("PKG-INFO", about().encode()))
+    with tarfile.open(pathlib.Path(sdist_directory) / f"{folder}.tar.gz", "w:gz") as out:
+        for name, content in files:
+            entry = tarfile.TarInfo(f"{folder}/{name}")
+            entry.size, entry.mode = len(content), 0o644
+            out.addfile(entry, io.BytesIO(content))
+    return f"{folder}.tar.gz"

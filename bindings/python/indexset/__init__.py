@@ -1,21 +1,23 @@
-"""Ordered sets and dictionaries with positions, over a proved library.
+"""Ordered sets, lists and dictionaries with positions, over a proved library.
 
 >>> from indexset import SortedSet
 >>> numbers = SortedSet([30, 10, 20])
 >>> numbers[0], numbers.bisect_left(25), 20 in numbers
 (10, 2, True)
 
-The calls have the names and habits of `sortedcontainers`. Keys are of one kind a set: `int64` (the
-default), `uint64` or `float64`, and those of a `SortedDict` also `str` or `bytes`.
+The calls have the names and habits of `sortedcontainers`. Items and keys are of any kind that has an order.
 """
-from ._native import BACKEND, version
 from ._dict import SortedDict
+from ._library import version
+from ._list import SortedKeyList, SortedList
 from ._log import LoggedDict
 from ._multi import SortedMultiDict
+from ._native import BACKEND
 from ._nodes import Change
 from ._replica import Gap, Refused, Replica
 from ._set import SortedSet
-from ._text import TextDict
+from ._tuple import pack, unpack
+from ._views import SortedItemsView, SortedKeysView, SortedValuesView
 
 __all__ = [
     "BACKEND",
@@ -25,8 +27,14 @@ __all__ = [
     "Refused",
     "Replica",
     "SortedDict",
+    "SortedItemsView",
+    "SortedKeyList",
+    "SortedKeysView",
+    "SortedList",
     "SortedMultiDict",
     "SortedSet",
-    "TextDict",
+    "SortedValuesView",
+    "pack",
+    "unpack",
     "version",
 ]

@@ -1,229 +1,287 @@
 """An ordered dictionary with positions."""
 from __future__ import annotations
 
-from array import array
-from collections.abc import ItemsView, KeysView, Mapping, MutableMapping, Sequence, ValuesView
-from typing import Any, Iterable, Iterator, Union
+import warnings
+from collections.abc import Mapping
+from reprlib import recursive_repr
+from typing import Any, Callable, Dict, Generic, Iterable, Iterator, Literal, Optional, TypeVar, Union, overload
 
-from . import _native as native
-from ._keys import ALL, KINDS, TEXTS, Key, encode_all
-from ._ordered import Ordered, position_of
+from ._kinds import known
+from ._orders import KeyFunction, fitted, order_of
+from ._views import SortedItemsView, SortedKeysView, SortedValuesView
 
-_lib = native.lib
-_at = _lib.indexset_map_at
-
-_NONE_GIVEN = object()
-
-# The class of the dictionaries whose keys are of a kind, where that is not SortedDict itself.
-CLASSES: dict[str, type] = {}
+K = TypeVar("K")
+V = TypeVar("V")
 
 
-class SortedDict(Ordered, MutableMapping):
-    """A dictionary from numbers or texts to any objects, in the order of its keys, with the calls of
-    `sortedcontainers.SortedDict`.
+_NOT_GIVEN: Any = object()
+_set = dict.__setitem__
 
-    `keys` names the kind of its keys, as for `SortedSet`; they are refused as there. With the kind `str`
-    or `bytes` keys are texts or byte strings, as `TextDict` says. With n keys a call
-    on one key or one position takes a time that grows as log n. A dictionary stays on the thread that
-    made it, and is not changed while it is iterated over.
+
+class SortedDict(Dict[K, V], Generic[K, V]):
+    """A dictionary in the order of its keys, with the calls of `sortedcontainers.SortedDict`: a `dict` that
+    finds values, beside what orders its keys.
+
+    `keys` names the kind of its keys, as for `SortedSet`. A function, or None, before the entries orders the
+    keys by its results: `SortedDict(function, entries)`.
+
+    Cost: `in`, `[key]` and `get` take what they take of a `dict`. With n keys, a call on one position, or that
+    adds or removes a key, takes a time that grows as log n. A walk takes a time that grows with its length.
+
+    Reads may go on in several threads at once. A walk raises RuntimeError once keys came or went; changes
+    from several threads are kept apart by the caller.
 
     >>> ages = SortedDict({30: "c", 10: "a"}); ages[20] = "b"; ages
     SortedDict({10: 'a', 20: 'b', 30: 'c'})
     >>> ages.peekitem(0), ages.bisect_left(25), ages.popitem(), list(ages.irange(15))
     ((10, 'a'), 2, (30, 'c'), [20])
-    >>> SortedDict({"pear": 2, "apple": 1}, keys="str")
-    SortedDict({'apple': 1, 'pear': 2}, keys='str')
+    >>> SortedDict({"pear": 2, "apple": 1}), SortedDict(len, {"pear": 2, "fig": 1})
+    (SortedDict({'apple': 1, 'pear': 2}), SortedDict(<built-in function len>, {'fig': 1, 'pear': 2}))
     """
 
-    __slots__ = ("_objects", "_unused", "_key", "_value")
-    __hash__ = None  # type: ignore[assignment]
-    _new = staticmethod(_lib.indexset_map_new)
-    _free = staticmethod(_lib.indexset_map_free)
-    _length = staticmethod(_lib.indexset_map_len)
-    _has = staticmethod(_lib.indexset_map_contains)
-    _rank = staticmethod(_lib.indexset_map_rank)
-    _insert = staticmethod(_lib.indexset_map_insert)
-    _get = staticmethod(_lib.indexset_map_get)
-    _remove = staticmethod(_lib.indexset_map_remove)
-    _clear = staticmethod(_lib.indexset_map_clear)
-    _collection = "map"
+    __slots__ = ("_order", "_named", "__weakref__")
 
-    def __new__(cls, entries: Any = (), *, keys: str = "int64") -> SortedDict:
-        if keys not in KINDS and keys not in TEXTS:
-            raise ValueError(f"keys is one of {', '.join([*KINDS, *TEXTS])}, not {keys!r}")
-        return super().__new__(CLASSES.get(keys, cls) if cls is SortedDict else cls)
+    _order: Any
+    _named: Optional[str]
 
+    @overload
+    def __init__(self: SortedDict[int, V], entries: Any = ..., *, keys: Literal["int64", "uint64"]) -> None: ...
+    @overload
+    def __init__(self: SortedDict[float, V], entries: Any = ..., *, keys: Literal["float64"]) -> None: ...
+    @overload
+    def __init__(self: SortedDict[str, V], entries: Any = ..., *, keys: Literal["str"]) -> None: ...
+    @overload
+    def __init__(self: SortedDict[bytes, V], entries: Any = ..., *, keys: Literal["bytes"]) -> None: ...
+    @overload
+    def __init__(self: SortedDict[str, V], *, keys: None = ..., **words: V) -> None: ...
+    @overload
+    def __init__(self, entries: Mapping[K, V], /, *, keys: Optional[str] = ...) -> None: ...
+    @overload
+    def __init__(self, entries: Iterable[tuple[K, V]], /, *, keys: Optional[str] = ...) -> None: ...
+    @overload
     def __init__(
         self,
-        entries: Union[Mapping[Any, Any], Iterable[tuple[Any, Any]]] = (),
+        key: Optional[Callable[[K], Any]],
+        entries: Union[Mapping[K, V], Iterable[tuple[K, V]]] = ...,
+        /,
         *,
-        keys: str = "int64",
-    ) -> None:
-        super().__init__(native.handle(self._collection), keys)
-        # The library's map leads from a key to its object's place in this list.
-        self._objects: list[Any] = []
-        self._unused: list[int] = []
-        self._key, self._value = native.number(), native.number()
-        self.update(entries)
+        keys: Optional[str] = ...,
+    ) -> None: ...
+    def __init__(self, *given: Any, keys: Any = None, **words: Any) -> None:
+        is_key = bool(given) and (given[0] is None or callable(given[0]))
+        self._begin(keys, given[0] if is_key else None)
+        self.update(*given[is_key:], **words)
+
+    def _begin(self, kind: Optional[str], key: KeyFunction) -> None:
+        """Becomes empty."""
+        known(kind)
+        self._named = kind
+        self._order = order_of(kind or "int64", key, False)
+
+    @property
+    def kind(self) -> str:
+        """The name of the kind of the keys, as `SortedSet.kind` has it."""
+        kind: str = self._order.kind
+        return kind
+
+    @property
+    def key(self) -> Optional[Callable[[K], Any]]:
+        """The function whose results order the keys, or None where they order themselves."""
+        return getattr(self._order, "key", None)
+
+    @classmethod
+    def fromkeys(cls, iterable: Iterable[Any], value: Any = None, /) -> Any:
+        """A dictionary from each key to a value.
+
+        >>> SortedDict.fromkeys([2, 1], 0)
+        SortedDict({1: 0, 2: 0})
+        """
+        return cls((key, value) for key in iterable)
 
     # ---- one key
 
-    def __getitem__(self, key: Any) -> Any:
-        number = self._number(key)
-        if number is None or not self._get(self._handle, number, self._value):
-            raise KeyError(key)
-        return self._objects[self._value[0]]
-
-    def __setitem__(self, key: Key, value: Any) -> None:
+    def __setitem__(self, key: K, value: V) -> None:
         """Makes a value that of a key.
 
         >>> ages = SortedDict(); ages[1] = "a"; ages[1] = "b"; ages
         SortedDict({1: 'b'})
         """
-        number = self._encode(key)
-        place = self._keep(value)
-        status = self._insert(self._handle, number, place, self._value)
-        if status == native.NO:
-            self._let_go(self._value[0])
-        elif status == native.MEMORY:
-            self._let_go(place)
-            raise MemoryError
+        if key not in self and not self._order.add_own(key):
+            self._order_keys([key])
+        _set(self, key, value)
 
     def __delitem__(self, key: Any) -> None:
         self.pop(key)
 
-    def pop(self, key: Any, default: Any = _NONE_GIVEN) -> Any:
+    def setdefault(self, key: K, default: Any = None) -> Any:
+        """The value of a key, which becomes the default where the key is not there."""
+        if key in self:
+            return self[key]
+        self[key] = default
+        return default
+
+    @overload
+    def pop(self, key: Any) -> V: ...
+    @overload
+    def pop(self, key: Any, default: Any) -> Any: ...
+    def pop(self, key: Any, default: Any = _NOT_GIVEN) -> Any:
         """Removes a key and returns its value, or the default where it is not there.
 
         >>> ages = SortedDict({1: "a"}); ages.pop(1), ages.pop(1, None)
         ('a', None)
         """
-        number = self._number(key)
-        if number is not None and self._remove(self._handle, number, self._value):
-            return self._let_go(self._value[0])
-        if default is _NONE_GIVEN:
+        if key in self:
+            self._order.discard(key)
+            return super().pop(key)
+        if default is _NOT_GIVEN:
             raise KeyError(key)
         return default
 
-    def _keep(self, value: Any) -> int:
-        """Puts an object in a place, which it returns."""
-        if self._unused:
-            place = self._unused.pop()
-            self._objects[place] = value
+    def _order_keys(self, keys: list[Any]) -> None:
+        """Orders keys that come, by a kind that takes them; none where one does not fit."""
+        order = self._order if self._named else fitted(self._order, keys, self.key, False)
+        if len(keys) == 1:
+            order.add(keys[0])
         else:
-            place = len(self._objects)
-            self._objects.append(value)
-        return place
-
-    def _let_go(self, place: int) -> Any:
-        """Takes the object out of a place, which is then unused."""
-        value, self._objects[place] = self._objects[place], None
-        self._unused.append(place)
-        return value
+            order.take(keys)
+        if order is not self._order:
+            self._order.changes += 1
+            self._order = order
 
     # ---- many keys
 
-    def update(self, entries: Any = (), /, **words: Any) -> None:
-        """Makes each value that of its key, in two calls of the library. A key that does not fit leaves
-        the dictionary as it was.
+    def update(self, *given: Any, **words: Any) -> None:
+        """Makes each value that of its key. A key that does not fit leaves the dictionary as it was.
 
         >>> ages = SortedDict({1: "a"}); ages.update({2: "c", 1: "b"}); ages
         SortedDict({1: 'b', 2: 'c'})
         """
-        numbered = {self._encode(key): value for key, value in dict(entries, **words).items()}
-        numbers, places = array("Q"), array("Q")
-        for (number, value), place in zip(numbered.items(), self._places(array("Q", numbered))):
-            if place == ALL:
-                numbers.append(number)
-                places.append(self._keep(value))
-            else:
-                self._objects[place] = value
-        self._put_all(numbers, places)
+        entries = dict(*given, **words)
+        fresh = [key for key in entries if key not in self]
+        if fresh:
+            self._order_keys(fresh)
+        super().update(entries)
 
-    def _put_all(self, numbers: array[int], places: array[int]) -> None:
-        if not numbers:
-            return
-        size, taken = len(numbers), native.place()
-        status = _lib.indexset_map_insert_all(
-            self._handle, native.numbers(numbers), size, native.numbers(places), size, taken
-        )
-        if status != native.YES:
-            for place in places[taken[0] :]:
-                self._let_go(place)
-            raise MemoryError
-
-    def _places(self, numbers: array[int]) -> array[int]:
-        """The place of each key's object, or ALL where the key is not there."""
-        out = array("Q", bytes(8 * len(numbers)))
-        if numbers:
-            size = len(numbers)
-            _lib.indexset_map_gets(self._handle, native.numbers(numbers), size, ALL, native.numbers(out), size)
-        return out
-
-    def get_all(self, keys: Iterable[Key], default: Any = None) -> list[Any]:
-        """The value of each key, or the default where it is not there, in one call.
+    def get_all(self, keys: Iterable[Any], default: Any = None) -> list[Any]:
+        """The value of each key, or the default where it is not there.
 
         >>> SortedDict({1: "a", 2: "b"}).get_all([2, 3, 1])
         ['b', None, 'a']
         """
-        places = self._places(encode_all(self._kind, keys))
-        return [default if place == ALL else self._objects[place] for place in places]
+        return [self.get(key, default) for key in keys]
+
+    def clear(self) -> None:
+        """Removes all keys."""
+        self._order.clear()
+        super().clear()
 
     # ---- positions
 
-    def peekitem(self, index: int = -1) -> tuple[Key, Any]:
-        """The key and the value at a position, the last one if none is given.
+    def peekitem(self, index: int = -1) -> tuple[K, V]:
+        """The key and the value at a position, the last one if none is given. IndexError where there is none.
 
         >>> SortedDict({1: "a", 2: "b"}).peekitem()
         (2, 'b')
         """
-        _at(self._handle, position_of(index, len(self), "dictionary"), self._key, self._value)
-        return self._decode(self._key[0]), self._objects[self._value[0]]
+        key = self._order[index]
+        return key, self[key]
 
-    def popitem(self, index: int = -1) -> tuple[Key, Any]:
-        """Removes the key and the value at a position, and returns them. KeyError where the dictionary
-        is empty.
+    def popitem(self, index: int = -1) -> tuple[K, V]:
+        """Removes the key and the value at a position, the last one if none is given, and returns them.
+        KeyError where the dictionary is empty.
 
         >>> SortedDict({1: "a", 2: "b"}).popitem(0)
         (1, 'a')
         """
-        if not len(self):
+        if not self:
             raise KeyError("popitem(): dictionary is empty")
-        key, value = self.peekitem(index)
-        self.pop(key)
-        return key, value
+        key = self._order.pop(index)
+        return key, super().pop(key)
 
-    def clear(self) -> None:
-        """Removes all keys."""
-        self._clear(self._handle)
-        self._objects.clear()
-        self._unused.clear()
+    def index(self, value: Any, start: Optional[int] = None, stop: Optional[int] = None) -> int:
+        """The position of a key, from `start` and before `stop`. ValueError where it is not there."""
+        first, past, _ = slice(start, stop).indices(len(self))
+        order = self._order
+        if value in self:
+            position: int = order.find(value) if hasattr(order, "find") else order.bisect(value, False)
+            if first <= position < past:
+                return position
+        raise ValueError(f"{value!r} is not there")
+
+    def bisect_left(self, value: Any) -> int:
+        """How many keys are below a value."""
+        position: int = self._order.bisect(value, False)
+        return position
+
+    def bisect_right(self, value: Any) -> int:
+        """How many keys are not above a value."""
+        position: int = self._order.bisect(value, True)
+        return position
+
+    bisect = bisect_right
+
+    def bisect_key_left(self, key: Any) -> int:
+        """How many keys have a sort key below one."""
+        return self._bisect_key(key, False)
+
+    def bisect_key_right(self, key: Any) -> int:
+        """How many keys have a sort key that is not above one."""
+        return self._bisect_key(key, True)
+
+    bisect_key = bisect_key_right
+
+    def _bisect_key(self, key: Any, right: bool) -> int:
+        order = self._order
+        position: int = order.bisect(key, right) if self.key is None else order.place(key, right)
+        return position
 
     # ---- walks
 
-    def _numbers(self, first: int, size: int) -> array[int]:
-        return self._pairs(first, size)[0]
+    def __iter__(self) -> Iterator[K]:
+        """Walks over the keys in order. RuntimeError once keys came or went."""
+        walk: Iterator[K] = self._order.walk(0, len(self), False)
+        return walk
 
-    def _pairs(self, first: int, size: int) -> tuple[array[int], array[int]]:
-        """The keys' numbers and the objects' places at `size` positions, or as many as there are."""
-        keys, places = array("Q", bytes(8 * size)), array("Q", bytes(8 * size))
-        if size:
-            count = _lib.indexset_map_range_by_position(
-                self._handle, first, native.numbers(keys), size, native.numbers(places), size
-            )
-            del keys[count:], places[count:]
-        return keys, places
+    def __reversed__(self) -> Iterator[K]:
+        """Walks over the keys from the last to the first."""
+        walk: Iterator[K] = self._order.walk(0, len(self), True)
+        return walk
 
-    def _places_at(self, first: int, size: int) -> array[int]:
-        """The objects' places at `size` positions, or as many as there are."""
-        return self._pairs(first, size)[1]
+    def islice(
+        self, start: Optional[int] = None, stop: Optional[int] = None, reverse: bool = False
+    ) -> Iterator[K]:
+        """Walks over the keys at the positions from `start` and before `stop`."""
+        first, past, _ = slice(start, stop).indices(len(self))
+        walk: Iterator[K] = self._order.walk(first, past, reverse)
+        return walk
 
-    def _objects_at(self, first: int, past: int, step: int = 512) -> Iterator[Any]:
-        for start in range(first, past, step):
-            for place in self._places_at(start, min(step, past - start)):
-                yield self._objects[place]
+    def irange(
+        self,
+        minimum: Any = None,
+        maximum: Any = None,
+        inclusive: tuple[bool, bool] = (True, True),
+        reverse: bool = False,
+    ) -> Iterator[K]:
+        """Walks over the keys between two values, each included or not."""
+        first = 0 if minimum is None else self._order.bisect(minimum, not inclusive[0])
+        past = len(self) if maximum is None else self._order.bisect(maximum, inclusive[1])
+        walk: Iterator[K] = self._order.walk(first, past, reverse)
+        return walk
 
-    def keys(self) -> SortedKeysView:
+    def irange_key(
+        self,
+        min_key: Any = None,
+        max_key: Any = None,
+        inclusive: tuple[bool, bool] = (True, True),
+        reverse: bool = False,
+    ) -> Iterator[K]:
+        """Walks over the keys whose sort keys are between two, each included or not."""
+        first = 0 if min_key is None else self._bisect_key(min_key, not inclusive[0])
+        past = len(self) if max_key is None else self._bisect_key(max_key, inclusive[1])
+        walk: Iterator[K] = self._order.walk(first, past, reverse)
+        return walk
+
+    def keys(self) -> SortedKeysView[K]:  # type: ignore[override]
         """A view of the keys, which can be indexed.
 
         >>> SortedDict({1: "a", 2: "b"}).keys()[0]
@@ -231,7 +289,7 @@ class SortedDict(Ordered, MutableMapping):
         """
         return SortedKeysView(self)
 
-    def values(self) -> SortedValuesView:
+    def values(self) -> SortedValuesView[V]:  # type: ignore[override]
         """A view of the values, which can be indexed.
 
         >>> list(SortedDict({2: "b", 1: "a"}).values())
@@ -239,7 +297,7 @@ class SortedDict(Ordered, MutableMapping):
         """
         return SortedValuesView(self)
 
-    def items(self) -> SortedItemsView:
+    def items(self) -> SortedItemsView[K, V]:  # type: ignore[override]
         """A view of the keys with their values, which can be indexed.
 
         >>> SortedDict({2: "b", 1: "a"}).items()[:1]
@@ -247,75 +305,62 @@ class SortedDict(Ordered, MutableMapping):
         """
         return SortedItemsView(self)
 
+    @property
+    def iloc(self) -> SortedKeysView[K]:
+        """The view of the keys, under a name that `sortedcontainers` has given up."""
+        warnings.warn("use SortedDict.keys()", DeprecationWarning, stacklevel=2)
+        return self.keys()
+
     # ---- the object
 
-    def copy(self) -> SortedDict:
+    def copy(self) -> Any:
         """A dictionary of the same keys and values, in a time that grows with their number."""
-        return SortedDict(self.items(), keys=self.kind)
+        made = type(self).__new__(type(self))
+        made._named, made._order = self._named, self._order.clone()
+        super(SortedDict, made).update(dict.items(self))
+        return made
 
-    __copy__ = copy
+    def __copy__(self) -> Any:
+        made = self.copy()
+        if hasattr(self, "__dict__"):
+            made.__dict__.update(self.__dict__)
+        return made
 
-    def __or__(self, other: Any) -> SortedDict:
+    def __or__(self, other: Any) -> Any:
         if not isinstance(other, Mapping):
             return NotImplemented
         made = self.copy()
         made.update(other)
         return made
 
-    def __ior__(self, other: Any) -> SortedDict:
+    def __ror__(self, other: Any) -> Any:
+        if not isinstance(other, Mapping):
+            return NotImplemented
+        made = _restored(type(self), self.key, self._named, dict(other))
+        made.update(self)
+        return made
+
+    def __ior__(self, other: Any) -> Any:
         self.update(other)
         return self
 
+    @recursive_repr("...")
     def __repr__(self) -> str:
-        kind = "" if self.kind == "int64" else f", keys={self.kind!r}"
+        key = "" if self.key is None else f"{self.key!r}, "
+        kind = "" if self._named is None else f", keys={self._named!r}"
         entries = ", ".join(f"{key!r}: {value!r}" for key, value in self.items())
-        return f"SortedDict({{{entries}}}{kind})"
+        return f"{type(self).__name__}({key}{{{entries}}}{kind})"
 
     def __reduce__(self) -> Any:
-        return _restored, (list(self.items()), self.kind)
+        state = getattr(self, "__dict__", None) or None
+        return _restored, (type(self), self.key, self._named, dict(self.items())), state
+
+    def __reduce_ex__(self, protocol: Any) -> Any:
+        return self.__reduce__()
 
 
-class SortedKeysView(KeysView, Sequence):
-    """The keys of a dictionary, in order."""
-
-    __slots__ = ()
-
-    def __getitem__(self, index: Any) -> Any:
-        if isinstance(index, slice):
-            return [item[0] for item in self._mapping.items()[index]]
-        return self._mapping.peekitem(index)[0]
-
-    def __reversed__(self) -> Iterator[Key]:
-        return reversed(self._mapping)
-
-
-class SortedValuesView(ValuesView, Sequence):
-    """The values of a dictionary, in the order of their keys."""
-
-    __slots__ = ()
-
-    def __iter__(self) -> Iterator[Any]:
-        return self._mapping._objects_at(0, len(self._mapping))
-
-    def __getitem__(self, index: Any) -> Any:
-        if isinstance(index, slice):
-            return [item[1] for item in self._mapping.items()[index]]
-        return self._mapping.peekitem(index)[1]
-
-
-class SortedItemsView(ItemsView, Sequence):
-    """The keys of a dictionary with their values, in order."""
-
-    __slots__ = ()
-
-    def __iter__(self) -> Iterator[tuple[Key, Any]]:
-        return zip(self._mapping, self._mapping.values())
-
-    def __getitem__(self, index: Any) -> Any:
-        if isinstance(index, slice):
-            return [self._mapping.peekitem(at) for at in range(*index.indices(len(self)))]
-        return self._mapping.peekitem(index)
-
-
-def _restored(entries: list[tuple[Key, Any]], keys: str) -> SortedDict:
-    return SortedDict(entries, keys=keys)
+def _restored(cls: Any, key: KeyFunction, kind: Optional[str], entries: dict[Any, Any]) -> Any:
+    made = cls.__new__(cls)
+    made._begin(kind, key)
+    made.update(entries)
+    return made

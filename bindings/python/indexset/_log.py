@@ -2,22 +2,30 @@
 from __future__ import annotations
 
 from collections.abc import MutableMapping
-from typing import Any, Callable, Iterable, Mapping, Optional, Union
+from typing import Any, Callable, Generic, Iterable, Mapping, Optional, TypeVar, Union
 
-from . import _native as native
-from ._keys import ALL, KINDS, Key
-from ._nodes import Change, Noded
+from . import _library as library
+from ._codecs import Moves
+from ._kinds import ALL, NUMBERS
+from ._library import Count, Event, Number, check, lib, place
+from ._nodes import KINDS, PAIRED, Change, Noded
 
-_lib = native.lib
+K = TypeVar("K")
+V = TypeVar("V")
 
 
-class LoggedDict(Noded, MutableMapping):
-    """A dictionary from numbers to numbers in the order of its keys, which tells each change to `tell`.
+class LoggedDict(Noded[K, V], MutableMapping[K, V], Generic[K, V]):
+    """A dictionary in the order of its keys, which tells each change to `tell`.
 
-    `keys` and `values` name the kinds of its keys and values, as for `SortedSet`; they are refused as
-    there. A node holds at most `size` pairs, and the first change has the number `next`. What has the
-    nodes of `nodes()` and makes the changes from the number `next` on has the dictionary's nodes. A
-    dictionary stays on the thread that made it, and is not changed while it is told of.
+    `keys` and `values` name the kinds of its keys and values, as for `SortedSet`; where none is named it is
+    that of the first pair, and an item of another kind is refused. A node holds at most `size` pairs, and the
+    first change has the number `next`. What has the nodes of `nodes()` and makes the changes from the number
+    `next` on has the dictionary's nodes. A copy and a pickle have the same pairs in nodes of their own; they
+    tell no one, and their numbers go on from `next`.
+
+    Cost: with n pairs, a call on one key takes a time that grows as log n and with the size of a node. Keys
+    that are no numbers are held in Python too. Reads may go on in several threads at once; changes are kept
+    apart by the caller, and none is made while one is told of.
 
     >>> told = []
     >>> ages = LoggedDict(told.append, size=2); ages[30] = 3; ages[10] = 1; ages[20] = 2
@@ -25,64 +33,123 @@ class LoggedDict(Noded, MutableMapping):
     (LoggedDict({10: 1, 20: 2, 30: 3}), [(0, 'create'), (1, 'insert'), (2, 'split'), (3, 'insert')])
     >>> ages.nodes(), ages.next
     ([[(10, 1)], [(20, 2), (30, 3)]], 4)
+    >>> LoggedDict(entries={"b": None, "a": "x"}, values="any").nodes()
+    [[('a', 'x'), ('b', None)]]
     """
 
-    __slots__ = ("_events", "_told", "_tell")
+    __slots__ = ("_tell", "_size")
 
-    _free = staticmethod(_lib.indexset_log_free)
-    _get = staticmethod(_lib.indexset_log_get)
-    _has = staticmethod(_lib.indexset_log_contains)
-    _length = staticmethod(_lib.indexset_log_len)
-    _next = staticmethod(_lib.indexset_log_next)
-    _range = staticmethod(_lib.indexset_log_range)
-    _node_count = staticmethod(_lib.indexset_log_node_count)
-    _node_lengths = staticmethod(_lib.indexset_log_node_lengths)
+    _get = staticmethod(lib.indexset_log_get)
+    _length = staticmethod(lib.indexset_log_len)
+    _next = staticmethod(lib.indexset_log_next)
+    _range = staticmethod(lib.indexset_log_range)
+    _node_count = staticmethod(lib.indexset_log_node_count)
+    _node_lengths = staticmethod(lib.indexset_log_node_lengths)
 
     def __init__(
         self,
         tell: Optional[Callable[[Change], Any]] = None,
-        entries: Union[Mapping[Key, Key], Iterable[tuple[Key, Key]]] = (),
+        entries: Union[Mapping[K, V], Iterable[tuple[K, V]]] = (),
         *,
-        keys: str = "int64",
-        values: str = "int64",
+        keys: Optional[str] = None,
+        values: Optional[str] = None,
         size: int = 1024,
         next: int = 0,
     ) -> None:
-        super().__init__(keys, values)
+        self._begin(keys, values)
         if not 2 <= size <= ALL:
             raise ValueError(f"a node holds 2 pairs or more, not {size}")
-        self._tell, self._events, self._told = tell, native.events(native.CHANGES), native.place()
-        handle, number = native.handle("log"), KINDS["uint64"].encode(next)
-        self._hold(handle, _lib.indexset_log_new(handle, size, number))
+        self._tell, self._size = tell, size
+        self._handle = library.new("log", size, NUMBERS["uint64"].code(next))
         self.update(entries)
 
-    def __setitem__(self, key: Key, value: Key) -> None:
+    def __setitem__(self, key: K, value: V) -> None:
         """Makes a value that of a key, and tells the changes."""
-        number, written = self._keys.encode(key), self._values.encode(value)
-        self._done(
-            _lib.indexset_log_insert(
-                self._handle, number, written, self._value, self._events, native.CHANGES, self._told
-            )
-        )
+        if None in self._named:
+            self._settle(key, value)
+        changes: list[Change] = []
+        fresh = self._keys.find(key) is None
+        if fresh:
+            self._move(self._keys.moves(key), changes)
+        code = self._keys.take(key)
+        try:
+            written = self._values.take(value)
+            try:
+                before = self._inserted(code, written, changes)
+            except BaseException:
+                self._values.drop(written)
+                raise
+        except BaseException:
+            if fresh:
+                self._keys.drop(code)
+            raise
+        if before is not None:
+            self._values.drop(before)
+        self._told(changes)
 
     def __delitem__(self, key: Any) -> None:
         """Removes a key, and tells the changes. KeyError where it is not there."""
-        number = self._number(key)
-        if number is None or not self._done(
-            _lib.indexset_log_remove(
-                self._handle, number, self._value, self._events, native.CHANGES, self._told
-            )
-        ):
+        code = self._keys.find(key)
+        changes: list[Change] = []
+        before = None if code is None else self._removed(code, changes)
+        if before is None:
             raise KeyError(key)
+        self._keys.drop(code)
+        self._values.drop(before)
+        self._told(changes)
 
-    def _done(self, status: int) -> bool:
-        """Tells the changes of a call, and returns whether its status is YES."""
-        if status == native.MEMORY:
-            raise MemoryError
-        if status == native.NUMBERS:
+    def _inserted(self, code: int, written: int, changes: list[Change]) -> Optional[int]:
+        """Makes a value that of a key, and returns the value before, if there was one."""
+        events, told, before = (Event * library.CHANGES)(), Count(), Number()
+        is_new = check(
+            lib.indexset_log_insert(
+                self._handle, code, written, place(before), place(events), library.CHANGES, place(told)
+            )
+        )
+        changes += [self._change(events[at]) for at in range(told.value)]
+        return None if is_new else before.value
+
+    def _removed(self, code: int, changes: list[Change]) -> Optional[int]:
+        """Removes a key, and returns its value, if it had one."""
+        events, told, before = (Event * library.CHANGES)(), Count(), Number()
+        was_there = check(
+            lib.indexset_log_remove(
+                self._handle, code, place(before), place(events), library.CHANGES, place(told)
+            )
+        )
+        changes += [self._change(events[at]) for at in range(told.value)]
+        return before.value if was_there else None
+
+    def _move(self, moves: Moves, changes: list[Change]) -> None:
+        """Has keys have other labels."""
+        if ALL - self.next < 2 * library.CHANGES * (len(moves) + 1) and moves:
             raise OverflowError("too few numbers are left")
-        changes = [self._change(self._events[at]) for at in range(self._told[0])]
+        values = [self._removed(old, changes) for old, _ in moves]
+        self._keys.moved(moves)
+        for (_, new), value in zip(moves, values):
+            self._inserted(new, value or 0, changes)
+
+    def _change(self, event: Event) -> Change:
+        """The change of the library's record of it."""
+        key, value = self._keys.decode, self._values.decode
+        kind = KINDS[event.kind]
+        node = key(event.node_key), value(event.node_value)
+        pair = (key(event.key), value(event.value)) if kind in PAIRED else (0, 0)
+        label = self._keys.label(pair[0] if kind == "insert" else node[0]) if kind in ("insert", "create") else 0
+        return Change(event.number, str(kind), node, pair, event.index, label)
+
+    def _told(self, changes: list[Change]) -> None:
+        """Tells changes."""
         if self._tell is not None:
             for change in changes:
                 self._tell(change)
-        return status == native.YES
+
+    def __reduce__(self) -> Any:
+        words = dict(self.irange()), *self._named, self._size, self.next
+        return _restored, (type(self), *words), getattr(self, "__dict__", None) or None
+
+
+def _restored(cls: Any, entries: Any, keys: Any, values: Any, size: int, next: int) -> Any:
+    made = cls.__new__(cls)
+    LoggedDict.__init__(made, None, entries, keys=keys, values=values, size=size, next=next)
+    return made

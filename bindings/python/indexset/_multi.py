@@ -1,75 +1,98 @@
 """An ordered dictionary whose keys may have several values."""
 from __future__ import annotations
 
-from array import array
-from typing import Any, Iterable, Iterator, Optional
+from typing import Any, Generic, Iterable, Iterator, Literal, Optional, TypeVar, Union, overload
 
-from . import _native as native
-from ._keys import ALL, KINDS, Key
+from ._kinds import NUMBERS, OBJECT, known
+from ._orders import kind_of
+from ._pairs import NumberPairs, ObjectPairs
 
-_lib = native.lib
+K = TypeVar("K")
+V = TypeVar("V")
+Whole = Literal["int64", "uint64"]
 
 
-class SortedMultiDict:
+class SortedMultiDict(Generic[K, V]):
     """Keys in order, each with values of its own, which are distinct and stand in the order in which they
-    came. Keys and values are numbers.
+    came.
 
-    `keys` and `values` name their kinds, as for `SortedSet`; they are refused as there. With n pairs a
-    call on one key takes a time that grows as log n, and with the number of its values. A dictionary stays
-    on the thread that made it.
+    `keys` and `values` name their kinds, as for `SortedSet`. Numbers are kept in the library's multimap; where
+    no kind is named it is found from the pairs, and numbers are kept so until others come.
+
+    Cost: with n pairs a call on one key takes a time that grows as log n, and with the number of its values.
+    Reads may go on in several threads at once; changes are kept apart by the caller.
 
     >>> tags = SortedMultiDict([(2, 30), (1, 10), (2, 20)]); tags
     SortedMultiDict([(1, 10), (2, 30), (2, 20)])
     >>> tags[2], tags.count(2), (2, 20) in tags, tags.remove(2, 30), tags[2]
     ([30, 20], 2, True, None, [20])
+    >>> SortedMultiDict([("b", "x"), ("a", "y"), ("b", "w")])
+    SortedMultiDict([('a', 'y'), ('b', 'x'), ('b', 'w')])
     """
 
-    __slots__ = ("_handle", "_keys", "_values", "_key", "_value", "__weakref__")
+    __slots__ = ("_pairs", "_named", "__weakref__")
     __hash__ = None  # type: ignore[assignment]
 
+    @overload
     def __init__(
-        self, pairs: Iterable[tuple[Key, Key]] = (), *, keys: str = "int64", values: str = "int64"
+        self: SortedMultiDict[int, int], pairs: Iterable[tuple[int, int]] = ..., *, keys: Whole, values: Whole
+    ) -> None: ...
+    @overload
+    def __init__(
+        self, pairs: Iterable[tuple[K, V]] = ..., *, keys: Optional[str] = ..., values: Optional[str] = ...
+    ) -> None: ...
+    def __init__(
+        self, pairs: Iterable[tuple[Any, Any]] = (), *, keys: Optional[str] = None, values: Optional[str] = None
     ) -> None:
-        self._handle: Any = None
-        for name in (keys, values):
-            if name not in KINDS:
-                raise ValueError(f"a kind is one of {', '.join(KINDS)}, not {name!r}")
-        self._keys, self._values = KINDS[keys], KINDS[values]
-        self._key, self._value = native.number(), native.number()
-        handle = native.handle("multi")
-        if _lib.indexset_multi_new(handle) != native.YES:
-            raise MemoryError
-        self._handle = handle
+        known(keys)
+        known(values)
+        self._named = keys, values
+        self._pairs = self._of(keys or "int64", values or "int64")
         self.update(pairs)
 
-    def __del__(self) -> None:
-        handle = getattr(self, "_handle", None)
-        if handle is not None:
-            self._handle = None
-            _lib.indexset_multi_free(handle)
+    @staticmethod
+    def _of(keys: str, values: str) -> Union[NumberPairs, ObjectPairs]:
+        return NumberPairs(keys, values) if keys in NUMBERS and values in NUMBERS else ObjectPairs(keys, values)
+
+    def _fit(self, key: Any, value: Any) -> None:
+        """Finds the kinds for a pair that comes, where none were named."""
+        now = self._pairs.kinds
+        wanted = [
+            kind if name is not None else kind_of([item])
+            for name, kind, item in zip(self._named, now, (key, value))
+        ]
+        if len(self):
+            wanted = [old if old == new or old == OBJECT else OBJECT for old, new in zip(now, wanted)]
+        if tuple(wanted) != now:
+            made = self._of(*wanted)
+            for pair in self.items():
+                made.add(*pair)
+            self._pairs = made
 
     @property
     def kinds(self) -> tuple[str, str]:
         """The names of the kinds of the keys and of the values."""
-        return self._keys.name, self._values.name
+        return self._pairs.kinds
 
     def __len__(self) -> int:
         """How many pairs there are."""
-        return _lib.indexset_multi_len(self._handle)
+        return len(self._pairs)
 
     # ---- pairs
 
-    def add(self, key: Key, value: Key) -> bool:
+    def add(self, key: K, value: V) -> bool:
         """Adds a value to those of a key, as the last. False where the key has it.
 
         >>> tags = SortedMultiDict(); tags.add(1, 5), tags.add(1, 5)
         (True, False)
         """
-        return self._done(
-            _lib.indexset_multi_insert(self._handle, self._keys.encode(key), self._values.encode(value))
-        )
+        if None in self._named:
+            if self._pairs.contains(key, value):
+                return False
+            self._fit(key, value)
+        return self._pairs.add(key, value)
 
-    def update(self, pairs: Iterable[tuple[Key, Key]]) -> None:
+    def update(self, pairs: Iterable[tuple[K, V]]) -> None:
         """Adds each pair."""
         for key, value in pairs:
             self.add(key, value)
@@ -85,112 +108,69 @@ class SortedMultiDict:
         >>> SortedMultiDict([(1, 5)]).discard(1, 6)
         False
         """
-        numbers = self._numbers(key, value)
-        return numbers is not None and self._done(_lib.indexset_multi_remove(self._handle, *numbers))
+        return self._pairs.discard(key, value)
 
-    def pop(self, key: Any) -> Key:
+    def pop(self, key: Any) -> V:
         """Removes the first value of a key and returns it. KeyError where the key is not there.
 
         >>> SortedMultiDict([(1, 5), (1, 4)]).pop(1)
         5
         """
-        numbers = self._numbers(key)
-        if numbers is None or not self._done(
-            _lib.indexset_multi_remove_first(self._handle, *numbers, self._value)
-        ):
-            raise KeyError(key)
-        return self._values.decode(self._value[0])
+        value: V = self._pairs.pop(key)
+        return value
 
     def clear(self) -> None:
         """Removes all pairs."""
-        _lib.indexset_multi_clear(self._handle)
-
-    @staticmethod
-    def _done(status: int) -> bool:
-        """Whether a call did something. MemoryError or OverflowError where it was refused."""
-        if status == native.MEMORY:
-            raise MemoryError
-        if status == native.NUMBERS:
-            raise OverflowError("too few numbers are left")
-        return status == native.YES
-
-    def _numbers(self, key: Any, value: Any = None) -> Optional[tuple[int, ...]]:
-        """The numbers of a key and of a value, if one is given, or None where they can be none."""
-        try:
-            number = self._keys.encode(key)
-            return (number,) if value is None else (number, self._values.encode(value))
-        except (OverflowError, TypeError, ValueError):
-            return None
+        self._pairs.clear()
 
     # ---- reads
 
     def __contains__(self, pair: Any) -> bool:
         """Whether a pair of a key and a value is there."""
-        if not isinstance(pair, tuple) or len(pair) != 2:
-            return False
-        numbers = self._numbers(*pair) if pair[1] is not None else None
-        return numbers is not None and _lib.indexset_multi_contains(self._handle, *numbers)
+        return isinstance(pair, tuple) and len(pair) == 2 and self._pairs.contains(*pair)
 
     def has_key(self, key: Any) -> bool:
         """Whether a key is there."""
-        numbers = self._numbers(key)
-        return numbers is not None and _lib.indexset_multi_contains_key(self._handle, *numbers)
+        return self._pairs.count(key) > 0
 
     def count(self, key: Any) -> int:
         """How many values a key has."""
-        numbers = self._numbers(key)
-        return 0 if numbers is None else _lib.indexset_multi_count(self._handle, *numbers)
+        return self._pairs.count(key)
 
-    def get(self, key: Any) -> list[Key]:
+    def get(self, key: Any) -> list[V]:
         """The values of a key, in the order in which they came; none where the key is not there."""
-        size = self.count(key)
-        if not size:
-            return []
-        out = array("Q", bytes(8 * size))
-        _lib.indexset_multi_get(self._handle, self._keys.encode(key), native.numbers(out), size)
-        return list(map(self._values.decode, out))
+        return self._pairs.get(key)
 
-    def __getitem__(self, key: Any) -> list[Key]:
+    def __getitem__(self, key: Any) -> list[V]:
         """The values of a key. KeyError where the key is not there."""
         values = self.get(key)
         if not values:
             raise KeyError(key)
         return values
 
-    def first(self) -> tuple[Key, Key]:
+    def first(self) -> tuple[K, V]:
         """The least key with its first value. IndexError where there is none."""
-        return self._end(_lib.indexset_multi_first)
+        return self._end(False)
 
-    def last(self) -> tuple[Key, Key]:
+    def last(self) -> tuple[K, V]:
         """The greatest key with its last value. IndexError where there is none."""
-        return self._end(_lib.indexset_multi_last)
+        return self._end(True)
 
-    def _end(self, call: Any) -> tuple[Key, Key]:
-        if not call(self._handle, self._key, self._value):
+    def _end(self, last: bool) -> tuple[K, V]:
+        pair = self._pairs.end(last)
+        if pair is None:
             raise IndexError("dictionary is empty")
-        return self._keys.decode(self._key[0]), self._values.decode(self._value[0])
+        return pair
 
-    def irange(
-        self, minimum: Optional[Key] = None, maximum: Optional[Key] = None
-    ) -> Iterator[tuple[Key, Key]]:
-        """The pairs of the keys between two keys, both included, as they are at the call.
+    def irange(self, minimum: Any = None, maximum: Any = None) -> Iterator[tuple[K, V]]:
+        """The pairs of the keys between two values, both included, as they are at the call.
 
         >>> list(SortedMultiDict([(1, 10), (3, 30), (3, 31), (5, 50)]).irange(2, 4))
         [(3, 30), (3, 31)]
         """
-        low = 0 if minimum is None else self._keys.encode(minimum)
-        high = ALL if maximum is None else self._keys.encode(maximum)
-        size = len(self)
-        if not size:
-            return iter(())
-        keys, values = array("Q", bytes(8 * size)), array("Q", bytes(8 * size))
-        count = _lib.indexset_multi_range(
-            self._handle, low, high, native.numbers(keys), size, native.numbers(values), size
-        )
-        del keys[count:], values[count:]
-        return zip(map(self._keys.decode, keys), map(self._values.decode, values))
+        return self._pairs.range(minimum, maximum)
 
-    def items(self) -> Iterator[tuple[Key, Key]]:
+    def items(self) -> Iterator[tuple[K, V]]:
         """All pairs, in order, as they are at the call."""
         return self.irange()
 
@@ -198,11 +178,15 @@ class SortedMultiDict:
 
     # ---- the object
 
-    def copy(self) -> SortedMultiDict:
+    def copy(self) -> Any:
         """A dictionary of the same pairs, in a time that grows with their number."""
-        return SortedMultiDict(self.items(), keys=self._keys.name, values=self._values.name)
+        return _restored(type(self), list(self.items()), *self._named)
 
-    __copy__ = copy
+    def __copy__(self) -> Any:
+        made = self.copy()
+        if hasattr(self, "__dict__"):
+            made.__dict__.update(self.__dict__)
+        return made
 
     def __eq__(self, other: Any) -> bool:
         if not isinstance(other, SortedMultiDict):
@@ -211,15 +195,16 @@ class SortedMultiDict:
 
     def __repr__(self) -> str:
         kinds = "".join(
-            f", {name}={kind!r}"
-            for name, kind in zip(("keys", "values"), self.kinds)
-            if kind != "int64"
+            f", {name}={kind!r}" for name, kind in zip(("keys", "values"), self._named) if kind is not None
         )
-        return f"SortedMultiDict({list(self.items())}{kinds})"
+        return f"{type(self).__name__}({list(self.items())}{kinds})"
 
     def __reduce__(self) -> Any:
-        return _restored, (list(self.items()), *self.kinds)
+        state = getattr(self, "__dict__", None) or None
+        return _restored, (type(self), list(self.items()), *self._named), state
 
 
-def _restored(pairs: list[tuple[Key, Key]], keys: str, values: str) -> SortedMultiDict:
-    return SortedMultiDict(pairs, keys=keys, values=values)
+def _restored(cls: Any, pairs: list[Any], keys: Optional[str], values: Optional[str]) -> Any:
+    made = cls.__new__(cls)
+    SortedMultiDict.__init__(made, pairs, keys=keys, values=values)
+    return made

@@ -1,15 +1,20 @@
-"""What a logged dictionary and a replica share: changes, and pairs of numbers that are read in order."""
+"""What a logged dictionary and a replica share: changes, and pairs that are read in order."""
 from __future__ import annotations
 
-from array import array
 from collections.abc import Mapping
-from typing import Any, Iterator, NamedTuple, Optional
+from typing import Any, Generic, Iterator, NamedTuple, Optional, TypeVar
 
-from . import _native as native
-from ._keys import ALL, KINDS, Key
+from . import _library as library
+from ._codecs import keys_of, values_of
+from ._kinds import known
+from ._library import Number, memory, place, zeros
+from ._orders import kind_of
 
-_KINDS = (None, "insert", "remove", "create", "drop", "split", "merge")
-_PAIRED = ("insert", "remove", "merge")
+K = TypeVar("K")
+V = TypeVar("V")
+
+KINDS = (None, "insert", "remove", "create", "drop", "split", "merge")
+PAIRED = ("insert", "remove", "merge")
 
 
 class Change(NamedTuple):
@@ -18,136 +23,123 @@ class Change(NamedTuple):
     `kind` is "insert" or "remove", of the pair at the index; "create", of a node of one pair, or "drop";
     "split", into the pairs before the index and the rest; or "merge", with the node after it, whose last
     pair is the pair. What a kind has no use for is 0.
+
+    `label` is what keeps the place of a new key that is no number of 64 bits: a number between those of the
+    keys beside it. Where there is none between two keys, some keys are removed and inserted under labels of
+    their own first, and changes tell of that too.
+
+    >>> Change(0, "create", (5, 50), (0, 0), 0).kind
+    'create'
     """
 
     number: int
     kind: str
-    node: tuple[Key, Key]
-    pair: tuple[Key, Key]
-    index: int
+    node: tuple[Any, Any]
+    pair: tuple[Any, Any]
+    index: int  # type: ignore[assignment]
+    label: int = 0
 
 
-class Noded(Mapping):
-    """Pairs of numbers in nodes, behind a handle of the library. A subclass names the library's calls."""
+class Noded(Mapping[K, V], Generic[K, V]):
+    """Pairs in nodes, behind a handle of the library. A subclass names the library's calls."""
 
-    __slots__ = ("_handle", "_keys", "_values", "_value", "__weakref__")
+    __slots__ = ("_handle", "_keys", "_values", "_named", "__weakref__")
     __hash__ = None  # type: ignore[assignment]
 
-    _free: Any
+    _handle: Any
     _get: Any
-    _has: Any
     _length: Any
     _next: Any
     _range: Any
     _node_count: Any
     _node_lengths: Any
 
-    def __init__(self, keys: str, values: str) -> None:
-        self._handle: Any = None
-        for name in (keys, values):
-            if name not in KINDS:
-                raise ValueError(f"a kind is one of {', '.join(KINDS)}, not {name!r}")
-        self._keys, self._values = KINDS[keys], KINDS[values]
-        self._value = native.number()
+    def _begin(self, keys: Optional[str], values: Optional[str]) -> None:
+        """Names the kinds; one that is not named is found from the first pair."""
+        known(keys)
+        known(values)
+        self._named: list[Optional[str]] = [keys, values]
+        self._keys: Any = keys_of(keys or "int64")
+        self._values: Any = values_of(values or "int64")
 
-    def _hold(self, handle: Any, status: int) -> None:
-        """Holds a handle that a call has made."""
-        if status != native.YES:
-            raise MemoryError
-        self._handle = handle
+    def _settle(self, key: Any, value: Any) -> None:
+        """Finds the kinds that are not named, for a first pair."""
+        keys, values = self._named
+        if keys is None:
+            self._keys = keys_of(kind_of([key]))
+        if values is None:
+            self._values = values_of(kind_of([value]))
+        self._named = [self._keys.name, self._values.name]
 
-    def __del__(self) -> None:
-        handle = getattr(self, "_handle", None)
-        if handle is not None:
-            self._handle = None
-            self._free(handle)
-
-    # ---- changes
-
-    def _change(self, event: Any) -> Change:
-        """The change of the library's record of it."""
-        key, value = self._keys.decode, self._values.decode
-        kind = _KINDS[event.kind]
-        return Change(
-            event.number,
-            kind,
-            (key(event.node_key), value(event.node_value)),
-            (key(event.key), value(event.value)) if kind in _PAIRED else (0, 0),
-            event.index,
-        )
-
-    def _write(self, change: Change, event: Any) -> None:
-        """Writes the library's record of a change. ValueError where its kind is none."""
-        if change.kind not in _KINDS[1:]:
-            raise ValueError(f"no kind of change is {change.kind!r}")
-        key, value, count = self._keys.encode, self._values.encode, KINDS["uint64"].encode
-        event.kind = _KINDS.index(change.kind)
-        event.number, event.index = count(change.number), count(change.index)
-        event.node_key, event.node_value = key(change.node[0]), value(change.node[1])
-        paired = change.kind in _PAIRED
-        event.key = key(change.pair[0]) if paired else 0
-        event.value = value(change.pair[1]) if paired else 0
+    @property
+    def kinds(self) -> tuple[str, str]:
+        """The names of the kinds of the keys and of the values, as `SortedSet.kind` has them."""
+        return self._keys.name, self._values.name
 
     # ---- reads
 
-    def _number(self, key: Any) -> Optional[int]:
-        """A key's number, or None where it can be none."""
-        try:
-            return self._keys.encode(key)
-        except (OverflowError, TypeError, ValueError):
-            return None
-
-    def __getitem__(self, key: Any) -> Key:
-        number = self._number(key)
-        if number is None or not self._get(self._handle, number, self._value):
+    def __getitem__(self, key: Any) -> V:
+        code, out = self._keys.find(key), Number()
+        if code is None or not self._get(self._handle, code, place(out)):
             raise KeyError(key)
-        return self._values.decode(self._value[0])
+        value: V = self._values.decode(out.value)
+        return value
 
     def __contains__(self, key: Any) -> bool:
-        number = self._number(key)
-        return number is not None and self._has(self._handle, number)
+        """Whether a key is there."""
+        code = self._keys.find(key)
+        return code is not None and self._get(self._handle, code, place(Number()))
 
     def __len__(self) -> int:
-        return self._length(self._handle)
+        size: int = self._length(self._handle)
+        return size
 
     @property
     def next(self) -> int:
         """The number of the next change."""
-        return self._next(self._handle)
+        number: int = self._next(self._handle)
+        return number
 
-    def irange(
-        self, minimum: Optional[Key] = None, maximum: Optional[Key] = None
-    ) -> Iterator[tuple[Key, Key]]:
-        """The keys between two keys, both included, with their values, as they are at the call.
+    def irange(self, minimum: Any = None, maximum: Any = None) -> Iterator[tuple[K, V]]:
+        """The keys between two values, both included, with their values, as they are at the call.
 
         >>> from indexset import LoggedDict
         >>> list(LoggedDict(entries={1: 10, 3: 30, 5: 50}).irange(2, 5))
         [(3, 30), (5, 50)]
         """
-        low = 0 if minimum is None else self._keys.encode(minimum)
-        high = ALL if maximum is None else self._keys.encode(maximum)
-        size = len(self)
-        if not size:
+        ends = self._keys.range(minimum, maximum)
+        if ends is None:
             return iter(())
-        keys, values = array("Q", bytes(8 * size)), array("Q", bytes(8 * size))
-        count = self._range(
-            self._handle, low, high, native.numbers(keys), size, native.numbers(values), size
-        )
-        del keys[count:], values[count:]
-        return zip(map(self._keys.decode, keys), map(self._values.decode, values))
+        keys, values = library.pairs(self._range, self._handle, *ends, size=len(self))
+        return iter([(self._keys.decode(key), self._values.decode(value)) for key, value in zip(keys, values)])
 
-    def __iter__(self) -> Iterator[Key]:
+    def __iter__(self) -> Iterator[K]:
         return (key for key, _ in self.irange())
 
-    def nodes(self) -> list[list[tuple[Key, Key]]]:
+    def nodes(self) -> list[list[tuple[K, V]]]:
         """The nodes, each as a list of its keys with their values. It takes a time that grows with the
         number of pairs."""
         pairs, count = self.irange(), self._node_count(self._handle)
-        if not count:
-            return []
-        lengths = array("Q", bytes(8 * count))
-        self._node_lengths(self._handle, native.positions(lengths), count)
+        lengths = zeros(count)
+        if count:
+            self._node_lengths(self._handle, memory(lengths), count)
         return [[next(pairs) for _ in range(length)] for length in lengths]
+
+    # ---- the object
+
+    def copy(self) -> Any:
+        """The same pairs again, in a time that grows with their number."""
+        make, words = self.__reduce__()[:2]
+        return make(*words)
+
+    def __copy__(self) -> Any:
+        made = self.copy()
+        if hasattr(self, "__dict__"):
+            made.__dict__.update(self.__dict__)
+        return made
+
+    def __reduce__(self) -> Any:
+        raise NotImplementedError
 
     def __repr__(self) -> str:
         return f"{type(self).__name__}({dict(self.irange())})"

@@ -1,17 +1,20 @@
 """A copy of a logged dictionary that follows it by its changes."""
 from __future__ import annotations
 
-from typing import Any, Iterable, Optional
+from typing import Any, Generic, Iterable, Optional, TypeVar
 
-from . import _native as native
-from ._keys import KINDS
+from . import _library as library
+from ._codecs import Numbered
+from ._kinds import NUMBERS
+from ._library import Count, Event, Number, check, lib, place
 from ._log import LoggedDict
-from ._nodes import Change, Noded
+from ._nodes import KINDS, PAIRED, Change, Noded
 
-_lib = native.lib
+K = TypeVar("K")
+V = TypeVar("V")
 
 _REASONS = {
-    native.GAP: "changes before it are missing",
+    library.GAP: "changes before it are missing",
     12: "no node has the last key that it names",
     13: "its index is outside the node",
     14: "another key stands at its index",
@@ -20,6 +23,7 @@ _REASONS = {
     17: "it would split off an empty part",
     18: "the second node that it names does not follow the first",
 }
+NO_SUCH_NODE, VALUE_DIFFERS, OUT_OF_ORDER, NOT_NEIGHBOURS = 12, 14, 16, 18
 
 
 class Refused(ValueError):
@@ -30,17 +34,24 @@ class Refused(ValueError):
         super().__init__(f"change {change.number} is refused: {_REASONS[status]}")
         self.status, self.taken, self.change = status, taken, change
 
+    def __reduce__(self) -> Any:
+        return type(self), (self.status, self.taken, self.change)
+
 
 class Gap(Refused):
     """A change whose number is above the one that is awaited: changes before it are missing."""
 
 
-class Replica(Noded):
+class Replica(Noded[K, V], Generic[K, V]):
     """A dictionary that follows a `LoggedDict` by its changes, and has its nodes once it has made them.
 
     `of` is the dictionary that it begins as a copy of. Without one it begins empty and awaits the change of
-    the number `next`; `keys` and `values` are then the kinds of the dictionary that it is to follow. A
-    replica stays on the thread that made it.
+    the number `next`; `keys` and `values` are then the kinds of the dictionary that it is to follow, or are
+    found from the first pair. A copy and a pickle have the same nodes and await the same change.
+
+    Cost: with n pairs, a call on one key takes a time that grows as log n and with the size of a node;
+    `len` takes one that grows with the number of nodes. Reads may go on in several threads at once; changes
+    are kept apart by the caller.
 
     >>> told = []
     >>> ages = LoggedDict(told.append, size=2); ages[30] = 3; ages[10] = 1
@@ -51,65 +62,167 @@ class Replica(Noded):
     (Replica({10: 1, 20: 2, 30: 3}), True, False)
     """
 
-    __slots__ = ("_taken",)
+    __slots__ = ()
 
-    _free = staticmethod(_lib.indexset_replica_free)
-    _get = staticmethod(_lib.indexset_replica_get)
-    _has = staticmethod(_lib.indexset_replica_contains)
-    _length = staticmethod(_lib.indexset_replica_len)
-    _next = staticmethod(_lib.indexset_replica_next)
-    _range = staticmethod(_lib.indexset_replica_range)
-    _node_count = staticmethod(_lib.indexset_replica_node_count)
-    _node_lengths = staticmethod(_lib.indexset_replica_node_lengths)
+    _get = staticmethod(lib.indexset_replica_get)
+    _length = staticmethod(lib.indexset_replica_len)
+    _next = staticmethod(lib.indexset_replica_next)
+    _range = staticmethod(lib.indexset_replica_range)
+    _node_count = staticmethod(lib.indexset_replica_node_count)
+    _node_lengths = staticmethod(lib.indexset_replica_node_lengths)
 
     def __init__(
         self,
-        of: Optional[LoggedDict] = None,
+        of: Optional[LoggedDict[K, V]] = None,
         *,
-        keys: str = "int64",
-        values: str = "int64",
+        keys: Optional[str] = None,
+        values: Optional[str] = None,
         next: int = 0,
     ) -> None:
-        if of is not None:
-            keys, values = of._keys.name, of._values.name
-        super().__init__(keys, values)
-        self._taken, handle = native.place(), native.handle("replica")
+        self._begin(keys, values)
         if of is None:
-            self._hold(handle, _lib.indexset_replica_new(handle, KINDS["uint64"].encode(next)))
-        else:
-            self._hold(handle, _lib.indexset_replica_from_log(handle, of._handle))
+            self._handle = library.new("replica", NUMBERS["uint64"].code(next))
+            return
+        self._named, self._keys, self._values = list(of._named), of._keys.clone(), of._values.clone()
+        self._handle = library.handle("replica")
+        check(lib.indexset_replica_from_log(self._handle, of._handle))
 
     def apply(self, change: Change) -> bool:
         """Makes a change. True, or False where its number is below the one that is awaited, so that it was
         made before. `Gap` where the number is above it, `Refused` where the change does not fit the nodes,
         and then nothing is changed."""
-        event = native.events(1)
-        self._write(change, event[0])
-        status = _lib.indexset_replica_apply(self._handle, event)
-        self._refuse(status, 0, change)
-        return status == native.YES
+        return self._apply(change, 0)
 
     def apply_all(self, changes: Iterable[Change]) -> int:
         """Makes changes, first to last, and passes over each that was made before. Returns how many there
         were. `Gap` or `Refused` at the first that is refused, whose `taken` tells how many came before; their
-        changes are made."""
+        changes are made. Numbers go in by one call."""
         every = list(changes)
-        events = native.events(len(every))
-        for at, change in enumerate(every):
-            self._write(change, events[at])
-        if every:
-            status = _lib.indexset_replica_apply_all(self._handle, events, len(every), self._taken)
-            taken = self._taken[0]
-            self._refuse(status, taken, every[min(taken, len(every) - 1)])
+        if every and None not in self._named and self._is_numbered():
+            self._apply_numbers(every)
+        else:
+            for taken, change in enumerate(every):
+                self._apply(change, taken)
         return len(every)
 
-    def _refuse(self, status: int, taken: int, change: Change) -> None:
+    def _is_numbered(self) -> bool:
+        return isinstance(self._keys, Numbered) and isinstance(self._values, Numbered)
+
+    def _apply_numbers(self, every: list[Change]) -> None:
+        events, taken = (Event * len(every))(), Count()
+        for at, change in enumerate(every):
+            self._write(change, events[at])
+        status = lib.indexset_replica_apply_all(self._handle, place(events), len(every), place(taken))
+        if status not in (library.NO, library.YES):
+            self._refuse(status, taken.value, every[min(taken.value, len(every) - 1)])
+
+    def _write(self, change: Change, event: Event) -> None:
+        """Writes the library's record of a change of numbers. ValueError where its kind is none."""
+        self._begin_event(change, event)
+        event.node_key, event.node_value = map(self._code, (self._keys, self._values), change.node)
+        if change.kind in PAIRED:
+            event.key, event.value = map(self._code, (self._keys, self._values), change.pair)
+
+    @staticmethod
+    def _code(codec: Any, value: Any) -> int:
+        code: int = codec.take(value)
+        return code
+
+    @staticmethod
+    def _begin_event(change: Change, event: Event) -> None:
+        if change.kind not in KINDS[1:]:
+            raise ValueError(f"no kind of change is {change.kind!r}")
+        count = NUMBERS["uint64"].code
+        event.kind = KINDS.index(change.kind)
+        event.number, event.index = count(change.number), count(change.index)
+
+    def _apply(self, change: Change, taken: int) -> bool:
+        """Makes a change, behind so many others of a call."""
+        event = Event()
+        self._begin_event(change, event)
+        if change.number != self.next:
+            if change.number > self.next:
+                raise Gap(library.GAP, taken, change)
+            return False
+        if None in self._named:
+            self._settle(*change.node)
+        if change.kind in ("create", "insert"):
+            self._add(change, event, taken)
+        else:
+            self._make(change, event, taken)
+        return True
+
+    def _add(self, change: Change, event: Event, taken: int) -> None:
+        """Makes a change that brings a pair."""
+        key, value = change.node if change.kind == "create" else change.pair
+        if not self._keys.fits(key, change.label):
+            raise Refused(OUT_OF_ORDER, taken, change)
+        code, written = self._keys.code_of(key, change.label), self._values.take(value)
+        event.key, event.value, event.node_key, event.node_value = code, written, code, written
+        try:
+            if change.kind == "insert":
+                event.node_key, event.node_value = self._node(change, taken), 0
+            self._make_event(event, change, taken)
+        except BaseException:
+            self._values.drop(written)
+            raise
+        self._keys.put(key, change.label)
+
+    def _make(self, change: Change, event: Event, taken: int) -> None:
+        """Makes a change that brings none."""
+        event.node_key, gone = self._node(change, taken), None
+        if change.kind in PAIRED:
+            gone = self._keys.find(change.pair[0])
+            if gone is None:
+                raise Refused(VALUE_DIFFERS if change.kind == "remove" else NOT_NEIGHBOURS, taken, change)
+            event.key = gone
+        if change.kind not in ("remove", "drop"):
+            self._make_event(event, change, taken)
+            return
+        gone, before = event.node_key if gone is None else gone, Number()
+        had = self._get(self._handle, gone, place(before))
+        self._make_event(event, change, taken)
+        self._keys.drop(gone)
+        if had:
+            self._values.drop(before.value)
+
+    def _node(self, change: Change, taken: int) -> int:
+        """The code of the key that names a node."""
+        code: Optional[int] = self._keys.find(change.node[0])
+        if code is None:
+            self._keys.code_of(change.node[0], 0)
+            raise Refused(NO_SUCH_NODE, taken, change)
+        return code
+
+    def _make_event(self, event: Event, change: Change, taken: int) -> None:
+        status = lib.indexset_replica_apply(self._handle, place(event))
+        if status != library.YES:
+            self._refuse(status, taken, change)
+
+    @staticmethod
+    def _refuse(status: int, taken: int, change: Change) -> None:
         """Raises what a status says, of a change."""
-        if status == native.MEMORY:
-            raise MemoryError
-        if status == native.NUMBERS:
-            raise OverflowError("too few numbers are left")
-        if status == native.GAP:
+        if status == library.GAP:
             raise Gap(status, taken, change)
-        if status not in (native.NO, native.YES):
+        if status in _REASONS:
             raise Refused(status, taken, change)
+        check(status)
+
+    def __reduce__(self) -> Any:
+        label = self._keys.label
+        nodes = [[(key, value, label(key)) for key, value in node] for node in self.nodes()]
+        words = type(self), nodes, *self._named, self.next
+        return _restored, words, getattr(self, "__dict__", None) or None
+
+
+def _restored(cls: Any, nodes: list[Any], keys: Any, values: Any, next: int) -> Any:
+    made = cls.__new__(cls)
+    number = next - sum(map(len, nodes))
+    Replica.__init__(made, keys=keys, values=values, next=number)
+    for node in nodes:
+        before = None
+        for index, (key, value, label) in enumerate(node):
+            kind, pair = ("create", (0, 0)) if before is None else ("insert", (key, value))
+            made.apply(Change(number, kind, before or (key, value), pair, index, label))
+            before, number = (key, value), number + 1
+    return made

@@ -2,261 +2,284 @@
 from __future__ import annotations
 
 from array import array
-from collections.abc import MutableSet, Sequence, Set
-from typing import Any, Iterable, Optional
+from collections.abc import MutableSet, Set
+from itertools import chain
+from typing import Any, Callable, Generic, Iterable, Literal, Optional, TypeVar, overload
 
-from . import _native as native
-from ._keys import ALL, Key, encode_all
-from ._ordered import Ordered, position_of
+from ._kinds import items_of
+from ._native import Numbers
+from ._orders import KeyFunction, Order, kind_of
+from ._sorted import Sorted
 
-_lib = native.lib
-_insert = _lib.indexset_set_insert
-_remove = _lib.indexset_set_remove
-_at = _lib.indexset_set_at
+T = TypeVar("T")
+S = TypeVar("S")
 
 
-class SortedSet(Ordered, MutableSet, Sequence):
-    """A set of numbers that is kept in order, with the calls of `sortedcontainers.SortedSet`.
+class SortedSet(Sorted[T], MutableSet[T], Generic[T]):
+    """A set that is kept in order, with the calls of `sortedcontainers.SortedSet`.
 
-    `keys` names the kind of its keys: `int64` (the default), `uint64` or `float64`. A key that does
-    not fit is refused with OverflowError, TypeError or, for NaN, ValueError. With n elements a call
-    on one key or one position takes a time that grows as log n, unless its own text says otherwise.
-    A set stays on the thread that made it, and is not changed while it is iterated over.
+    Its items are of any kind that has an order; those with equal values are one, as in a `set`. `keys` names
+    the kind: "int64", "uint64", "float64", "str", "bytes", "any" (None, bool, int, float, str, bytes and
+    tuples of these, in the order of FoundationDB's tuples: integers before floats) or "object" (what Python's
+    own `<` compares); an item that does not fit is refused with TypeError, OverflowError or, for NaN,
+    ValueError. Where none is named, it is found from the items, and numbers of 64 bits, texts and byte strings
+    are kept as such until others come. `key` is a function whose results order the items.
 
-    >>> SortedSet([3, 1, 2, 1])
-    SortedSet([1, 2, 3])
-    >>> SortedSet([0.5, -1], keys="float64")
-    SortedSet([-1.0, 0.5], keys='float64')
+    Cost: with n items, a call on one item or one position takes a time that grows as log n, and with the kind
+    "object" that many comparisons; `in` asks a hash table, but for numbers, which are kept in the library
+    alone. A walk, a slice or a batch takes a time that grows with its length.
+
+    Reads may go on in several threads at once. A walk raises RuntimeError once there was a change; changes
+    from several threads are kept apart by the caller.
+
+    >>> SortedSet([3, 1, 2, 1]), SortedSet(["b", "a"]), SortedSet([(1, "b"), (1, "a")])
+    (SortedSet([1, 2, 3]), SortedSet(['a', 'b']), SortedSet([(1, 'a'), (1, 'b')]))
+    >>> SortedSet([0.5, -1], keys="float64"), SortedSet([1, 2, 3], key=lambda number: -number)[0]
+    (SortedSet([-1.0, 0.5], keys='float64'), 3)
     >>> numbers = SortedSet([10, 20, 30])
     >>> numbers.bisect_left(20), numbers.bisect_right(20), numbers.index(20), 20 in numbers, "20" in numbers
     (1, 2, 1, True, False)
-    >>> list(numbers.irange(15)), list(numbers.islice(0, 2, reverse=True))
-    ([20, 30], [20, 10])
+    >>> list(numbers.irange(15.5)), list(numbers.islice(0, 2, reverse=True)), numbers[-2:]
+    ([20, 30], [20, 10], [20, 30])
     """
 
-    __slots__ = ("_out",)
-    _new = staticmethod(_lib.indexset_set_new)
-    _free = staticmethod(_lib.indexset_set_free)
-    _length = staticmethod(_lib.indexset_set_len)
-    _has = staticmethod(_lib.indexset_set_contains)
-    _rank = staticmethod(_lib.indexset_set_rank)
+    __slots__ = ("__weakref__",)
     __hash__ = None  # type: ignore[assignment]
 
-    def __init__(self, iterable: Optional[Iterable[Key]] = None, *, keys: str = "int64") -> None:
-        super().__init__(native.handle("set"), keys)
-        self._out = native.number()
+    @overload
+    def __init__(
+        self: SortedSet[int], iterable: Optional[Iterable[int]] = ..., *, keys: Literal["int64", "uint64"]
+    ) -> None: ...
+    @overload
+    def __init__(
+        self: SortedSet[float], iterable: Optional[Iterable[float]] = ..., *, keys: Literal["float64"]
+    ) -> None: ...
+    @overload
+    def __init__(
+        self: SortedSet[str], iterable: Optional[Iterable[str]] = ..., *, keys: Literal["str"]
+    ) -> None: ...
+    @overload
+    def __init__(
+        self: SortedSet[bytes], iterable: Optional[Iterable[bytes]] = ..., *, keys: Literal["bytes"]
+    ) -> None: ...
+    @overload
+    def __init__(
+        self,
+        iterable: Optional[Iterable[T]] = ...,
+        key: Optional[Callable[[T], Any]] = ...,
+        *,
+        keys: Optional[str] = ...,
+    ) -> None: ...
+    def __init__(self, iterable: Any = None, key: Any = None, *, keys: Optional[str] = None) -> None:
+        self._begin(keys, key)
         if iterable is not None:
-            self.update(iterable)
+            self._fill(iterable)
 
-    # ---- one key
+    # ---- one item
 
-    def add(self, value: Key) -> None:
-        """Adds a key. One that is there stays.
+    def _add(self, value: T) -> None:
+        if self._members is None and self._named is not None:
+            self._order.add(value)
+        elif value not in self:
+            order = self._fitting([value])
+            members = self._members_of(order)
+            if members is not None:
+                members.add(value)
+            try:
+                order.add(value)
+            except BaseException:
+                if members is not None:
+                    members.discard(value)
+                raise
+            self._become(order)
+            self._members = members
 
-        >>> numbers = SortedSet([1]); numbers.add(0); numbers
-        SortedSet([0, 1])
-        """
-        if _insert(self._handle, self._encode(value)) == native.MEMORY:
-            raise MemoryError
+    def _members_of(self, order: Order) -> Optional[set[T]]:
+        """The items as a set, for an order that is no set of numbers."""
+        if isinstance(order, Numbers):
+            return None
+        return set(self._order.chunk(0, len(self))) if self._members is None else self._members
 
-    def discard(self, value: Any) -> None:
-        """Removes a key where it is there.
-
-        >>> numbers = SortedSet([1, 2]); numbers.discard(1); numbers.discard(5); numbers
-        SortedSet([2])
-        """
-        number = self._number(value)
-        if number is not None:
-            _remove(self._handle, number)
+    def _discard(self, value: Any) -> bool:
+        members = self._members
+        if members is None:
+            found: bool = self._order.discard(value)
+            return found
+        if value not in members:
+            return False
+        self._order.discard(value)
+        members.discard(value)
+        return True
 
     def remove(self, value: Any) -> None:
-        """Removes a key. KeyError where it is not there."""
-        number = self._number(value)
-        if number is None or not _remove(self._handle, number):
+        """Removes an item. KeyError where it is not there."""
+        if not self._discard(value):
             raise KeyError(value)
 
     def count(self, value: Any) -> int:
-        """How often a key is there: 0 or 1."""
+        """How often an item is there: 0 or 1."""
         return int(value in self)
 
-    # ---- positions
-
-    def __getitem__(self, position: Any) -> Any:
-        """The element at a position, or the list of those at a slice, which takes a time that grows
-        with their number.
-
-        >>> numbers = SortedSet(range(10)); numbers[-1], numbers[2:5], numbers[::-4]
-        (9, [2, 3, 4], [9, 5, 1])
-        """
-        if isinstance(position, slice):
-            start, stop, step = position.indices(len(self))
-            if step == 1:
-                return list(self.islice(start, stop))
-            return self._at_each(range(start, stop, step))
-        at = position if position >= 0 else position + len(self)
-        if not 0 <= at <= ALL or not _at(self._handle, at, self._out):
-            raise IndexError("set index out of range")
-        return self._decode(self._out[0])
-
-    def __delitem__(self, position: Any) -> None:
-        """Removes the element at a position, or those at a slice."""
-        removed = self[position]
-        for value in removed if isinstance(position, slice) else [removed]:
-            _remove(self._handle, self._encode(value))
-
-    def pop(self, index: int = -1) -> Key:
-        """Removes the element at a position, the last one if none is given, and returns it.
+    def pop(self, index: int = -1) -> T:
+        """Removes the item at a position, the last one if none is given, and returns it. IndexError where
+        there is none.
 
         >>> numbers = SortedSet([1, 2, 3]); numbers.pop(), numbers.pop(0)
         (3, 1)
         """
-        if index == -1:
-            if not _lib.indexset_set_pop_last(self._handle, self._out):
-                raise IndexError("pop index out of range")
-            return self._decode(self._out[0])
-        if index == 0:
-            if not _lib.indexset_set_pop_first(self._handle, self._out):
-                raise IndexError("pop index out of range")
-            return self._decode(self._out[0])
-        value = self[index]
-        _remove(self._handle, self._encode(value))
+        value: T = self._order.pop(index)
+        if self._members is not None:
+            self._members.discard(value)
         return value
 
     def clear(self) -> None:
-        """Removes all elements."""
-        _lib.indexset_set_clear(self._handle)
-
-    def _numbers(self, first: int, size: int) -> array[int]:
-        """The numbers at `size` positions, or as many as there are."""
-        out = array("Q", bytes(8 * size))
-        if size:
-            count = _lib.indexset_set_range_by_position(self._handle, first, native.numbers(out), size)
-            del out[count:]
-        return out
+        """Removes all items."""
+        self._order.clear()
+        if self._members is not None:
+            self._members.clear()
 
     # ---- many at once
 
-    def update(self, *iterables: Iterable[Key]) -> SortedSet:
-        """Adds the keys of each iterable; an array of numbers is read without making integers of them.
-        It returns the set. A key that does not fit leaves the set as it was before that iterable.
+    def update(self, *iterables: Iterable[T]) -> SortedSet[T]:
+        """Adds the items of each iterable, and returns the set; numbers go in by one call. An item that does
+        not fit leaves the set as it was before that iterable.
 
         >>> SortedSet([1]).update([5, 3], [4])
         SortedSet([1, 3, 4, 5])
         """
         for iterable in iterables:
-            self._take(self._encode_all(iterable))
+            self._fill(iterable)
         return self
 
-    def _encode_all(self, iterable: Iterable[Any]) -> array[int]:
-        if isinstance(iterable, SortedSet) and iterable._kind is self._kind:
-            return iterable._numbers(0, len(iterable))
-        return encode_all(self._kind, iterable)
+    def _fill(self, items: Iterable[T]) -> None:
+        order = self._order
+        same = getattr(items, "_order", None)
+        if isinstance(order, Numbers) and isinstance(same, Numbers) and same.kind == order.kind:
+            order.take(same)
+        elif isinstance(order, Numbers) and self._named is not None:
+            order.take(items if hasattr(items, "__len__") else list(items))
+        else:
+            self._fill_found(items_of(items))
 
-    def _take(self, numbers: array[int]) -> None:
-        if numbers:
-            taken = native.place()
-            if _lib.indexset_set_insert_all(self._handle, native.numbers(numbers), len(numbers), taken) != native.YES:
-                raise MemoryError
+    def _fill_found(self, items: list[T]) -> None:
+        """Adds items where the kind may become another, or where they are held as a set too."""
+        order = self._order
+        if isinstance(order, Numbers) and len(order) and kind_of(items) != order.kind:
+            items = [item for item in items if item not in order]
+        order = self._fitting(items)
+        members = self._members_of(order)
+        if members is not None:
+            items = list(dict.fromkeys(item for item in items if item not in members))
+        order.take(items)
+        self._become(order)
+        if members is not None:
+            members.update(items)
+        self._members = members
 
-    def ranks(self, values: Iterable[Key]) -> array[int]:
-        """How many elements are below each key, in one call.
+    def ranks(self, values: Iterable[Any]) -> array[int]:
+        """How many items are below each value; of numbers by one call.
 
         >>> SortedSet([10, 20, 30]).ranks([5, 25]).tolist()
         [0, 2]
         """
-        numbers = self._encode_all(values)
-        out = array("Q", bytes(8 * len(numbers)))
-        if numbers:
-            size = len(numbers)
-            _lib.indexset_set_ranks(self._handle, native.numbers(numbers), size, native.positions(out), size)
-        return out
+        given = items_of(values)
+        try:
+            found: array[int] = self._order.ranks(given)
+            return found
+        except (AttributeError, TypeError, OverflowError):
+            return array("Q", map(self.bisect_left, given))
 
-    def at_all(self, positions: Iterable[int]) -> list[Key]:
-        """The element at each position, in one call. IndexError where one has none.
+    def at_all(self, positions: Iterable[int]) -> list[T]:
+        """The item at each position; of numbers by one call. IndexError where one has none.
 
         >>> SortedSet([10, 20, 30]).at_all([2, 0])
         [30, 10]
         """
-        return self._at_each(positions)
-
-    def _at_each(self, positions: Iterable[int]) -> list[Key]:
-        length = len(self)
-        wanted = array("Q", [position_of(i, length, "set") for i in positions])
-        out = array("Q", bytes(8 * len(wanted)))
-        if wanted:
-            size = len(wanted)
-            _lib.indexset_set_at_all(self._handle, native.positions(wanted), size, native.numbers(out), size)
-        return [self._decode(number) for number in out]
+        order = self._order
+        if isinstance(order, Numbers):
+            return order.at_all(positions)
+        return [order[position] for position in positions]
 
     # ---- sets of sets
 
-    def copy(self) -> SortedSet:
-        """A set of the same elements, in a time that grows with their number."""
-        made = SortedSet(keys=self._kind.name)
-        made._take(self._numbers(0, len(self)))
+    def copy(self) -> Any:
+        """A set of the same items, in a time that grows with their number."""
+        made = type(self).__new__(type(self))
+        made._named, made._order = self._named, self._order.clone()
+        made._members = None if self._members is None else self._members.copy()
         return made
 
-    __copy__ = copy
+    def __copy__(self) -> Any:
+        made = self.copy()
+        if hasattr(self, "__dict__"):
+            made.__dict__.update(self.__dict__)
+        return made
 
-    def _from_iterable(self, iterable: Iterable[Key]) -> SortedSet:  # type: ignore[override]
-        return SortedSet(iterable, keys=self._kind.name)
+    def _from_iterable(self, it: Iterable[S]) -> Any:
+        return self._made(it)  # type: ignore[arg-type]
 
-    def union(self, *iterables: Iterable[Key]) -> SortedSet:
-        """A set of the elements here and the keys of each iterable.
+    def union(self, *iterables: Iterable[Any]) -> Any:
+        """A set of the items here and of each iterable.
 
         >>> SortedSet([1, 2]) | [5]
         SortedSet([1, 2, 5])
         """
         return self.copy().update(*iterables)
 
-    def intersection(self, *iterables: Iterable[Any]) -> SortedSet:
-        """A set of the elements that each iterable has too.
+    def intersection(self, *iterables: Iterable[Any]) -> Any:
+        """A set of the items that each iterable has too.
 
         >>> SortedSet([1, 2, 3]) & [3, 4, 1]
         SortedSet([1, 3])
         """
-        others = [iterable if isinstance(iterable, (Set, dict)) else set(iterable) for iterable in iterables]
-        return self._from_iterable(value for value in self if all(value in other for other in others))
+        others = [_asked(iterable) for iterable in iterables]
+        return self._made([item for item in self if all(item in other for other in others)])
 
-    def intersection_update(self, *iterables: Iterable[Any]) -> SortedSet:
-        """Keeps the elements that each iterable has too."""
-        kept = self.intersection(*iterables)
-        self._handle, kept._handle = kept._handle, self._handle
-        return self
+    def intersection_update(self, *iterables: Iterable[Any]) -> SortedSet[T]:
+        """Keeps the items that each iterable has too."""
+        return self._take_over(self.intersection(*iterables))
 
-    def difference(self, *iterables: Iterable[Any]) -> SortedSet:
-        """A set of the elements that no iterable has.
+    def difference(self, *iterables: Iterable[Any]) -> Any:
+        """A set of the items that no iterable has.
 
         >>> SortedSet([1, 2, 3]) - [2]
         SortedSet([1, 3])
         """
-        return self.copy().difference_update(*iterables)
+        others = set(chain.from_iterable(iterables))
+        return self._made([item for item in self if item not in others])
 
-    def difference_update(self, *iterables: Iterable[Any]) -> SortedSet:
-        """Removes the elements that an iterable has."""
-        for iterable in iterables:
-            for value in list(iterable):
-                self.discard(value)
+    def difference_update(self, *iterables: Iterable[Any]) -> SortedSet[T]:
+        """Removes the items that an iterable has."""
+        others = set(chain.from_iterable(iterables))
+        if len(others) * 4 > len(self):
+            return self._take_over(self._made([item for item in self if item not in others]))
+        for value in others:
+            self._discard(value)
         return self
 
-    def symmetric_difference(self, iterable: Iterable[Key]) -> SortedSet:
+    def symmetric_difference(self, iterable: Iterable[Any]) -> Any:
         """A set of what stands in one of the two alone.
 
         >>> SortedSet([1, 2]) ^ [2, 3]
         SortedSet([1, 3])
         """
-        other = self._from_iterable(iterable)
-        return self.difference(other).update(other.difference(self))
+        others = dict.fromkeys(iterable)
+        made = self._made([item for item in self if item not in others])
+        return made.update([item for item in others if item not in self])
 
-    def symmetric_difference_update(self, iterable: Iterable[Key]) -> SortedSet:
+    def symmetric_difference_update(self, iterable: Iterable[Any]) -> SortedSet[T]:
         """Keeps what stands in one of the two alone."""
-        made = self.symmetric_difference(iterable)
-        self._handle, made._handle = made._handle, self._handle
+        return self._take_over(self.symmetric_difference(iterable))
+
+    def _take_over(self, made: SortedSet[T]) -> SortedSet[T]:
+        """Takes over the items of a set that is not used further."""
+        self._order.changes += 1
+        self._order, self._members = made._order, made._members
         return self
 
     def issubset(self, iterable: Iterable[Any]) -> bool:
-        """Whether an iterable has each element."""
-        other = iterable if isinstance(iterable, Set) else set(iterable)
+        """Whether an iterable has each item."""
+        other = _asked(iterable)
         return len(self) <= len(other) and all(value in other for value in self)
 
     def issuperset(self, iterable: Iterable[Any]) -> bool:
@@ -267,32 +290,24 @@ class SortedSet(Ordered, MutableSet, Sequence):
         """Whether no item of an iterable is here."""
         return not any(value in self for value in iterable)
 
-    __or__ = __ror__ = union  # type: ignore[assignment]
-    __ior__ = update  # type: ignore[assignment]
-    __and__ = __rand__ = intersection  # type: ignore[assignment]
-    __iand__ = intersection_update  # type: ignore[assignment]
-    __sub__ = difference  # type: ignore[assignment]
-    __isub__ = difference_update  # type: ignore[assignment]
-    __xor__ = __rxor__ = symmetric_difference  # type: ignore[assignment]
-    __ixor__ = symmetric_difference_update  # type: ignore[assignment]
+    __or__ = __ror__ = union
+    __ior__ = update
+    __and__ = __rand__ = intersection
+    __iand__ = intersection_update
+    __sub__ = difference
+    __isub__ = difference_update
+    __xor__ = __rxor__ = symmetric_difference
+    __ixor__ = symmetric_difference_update
 
-    def __rsub__(self, other: Iterable[Key]) -> SortedSet:  # type: ignore[override]
-        return self._from_iterable(other).difference_update(self)
-
-    # ---- the object
+    def __rsub__(self, other: Iterable[Any]) -> Any:
+        return self._made([item for item in other if item not in self])
 
     def __eq__(self, other: Any) -> bool:
         if not isinstance(other, Set):
             return NotImplemented
         return len(self) == len(other) and self.issubset(other)
 
-    def __repr__(self) -> str:
-        kind = "" if self._kind.name == "int64" else f", keys={self._kind.name!r}"
-        return f"SortedSet({list(self)!r}{kind})"
 
-    def __reduce__(self) -> Any:
-        return _restored, (list(self), self._kind.name)
-
-
-def _restored(values: list[Key], keys: str) -> SortedSet:
-    return SortedSet(values, keys=keys)
+def _asked(iterable: Iterable[Any]) -> Any:
+    """What can be asked for items quickly."""
+    return iterable if isinstance(iterable, (Set, dict)) else set(iterable)

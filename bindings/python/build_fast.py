@@ -1,0 +1,50 @@
+"""The compiled module: `python3 build_fast.py FOLDER` makes it into FOLDER/indexset.
+
+It needs a C compiler and Python's headers, and what `make -C ../c` made.
+"""
+import argparse
+import os
+import pathlib
+import shlex
+import shutil
+import subprocess
+import sys
+import sysconfig
+
+HERE = pathlib.Path(__file__).resolve().parent
+SOURCES = ("module.c", "numbers.c", "coded.c", "own.c", "walk.c", "front.c")
+
+
+def compiler():
+    """The words of the C compiler, or None where it or Python's headers are missing."""
+    words = shlex.split(os.environ.get("CC") or sysconfig.get_config_var("CC") or "cc")
+    header = pathlib.Path(sysconfig.get_path("include")) / "Python.h"
+    words = words if shutil.which(words[0]) else ["cc"]
+    return words if shutil.which(words[0]) and header.exists() else None
+
+
+def build(folder, source, header, library, *flags):
+    """Makes the module into a folder, and returns its path. CalledProcessError where the compiler refuses."""
+    made = pathlib.Path(folder) / f"_fast{sysconfig.get_config_var('EXT_SUFFIX')}"
+    includes = [f"-I{sysconfig.get_path('include')}", f"-I{header}", f"-I{source}"]
+    files = [str(source / name) for name in SOURCES]
+    words = [*compiler(), "-shared", "-fPIC", "-O2", "-fvisibility=hidden", *flags, *includes, *files, str(library)]
+    subprocess.run([*words, "-o", str(made)], check=True)
+    return made
+
+
+def main():
+    words = argparse.ArgumentParser(description=__doc__, formatter_class=argparse.RawDescriptionHelpFormatter)
+    words.add_argument("folder", type=pathlib.Path)
+    words.add_argument("--library", type=pathlib.Path, default=HERE.parent / "c/out/libindexset.a")
+    words.add_argument("--sanitize", action="store_true")
+    given = words.parse_args()
+    if compiler() is None:
+        sys.exit("a C compiler and Python's headers are needed")
+    flags = ["-Wall", "-Wextra", "-Werror", "-Wno-missing-field-initializers", "-Wno-cast-function-type"]
+    flags += ["-g", "-fsanitize=address,undefined"] if given.sanitize else []
+    build(given.folder / "indexset", HERE / "fast", HERE.parent / "c", given.library, *flags)
+
+
+if __name__ == "__main__":
+    main()

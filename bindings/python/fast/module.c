@@ -1,0 +1,44 @@
+/* The module `indexset._fast`. */
+#include "fast.h"
+
+PyObject *kinds;
+struct names names;
+
+static struct PyModuleDef module = {
+    PyModuleDef_HEAD_INIT,
+    .m_name = "indexset._fast",
+    .m_doc = "What orders keys, compiled: the classes of `indexset._pure`.",
+    .m_size = -1,
+};
+
+static int make_names(void) {
+    const char *texts[] = {"_add", "_bisect", "bound", "code", "codes_of", "_contains", "_discard", "find", "flipped", "_slice"};
+    PyObject **places = (PyObject **)&names;
+    for (size_t i = 0; i < sizeof names / sizeof *places; i++)
+        if ((places[i] = PyUnicode_InternFromString(texts[i])) == NULL)
+            return 0;
+    return 1;
+}
+
+static int add_types(PyObject *made) {
+    PyTypeObject *types[] = {&NumbersType, &CodedType, &FrontType};
+    const char *names[] = {"Numbers", "Coded", "Front"};
+    if (PyType_Ready(&WalkType) < 0)
+        return 0;
+    for (int i = 0; i < 3; i++) {
+        if (PyType_Ready(types[i]) < 0)
+            return 0;
+        Py_INCREF(types[i]);
+        if (PyModule_AddObject(made, names[i], (PyObject *)types[i]) < 0)
+            return 0;
+    }
+    return PyModule_AddStringConstant(made, "BACKEND", "extension") == 0;
+}
+
+PyMODINIT_FUNC PyInit__fast(void) {
+    kinds = PyImport_ImportModule("indexset._kinds");
+    PyObject *made = kinds && make_names() ? PyModule_Create(&module) : NULL;
+    if (made != NULL && !add_types(made))
+        Py_CLEAR(made);
+    return made;
+}

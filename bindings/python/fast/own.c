@@ -1,0 +1,207 @@
+/* Items whose sort keys are of the kind's own type: encoded, added, found and removed without Python code. */
+#include "fast.h"
+
+#define SHORT 120
+
+/* A code, with room for the number that may follow it. */
+typedef struct {
+    unsigned char *data;
+    size_t size;
+    unsigned char brief[SHORT];
+} Code;
+
+static void drop(Code *code) {
+    if (code->data != code->brief)
+        PyMem_Free(code->data);
+}
+
+static void put_number(unsigned char *to, uint64_t number) {
+    for (int i = 0; i < 8; i++)
+        to[i] = (unsigned char)(number >> (56 - 8 * i));
+}
+
+/* Makes room for a code of at most so many bytes; 0 with an error. */
+static int make_room(Code *code, size_t size) {
+    code->data = size + 9 <= SHORT ? code->brief : PyMem_Malloc(size + 9);
+    if (code->data == NULL)
+        PyErr_NoMemory();
+    return code->data != NULL;
+}
+
+/* The bytes of a text or a byte string; framed as `_tuple.py` has it where sort keys may repeat. */
+static int encode_bytes(Code *code, const char *data, size_t size, int framed, unsigned char first) {
+    size_t zeros = 0;
+    for (size_t i = 0; framed && i < size; i++)
+        zeros += data[i] == 0;
+    if (!make_room(code, size + zeros + 2))
+        return -1;
+    unsigned char *to = code->data;
+    if (framed)
+        *to++ = first;
+    if (zeros == 0) {
+        memcpy(to, data, size);
+        to += size;
+    }
+    for (size_t i = 0; zeros != 0 && i < size; i++) {
+        *to++ = (unsigned char)data[i];
+        if (data[i] == 0)
+            *to++ = 0xFF;
+    }
+    if (framed)
+        *to++ = 0;
+    code->size = (size_t)(to - code->data);
+    return 1;
+}
+
+/* Encodes a sort key: 1, or NOT_OWN, or -1. */
+static int encode(Coded *self, PyObject *key, Code *code) {
+    if (self->kind <= FLOAT64) {
+        uint64_t number;
+        if (!number_code(self->kind, key, &number))
+            return NOT_OWN;
+        code->data = code->brief;
+        code->size = 8;
+        put_number(code->data, number);
+        return 1;
+    }
+    if (self->kind == BYTES && PyBytes_CheckExact(key))
+        return encode_bytes(code, PyBytes_AS_STRING(key), (size_t)PyBytes_GET_SIZE(key), self->repeats, 1);
+    if (self->kind != TEXT || !PyUnicode_CheckExact(key))
+        return NOT_OWN;
+    Py_ssize_t size;
+    const char *text = PyUnicode_AsUTF8AndSize(key, &size);
+    if (text == NULL) { /* a lone surrogate */
+        PyErr_Clear();
+        return NOT_OWN;
+    }
+    return encode_bytes(code, text, (size_t)size, self->repeats, 2);
+}
+
+/* Encodes the sort key of an item. */
+static int encode_item(Coded *self, PyObject *item, Code *code) {
+    if (self->kind == OTHER)
+        return NOT_OWN;
+    if (self->key == NULL)
+        return encode(self, item, code);
+    PyObject *key = PyObject_CallOneArg(self->key, item);
+    int state = key ? encode(self, key, code) : -1;
+    Py_XDECREF(key);
+    return state;
+}
+
+/* The positions of a code, which gets a byte more where sort keys may repeat. */
+static void places_of(Coded *self, Code *code, size_t *first, size_t *past) {
+    *first = indexset_text_map_rank(&self->map, code->data, code->size);
+    if (!self->repeats) {
+        *past = *first + indexset_text_map_contains(&self->map, code->data, code->size);
+        return;
+    }
+    code->data[code->size] = 0xFE;
+    *past = indexset_text_map_rank(&self->map, code->data, code->size + 1);
+}
+
+int own_places(Coded *self, PyObject *key, size_t *first, size_t *past) {
+    Code code;
+    int state = encode(self, key, &code);
+    if (state == 1) {
+        places_of(self, &code, first, past);
+        drop(&code);
+    }
+    return state;
+}
+
+Py_ssize_t own_bisect(Coded *self, PyObject *value, int right) {
+    Code code;
+    if (indexset_text_map_len(&self->map) == 0)
+        return 0;
+    int state = encode_item(self, value, &code);
+    if (state != 1)
+        return state;
+    if (right && self->repeats)
+        code.data[code.size++] = 0xFE;
+    size_t position = indexset_text_map_rank(&self->map, code.data, code.size);
+    if (right && !self->repeats)
+        position += indexset_text_map_contains(&self->map, code.data, code.size);
+    drop(&code);
+    return (Py_ssize_t)position;
+}
+
+/* Whether an object is at a code. Where sort keys may repeat, the code becomes the whole one of the first. */
+static int is_there(Coded *self, Code *code) {
+    if (!self->repeats)
+        return indexset_text_map_contains(&self->map, code->data, code->size);
+    unsigned char found[SHORT + 9], *whole = found;
+    size_t size, wanted = code->size + 8;
+    uint64_t place;
+    if (wanted > sizeof found && (whole = PyMem_Malloc(wanted)) == NULL) {
+        PyErr_NoMemory();
+        return -1;
+    }
+    int is_first = indexset_text_map_lower_bound(&self->map, code->data, code->size, whole, wanted, &size, &place);
+    is_first = is_first && size == wanted && memcmp(whole, code->data, code->size) == 0;
+    if (is_first)
+        memcpy(code->data, whole, wanted);
+    code->size += is_first ? 8 : 0;
+    if (whole != found)
+        PyMem_Free(whole);
+    return is_first;
+}
+
+/* An item equals those of its code where it orders itself: the types are the kind's own. */
+int own_contains(Coded *self, PyObject *item) {
+    Code code;
+    int state = self->key == NULL ? encode(self, item, &code) : NOT_OWN;
+    if (state != 1)
+        return state;
+    state = is_there(self, &code);
+    drop(&code);
+    return state;
+}
+
+int own_discard(Coded *self, PyObject *item) {
+    Code code;
+    PyObject *taken = NULL;
+    int state = self->key == NULL ? encode(self, item, &code) : NOT_OWN;
+    if (state != 1)
+        return state;
+    state = self->repeats ? is_there(self, &code) : 1;
+    if (state == 1)
+        state = coded_remove(self, code.data, code.size, &taken);
+    drop(&code);
+    Py_XDECREF(taken);
+    return state;
+}
+
+/* Adds an item, also to a set of those that there are, if one is given: 1, or 0 where it is there. */
+static int add_code(Coded *self, PyObject *item, PyObject *members, Code *code) {
+    if (members != NULL) {
+        int is_there = PySet_Contains(members, item);
+        if (is_there != 0)
+            return is_there < 0 ? -1 : 0;
+        if (PySet_Add(members, item) < 0)
+            return -1;
+    }
+    if (self->repeats) {
+        put_number(code->data + code->size, self->added++);
+        code->size += 8;
+    }
+    if (coded_insert(self, code->data, code->size, item) == 0)
+        return 1;
+    if (members != NULL) {
+        PyObject *type, *value, *trace;
+        PyErr_Fetch(&type, &value, &trace);
+        PySet_Discard(members, item);
+        PyErr_Restore(type, value, trace);
+    }
+    return -1;
+}
+
+int own_add(Coded *self, PyObject *item, PyObject *members) {
+    Code code;
+    int state = encode_item(self, item, &code);
+    if (state != 1)
+        return state;
+    state = add_code(self, item, members, &code);
+    drop(&code);
+    return state;
+}

@@ -1,0 +1,199 @@
+"""How the keys and values of a logged dictionary become numbers of 64 bits, and back."""
+from __future__ import annotations
+
+from typing import Any, Optional, Union
+
+from ._kinds import ALL, KINDS, NUMBERS, OBJECT
+from ._orders import Order, order_of
+from ._pairs import between
+
+Moves = list[tuple[int, int]]
+
+
+class Numbered:
+    """Numbers of a kind, which are their own codes."""
+
+    __slots__ = ("name", "_kind", "find", "decode")
+
+    def __init__(self, name: str) -> None:
+        self.name, self._kind = name, NUMBERS[name]
+        self.find, self.decode = self._kind.find, self._kind.decode
+
+    def take(self, value: Any) -> int:
+        """The code of a value that is to be kept."""
+        code: int = self._kind.code(value)
+        return code
+
+    def drop(self, code: int) -> None:
+        """Says that a value is kept no more."""
+
+    def moves(self, value: Any) -> Moves:
+        """The codes that are to become others before a key is taken."""
+        return []
+
+    def moved(self, moves: Moves) -> None:
+        """Says that they did."""
+
+    def fits(self, value: Any, label: int) -> bool:
+        """Whether a key that another dictionary has taken has its place here by its label."""
+        return True
+
+    def code_of(self, value: Any, label: int) -> int:
+        """The code of such a key."""
+        return self.take(value)
+
+    def put(self, value: Any, label: int) -> None:
+        """Takes such a key."""
+
+    def label(self, value: Any) -> int:
+        """What another dictionary has to know of a value beside the value."""
+        return 0
+
+    def range(self, minimum: Any, maximum: Any) -> Optional[tuple[int, int]]:
+        """The least and the greatest code between two values, both included, or None."""
+        return between(self._kind, minimum, maximum)
+
+    def clone(self) -> Numbered:
+        """The same again."""
+        return self
+
+
+class Objects:
+    """Values of any other kind: the code of one is its place."""
+
+    __slots__ = ("name", "_objects", "_unused")
+
+    def __init__(self, name: str) -> None:
+        self.name = name
+        self._objects: list[Any] = []
+        self._unused: list[int] = []
+
+    def take(self, value: Any) -> int:
+        if self.name != OBJECT:
+            KINDS[self.name].framed(value)
+        if self._unused:
+            place = self._unused.pop()
+            self._objects[place] = value
+        else:
+            place = len(self._objects)
+            self._objects.append(value)
+        return place
+
+    def drop(self, code: int) -> None:
+        self._objects[code] = None
+        self._unused.append(code)
+
+    def decode(self, code: int) -> Any:
+        return self._objects[code]
+
+    def clone(self) -> Objects:
+        made = Objects(self.name)
+        made._objects, made._unused = self._objects.copy(), self._unused.copy()
+        return made
+
+
+class Labels:
+    """Keys of any other kind: the code of one is a label, between those of its neighbours. Where there is
+    none, labels around it become others first."""
+
+    __slots__ = ("name", "_names", "_labels", "_keys")
+
+    def __init__(self, name: str) -> None:
+        self.name = name
+        self._names: Order = order_of(name, None, False)
+        self._labels: dict[Any, int] = {}
+        self._keys: dict[int, Any] = {}
+
+    def find(self, value: Any) -> Optional[int]:
+        return self._labels.get(value)
+
+    def decode(self, code: int) -> Any:
+        return self._keys[code]
+
+    def label(self, value: Any) -> int:
+        return self._labels[value]
+
+    def take(self, value: Any) -> int:
+        if value in self._labels:
+            return self._labels[value]
+        position = self._names.bisect(value, True)
+        low, high = self._sides(position)
+        middle = (low + high) // 2
+        label = min(low + (1 << 32), middle) if position == len(self._names) else middle
+        self.put(value, label)
+        return label
+
+    def fits(self, value: Any, label: int) -> bool:
+        low, high = self._sides(self._names.bisect(value, True))
+        return value not in self._labels and low < label < high
+
+    def code_of(self, value: Any, label: int) -> int:
+        self._names.bisect(value, True)
+        return label
+
+    def put(self, value: Any, label: int) -> None:
+        self._names.add(value)
+        self._labels[value] = label
+        self._keys[label] = value
+
+    def drop(self, code: int) -> None:
+        value = self._keys.pop(code, None)
+        if self._labels.get(value) == code:
+            del self._labels[value]
+            self._names.discard(value)
+
+    def _sides(self, position: int) -> tuple[int, int]:
+        """The labels on both sides of a position."""
+        low = self._labels[self._names[position - 1]] if position else 0
+        return low, self._labels[self._names[position]] if position < len(self._names) else ALL + 1
+
+    def moves(self, value: Any) -> Moves:
+        label, high = self._sides(self._names.bisect(value, True))
+        if high - label > 1:
+            return []
+        bits, low, first, past = 3, 0, 0, len(self._names)
+        while bits < 64 and (bits == 3 or past - first >= (2 / 1.3) ** bits):
+            bits += 1
+            low = label >> bits << bits
+            first, past = self._rank(low), self._rank(low + (1 << bits))
+        step = (1 << bits) // (past - first + 1)
+        olds = [self._labels[self._names[at]] for at in range(first, past)]
+        return [(old, low + step * at) for at, old in enumerate(olds, 1)]
+
+    def _rank(self, label: int) -> int:
+        """How many labels are below a label."""
+        low, high = 0, len(self._names)
+        while low < high:
+            middle = (low + high) // 2
+            if self._labels[self._names[middle]] < label:
+                low = middle + 1
+            else:
+                high = middle
+        return low
+
+    def moved(self, moves: Moves) -> None:
+        values = [self._keys.pop(old) for old, _ in moves]
+        for value, (_, new) in zip(values, moves):
+            self._labels[value] = new
+            self._keys[new] = value
+
+    def range(self, minimum: Any, maximum: Any) -> Optional[tuple[int, int]]:
+        names = self._names
+        first = 0 if minimum is None else names.bisect(minimum, False)
+        past = len(names) if maximum is None else names.bisect(maximum, True)
+        return (self._labels[names[first]], self._labels[names[past - 1]]) if first < past else None
+
+    def clone(self) -> Labels:
+        made = Labels(self.name)
+        made._names, made._labels, made._keys = self._names.clone(), self._labels.copy(), self._keys.copy()
+        return made
+
+
+def keys_of(name: str) -> Union[Numbered, Labels]:
+    """The codes of keys of a kind."""
+    return Numbered(name) if name in NUMBERS else Labels(name)
+
+
+def values_of(name: str) -> Union[Numbered, Objects]:
+    """The codes of values of a kind."""
+    return Numbered(name) if name in NUMBERS else Objects(name)

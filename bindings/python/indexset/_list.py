@@ -1,0 +1,238 @@
+"""Ordered lists, in which items may repeat."""
+from __future__ import annotations
+
+from collections.abc import MutableSequence, Sequence
+from operator import eq, ge, gt, le, lt, ne
+from typing import Any, Callable, Generic, Iterable, Literal, Optional, TypeVar, overload
+
+from ._kinds import items_of
+from ._native import Numbers
+from ._orders import order_of, repeating
+from ._sorted import Sorted
+
+T = TypeVar("T")
+
+
+class SortedList(Sorted[T], MutableSequence[T], Generic[T]):
+    """A list that is kept in order, with the calls of `sortedcontainers.SortedList`. Items may repeat; equal
+    ones stand in the order in which they came. Numbers are kept in the library alone until the first repeats.
+
+    `keys` names the kind of the items and `key` is a function whose results order them, as for `SortedSet`;
+    with `key` the list is a `SortedKeyList`.
+
+    Cost: with n items, a call on one item or one position takes a time that grows as log n, and, where a
+    value is looked for, with the number of items that have its sort key. A walk, a slice or a batch takes a
+    time that grows with its length.
+
+    Reads may go on in several threads at once. A walk raises RuntimeError once there was a change; changes
+    from several threads are kept apart by the caller.
+
+    >>> numbers = SortedList([3, 1, 2, 1]); numbers
+    SortedList([1, 1, 2, 3])
+    >>> numbers.count(1), numbers[-1], numbers.bisect_right(1), numbers.index(2), list(numbers.irange(2, 9))
+    (2, 3, 2, 2, [2, 3])
+    >>> SortedList(["pear", "fig"], key=len)
+    SortedKeyList(['fig', 'pear'], key=<built-in function len>)
+    """
+
+    __slots__ = ("__weakref__",)
+    __hash__ = None  # type: ignore[assignment]
+    _repeats = True
+
+    def __new__(cls, iterable: Any = None, key: Any = None, *, keys: Optional[str] = None) -> Any:
+        if key is None or issubclass(cls, SortedKeyList):
+            return super().__new__(cls)
+        if cls is not SortedList:
+            raise TypeError("a subclass with `key` is one of SortedKeyList")
+        return super().__new__(SortedKeyList)
+
+    @overload
+    def __init__(
+        self: SortedList[int], iterable: Optional[Iterable[int]] = ..., *, keys: Literal["int64", "uint64"]
+    ) -> None: ...
+    @overload
+    def __init__(
+        self: SortedList[float], iterable: Optional[Iterable[float]] = ..., *, keys: Literal["float64"]
+    ) -> None: ...
+    @overload
+    def __init__(
+        self: SortedList[str], iterable: Optional[Iterable[str]] = ..., *, keys: Literal["str"]
+    ) -> None: ...
+    @overload
+    def __init__(
+        self: SortedList[bytes], iterable: Optional[Iterable[bytes]] = ..., *, keys: Literal["bytes"]
+    ) -> None: ...
+    @overload
+    def __init__(
+        self,
+        iterable: Optional[Iterable[T]] = ...,
+        key: Optional[Callable[[T], Any]] = ...,
+        *,
+        keys: Optional[str] = ...,
+    ) -> None: ...
+    def __init__(self, iterable: Any = None, key: Any = None, *, keys: Optional[str] = None) -> None:
+        self._begin(keys, key)
+        if iterable is not None:
+            self._fill(iterable)
+
+    # ---- one item
+
+    def _add(self, value: T) -> None:
+        order = self._fitting([value])
+        if isinstance(order, Numbers) and value in order:
+            order = repeating(order)
+        order.add(value)
+        self._become(order)
+
+    def _discard(self, value: Any) -> bool:
+        found: bool = self._order.discard(value)
+        return found
+
+    def remove(self, value: Any) -> None:
+        """Removes the first item that equals a value. ValueError where there is none."""
+        if not self._discard(value):
+            raise ValueError(f"{value!r} is not there")
+
+    def count(self, value: Any) -> int:
+        """How many items equal a value, in a time that grows with their number.
+
+        >>> SortedList([1, 2, 1]).count(1)
+        2
+        """
+        order = self._order
+        count: int = int(value in order) if isinstance(order, Numbers) else order.count(value)
+        return count
+
+    def clear(self) -> None:
+        """Removes all items."""
+        self._order.clear()
+        self._order = order_of(self.kind, self.key, True)
+
+    # ---- many at once
+
+    def update(self, iterable: Iterable[T]) -> None:
+        """Adds items. One that does not fit leaves the list as it was.
+
+        >>> numbers = SortedList([2]); numbers.update([3, 1]); numbers
+        SortedList([1, 2, 3])
+        """
+        self._fill(iterable)
+
+    def _fill(self, items: Iterable[T]) -> None:
+        given = items_of(items)
+        order = self._fitting(given)
+        if isinstance(order, Numbers) and self._repeat(given, order):
+            order = repeating(order)
+        order.take(given)
+        self._become(order)
+
+    @staticmethod
+    def _repeat(items: list[T], order: Numbers) -> bool:
+        """Whether some of the items are equal, or are there already."""
+        found = set(items)
+        return len(found) < len(items) or (len(order) > 0 and any(item in order for item in found))
+
+    def copy(self) -> Any:
+        """A list of the same items, in a time that grows with their number."""
+        made = type(self).__new__(type(self))
+        made._named, made._order, made._members = self._named, self._order.clone(), False
+        return made
+
+    def __copy__(self) -> Any:
+        made = self.copy()
+        if hasattr(self, "__dict__"):
+            made.__dict__.update(self.__dict__)
+        return made
+
+    def __add__(self, other: Iterable[T]) -> Any:
+        """A list of the items of both."""
+        made = self.copy()
+        made.update(list(other))
+        return made
+
+    __radd__ = __add__
+
+    def __iadd__(self, other: Iterable[T]) -> Any:
+        self.update(list(other))
+        return self
+
+    def __mul__(self, count: int) -> Any:
+        """A list of each item so many times."""
+        return self._made(list(self) * count)
+
+    __rmul__ = __mul__
+
+    def __imul__(self, count: int) -> Any:
+        items = list(self) * count
+        self.clear()
+        self.update(items)
+        return self
+
+    # ---- what a sorted list cannot do
+
+    def __setitem__(self, index: Any, value: Any) -> None:
+        """Raises NotImplementedError: the order tells where an item is."""
+        raise NotImplementedError("use `del items[index]` and `items.add(value)`")
+
+    def append(self, value: T) -> None:
+        """Raises NotImplementedError: use `add`."""
+        raise NotImplementedError("use `items.add(value)`")
+
+    def extend(self, values: Iterable[T]) -> None:
+        """Raises NotImplementedError: use `update`."""
+        raise NotImplementedError("use `items.update(values)`")
+
+    def insert(self, index: int, value: T) -> None:
+        """Raises NotImplementedError: use `add`."""
+        raise NotImplementedError("use `items.add(value)`")
+
+    def reverse(self) -> None:
+        """Raises NotImplementedError: use `reversed`."""
+        raise NotImplementedError("use `reversed(items)`")
+
+    # ---- lists beside lists
+
+    def _beside(self, other: Any, compare: Callable[[Any, Any], bool]) -> bool:
+        if not isinstance(other, Sequence):
+            return NotImplemented
+        if compare in (eq, ne) and len(self) != len(other):
+            return compare is ne
+        return compare(list(self), list(other))
+
+    def __eq__(self, other: Any) -> bool:
+        return self._beside(other, eq)
+
+    def __ne__(self, other: Any) -> bool:
+        return self._beside(other, ne)
+
+    def __lt__(self, other: Any) -> bool:
+        return self._beside(other, lt)
+
+    def __le__(self, other: Any) -> bool:
+        return self._beside(other, le)
+
+    def __gt__(self, other: Any) -> bool:
+        return self._beside(other, gt)
+
+    def __ge__(self, other: Any) -> bool:
+        return self._beside(other, ge)
+
+
+class SortedKeyList(SortedList[T], Generic[T]):
+    """A `SortedList` whose items are ordered by what a function makes of each; without one, by themselves. The
+    cost is that of a `SortedList`; with the kind "object" the function is called at each comparison.
+
+    >>> words = SortedKeyList(["pear", "fig", "apple"], key=len); words
+    SortedKeyList(['fig', 'pear', 'apple'], key=<built-in function len>)
+    >>> words.bisect_key_left(4), list(words.irange_key(4, 4)), words.bisect("plum")
+    (1, ['pear'], 2)
+    """
+
+    __slots__ = ()
+
+    def __init__(self, iterable: Any = None, key: Any = None, *, keys: Optional[str] = None) -> None:
+        super().__init__(iterable, _itself if key is None else key, keys=keys)
+
+
+def _itself(value: T) -> T:
+    return value

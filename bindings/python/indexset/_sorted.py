@@ -1,0 +1,188 @@
+"""What a sorted set and a sorted list share: items at positions, and walks over them."""
+from __future__ import annotations
+
+from collections.abc import Sequence
+from reprlib import recursive_repr
+from typing import Any, Callable, Generic, Iterable, Iterator, Optional, TypeVar
+
+from ._kinds import known
+from ._native import Front, Numbers
+from ._orders import KeyFunction, Order, fitted, order_of
+
+T = TypeVar("T")
+
+
+class Sorted(Front[T], Sequence[T], Generic[T]):
+    """Items in order, each at a position. A subclass says which items it takes."""
+
+    __slots__ = ("_named",)
+
+    _repeats = False
+    _named: Optional[str]
+
+    def _begin(self, kind: Optional[str], key: KeyFunction) -> None:
+        """Becomes empty."""
+        known(kind)
+        self._named = kind
+        self._order = order_of(kind or "int64", key, self._repeats)
+        self._members = False if self._repeats else None if isinstance(self._order, Numbers) else set()
+
+    @property
+    def kind(self) -> str:
+        """The name of the kind of the items, or of what `key` makes of them: "int64", "uint64", "float64",
+        "str", "bytes", "any", or "object" for those that Python's own `<` compares."""
+        kind: str = self._order.kind
+        return kind
+
+    @property
+    def key(self) -> Optional[Callable[[T], Any]]:
+        """The function whose results order the items, or None where they order themselves."""
+        return getattr(self._order, "key", None)
+
+    def _fitting(self, items: list[Any]) -> Any:
+        """What orders the items here once others come: where no kind was named, it may be another than now."""
+        return self._order if self._named else fitted(self._order, items, self.key, self._repeats)
+
+    def _become(self, order: Order) -> None:
+        """Has another order, which has the items of the one before and maybe more."""
+        if order is not self._order:
+            self._order.changes += 1
+            self._order = order
+
+    # ---- positions
+
+    def _slice(self, position: slice) -> list[T]:
+        first, past, step = position.indices(len(self))
+        if step == 1:
+            chunk: list[T] = self._order.chunk(first, past)
+            return chunk
+        at = range(first, past, step)
+        if not at:
+            return []
+        found: list[T] = self._order.chunk(min(at[0], at[-1]), max(at[0], at[-1]) + 1)
+        return found[::step]
+
+    def __delitem__(self, position: Any) -> None:
+        """Removes the item at a position, or those at a slice."""
+        if not isinstance(position, slice):
+            self.pop(position)
+            return
+        for at in sorted(range(*position.indices(len(self))), reverse=True):
+            self.pop(at)
+
+    def pop(self, index: int = -1) -> T:
+        """Removes the item at a position, the last one if none is given, and returns it. IndexError where
+        there is none. It takes a time that grows as log n.
+
+        >>> from indexset import SortedList
+        >>> numbers = SortedList([3, 1, 2]); numbers.pop(), numbers.pop(0)
+        (3, 1)
+        """
+        item: T = self._order.pop(index)
+        return item
+
+    def index(self, value: Any, start: Optional[int] = None, stop: Optional[int] = None) -> int:
+        """The first position of a value, from `start` and before `stop`. ValueError where it is not there. It
+        takes a time that grows as log n, and with the number of items that have its sort key."""
+        first, past, _ = slice(start, stop).indices(len(self))
+        position = self._find(value, first)
+        if not first <= position < past:
+            raise ValueError(f"{value!r} is not there")
+        return position
+
+    def _find(self, value: Any, first: int) -> int:
+        """The first position of a value from a position on, or -1."""
+        order = self._order
+        if isinstance(order, Numbers):
+            position: int = order.bisect(value, False) if value in order else -1
+            return position
+        found: int = order.find(value)
+        while 0 <= found < first:
+            found = found + 1 if found + 1 < len(order) and order[found + 1] == value else -1
+        return found
+
+    def bisect_key_left(self, key: Any) -> int:
+        """How many items have a sort key below a key."""
+        return self._bisect_key(key, False)
+
+    def bisect_key_right(self, key: Any) -> int:
+        """How many items have a sort key that is not above a key."""
+        return self._bisect_key(key, True)
+
+    bisect_key = bisect_key_right
+
+    def _bisect_key(self, key: Any, right: bool) -> int:
+        order = self._order
+        position: int = order.bisect(key, right) if self.key is None else order.place(key, right)
+        return position
+
+    # ---- walks
+
+    def __reversed__(self) -> Iterator[T]:
+        """Walks over the items from the last to the first."""
+        return self.islice(reverse=True)
+
+    def islice(
+        self, start: Optional[int] = None, stop: Optional[int] = None, reverse: bool = False
+    ) -> Iterator[T]:
+        """Walks over the items at the positions from `start` and before `stop`. RuntimeError once there was a
+        change."""
+        first, past, _ = slice(start, stop).indices(len(self))
+        walk: Iterator[T] = self._order.walk(first, past, reverse)
+        return walk
+
+    def irange(
+        self,
+        minimum: Any = None,
+        maximum: Any = None,
+        inclusive: tuple[bool, bool] = (True, True),
+        reverse: bool = False,
+    ) -> Iterator[T]:
+        """Walks over the items between two values, each included or not. RuntimeError once there was a
+        change."""
+        first = 0 if minimum is None else self._order.bisect(minimum, not inclusive[0])
+        past = len(self) if maximum is None else self._order.bisect(maximum, inclusive[1])
+        walk: Iterator[T] = self._order.walk(first, past, reverse)
+        return walk
+
+    def irange_key(
+        self,
+        min_key: Any = None,
+        max_key: Any = None,
+        inclusive: tuple[bool, bool] = (True, True),
+        reverse: bool = False,
+    ) -> Iterator[T]:
+        """Walks over the items whose sort keys are between two keys, each included or not."""
+        first = 0 if min_key is None else self._bisect_key(min_key, not inclusive[0])
+        past = len(self) if max_key is None else self._bisect_key(max_key, inclusive[1])
+        walk: Iterator[T] = self._order.walk(first, past, reverse)
+        return walk
+
+    # ---- the object
+
+    def _made(self, items: Iterable[T]) -> Any:
+        """Another of the same class, kind and key, with other items."""
+        made = type(self).__new__(type(self))
+        made._begin(self._named, self.key)
+        made._fill(items)
+        return made
+
+    def _fill(self, items: Iterable[T]) -> None:
+        """Adds items to what is empty."""
+        raise NotImplementedError
+
+    @recursive_repr("...")
+    def __repr__(self) -> str:
+        key = "" if self.key is None else f", key={self.key!r}"
+        kind = "" if self._named is None else f", keys={self._named!r}"
+        return f"{type(self).__name__}({list(self)!r}{key}{kind})"
+
+    def __reduce__(self) -> Any:
+        return _restored, (type(self), list(self), self.key, self._named), getattr(self, "__dict__", None) or None
+
+
+def _restored(cls: Any, items: list[Any], key: KeyFunction, kind: Optional[str]) -> Any:
+    made = cls.__new__(cls)
+    made._begin(kind, key)
+    made._fill(items)
+    return made

@@ -1,0 +1,104 @@
+"""Views of an ordered dictionary, which can be indexed."""
+from __future__ import annotations
+
+from collections.abc import ItemsView, KeysView, Sequence, ValuesView
+from typing import Any, Iterable, Iterator, Tuple, TypeVar
+
+from ._set import SortedSet
+
+K = TypeVar("K")
+V = TypeVar("V")
+
+
+class SortedKeysView(KeysView[K], Sequence[K]):
+    """The keys of a dictionary, in order. A position takes a time that grows as log n.
+
+    >>> from indexset import SortedDict
+    >>> keys = SortedDict({2: "b", 1: "a"}).keys(); keys[-1], keys & {1, 5}
+    (2, SortedSet([1]))
+    """
+
+    __slots__ = ()
+
+    _mapping: Any
+
+    @classmethod
+    def _from_iterable(cls, it: Iterable[Any]) -> Any:
+        return SortedSet(it)
+
+    def __getitem__(self, index: Any) -> Any:
+        if isinstance(index, slice):
+            first, past, step = index.indices(len(self))
+            return self._mapping._order.chunk(first, past) if step == 1 else list(self)[index]
+        return self._mapping._order[index]
+
+    def __delitem__(self, index: Any) -> None:
+        for key in self[index] if isinstance(index, slice) else [self[index]]:
+            del self._mapping[key]
+
+    def __reversed__(self) -> Iterator[K]:
+        walk: Iterator[K] = reversed(self._mapping)
+        return walk
+
+    def count(self, value: Any) -> int:
+        """How often a key is there: 0 or 1."""
+        return int(value in self._mapping)
+
+    def index(self, value: Any, start: Any = None, stop: Any = None) -> int:
+        """The position of a key. ValueError where it is not there."""
+        position: int = self._mapping.index(value, start, stop)
+        return position
+
+
+class SortedValuesView(ValuesView[V], Sequence[V]):
+    """The values of a dictionary, in the order of their keys. A position takes a time that grows as log n.
+
+    >>> from indexset import SortedDict
+    >>> SortedDict({2: "b", 1: "a"}).values()[0]
+    'a'
+    """
+
+    __slots__ = ()
+
+    _mapping: Any
+
+    def __iter__(self) -> Iterator[V]:
+        return map(self._mapping.__getitem__, self._mapping)
+
+    def __reversed__(self) -> Iterator[V]:
+        return map(self._mapping.__getitem__, reversed(self._mapping))
+
+    def __getitem__(self, index: Any) -> Any:
+        if isinstance(index, slice):
+            return list(map(self._mapping.__getitem__, self._mapping.keys()[index]))
+        return self._mapping.peekitem(index)[1]
+
+
+class SortedItemsView(ItemsView[K, V], Sequence[Tuple[K, V]]):
+    """The keys of a dictionary with their values, in order. A position takes a time that grows as log n.
+
+    >>> from indexset import SortedDict
+    >>> SortedDict({2: "b", 1: "a"}).items()[0]
+    (1, 'a')
+    """
+
+    __slots__ = ()
+
+    _mapping: Any
+
+    @classmethod
+    def _from_iterable(cls, it: Iterable[Any]) -> Any:
+        return SortedSet(it)
+
+    def __iter__(self) -> Iterator[tuple[K, V]]:
+        # Neither walk goes on after a change, so that a pair is one that was there.
+        return zip(self._mapping, map(self._mapping.__getitem__, self._mapping))
+
+    def __reversed__(self) -> Iterator[tuple[K, V]]:
+        return zip(reversed(self._mapping), map(self._mapping.__getitem__, reversed(self._mapping)))
+
+    def __getitem__(self, index: Any) -> Any:
+        if isinstance(index, slice):
+            keys = self._mapping.keys()[index]
+            return list(zip(keys, map(self._mapping.__getitem__, keys)))
+        return self._mapping.peekitem(index)

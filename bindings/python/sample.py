@@ -1,0 +1,65 @@
+"""What the types say: `mypy --strict` takes this program, and each `reveal` would be an error if it did not."""
+from __future__ import annotations
+
+from typing import Optional
+
+from indexset import Change, LoggedDict, Replica, SortedDict, SortedKeyList, SortedList, SortedMultiDict, SortedSet
+
+
+def sets() -> int:
+    numbers: SortedSet[int] = SortedSet([3, 1])
+    numbers.add(2)
+    least: int = numbers[0]
+    part: list[int] = numbers[:2]
+    names = SortedSet(keys="str")
+    names.add("a")
+    first: str = names[0]
+    floats: SortedSet[float] = SortedSet([0.5], keys="float64")
+    union: SortedSet[int] = numbers | [5]
+    by_size = SortedSet(["fig", "pear"], key=len)
+    longest: str = by_size.pop()
+    for number in numbers.irange(1, 2):
+        least += number
+    return least + len(part) + len(first) + int(floats[0]) + union.bisect_left(4) + len(longest)
+
+
+def lists() -> float:
+    numbers: SortedList[float] = SortedList([0.5, 0.5])
+    numbers.update([1.5])
+    total: float = sum(numbers)
+    words: SortedKeyList[str] = SortedKeyList(["b"], key=len)
+    word: str = words[0]
+    return total + numbers.count(0.5) + len(word) + words.bisect_key_left(1)
+
+
+def dictionaries() -> Optional[str]:
+    ages: SortedDict[str, int] = SortedDict({"a": 1})
+    ages["b"] = 2
+    key, value = ages.peekitem(0)
+    name: str = key
+    age: int = value + ages[name]
+    by_number = SortedDict({1: "x"})
+    found: Optional[str] = by_number.get(age)
+    for one, other in by_number.items():
+        found = other * one
+    named: SortedDict[str, float] = SortedDict(keys="str")
+    named["x"] = 0.5
+    keys: list[str] = list(named.keys())
+    return found or keys[0]
+
+
+def pairs() -> int:
+    tags: SortedMultiDict[str, int] = SortedMultiDict([("a", 1)])
+    values: list[int] = tags["a"]
+    told: list[Change] = []
+    log: LoggedDict[int, str] = LoggedDict(told.append, {1: "x"})
+    log[2] = "y"
+    replica: Replica[int, str] = Replica(log)
+    replica.apply_all(told)
+    text: str = replica[1]
+    nodes: list[list[tuple[int, str]]] = replica.nodes()
+    return values[0] + len(text) + len(nodes)
+
+
+if __name__ == "__main__":
+    print(sets(), lists(), dictionaries(), pairs())
