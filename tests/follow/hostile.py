@@ -254,13 +254,13 @@ sys.exit(subprocess.run([sys.argv[1]], stdin=sys.stdin).returncode)
 def followed(program, given, memory=None):
     """What the follower answers to these bytes, within that much memory."""
     words = [program] if memory is None else [sys.executable, "-c", LIMITED, program, str(memory)]
-    return subprocess.run(words, input=given, capture_output=True, timeout=100)
+    return subprocess.run(words, input=given, capture_output=True, timeout=300)
 
 
 def followed_sanitized(program, given, memory):
     """The same, of a program that the sanitizer checks."""
     options = f"hard_rss_limit_mb={memory // 1_000_000}:quarantine_size_mb=1:allocator_release_to_os_interval_ms=0"
-    return subprocess.run([program], input=given, capture_output=True, timeout=100, env={**os.environ, "ASAN_OPTIONS": options})
+    return subprocess.run([program], input=given, capture_output=True, timeout=300, env={**os.environ, "ASAN_OPTIONS": options})
 
 
 def compare(program, seed):
