@@ -5,12 +5,16 @@ folder with its sources and a Cargo.toml.
 """
 import os
 import pathlib
-import re
 import shutil
 import subprocess
+import sys
 
 HERE = pathlib.Path(__file__).resolve().parent
 TOP, OUT = HERE.parent, HERE / "out"
+sys.dont_write_bytecode = True
+sys.path.insert(0, str(TOP / "tools"))
+import lay  # noqa: E402
+
 CRATES = ["core", "spine", "set", "map", "log", "multi", "replica", "bench"]
 
 
@@ -28,26 +32,15 @@ def ours():
     the last run, and builds it."""
     if not shutil.which("rt"):
         return "needs `rt`"
-    for crate in CRATES:
-        for part in ("src", "specs", "proofs"):
-            lay(TOP / f"crates/indexset_{crate}/{part}", OUT / f"crates/indexset_{crate}/{part}")
-    lay(HERE / "ours/src", OUT / "crates/indexset_speed/src")
+    lay.lay(OUT, [f"indexset_{name}" for name in CRATES])
+    shutil.rmtree(OUT / "crates/indexset_speed/src", ignore_errors=True)
+    shutil.copytree(HERE / "ours/src", OUT / "crates/indexset_speed/src")
     for source in (OUT / "crates/indexset_speed/src").glob("*.rt.in"):
         source.rename(source.with_suffix(""))
-    wanted = rf"^indexset_({'|'.join(CRATES)}):.*\n"
-    lines = re.findall(rf"(?m)({wanted})", (TOP / "crates.txt").read_text())
-    uses = "indexset_speed: indexset_core indexset_set indexset_map indexset_log indexset_replica indexset_bench\n"
-    (OUT / "crates.txt").write_text("".join(it[0] for it in lines) + uses)
-    shutil.copy(TOP / "HANDLES", OUT)
+    with open(OUT / "crates.txt", "a", encoding="utf-8") as crates:
+        crates.write("indexset_speed: indexset_core indexset_set indexset_map indexset_log indexset_replica indexset_bench\n")
     crate = OUT / "crates/indexset_speed"
     return crate / "out/indexset_speed" if ran("rt", "run", folder=crate) else "did not build"
-
-
-def lay(source, to):
-    """A copy of a folder, with the times of its files, in place of what was there."""
-    shutil.rmtree(to, ignore_errors=True)
-    if source.is_dir():
-        shutil.copytree(source, to)
 
 
 def std():

@@ -12,7 +12,8 @@ only names what the edit took away. What is not refused so in a round is tried a
 
 Only the edited functions are proved, and what they call, over the built libraries below their crate. Those have to be
 there and up to date, and so has the crate's own, which shows that it is proved as it stands: `rt lib` in its folder
-leaves them in out/. What the prover said is kept in out/edits.log. The last line is 'N passed, M failed'.
+leaves them in out/. What one round has proved of a crate is not proved again in the next ones. What the prover said is
+kept in out/edits.log. The last line is 'N passed, M failed'.
 """
 
 from __future__ import annotations
@@ -216,8 +217,8 @@ def fit_together(edits: list[Edit], folder: pathlib.Path) -> bool:
 class Trial:
     """The edits of a crate as they are tried."""
 
-    def __init__(self, crate: Any, built: Any, log: TextIO) -> None:
-        self.crate, self.built, self.log = crate, built, log
+    def __init__(self, crate: Any, built: Any, kept: pathlib.Path, log: TextIO) -> None:
+        self.crate, self.built, self.kept, self.log = crate, built, kept / crate.name, log
         self.folder = pathlib.Path(crate.folder)
         self.tally = Tally(crate.name)
 
@@ -250,7 +251,7 @@ class Trial:
     def asked(self, functions: list[Function], room: pathlib.Path) -> kit.Checked:
         """What the prover says of functions, each by a name that it knows."""
         while True:
-            checked = kit.check(self.built, room, [word for it in functions for word in ("--only", it.word)])
+            checked = kit.check(self.built, room, self.kept, [word for it in functions for word in ("--only", it.word)])
             self.tally.checks += 1
             self.tally.seconds += checked.seconds
             if not any(it.learns(checked) for it in functions):
@@ -333,7 +334,7 @@ def arguments() -> argparse.Namespace:
     return ask.parse_args()
 
 
-def trials_of(given: argparse.Namespace, log: TextIO) -> list[Trial]:
+def trials_of(given: argparse.Namespace, kept: pathlib.Path, log: TextIO) -> list[Trial]:
     """The crates with edits, those with most of them first."""
     built = {it.name: it for it in kit.crates(given.built or given.top)}
     crates = [it for it in kit.crates(given.top) if not given.crates or it.name in given.crates]
@@ -343,7 +344,7 @@ def trials_of(given: argparse.Namespace, log: TextIO) -> list[Trial]:
     crates = sorted((it for it in crates if count[it.name]), key=lambda it: -count[it.name])
     if lacking := {it.name for it in crates} - {*built}:
         sys.exit(f"{given.built} has no crate {', '.join(sorted(lacking))}")
-    return [Trial(it, built[it.name], log) for it in crates]
+    return [Trial(it, built[it.name], kept, log) for it in crates]
 
 
 def main() -> int:
@@ -352,8 +353,12 @@ def main() -> int:
     given.top, given.built = top, (given.built or top).resolve()
     kit.guard()
     (top / "out").mkdir(exist_ok=True)
-    with open(top / "out/edits.log", "w", encoding="utf-8") as log, ThreadPoolExecutor(given.jobs) as pool:
-        trials = trials_of(given, log)
+    with (
+        tempfile.TemporaryDirectory(prefix="edits-") as kept,
+        open(top / "out/edits.log", "w", encoding="utf-8") as log,
+        ThreadPoolExecutor(given.jobs) as pool,
+    ):
+        trials = trials_of(given, pathlib.Path(kept), log)
         stop_on_unbuilt(trials)
         runs = [pool.submit(it.run, given.pick) for it in trials]
         tallies = [it.result() for it in runs]

@@ -20,13 +20,17 @@ import dataclasses
 import json
 import pathlib
 import re
-import shutil
 import subprocess
 import sys
 import tempfile
 from collections.abc import Iterator
 
 TOP = pathlib.Path(__file__).resolve().parent.parent
+sys.dont_write_bytecode = True
+sys.path.insert(0, str(TOP / "tools"))
+import kit  # noqa: E402
+import lay  # noqa: E402
+
 CRATES = ["core", "text", "spine", "set", "map", "log", "multi", "replica"]
 PROVED = ["indexset_callers", "indexset_uses"]
 PAGES = ["*.md", "docs/*.md", "bindings/*.md", "examples/**/*.md"]
@@ -179,12 +183,13 @@ def run_tests(sources: Sources, room: str, show: bool) -> int:
         (crate / f"{name}.rt").write_text(text, encoding="utf-8")
     with open(f"{room}/crates.txt", "a", encoding="utf-8") as lists:
         lists.write(f"indexset_examples: {LISTS}\n")
-    done = subprocess.run(["rt", "try", "--test"], cwd=crate.parent, capture_output=True, text=True)
-    passed = len(re.findall(r"(?m)^test .* \.\.\. ok$", done.stdout))
-    if done.returncode or passed != sources.tests:
+    run = kit.tried(crate.parent, ["--test"])
+    said = run.communicate()[0]
+    passed = len(re.findall(r"(?m)^test .* \.\.\. ok$", said))
+    if run.returncode or passed != sources.tests:
         print("\n".join([*sources.root, *sources.modules.values()]) if show else "")
-        print(done.stdout[-6000:], done.stderr[-3000:])
-    return passed if done.returncode == 0 else min(passed, sources.tests - 1)
+        print(said[-9000:])
+    return passed if run.returncode == 0 else min(passed, sources.tests - 1)
 
 
 def main() -> int:
@@ -196,9 +201,7 @@ def main() -> int:
     blocks = [it for it in every if not it.left_out]
     sources = written(blocks)
     with tempfile.TemporaryDirectory() as room:
-        shutil.copy(TOP / "HANDLES", room)
-        shutil.copy(TOP / "crates.txt", room)
-        shutil.copytree(TOP / "crates", f"{room}/crates", ignore=shutil.ignore_patterns("out", "must-fail"))
+        lay.lay(pathlib.Path(room), lay.every())
         printed, faults = shell_faults(blocks, room)
         passed = run_tests(sources, room, show)
     faults += unproved(blocks)

@@ -23,6 +23,11 @@ def listed(text: str) -> dict[str, str]:
     return {line.split(":")[0].split()[0]: line for line in lines}
 
 
+def every(top: pathlib.Path = TOP) -> list[str]:
+    """The names of all crates."""
+    return [*listed((top / "crates.txt").read_text(encoding="utf-8"))]
+
+
 def with_those_below(names: list[str], lines: dict[str, str]) -> list[str]:
     """Crates and the libraries of this repository that they use, in the order of the list."""
     wanted: list[str] = []

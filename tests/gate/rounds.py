@@ -62,7 +62,7 @@ class Prover:
     def __init__(self) -> None:
         self.asked: list[list[str]] = []
 
-    def check(self, built: object, at: pathlib.Path, flags: list[str]) -> kit.Checked:
+    def check(self, built: object, at: pathlib.Path, kept: pathlib.Path, flags: list[str]) -> kit.Checked:
         words = flags[1::2]
         self.asked.append(words)
         text = (at / "src/heap.rt").read_text(encoding="utf-8")
@@ -96,7 +96,7 @@ def tried(changes: dict[str, str]) -> tuple[edits.Tally, str, Prover]:
         crate = types.SimpleNamespace(name="made", folder=room)
         fake = mock.patch.multiple(kit, check=prover.check, sources=lambda it: [folder / "src"])
         with fake, contextlib.redirect_stdout(said):
-            tally = edits.Trial(crate, crate, io.StringIO()).run([])
+            tally = edits.Trial(crate, crate, folder, io.StringIO()).run([])
     return tally, said.getvalue(), prover
 
 

@@ -1,16 +1,32 @@
-//! Worked examples of the set and of what both families stand on, as tests: the values are typed from
-//! the library's documents, and each public call runs once with ample memory. Those of the map stand
-//! in `indexset_map_tests`, those of the logged family and of the runs in `indexset_log_tests` and
-//! `indexset_replica_tests`; what they play on stands in `indexset_play`.
+//! Tests of what no script says: comparisons and cells counted, order kept by what a caller wrote wrong, texts,
+//! clones that fail, paths, and runs of the program over long texts, to writers that fail and at a terminal. The
+//! values are typed from the library's documents. The worked examples are scripts (`tests/scripts`).
 #![tactic(auto)]
 
 #[cfg(test)]
+mod by_text;
+pub mod callers;
+#[cfg(test)]
+mod events;
+#[cfg(test)]
 mod fenwick;
 #[cfg(test)]
+mod long_runs;
+#[cfg(test)]
+mod map;
+#[cfg(test)]
+mod multimap;
+#[cfg(test)]
+mod paths;
+#[cfg(test)]
 mod probe;
+#[cfg(test)]
+mod program;
 #[cfg(test)]
 mod refusal;
 #[cfg(test)]
 mod set;
 #[cfg(test)]
 mod spine;
+#[cfg(test)]
+mod terminal;

@@ -5,7 +5,7 @@ ghost use Rattle.std.specs.Ordering.{nat_cmp};
 ghost use Rattle.std.specs.declared.ops.Bound.TheVariants.{Included, Excluded};
 ghost use Rattle.indexset_core.specs.Pairs.{value_of};
 ghost use Rattle.indexset_map.specs.Contents.{with_pairs, with_value, with_written, without_entry};
-ghost use Rattle.indexset_map_tests.specs.Callers.{counted, more, raised, raised_within};
+ghost use Rattle.indexset_tests.specs.Callers.{counted, more, raised, raised_within};
 
 use indexset_core::refusal::Refused;
 use indexset_map::{BTreeMap, Entry};

@@ -2,8 +2,8 @@
 use Rattle.std.proofs.Common.{◌-◌}
 use Rattle.indexset_map.specs.ValuesWalk.{values_walk}
 use Rattle.indexset_map.specs.Walk.{HasWritten, walk_back, walk_front}
-use Rattle.indexset_map_tests.specs.Callers.{more}
-use Rattle.indexset_map_tests.proofs.callers.add_ten_to_values.Given as goal
+use Rattle.indexset_tests.specs.Callers.{more}
+use Rattle.indexset_tests.proofs.callers.add_ten_to_values.Given as goal
 
 abbrev pub invariant-loop-value : goal.invariant-loop-value
 invariant-loop-value l = HasWritten (λ p. more 10 p.value) (values_walk l.initial.values) (values_walk l.values)

@@ -5,8 +5,8 @@ use Rattle.indexset_core.specs.Bounds.{is_within}
 use Rattle.indexset_map.specs.Contents.{with_pairs}
 use Rattle.indexset_map.specs.Walk.{walk_back, walk_front, walk_map}
 use Rattle.indexset_map.proofs.CallerLemmas.{nothing_written, pair_written, range_written}
-use Rattle.indexset_map_tests.specs.Callers.{more, raised_within}
-use Rattle.indexset_map_tests.proofs.callers.add_hundred.Goals as goal
+use Rattle.indexset_tests.specs.Callers.{more, raised_within}
+use Rattle.indexset_tests.proofs.callers.add_hundred.Goals as goal
 
 pub loop-walk-init : goal.loop-walk-init
 loop-walk-init c = nothing_written (λ p. more 100 p.value) c.range_mut-walk.result c.range_mut-walk.ensures.span.order

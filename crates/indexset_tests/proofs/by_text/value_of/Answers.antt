@@ -2,7 +2,7 @@ use Rattle.std.specs.Cmp.Lexicographic.{nat_list_cmp_total, slice_cmp}
 use Rattle.std.specs.Ordering.{nat_cmp}
 use Rattle.indexset_core.specs.Nodes.{joined}
 use Rattle.indexset_core.proofs.CallerLemmas.{parted_by_key}
-use Rattle.indexset_replica_tests.proofs.by_text.value_of.Goals as goal
+use Rattle.indexset_tests.proofs.by_text.value_of.Goals as goal
 
 -- the names ascend, so a search by one finds them in order
 pub get_by-requires : goal.get_by-requires

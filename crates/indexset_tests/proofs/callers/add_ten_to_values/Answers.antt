@@ -3,8 +3,8 @@ use Rattle.indexset_map.specs.Contents.{with_pairs}
 use Rattle.indexset_map.specs.ValuesWalk.{values_walk}
 use Rattle.indexset_map.specs.Walk.{walk_map}
 use Rattle.indexset_map.proofs.CallerLemmas.{all_written, nothing_written, value_written}
-use Rattle.indexset_map_tests.specs.Callers.{more, raised}
-use Rattle.indexset_map_tests.proofs.callers.add_ten_to_values.Goals as goal
+use Rattle.indexset_tests.specs.Callers.{more, raised}
+use Rattle.indexset_tests.proofs.callers.add_ten_to_values.Goals as goal
 
 pub loop-value-init : goal.loop-value-init
 loop-value-init c = let first = c.values_mut-values.ensures.front in nothing_written (λ p. more 10 p.value) (values_walk c.values_mut-values.result) (omega (arith, first))

@@ -2,8 +2,8 @@ use Rattle.std.proofs.Common.{◌≡◌, ◌<◌, map, rules, arith}
 use Rattle.indexset_map.specs.Contents.{with_pairs}
 use Rattle.indexset_map.specs.Walk.{walk_back, walk_front, walk_map}
 use Rattle.indexset_map.proofs.CallerLemmas.{all_written, nothing_written, pair_written}
-use Rattle.indexset_map_tests.specs.Callers.{more, raised}
-use Rattle.indexset_map_tests.proofs.callers.add_ten.Goals as goal
+use Rattle.indexset_tests.specs.Callers.{more, raised}
+use Rattle.indexset_tests.proofs.callers.add_ten.Goals as goal
 
 pub loop-walk-init : goal.loop-walk-init
 loop-walk-init c = let first = c.iter_mut-walk.ensures.front in nothing_written (λ p. more 10 p.value) c.iter_mut-walk.result (omega (arith, first))
