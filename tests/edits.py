@@ -26,7 +26,6 @@ import re
 import shutil
 import sys
 import tempfile
-import threading
 from concurrent.futures import ThreadPoolExecutor
 from typing import Any, TextIO
 

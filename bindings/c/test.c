@@ -46,7 +46,7 @@ static void test_none(void) {
     indexset_set set = INDEXSET_HANDLE, other = INDEXSET_HANDLE;
     uint64_t out = 7, keys[2] = {5, 6};
     size_t taken = 9, ranks[2] = {8, 8};
-    CHECK(indexset_version() == 0x000100);
+    CHECK(indexset_version() == 0x000200);
     CHECK(indexset_set_len(&set) == 0);
     CHECK(!indexset_set_contains(&set, 0));
     CHECK(!indexset_set_remove(&set, 0));

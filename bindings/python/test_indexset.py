@@ -2,6 +2,7 @@
 import copy
 import doctest
 import math
+import pathlib
 import pickle
 import random
 import sys
@@ -229,7 +230,11 @@ class Calls(unittest.TestCase):
         self.assertEqual(list(numbers.irange(reverse=True)), list(range(4999, -1, -1)))
 
     def test_version(self):
-        self.assertEqual(indexset.version(), (0, 1, 0))
+        """One number stands in the library, the package and the list of changes."""
+        top = pathlib.Path(__file__).resolve().parent.parent.parent
+        number = ".".join(map(str, indexset.version()))
+        self.assertIn(f'version = "{number}"\n', (top / "bindings/python/pyproject.toml").read_text())
+        self.assertIn(f"\n## {number}", (top / "CHANGELOG.md").read_text())
 
     def test_examples(self):
         for module in (indexset, _set, _dict):

@@ -33,7 +33,7 @@ mod text_positions;
 mod text_ranges;
 
 /// This library's version: the major number times 65536, the minor one times 256, and the patch.
-pub const VERSION: u32 = 256;
+pub const VERSION: u32 = 512;
 
 /// Returns this library's version.
 #[unsafe(no_mangle)]
