@@ -12,14 +12,18 @@ gives the lines that go before a body, or the test of a module; `<!-- not run: w
 out. A line `EXPRESSION // TEXT` asserts that the value is printed so by `{:?}`. A function of a page that
 has clauses must stand, word for word, in a crate of proved callers.
 
+Where INDEXSET_PROGRAMS names a folder of built programs, `rt try` in a block of shell runs the program from there.
+
 A test has `rt` and `alloc`. It has the names of `NAMES`, but in a module that imports its own.
 """
 
 import argparse
 import dataclasses
 import json
+import os
 import pathlib
 import re
+import shutil
 import subprocess
 import sys
 import tempfile
@@ -159,14 +163,34 @@ def unproved(blocks: list[Block]) -> list[str]:
     return found
 
 
+# Stands for `rt` in the blocks of shell.
+BUILT = """#!/bin/sh
+program="{folder}/$(basename "$PWD")"
+if test "$*" = try && test -x "$program"; then exec "$program"; fi
+exec {rt} "$@"
+"""
+
+
+def shell_environment(room: pathlib.Path) -> dict[str, str]:
+    """The environment of the blocks of shell."""
+    if not (folder := os.environ.get("INDEXSET_PROGRAMS")):
+        return dict(os.environ)
+    command = room / "bin/rt"
+    command.parent.mkdir()
+    command.write_text(BUILT.format(folder=pathlib.Path(folder).resolve(), rt=shutil.which("rt")), encoding="utf-8")
+    command.chmod(0o755)
+    return {**os.environ, "PATH": f"{command.parent}:{os.environ['PATH']}"}
+
+
 def shell_faults(blocks: list[Block], room: str) -> tuple[int, list[str]]:
     """How many blocks of shell print the block of text after them, and what the others print."""
+    environment = shell_environment(pathlib.Path(room))
     passed, faults = 0, []
     for block, after in zip(blocks, blocks[1:] + blocks[-1:]):
         if block.language != "sh":
             continue
         command = "\n".join(block.lines)
-        done = subprocess.run(["bash", "-c", command], cwd=room, capture_output=True, text=True)
+        done = subprocess.run(["bash", "-c", command], cwd=room, env=environment, capture_output=True, text=True)
         if after.language == "text" and done.stdout.splitlines() == after.lines:
             passed += 1
         else:
