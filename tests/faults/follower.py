@@ -19,134 +19,44 @@ import pathlib
 import select
 import subprocess
 import sys
-import tempfile
 import time
-from collections.abc import Iterator
-from dataclasses import dataclass, field
 
 HERE = pathlib.Path(__file__).resolve().parent
 sys.dont_write_bytecode = True
 sys.path.insert(0, str(HERE.parent.parent / "tools"))
 from programs import built  # noqa: E402
+from refuse import MEMORY, WRITE, Sweep, replies_to_first, sweeping  # noqa: E402
 
-MEMORY, READ, WRITE = "REFUSE_MEMORY", "REFUSE_READ", "REFUSE_WRITE"
-TOLD = {MEMORY: (1, b"memory\n"), READ: (3, b"read\n"), WRITE: (4, b"write\n")}
-CONDITIONS: tuple[dict[str, int], ...] = ({}, {"REFUSE_ON": 1}, {"SHORT_READ": 5})
 PATIENCE = 30.0  # seconds for a reply, on a busy machine
 
 
-@dataclass
-class Run:
-    """What a run did while one of its requests failed, or more."""
-
-    status: int
-    out: bytes
-    err: bytes
-    memory: int
-    failed: int
-    kept: int
-
-    def tells(self, which: str) -> bool:
-        """Whether it ended as it must at such a fault."""
-        return (self.status, self.err) == TOLD[which] and self.kept == 0
-
-    def is_done(self, replies: bytes) -> bool:
-        """Whether it ended well, with these replies."""
-        return (self.status, self.out, self.err, self.kept) == (0, replies, b"", 0)
-
-
-@dataclass
-class Follower:
-    """The program, and what was seen of it."""
-
-    program: pathlib.Path
-    library: pathlib.Path | None
-    passed: int = 0
-    failures: list[str] = field(default_factory=list)
-
-    def expect(self, is_right: bool, what: str) -> None:
-        if is_right:
-            self.passed += 1
-        else:
-            self.failures.append(what)
-
-    def run(self, given: bytes, **refuse: int) -> Run:
-        """Runs it over these lines while such requests fail."""
-        reader, writer = os.pipe()
-        settings = {name: str(value) for name, value in refuse.items()}
-        settings["REFUSE_REPORT"] = str(writer)
-        if self.library:
-            settings["LD_PRELOAD"] = str(self.library)
-        done = subprocess.run(
-            [self.program], input=given, env=settings, capture_output=True, pass_fds=[writer], timeout=300
-        )
-        os.close(writer)
-        with os.fdopen(reader) as report:
-            words = report.read().split() or ["-1"] * 5
-        memory, _reads, _writes, failed, kept = map(int, words)
-        return Run(done.returncode, done.stdout, done.stderr, memory, failed, kept)
-
-    def runs(self, given: bytes, which: str, **more: int) -> Iterator[tuple[int, Run]]:
-        """Each N with the run whose Nth such request fails; in the last none does."""
-        n, failed = 0, 1
-        while failed:
-            n += 1
-            run = self.run(given, **{which: n}, **more)
-            failed = run.failed
-            yield n, run
-
-
-def replies_to_first() -> list[bytes]:
-    """The replies to the first lines: to none, to one, and so on up to all."""
-    parts = (HERE / "follower_replies").read_bytes().splitlines(keepends=True)
-    return [b"".join(parts[:count]).replace(b" / ", b"\n") for count in range(len(parts) + 1)]
-
-
-def sweep(follower: Follower, given: bytes) -> None:
-    """Each request for memory, each read and each write over the lines. After a failed read all whole lines
-    that were read have their replies."""
-    replies = replies_to_first()
-    for which in TOLD:
-        for more in CONDITIONS:
-            count = 0
-            for n, run in follower.runs(given, which, **more):
-                whole = given[: (n - 1) * more.get("SHORT_READ", len(given))].count(b"\n")
-                ends = [replies[whole]] if which == READ else replies
-                is_right = run.tells(which) and run.out in ends if run.failed else run.is_done(replies[-1])
-                follower.expect(is_right, f"{which} {n} {more}: {run}")
-                count = n - 1
-            follower.expect(count > 0, f"{which} {more}: no request was refused")
-            print(f"| {which} {' '.join(more)} | {count} |")
-
-
-def last_flush(follower: Follower, given: bytes) -> None:
+def last_flush(sweep: Sweep, follower: pathlib.Path, line: bytes, reply: bytes) -> None:
     """The reply to a last line without an end is written by the last flush alone."""
-    line, reply = given.splitlines()[0], replies_to_first()[1]
-    for n, run in follower.runs(line, WRITE):
+    for n, run in sweep.runs([str(follower)], line, WRITE):
         is_right = run.tells(WRITE) if run.failed else n == 2 and run.is_done(reply)
-        follower.expect(is_right, f"the last flush, write {n}: {run}")
+        sweep.expect(is_right, f"the last flush, write {n}: {run}")
 
 
-def first_fault(follower: Follower, given: bytes) -> None:
+def first_fault(sweep: Sweep, follower: pathlib.Path, given: bytes, replies: list[bytes]) -> None:
     """Memory runs out before anything is written, and then the last flush fails. After a failed write no more
     is known of what was written than that it is the replies to the lines before."""
-    asked, replies = follower.run(given).memory, replies_to_first()
-    follower.expect(asked > 0, "no memory was asked for")
+    asked = sweep.run([str(follower)], given).memory
+    sweep.expect(asked > 0, "no memory was asked for")
     for n in range(1, asked + 1):
-        run = follower.run(given, **{MEMORY: n, WRITE: 1})
-        follower.expect(run.tells(MEMORY) and run.out in replies, f"memory request {n}, then a write: {run}")
+        run = sweep.run([str(follower)], given, **{MEMORY: n, WRITE: 1})
+        sweep.expect(run.tells(MEMORY) and run.out in replies, f"memory request {n}, then a write: {run}")
 
 
-def waits(follower: Follower) -> None:
+def waits(sweep: Sweep, follower: pathlib.Path) -> None:
     """Each reply is out while the follower waits for more of a line, and for the next line."""
-    with subprocess.Popen([follower.program], stdin=subprocess.PIPE, stdout=subprocess.PIPE) as running:
+    with subprocess.Popen([follower], stdin=subprocess.PIPE, stdout=subprocess.PIPE) as running:
         assert running.stdin and running.stdout
         for given, reply in ((b"start 7\nle", b"next 7\n"), (b"n\n", b"0\n"), (b"fir", b""), (b"st\nget 1", b"none\n")):
             running.stdin.write(given)
             running.stdin.flush()
-            follower.expect(read_in_time(running.stdout.fileno(), len(reply)) == reply, f"no {reply!r} after {given!r}")
+            sweep.expect(read_in_time(running.stdout.fileno(), len(reply)) == reply, f"no {reply!r} after {given!r}")
         running.stdin.close()
-        follower.expect(running.stdout.read() == b"none\n", "no reply to the last line")
+        sweep.expect(running.stdout.read() == b"none\n", "no reply to the last line")
 
 
 def read_in_time(descriptor: int, length: int) -> bytes:
@@ -165,22 +75,14 @@ def main() -> int:
     ask.add_argument("--follower", type=pathlib.Path, help="the program indexset_follower")
     ask.add_argument("--linked", action="store_true", help="refuse.c stands in the program")
     arguments = ask.parse_args()
-    given = (HERE / "follower_lines").read_bytes()
-    with tempfile.TemporaryDirectory() as folder:
-        library = None if arguments.linked else pathlib.Path(folder) / "refuse.so"
-        if library:
-            build = ["cc", "-O1", "-shared", "-fPIC", "-o", str(library), str(HERE / "refuse.c"), "-ldl"]
-            subprocess.run(build, check=True)
-        follower = Follower((arguments.follower or built("indexset_follower")).resolve(), library)
-        print("| Follower | runs with a failed request |\n|---|---|")
-        sweep(follower, given)
-        last_flush(follower, given)
-        first_fault(follower, given)
-        waits(follower)
-    for failure in follower.failures:
-        print(failure)
-    print(f"{follower.passed} passed, {len(follower.failures)} failed")
-    return int(bool(follower.failures))
+    follower = (arguments.follower or built("indexset_follower")).resolve()
+    given, replies = (HERE / "follower_lines").read_bytes(), replies_to_first("follower_replies")
+    with sweeping(arguments.linked) as sweep:
+        sweep.each_request(follower, given, replies)
+        last_flush(sweep, follower, given.splitlines()[0], replies[1])
+        first_fault(sweep, follower, given, replies)
+        waits(sweep, follower)
+        return sweep.end()
 
 
 if __name__ == "__main__":

@@ -1,0 +1,118 @@
+"""Runs of programs in which `refuse.c` has a request fail, and what is counted of them."""
+
+from __future__ import annotations
+
+import contextlib
+import os
+import pathlib
+import subprocess
+import tempfile
+from collections.abc import Iterator
+from dataclasses import dataclass, field
+
+HERE = pathlib.Path(__file__).resolve().parent
+MEMORY, READ, WRITE = "REFUSE_MEMORY", "REFUSE_READ", "REFUSE_WRITE"
+TOLD = {MEMORY: (1, b"memory\n"), READ: (3, b"read\n"), WRITE: (4, b"write\n")}
+CONDITIONS: tuple[dict[str, int], ...] = ({}, {"REFUSE_ON": 1}, {"SHORT_READ": 5})
+SECONDS = 300  # for one run, on a busy machine
+
+
+@dataclass
+class Run:
+    """What a program did while one of its requests failed, or more."""
+
+    status: int
+    out: bytes
+    err: bytes
+    memory: int
+    failed: int
+    kept: int
+
+    def tells(self, which: str) -> bool:
+        """Whether it ended as it must at such a fault."""
+        return (self.status, self.err) == TOLD[which] and self.kept == 0
+
+    def is_done(self, replies: bytes) -> bool:
+        """Whether it ended well, with these replies."""
+        return (self.status, self.out, self.err, self.kept) == (0, replies, b"", 0)
+
+
+@dataclass
+class Sweep:
+    """Programs that have `refuse.c` from a library, or linked, and what was seen of them."""
+
+    library: pathlib.Path | None
+    passed: int = 0
+    failures: list[str] = field(default_factory=list)
+
+    def expect(self, is_right: bool, what: str) -> None:
+        """Counts what was right, and keeps what was not."""
+        if is_right:
+            self.passed += 1
+        else:
+            self.failures.append(what)
+
+    def run(self, words: list[str], given: bytes, **refuse: int) -> Run:
+        """Runs a program over these lines while such requests fail."""
+        reader, writer = os.pipe()
+        settings = {name: str(value) for name, value in refuse.items()}
+        settings["REFUSE_REPORT"] = str(writer)
+        if self.library:
+            settings["LD_PRELOAD"] = str(self.library)
+        done = subprocess.run(
+            words, input=given, env=settings, capture_output=True, pass_fds=[writer], timeout=SECONDS
+        )
+        os.close(writer)
+        with os.fdopen(reader) as report:
+            counts = report.read().split() or ["-1"] * 5
+        memory, _reads, _writes, failed, kept = map(int, counts)
+        return Run(done.returncode, done.stdout, done.stderr, memory, failed, kept)
+
+    def runs(self, words: list[str], given: bytes, which: str, **more: int) -> Iterator[tuple[int, Run]]:
+        """Each N with the run whose Nth such request fails; in the last none does."""
+        n, failed = 0, 1
+        while failed > 0:
+            n += 1
+            run = self.run(words, given, **{which: n}, **more)
+            failed = run.failed
+            yield n, run
+
+    def each_request(self, program: pathlib.Path, given: bytes, replies: list[bytes]) -> None:
+        """Each request for memory, each read and each write over the lines, to the first of which there are
+        these replies. After a failed read all whole lines that were read have their replies."""
+        print(f"| {program.name} | runs with a failed request |\n|---|---|")
+        for which in TOLD:
+            for more in CONDITIONS:
+                count = 0
+                for n, run in self.runs([str(program)], given, which, **more):
+                    whole = given[: (n - 1) * more.get("SHORT_READ", len(given))].count(b"\n")
+                    ends = [replies[whole]] if which == READ else replies
+                    is_right = run.tells(which) and run.out in ends if run.failed else run.is_done(replies[-1])
+                    self.expect(is_right, f"{which} {n} {more}: {run}")
+                    count = n - 1
+                self.expect(count > 0, f"{which} {more}: no request was refused")
+                print(f"| {which} {' '.join(more)} | {count} |")
+
+    def end(self) -> int:
+        """Writes what was not right, and how much was; the exit status."""
+        for failure in self.failures:
+            print(failure)
+        print(f"{self.passed} passed, {len(self.failures)} failed")
+        return int(bool(self.failures))
+
+
+@contextlib.contextmanager
+def sweeping(is_linked: bool) -> Iterator[Sweep]:
+    """A sweep over programs in which `refuse.c` stands, or before which it is loaded."""
+    with tempfile.TemporaryDirectory() as folder:
+        library = None if is_linked else pathlib.Path(folder) / "refuse.so"
+        if library:
+            build = ["cc", "-O1", "-shared", "-fPIC", "-o", str(library), str(HERE / "refuse.c"), "-ldl"]
+            subprocess.run(build, check=True)
+        yield Sweep(library)
+
+
+def replies_to_first(file: str) -> list[bytes]:
+    """The replies to the first lines: to none, to one, and so on up to all; those to one line are parted by ` / `."""
+    parts = (HERE / file).read_bytes().splitlines(keepends=True)
+    return [b"".join(parts[:count]).replace(b" / ", b"\n") for count in range(len(parts) + 1)]
