@@ -1,4 +1,6 @@
 //! Events that are delivered to a replica in some order, in one call.
+ghost use Rattle.std.specs.Prelude.{◌<◌, ◌↔◌, IsTrue};
+ghost use Rattle.std.specs.List.{All};
 
 use crate::item::Item;
 use crate::partial::Partial;
@@ -62,6 +64,13 @@ fn rest_of<'a, T: Item>(
     order.split_at(done.min(order.len())).1
 }
 
+/// Whether all places are below a count.
+fn are_below(places: &[usize], count: usize) -> bool
+    ensures { IsTrue result ↔ All (λ place. place < count) places.now }
+{
+    places.iter().all(|place| *place < count)
+}
+
 /// Delivers the events at the places that the words name, by one call.
 pub fn deliver<T: Item>(
     alloc: Global,
@@ -73,7 +82,7 @@ pub fn deliver<T: Item>(
     let places = read_places(alloc, words)?;
     partial.begin("deliver", text_of(alloc, places.as_slice())?.as_str())?;
     let order = rest_of(replica, events, places.as_slice(), partial);
-    if !order.iter().all(|place| *place < events.len()) {
+    if !are_below(order, events.len()) {
         return Err(Stop::NoCall);
     }
     let before = replica.next();
