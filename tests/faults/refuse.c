@@ -2,12 +2,18 @@
    left, for a read or a write with EIO. The environment says which: REFUSE_MEMORY, REFUSE_READ or
    REFUSE_WRITE is N, from 1; REFUSE_ON=1 has all later ones fail too; SHORT_READ is the most bytes that
    one read gives. At the end it writes one line to the descriptor REFUSE_REPORT: how many requests for
-   memory, reads and writes there were, how many of all failed, and how many blocks were not freed. */
+   memory, reads and writes there were, how many of all failed, and how many blocks were not freed.
+
+   REFUSE_EACH=1 has each request for memory fail in turn: it fails in a copy of the program, which goes on to
+   its end and writes its line, and then one with its status. The program waits for it, and goes on with the
+   memory. It reads from a file, of which each copy reads the rest by itself. */
 #define _GNU_SOURCE
 #include <dlfcn.h>
 #include <errno.h>
+#include <fcntl.h>
 #include <stdio.h>
 #include <stdlib.h>
+#include <sys/wait.h>
 #include <unistd.h>
 
 struct requests {
@@ -18,7 +24,7 @@ struct requests {
 static struct requests memory = {"REFUSE_MEMORY", 0, 0};
 static struct requests reads = {"REFUSE_READ", 0, 0};
 static struct requests writes = {"REFUSE_WRITE", 0, 0};
-static long on, short_read, report = -1, failed, blocks;
+static long each, on, short_read, report = -1, failed, blocks;
 
 /* A program that the sanitizer checks has its calls under these names. */
 extern void *__interceptor_malloc(size_t) __attribute__((weak));
@@ -52,22 +58,54 @@ __attribute__((constructor)) static void begin(void) {
     reads.refused = number(reads.name);
     writes.refused = number(writes.name);
     report = number("REFUSE_REPORT");
+    each = number("REFUSE_EACH");
     memory.made = blocks = 0;
+}
+
+static void tell(const char *line, int length) {
+    if (report > 0 && next_write(report, line, length) != length) {
+        _exit(99);
+    }
 }
 
 __attribute__((destructor)) static void end(void) {
     char line[128];
-    int length = snprintf(line, sizeof line, "%ld %ld %ld %ld %ld\n", memory.made, reads.made,
-                          writes.made, failed, blocks);
-    if (report > 0 && next_write(report, line, length) != length) {
-        _exit(99);
+    tell(line, snprintf(line, sizeof line, "%ld %ld %ld %ld %ld\n", memory.made, reads.made, writes.made,
+                        failed, blocks));
+}
+
+/* Has a copy read on where the program is, without moving it. */
+static void read_alone(void) {
+    int input = open("/proc/self/fd/0", O_RDONLY);
+    if (input < 0 || lseek(input, lseek(0, 0, SEEK_CUR), SEEK_SET) < 0 || dup2(input, 0) < 0) {
+        _exit(97);
     }
+    close(input);
+}
+
+/* Tells whether this is the copy of the program in which the present request fails. */
+static int is_copy(void) {
+    pid_t copy = fork();
+    if (copy == 0) {
+        each = 0;
+        read_alone();
+        return 1;
+    }
+    int status;
+    if (copy < 0 || waitpid(copy, &status, 0) != copy) {
+        _exit(98);
+    }
+    char line[32];
+    int ended = WIFEXITED(status) ? WEXITSTATUS(status) : -WTERMSIG(status);
+    tell(line, snprintf(line, sizeof line, "%d\n", ended));
+    return 0;
 }
 
 /* Counts a request, and tells whether it fails. */
 static int fails(struct requests *all) {
     all->made++;
     int is_refused = all->refused && (all->made == all->refused || (on && all->made > all->refused));
+    is_refused |= each && all == &memory && is_copy();
     failed += is_refused;
     return is_refused;
 }

@@ -5,8 +5,10 @@ from __future__ import annotations
 import contextlib
 import os
 import pathlib
+import signal
 import subprocess
 import tempfile
+import threading
 from collections.abc import Iterator
 from dataclasses import dataclass, field
 
@@ -52,13 +54,15 @@ class Sweep:
         else:
             self.failures.append(what)
 
+    def settings(self, report: int, refuse: dict[str, int]) -> dict[str, str]:
+        """The environment of a program in which such requests fail."""
+        found = {name: str(value) for name, value in [*refuse.items(), ("REFUSE_REPORT", report)]}
+        return {**found, "LD_PRELOAD": str(self.library)} if self.library else found
+
     def run(self, words: list[str], given: bytes, **refuse: int) -> Run:
         """Runs a program over these lines while such requests fail."""
         reader, writer = os.pipe()
-        settings = {name: str(value) for name, value in refuse.items()}
-        settings["REFUSE_REPORT"] = str(writer)
-        if self.library:
-            settings["LD_PRELOAD"] = str(self.library)
+        settings = self.settings(writer, refuse)
         done = subprocess.run(
             words, input=given, env=settings, capture_output=True, pass_fds=[writer], timeout=SECONDS
         )
@@ -67,6 +71,28 @@ class Sweep:
             counts = report.read().split() or ["-1"] * 5
         memory, _reads, _writes, failed, kept = map(int, counts)
         return Run(done.returncode, done.stdout, done.stderr, memory, failed, kept)
+
+    def copied(self, words: list[str], given: pathlib.Path) -> tuple[Run, list[Run]]:
+        """Runs a program over the lines of a file, and from each request for memory on a copy of it in which that
+        one fails. What a copy writes is told of the program."""
+        reader, writer = os.pipe()
+        settings = self.settings(writer, {"REFUSE_EACH": 1})
+        with open(given, "rb") as lines, tempfile.TemporaryFile() as out, tempfile.TemporaryFile() as err:
+            how = {"stdin": lines, "stdout": out, "stderr": err, "pass_fds": [writer], "start_new_session": True}
+            program = subprocess.Popen(words, env=settings, **how)  # type: ignore[call-overload]
+            os.close(writer)
+            limit = threading.Timer(SECONDS, os.killpg, (program.pid, signal.SIGKILL))
+            limit.start()
+            with os.fdopen(reader) as report:
+                told = [[int(word) for word in line.split()] for line in report]
+            status = program.wait()
+            limit.cancel()
+            out.seek(0)
+            err.seek(0)
+            *copies, own = told or [[-1] * 5]
+            whole = Run(status, out.read(), err.read(), own[0], *own[3:])
+        pairs = zip(copies[::2], copies[1::2])
+        return whole, [Run(ended, b"", b"", counts[0], *counts[3:]) for counts, (ended,) in pairs]
 
     def runs(self, words: list[str], given: bytes, which: str, **more: int) -> Iterator[tuple[int, Run]]:
         """Each N with the run whose Nth such request fails; in the last none does."""

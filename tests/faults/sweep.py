@@ -22,7 +22,6 @@ import argparse
 import os
 import pathlib
 import sys
-from collections import Counter
 from concurrent.futures import ThreadPoolExecutor
 
 HERE = pathlib.Path(__file__).resolve().parent
@@ -41,24 +40,30 @@ def is_judged(run: Run) -> bool:
     return run.failed == 1 and run.status in (REFUSED, BEFORE) and not run.out and not run.err and run.kept == 0
 
 
-def script(sweep: Sweep, pool: ThreadPoolExecutor, player: pathlib.Path, name: str) -> int:
-    """Each request of a script; how many were refused within its calls."""
-    given = (SCRIPTS / name).read_bytes()
+def runs(sweep: Sweep, player: pathlib.Path, name: str) -> tuple[Run, list[Run]]:
+    """The whole run of a script, and those in which one request for memory after another was refused."""
     words = [str(player), "swept"]
+    whole, copies = sweep.copied(words, SCRIPTS / name)
+    if not whole.out and not whole.err and len(copies) == whole.memory:
+        return whole, copies
+    given = (SCRIPTS / name).read_bytes()
     whole = sweep.run(words, given)
+    return whole, [sweep.run(words, given, **{MEMORY: n}) for n in range(1, whole.memory + 1)]
+
+
+def judged(sweep: Sweep, name: str, whole: Run, refused: list[Run]) -> int:
+    """Judges the runs of a script; how many requests were refused within its calls."""
     is_whole = whole.is_done(b"") and whole.failed == 0
     sweep.expect(is_whole, f"{name}: {whole}")
     if not is_whole:
         return 0
-    runs = pool.map(lambda n: sweep.run(words, given, **{MEMORY: n}), range(1, whole.memory + 1))
-    counts: Counter[int] = Counter()
-    for n, run in enumerate(runs, 1):
+    for n, run in enumerate(refused, 1):
         sweep.expect(is_judged(run), f"{name}, request {n}: {run}")
-        counts[run.status] += 1
-    asks_for_none = ASKS_FOR_NONE in given.splitlines()
+    count = sum(run.status == REFUSED for run in refused)
+    asks_for_none = ASKS_FOR_NONE in (SCRIPTS / name).read_bytes().splitlines()
     said = f"has {'the' if asks_for_none else 'no'} line {ASKS_FOR_NONE.decode()!r}"
-    sweep.expect((counts[REFUSED] == 0) == asks_for_none, f"{name} {said}, and {counts[REFUSED]} requests are refused")
-    return counts[REFUSED]
+    sweep.expect((count == 0) == asks_for_none, f"{name} {said}, and {count} requests are refused")
+    return count
 
 
 def scripts(sweep: Sweep, player: pathlib.Path, given: argparse.Namespace) -> None:
@@ -67,7 +72,8 @@ def scripts(sweep: Sweep, player: pathlib.Path, given: argparse.Namespace) -> No
     names = [name for name in names if not name.startswith("large/")]
     chosen = [name for name in names if not given.words or any(word in name for word in given.words)]
     with ThreadPoolExecutor(given.jobs) as pool:
-        counts = {name: script(sweep, pool, player, name) for name in chosen}
+        found = [*pool.map(lambda name: runs(sweep, player, name), chosen)]
+    counts = {name: judged(sweep, name, *seen) for name, seen in zip(chosen, found)}
     print(f"{len(chosen)} scripts, {sum(counts.values())} requests refused within their calls")
     text = "".join(f"{name} {count}\n" for name, count in counts.items())
     if given.write and not given.words:
