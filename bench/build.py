@@ -3,6 +3,9 @@
 A program that lacks something is named and left out. The Rust crate is built where INDEXSET_RS leads to a
 folder with its sources and a Cargo.toml.
 """
+
+from __future__ import annotations
+
 import os
 import pathlib
 import shutil
@@ -18,7 +21,7 @@ import lay  # noqa: E402
 CRATES = ["core", "spine", "set", "map", "log", "multi", "replica", "bench"]
 
 
-def ran(*words, folder=None):
+def ran(*words: str, folder: pathlib.Path | None = None) -> bool:
     """Whether a command ended well; what it says is shown where it did not."""
     done = subprocess.run(words, cwd=folder, stdout=subprocess.PIPE, stderr=subprocess.STDOUT, text=True)
     if done.returncode:
@@ -26,7 +29,7 @@ def ran(*words, folder=None):
     return done.returncode == 0
 
 
-def ours():
+def ours() -> pathlib.Path | str:
     """The benchmark is no crate of the gate, which reads every file named .rt: its sources are named .rt.in.
     They and the crates that they measure are laid side by side in out/, where `rt` proves what changed since
     the last run, and builds it."""
@@ -43,14 +46,14 @@ def ours():
     return crate / "out/indexset_speed" if ran("rt", "run", folder=crate) else "did not build"
 
 
-def std():
+def std() -> pathlib.Path | str:
     if not shutil.which("rustc"):
         return "needs `rustc`"
     made = OUT / "std"
     return made if ran("rustc", "-O", "--edition", "2021", "-o", str(made), str(HERE / "rust.rs")) else "did not build"
 
 
-def crate():
+def crate() -> pathlib.Path | str:
     source = os.environ.get("INDEXSET_RS")
     if not source or not shutil.which("cargo"):
         return "needs `cargo`, and INDEXSET_RS, the folder of the crate's sources"
@@ -66,14 +69,14 @@ def crate():
     return project / "target/release/indexset_rs" if is_built else "did not build"
 
 
-def pb_ds():
+def pb_ds() -> pathlib.Path | str:
     if not shutil.which("g++"):
         return "needs `g++`"
     made = OUT / "pb_ds"
     return made if ran("g++", "-O2", "-std=c++17", "-o", str(made), str(HERE / "pb_ds.cpp")) else "did not build"
 
 
-def program(name):
+def program(name: str) -> pathlib.Path | None:
     """A program of the repository, or None where it is not built: `rt run` in its folder builds it."""
     made = TOP / f"crates/indexset_{name}/out/indexset_{name}"
     if not made.exists():
@@ -81,10 +84,10 @@ def program(name):
     return made if made.exists() else None
 
 
-def built():
+def built() -> dict[str, pathlib.Path]:
     """The programs by name, ours first."""
     OUT.mkdir(exist_ok=True)
-    found = {}
+    found: dict[str, pathlib.Path] = {}
     for name, build in (("ours", ours), ("Rust crate", crate), ("std", std), ("pb_ds", pb_ds)):
         made = build()
         if isinstance(made, str):

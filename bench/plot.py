@@ -1,5 +1,11 @@
 """Draws docs/speed.svg: times by number of keys, a panel a row, a line a library."""
+
+from __future__ import annotations
+
 import math
+from collections.abc import Callable
+
+from tables import Figures
 
 PANELS = [
     "insert",
@@ -18,25 +24,42 @@ PANELS = [
 COLOURS = ["#1f4e9c", "#c2571a", "#3f8f3f", "#8a3f8f"]
 WIDTH, HEIGHT, LEFT, TOP, COLUMNS = 300, 200, 52, 30, 3
 
+Points = list[tuple[int, float]]  # numbers of keys, each with its nanoseconds
+Shapes = list[str]
 
-def unit(nanoseconds):
+
+def unit(nanoseconds: float) -> str:
     return f"{nanoseconds / 1000:g} µs" if nanoseconds >= 1000 else f"{nanoseconds:g} ns"
 
 
-def panel(what, lines, x0, y0):
-    """`lines`: of each library its points, (keys, nanoseconds)."""
-    keys = [k for points in lines for k, _ in points]
-    times = [t for points in lines for _, t in points]
-    low_k, high_k = math.log10(min(keys)), math.log10(max(keys))
-    low, high = math.floor(math.log10(min(times))), math.ceil(math.log10(max(times)))
-    high = max(high, low + 1)
-    x = lambda k: x0 + LEFT + (math.log10(k) - low_k) / max(high_k - low_k, 1) * (WIDTH - LEFT - 16)
-    y = lambda t: y0 + HEIGHT - 28 - (math.log10(t) - low) / (high - low) * (HEIGHT - TOP - 36)
-    out = [f'<text x="{x0 + LEFT}" y="{y0 + 18}" font-weight="bold">{what}</text>']
+def across(keys: list[int], x0: int) -> Callable[[int], float]:
+    """Where a number of keys stands in a panel."""
+    low, high = math.log10(min(keys)), math.log10(max(keys))
+    return lambda k: x0 + LEFT + (math.log10(k) - low) / max(high - low, 1) * (WIDTH - LEFT - 16)
+
+
+def scale(low: int, high: int, x0: int, y: Callable[[float], float]) -> Shapes:
+    """The lines across a panel at powers of ten."""
+    out: Shapes = []
     for power in range(low, high + 1):
         at = y(10**power)
         out.append(f'<line x1="{x0 + LEFT}" x2="{x0 + WIDTH - 16}" y1="{at:.1f}" y2="{at:.1f}" stroke="#ddd"/>')
         out.append(f'<text x="{x0 + LEFT - 4}" y="{at + 4:.1f}" text-anchor="end">{unit(10**power)}</text>')
+    return out
+
+
+def panel(what: str, lines: list[Points], x0: int, y0: int) -> Shapes:
+    """A panel with the points of each library."""
+    keys = [k for points in lines for k, _ in points]
+    times = [t for points in lines for _, t in points]
+    low = math.floor(math.log10(min(times)))
+    high = max(math.ceil(math.log10(max(times))), low + 1)
+    x = across(keys, x0)
+
+    def y(time: float) -> float:
+        return y0 + HEIGHT - 28 - (math.log10(time) - low) / (high - low) * (HEIGHT - TOP - 36)
+
+    out = [f'<text x="{x0 + LEFT}" y="{y0 + 18}" font-weight="bold">{what}</text>', *scale(low, high, x0, y)]
     for k in sorted(set(keys)):
         out.append(f'<text x="{x(k):.1f}" y="{y0 + HEIGHT - 10}" text-anchor="middle">1e{round(math.log10(k))}</text>')
     for points, colour in zip(lines, COLOURS):
@@ -46,9 +69,12 @@ def panel(what, lines, x0, y0):
     return out
 
 
-def plot(names, keys, figures):
-    """The picture of `figures[name][keys][row]`, in nanoseconds."""
-    points = lambda name, what: [(k, figures[name][k][what]) for k in keys if figures[name][k].get(what, 0) > 0]
+def plot(names: list[str], keys: list[int], figures: Figures) -> str:
+    """The picture of figures in nanoseconds."""
+
+    def points(name: str, what: str) -> Points:
+        return [(k, figures[name][k][what]) for k in keys if figures[name][k].get(what, 0) > 0]
+
     shown = [what for what in PANELS if any(points(name, what) for name in names)]
     width, height = WIDTH * COLUMNS, HEIGHT * -(-len(shown) // COLUMNS) + 30
     out = [f'<svg xmlns="http://www.w3.org/2000/svg" width="{width}" height="{height}" font-family="sans-serif" font-size="11">']

@@ -1,14 +1,23 @@
 """The tables of sets beside other libraries, of their memory, and of the logged set and a replica."""
+
+from __future__ import annotations
+
 import pathlib
 import statistics
 import subprocess
+from collections.abc import Mapping, Sequence
+
+Rows = dict[str, float]  # nanoseconds by row
+Figures = Mapping[str, Mapping[int, Rows]]  # rows by library and number of keys
+Programs = Mapping[str, pathlib.Path]
 
 HELD = [(1_000, 1_000), (100_000, 10), (1_000_000, 2), (10_000_000, 1)]
 
 
-def read(text):
+def read(text: str) -> Rows:
     """The rows of what a program printed, under the name of the last line `over`."""
-    rows, over = {}, ""
+    rows: Rows = {}
+    over = ""
     for line in text.splitlines():
         name, tab, figure = line.partition("\t")
         if tab and name == "over":
@@ -18,54 +27,54 @@ def read(text):
     return rows
 
 
-def timed(program, what, keys):
-    done = subprocess.run(
-        ["taskset", "-c", "0", program, what, str(keys)], check=True, capture_output=True, text=True
-    )
-    return read(done.stdout)
+def timed(program: pathlib.Path, what: str, keys: int) -> Rows:
+    words = ["taskset", "-c", "0", str(program), what, str(keys)]
+    return read(subprocess.run(words, check=True, capture_output=True, text=True).stdout)
 
 
-def medians(programs, what, keys, times):
+def medians(programs: Programs, what: str, keys: int, times: int) -> dict[str, Rows]:
     """Of each program its rows, the median of so many runs, in turn with the others'; of few keys, which
     take little time, of ten times as many."""
-    runs = {name: [] for name in programs}
+    runs: dict[str, list[Rows]] = {name: [] for name in programs}
     for _ in range(times * 10 if keys <= 10_000 else times):
         for name, program in programs.items():
             runs[name].append(timed(program, what, keys))
     return {name: {row: statistics.median(run[row] for run in found) for row in found[0]} for name, found in runs.items()}
 
 
-def held(program, keys, copies, order):
+def held(program: pathlib.Path, keys: int, copies: int, order: str) -> int:
     """The bytes of memory of a program that holds so many sets."""
-    with subprocess.Popen([program, "hold", str(keys), str(copies), order], stdin=-1, stdout=-1, text=True) as it:
+    words = [str(program), "hold", str(keys), str(copies), order]
+    with subprocess.Popen(words, stdin=subprocess.PIPE, stdout=subprocess.PIPE, text=True) as it:
+        assert it.stdout
         it.stdout.readline()
         status = pathlib.Path(f"/proc/{it.pid}/status").read_text()
         it.communicate("\n")
     return next(int(line.split()[1]) for line in status.splitlines() if line.startswith("VmRSS")) * 1024
 
 
-def bytes_each(program, keys, copies, order):
+def bytes_each(program: pathlib.Path, keys: int, copies: int, order: str) -> float:
     return (held(program, keys, copies, order) - held(program, 0, 1, order)) / (keys * copies)
 
 
-def shown(figure):
+def shown(figure: float | None) -> str:
     return "–" if figure is None else f"{figure:.0f}" if figure >= 100 else f"{figure:.1f}"
 
 
-def table(head, lines):
+def table(head: Sequence[str], lines: Sequence[Sequence[str]]) -> str:
     return "\n".join([f"| {' | '.join(head)} |", "|---" * len(head) + "|", *(f"| {' | '.join(it)} |" for it in lines)]) + "\n"
 
 
-def of_sets(names, keys, figures):
-    lines = []
+def of_sets(names: list[str], keys: list[int], figures: Figures) -> str:
+    lines: list[list[str]] = []
     for row in figures["ours"][keys[0]]:
         cells = ["/".join(shown(figures[name][k].get(row)) for name in names) for k in keys]
         lines.append([row, *cells])
     return f"Nanoseconds an operation, {'/'.join(names)}:\n\n" + table(["", *(f"{k:,}" for k in keys)], lines)
 
 
-def of_memory(programs):
-    lines = []
+def of_memory(programs: Programs) -> str:
+    lines: list[list[str]] = []
     for order in ("ascending", "mixed"):
         cells = ["/".join(shown(bytes_each(it, *size, order)) for it in programs.values()) for size in HELD]
         lines.append([order, *cells])
@@ -75,19 +84,23 @@ def of_memory(programs):
 PER_EVENT = ", an event"
 
 
-def of_call(call):
+def of_call(call: str) -> str:
     return call.replace(PER_EVENT, ", million events a second")
 
 
-def of_logged_call(call, figure):
+def of_logged_call(call: str, figure: float) -> str:
     """What takes events is shown by how many it takes in a second."""
     return f"{1000 / figure:.1f}" if call.endswith(PER_EVENT) else shown(figure)
 
 
-def of_logged(program, keys, times):
+def of_logged(program: pathlib.Path, keys: list[int], times: int) -> str:
     found = {k: medians({"ours": program}, "logged", k, times)["ours"] for k in keys}
     nodes = list(dict.fromkeys(row.partition(": ")[0] for row in found[keys[0]]))
     calls = list(dict.fromkeys(row.partition(": ")[2] for row in found[keys[0]]))
     at = "/".join(f"{k:,}" for k in keys)
-    lines = [[of_call(call), *("/".join(of_logged_call(call, found[k][f"{node}: {call}"]) for k in keys) for node in nodes)] for call in calls]
+
+    def cell(call: str, node: str) -> str:
+        return "/".join(of_logged_call(call, found[k][f"{node}: {call}"]) for k in keys)
+
+    lines = [[of_call(call), *(cell(call, node) for node in nodes)] for call in calls]
     return f"The logged set and a replica at {at} keys, by node type and size, nanoseconds an operation:\n\n" + table(["", *nodes], lines)

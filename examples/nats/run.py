@@ -11,17 +11,20 @@ It starts a server of its own on loopback. Give a seed as the argument, if not 1
 'N passed, M failed'.
 """
 
+from __future__ import annotations
+
 import pathlib
-import random
 import subprocess
 import sys
 import threading
 import time
 
-sys.path.insert(0, str(pathlib.Path(__file__).resolve().parent.parent))
-from followers import FOLLOWER_KILLED, NO_FAULT, RELAY_KILLED, Lines, Primary, Results
-from followers import built, commands, faults, free_port, installed, restarted, spoiled
-from relay import Nats, Relay
+TOP = pathlib.Path(__file__).resolve().parent.parent.parent
+sys.dont_write_bytecode = True
+sys.path[:0] = [str(TOP / "tools"), str(TOP / "examples")]
+from followers import FOLLOWER_KILLED, NO_FAULT, RELAY_KILLED, Lines, Primary, Run  # noqa: E402
+from followers import answering, asked, commands, faults, free_port, installed, restarted, spoiled  # noqa: E402
+from relay import Nats, Relay  # noqa: E402
 
 COMMANDS = 50_000
 BATCH = 200
@@ -29,12 +32,13 @@ LATE = 10
 CONNECTION_CUT = b"connection cut"
 
 
-def resend(server, events):
+def resend(server: Nats, events: list[bytes]) -> None:
     """Answers a number by the events from it on, a part at a time."""
     try:
         while True:
-            answer_to, text = server.message()
-            server.publish(answer_to, b"\n".join(events[int(text) : int(text) + BATCH]))
+            request = server.message()
+            start = int(request.text)
+            server.publish(request.answer_to, b"\n".join(events[start : start + BATCH]))
     except (EOFError, OSError, ValueError):
         pass
 
@@ -42,27 +46,40 @@ def resend(server, events):
 class Publisher:
     """The primary's side: it publishes events, and answers which there are from a number on."""
 
-    def __init__(self, port):
-        self.server, self.events = Nats(port), []
-        answering = Nats(port)
-        answering.subscribe(b"resend")
-        threading.Thread(target=resend, args=(answering, self.events), daemon=True).start()
+    def __init__(self, port: int) -> None:
+        self.server = Nats(port)
+        self.events: list[bytes] = []
+        answers = Nats(port)
+        answers.subscribe(b"resend")
+        threading.Thread(target=resend, args=(answers, self.events), daemon=True).start()
 
-    def publish(self, events):
+    def publish(self, events: list[bytes]) -> None:
         self.events += events
         self.server.publish(b"events", b"\n".join(events))
         self.server.flush()
 
 
-def drive(publisher, primary, relay, keeper, chance, results):
+def hand(relay: Relay, fault: bytes, run: Run) -> Relay:
+    """Hands over the next message, spoiled; a relay that is killed with it in its hands gives way to another."""
+    delivered = relay.delivered()
+    if fault != RELAY_KILLED:
+        relay.feed(spoiled(delivered, run.chance, relay.counts))
+        return relay
+    relay.kill()
+    relay = Relay(relay.port, relay.follower, relay.counts)
+    relay.join()
+    return relay
+
+
+def drive(publisher: Publisher, primary: Primary, relay: Relay, keeper: Lines, run: Run) -> Relay:
     """The commands, batch by batch, each batch's events in a message; the relay in the end."""
-    counts, lines, steps = results.counts, commands(COMMANDS, chance), range(COMMANDS // BATCH)
-    at_step = faults([CONNECTION_CUT, FOLLOWER_KILLED, RELAY_KILLED], steps[LATE + 1 :], chance)
+    lines, steps = commands(COMMANDS, run.chance), range(COMMANDS // BATCH)
+    at_step = faults([CONNECTION_CUT, FOLLOWER_KILLED, RELAY_KILLED], steps[LATE + 1 :], run.chance)
     for step in steps:
         events = primary.batch(lines[step * BATCH : (step + 1) * BATCH])
         keeper.each(events)
         fault = at_step.get(step, NO_FAULT)
-        counts[fault] += 1
+        run.results.counts[fault] += 1
         if step == LATE:
             relay.join()
         if fault == CONNECTION_CUT:
@@ -71,25 +88,19 @@ def drive(publisher, primary, relay, keeper, chance, results):
         if fault == CONNECTION_CUT:
             relay.join()
         elif step >= LATE:
-            delivered = relay.delivered()
-            if fault == RELAY_KILLED:  # with a message in its hands
-                relay.kill()
-                relay = Relay(relay.port, relay.follower, counts)
-                relay.join()
-            else:
-                relay.feed(spoiled(delivered, chance, counts))
+            relay = hand(relay, fault, run)
         if fault == FOLLOWER_KILLED:
-            relay.follower = restarted(relay.follower, keeper, results)
+            relay.follower = restarted(relay.follower, keeper, run.results)
     relay.catch_up(relay.follower.nodes()[1])
     return relay
 
 
-def compare(port, programs, chance, results):
+def compare(port: int, run: Run) -> None:
     """What stands in the end, on both sides."""
-    program, follower = programs
-    publisher, primary, keeper, counts = Publisher(port), Primary(program), Lines(follower), results.counts
+    results, counts = run.results, run.results.counts
+    publisher, primary, keeper = Publisher(port), Primary(run.program), Lines(run.follower)
     start = time.perf_counter()
-    relay = drive(publisher, primary, Relay(port, Lines(follower), counts), keeper, chance, results)
+    relay = drive(publisher, primary, Relay(port, Lines(run.follower), counts), keeper, run)
     took, events = time.perf_counter() - start, len(publisher.events)
     print(f"{events} events, {events / took:.0f} a second over the server")
     results.show_counts()
@@ -101,23 +112,22 @@ def compare(port, programs, chance, results):
         lines.end()
 
 
-def main():
-    installed("nats-server")
-    chance, port, results = random.Random(int(sys.argv[1]) if len(sys.argv) > 1 else 1), free_port(), Results()
-    programs = built("indexset_program"), built("indexset_follower")
-    server = subprocess.Popen(["nats-server", "-a", "127.0.0.1", "-p", str(port)], stderr=subprocess.DEVNULL)
+def has_answered(port: int) -> bool:
+    """Whether the server takes a connection."""
     try:
-        for _ in range(100):
-            try:
-                Nats(port).close()
-                break
-            except OSError:
-                time.sleep(0.05)
-        compare(port, programs, chance, results)
-    finally:
-        server.terminate()
-        server.wait()
-    results.end()
+        Nats(port).close()
+    except OSError:
+        return False
+    return True
+
+
+def main() -> None:
+    run, port = asked("Drives a map's events to a follower over core NATS."), free_port()
+    installed("nats-server")
+    server = subprocess.Popen(["nats-server", "-a", "127.0.0.1", "-p", str(port)], stderr=subprocess.DEVNULL)
+    with answering(server, lambda: has_answered(port)):
+        compare(port, run)
+    run.results.end()
 
 
 if __name__ == "__main__":
