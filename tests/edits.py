@@ -27,7 +27,7 @@ import shutil
 import sys
 import tempfile
 from concurrent.futures import ThreadPoolExecutor
-from typing import Any, TextIO
+from typing import TextIO
 
 TOP = pathlib.Path(__file__).resolve().parent.parent
 sys.dont_write_bytecode = True
@@ -216,7 +216,7 @@ def fit_together(edits: list[Edit], folder: pathlib.Path) -> bool:
 class Trial:
     """The edits of a crate as they are tried."""
 
-    def __init__(self, crate: Any, built: Any, kept: pathlib.Path, log: TextIO) -> None:
+    def __init__(self, crate: kit.Crate, built: kit.Crate, kept: pathlib.Path, log: TextIO) -> None:
         self.crate, self.built, self.kept, self.log = crate, built, kept / crate.name, log
         self.folder = pathlib.Path(crate.folder)
         self.tally = Tally(crate.name)

@@ -6,6 +6,7 @@ The last line is 'N passed, M failed'.
 
 from __future__ import annotations
 
+import functools
 import gzip
 import json
 import os
@@ -21,6 +22,7 @@ TOP = pathlib.Path(__file__).resolve().parent.parent
 sys.dont_write_bytecode = True
 sys.path.insert(0, str(TOP / "tools"))
 import kit  # noqa: E402
+import testing  # noqa: E402
 
 NAMES = ["indexset_core", "indexset_text"]
 TOLD = {"format": b"of ", "toolchain/checked.a": bytes(range(256)) * 40}
@@ -216,19 +218,12 @@ def test_packs_no_stale_library(room: pathlib.Path) -> None:
     assert not well and "not built of these sources: indexset_core, indexset_text" in said, said
 
 
-def main() -> int:
-    tests = {name: it for name, it in globals().items() if name.startswith("test_")}
-    failed = 0
-    for name, test in tests.items():
-        with tempfile.TemporaryDirectory(prefix="proved-") as room:
-            try:
-                test(pathlib.Path(room))
-            except AssertionError as why:
-                failed += 1
-                print(f"{name}: FAILED: {why}")
-    print(f"{len(tests) - failed} passed, {failed} failed")
-    return 1 if failed else 0
+def in_a_room(test: Callable[[pathlib.Path], None]) -> None:
+    """Runs a test in a folder of its own."""
+    with tempfile.TemporaryDirectory(prefix="proved-") as room:
+        test(pathlib.Path(room))
 
 
 if __name__ == "__main__":
-    sys.exit(main())
+    tests = {name: functools.partial(in_a_room, it) for name, it in globals().items() if name.startswith("test_")}
+    sys.exit(testing.run("Tests tools/proved on two small checkouts.", tests))

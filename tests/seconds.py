@@ -14,7 +14,6 @@ from __future__ import annotations
 import argparse
 import pathlib
 import sys
-from typing import Any
 
 TOP = pathlib.Path(__file__).resolve().parent.parent
 sys.dont_write_bytecode = True
@@ -24,7 +23,7 @@ import kit  # noqa: E402
 Seconds = list[tuple[float, str]]
 
 
-def measured(built: Any, crate: Any, to: pathlib.Path) -> Seconds:
+def measured(built: kit.Crate, crate: kit.Crate, to: pathlib.Path) -> Seconds:
     """The seconds of each function of a crate, which are kept in a file."""
     found = [(seconds, name) for name, seconds in kit.timed(built, pathlib.Path(crate.folder))]
     to.parent.mkdir(parents=True, exist_ok=True)

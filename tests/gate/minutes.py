@@ -6,7 +6,13 @@
 It ends as the command does. Each process of the prover is read once a second until it ends, so that a
 figure lacks up to a second for each; the total is exact.
 """
+
+from __future__ import annotations
+
+import argparse
 import collections
+import contextlib
+import dataclasses
 import os
 import pathlib
 import resource
@@ -14,70 +20,81 @@ import subprocess
 import sys
 import threading
 
-HERTZ = os.sysconf("SC_CLK_TCK")
+TOP = pathlib.Path(__file__).resolve().parent.parent.parent
+sys.dont_write_bytecode = True
+sys.path.insert(0, str(TOP / "tools"))
+import kit  # noqa: E402
+
 KINDS = ["proof", "tests", "edits"]
 
 
-def fields(pid):
-    """The name of a process, and what its file `stat` says after that."""
-    text = pathlib.Path(f"/proc/{pid}/stat").read_text(errors="replace")
-    name, _, rest = text.partition("(")[2].rpartition(")")
-    return name, rest.split()
+@dataclasses.dataclass
+class Seen:
+    """What a process of the prover works on, and the processor seconds that it has taken."""
+
+    work: kit.Work
+    seconds: float = 0
 
 
-def label(pid):
-    """The crate that a process of the prover works on, and what for; None of a copy of another one."""
-    name, rest = fields(pid)
-    at = os.readlink(f"/proc/{pid}/cwd")
-    if name != "rattle" or fields(rest[1])[0] == "rattle":
-        return None
-    words = pathlib.Path(f"/proc/{pid}/cmdline").read_bytes().decode(errors="replace").split("\0")
-    crate = dict(zip(words, words[1:])).get("--crate-name")
-    is_edit = "/rt-edit-" in at
-    return crate and (crate, "tests" if "--test" in words else "edits" if is_edit else "proof")
+Processes = dict[tuple[int, int], Seen]  # by number and by when it began
 
 
-def look(seen):
+def look(seen: Processes) -> None:
     """Notes what each process of the prover has taken so far, with its copies that have ended."""
-    for pid in filter(str.isdigit, os.listdir("/proc")):
-        try:
-            rest = fields(pid)[1]
-            key = pid, rest[19]
-            if key not in seen and (found := label(pid)):
-                seen[key] = [found, 0]
+    for pid in map(int, filter(str.isdigit, os.listdir("/proc"))):
+        with contextlib.suppress(OSError):
+            it = kit.process(pid)
+            key = pid, it.began
+            if key not in seen and (work := kit.work_of(pid)):
+                seen[key] = Seen(work)
             if key in seen:
-                seen[key][1] = sum(map(int, rest[11:15])) / HERTZ
-        except OSError:
-            pass
+                seen[key].seconds = it.seconds
 
 
-def table(seen, total):
-    sums = collections.Counter()
-    for found, seconds in seen.values():
-        sums[found] += seconds
-    shown = lambda it: f"{it / 60:.1f}" if it else ""
+def shown(seconds: float) -> str:
+    return f"{seconds / 60:.1f}" if seconds else ""
+
+
+def table(seen: Processes, total: float) -> str:
+    """The minutes of each crate by kind, those of all crates, and the total."""
+    sums: dict[kit.Work, float] = collections.defaultdict(float)
+    for it in seen.values():
+        sums[it.work] += it.seconds
     rows = [["Crate", *KINDS]]
-    rows += [[f"`{it}`", *(shown(sums[it, kind]) for kind in KINDS)] for it in dict.fromkeys(it for it, _ in sums)]
-    rows += [["all", *(shown(sum(it for (_, of), it in sums.items() if of == kind)) for kind in KINDS)]]
-    return "\n".join(f"| {' | '.join(it)} |" for it in rows) + f"\nprocessor minutes in all: {total / 60:.1f}\n"
+    for crate in dict.fromkeys(work.crate for work in sums):
+        rows.append([f"`{crate}`", *(shown(sums.get(kit.Work(crate, kind), 0)) for kind in KINDS)])
+    rows.append(["all", *(shown(sum(sums[work] for work in sums if work.kind == kind)) for kind in KINDS)])
+    return "\n".join(f"| {' | '.join(row)} |" for row in rows) + f"\nprocessor minutes in all: {total / 60:.1f}\n"
 
 
-def main():
-    seen, is_over = {}, threading.Event()
+def watched(command: list[str]) -> tuple[int, Processes]:
+    """Runs a command: its status, and the processes of the prover that were seen until it ended."""
+    seen: Processes = {}
+    is_over = threading.Event()
 
-    def watch():
+    def watch() -> None:
         while not is_over.wait(1):
             look(seen)
 
     watcher = threading.Thread(target=watch, daemon=True)
     watcher.start()
-    status = subprocess.run(sys.argv[2:]).returncode
+    status = subprocess.run(command).returncode
     is_over.set()
     watcher.join()
+    return status, seen
+
+
+def main() -> int:
+    ask = argparse.ArgumentParser(description="Runs a command, and writes how many minutes of processor time its proofs took.")
+    ask.add_argument("file", type=pathlib.Path, help="what the minutes are written to")
+    ask.add_argument("command", nargs=argparse.REMAINDER, metavar="COMMAND", help="a command, with its words")
+    given = ask.parse_args()
+    if not given.command:
+        ask.error("no command is given")
+    status, seen = watched(given.command)
     used = resource.getrusage(resource.RUSAGE_CHILDREN)
-    to = pathlib.Path(sys.argv[1])
-    to.parent.mkdir(parents=True, exist_ok=True)
-    to.write_text(table(seen, used.ru_utime + used.ru_stime))
+    given.file.parent.mkdir(parents=True, exist_ok=True)
+    given.file.write_text(table(seen, used.ru_utime + used.ru_stime))
     return status
 
 

@@ -13,6 +13,7 @@ import re
 import sys
 import tempfile
 import types
+from typing import cast
 from unittest import mock
 
 TOP = pathlib.Path(__file__).resolve().parent.parent.parent
@@ -20,6 +21,7 @@ sys.dont_write_bytecode = True
 sys.path[:0] = [str(TOP / "tools"), str(TOP / "tests")]
 import edits  # noqa: E402
 import kit  # noqa: E402
+import testing  # noqa: E402
 
 SOURCE = """
 fn first() -> u64
@@ -93,7 +95,7 @@ def tried(changes: dict[str, str]) -> tuple[edits.Tally, str, Prover]:
         for old, new in changes.items():
             text = f"file: src/heap.rt\nold: {old}\nnew: {new}\n"
             (folder / f"must-fail/{new.replace(' ', '_')[:20]}.edit").write_text(text, encoding="utf-8")
-        crate = types.SimpleNamespace(name="made", folder=room)
+        crate = cast(kit.Crate, types.SimpleNamespace(name="made", folder=room))
         fake = mock.patch.multiple(kit, check=prover.check, sources=lambda it: [folder / "src"])
         with fake, contextlib.redirect_stdout(said):
             tally = edits.Trial(crate, crate, folder, io.StringIO()).run([])
@@ -154,18 +156,6 @@ def test_same_function() -> None:
     expect({"right_first": "wrong_first", "right_fir": "lemma_fir"}, 2, checks=2)
 
 
-def main() -> int:
-    tests = {name: it for name, it in globals().items() if name.startswith("test_")}
-    failed = 0
-    for name, test in tests.items():
-        try:
-            test()
-        except AssertionError as why:
-            failed += 1
-            print(f"{name}: FAILED: {why}")
-    print(f"{len(tests) - failed} passed, {failed} failed")
-    return 1 if failed else 0
-
-
 if __name__ == "__main__":
-    sys.exit(main())
+    tests = {name: it for name, it in globals().items() if name.startswith("test_")}
+    sys.exit(testing.run("Tests tests/edits.py on a made-up crate.", tests))

@@ -13,8 +13,6 @@ from replica import Replica, replica_of
 from walks import NONE, walk
 
 
-
-
 class Followed(Subject):
     """A logged tree and its replica."""
 

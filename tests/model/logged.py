@@ -17,7 +17,6 @@ from nodes import Event, Events, Node, Nodes, is_node_list, put_events, removal_
 from nodes import with_put, with_removal
 
 
-
 @dataclass
 class Tree:
     """A tree of nodes of at most `size` items, whose next event has the number `next`."""

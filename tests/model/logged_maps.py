@@ -5,14 +5,13 @@ from __future__ import annotations
 from collections.abc import Sequence
 
 from definitions import equal_to
-from followed import Followed
 from items import PAIRS, Item, read_natural
 from language import Group, Refused, Words, none, one, shown
-from logged import Tree
+from logged_pairs import LoggedPairs
 from nodes import Events
 
 
-class LoggedMaps(Followed):
+class LoggedMaps(LoggedPairs):
     """A logged map, and a replica that follows it."""
 
     def __init__(self, size: int) -> None:
@@ -21,32 +20,13 @@ class LoggedMaps(Followed):
     def groups(self) -> Sequence[Group]:
         return (self.fill, self.put, self.put_checked, self.remove, self.pop, self.find, *self.common())
 
-    def fill(self, name: str, words: Words) -> str | None:
-        """Makes an empty map of a node size."""
-        if name != "map":
-            return None
-        self.restart(Tree(read_natural(one(words))))
-        return ""
-
-    def put(self, name: str, words: Words) -> str | None:
-        """Stores a pair whole."""
-        if name not in ("insert", "insert_cdc"):
-            return None
-        try:
-            answer, events = self.put_pair(PAIRS.read(one(words)))
-        except Refused as refused:
-            raise Refused(refused.cause, one(words)) from None
-        return self.told(answer, events) if name == "insert_cdc" else answer
-
     def put_pair(self, pair: Item) -> tuple[str, Events]:
-        """Puts a pair: the old value, and the events."""
+        """Puts a pair whole: the old value, and the events."""
         old, events = self.tree.put(pair)
         return "none" if old is None else old.value, events
 
     def command(self, name: str, word: str) -> tuple[str, Events]:
         match name:
-            case "insert":
-                return self.put_pair(PAIRS.read(word))
             case "checked_insert":
                 events = self.tree.put_checked(PAIRS.read(word))
                 return shown(events is not None), events or []

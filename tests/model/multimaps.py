@@ -4,15 +4,15 @@ from __future__ import annotations
 
 from collections.abc import Sequence
 
-from followed import Followed
 from items import LARGEST, NUMBERED, PAIRS, Item, read_natural, write_pair
 from language import Group, Refused, Words, none, one, shown
 from logged import Tree
+from logged_pairs import LoggedPairs
 from nodes import Events, Node, Nodes
 from walks import NONE
 
 
-class MultiMaps(Followed):
+class MultiMaps(LoggedPairs):
     """A multimap, and a replica that follows it."""
 
     def __init__(self, size: int) -> None:
@@ -44,25 +44,8 @@ class MultiMaps(Followed):
         """The pairs of a key."""
         return [it for it in self.tree.items if it.key == key]
 
-    def fill(self, name: str, words: Words) -> str | None:
-        """Makes an empty multimap of a node size."""
-        if name != "map":
-            return None
-        self.restart(Tree(read_natural(one(words))))
-        return ""
-
-    def put(self, name: str, words: Words) -> str | None:
-        """Replaces the first pair of an equal value, or adds a pair."""
-        if name not in ("insert", "insert_cdc"):
-            return None
-        try:
-            answer, events = self.put_pair(PAIRS.read(one(words)))
-        except Refused as refused:
-            raise Refused(refused.cause, one(words)) from None
-        return self.told(answer, events) if name == "insert_cdc" else answer
-
     def put_pair(self, pair: Item) -> tuple[str, Events]:
-        """Puts a pair, with the number of the one that it replaces or with a new one; the old value."""
+        """Puts a pair, with the number of the first of its key and value, which it replaces, or with a new one."""
         old = next(iter(self.equal_pairs(pair)), None)
         if old is not None:
             return old.value, self.tree.put(pair._replace(number=old.number))[1]
@@ -117,8 +100,6 @@ class MultiMaps(Followed):
 
     def command(self, name: str, word: str) -> tuple[str, Events]:
         match name:
-            case "insert":
-                return self.put_pair(PAIRS.read(word))
             case "remove":
                 return self.gone(self.equal_pairs(PAIRS.read(word))[:1])
             case "remove_some":
