@@ -17,6 +17,8 @@ Where INDEXSET_PROGRAMS names a folder of built programs, `rt try` in a block of
 A test has `rt` and `alloc`. It has the names of `NAMES`, but in a module that imports its own.
 """
 
+from __future__ import annotations
+
 import argparse
 import dataclasses
 import json

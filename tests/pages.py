@@ -7,6 +7,8 @@ code of the page, those of the plain set and the plain map in the section of the
 'N named, M missing'.
 """
 
+from __future__ import annotations
+
 import argparse
 import pathlib
 import re
