@@ -1,9 +1,9 @@
 //! A map and a copy of it elsewhere, which gets the events of the map with losses, repeats and in any
 //! order.
-ghost use Rattle.std.specs.Prelude.{◌≡◌, ◌==◌, ◌<◌, true, [], length, take, Some, IfOk, OnOk, OnErr};
+ghost use Rattle.std.specs.Prelude.{◌≡◌, ◌==◌, ◌<◌, ◌≤◌, true, [], length, take, Some, IfErr, IfOk, OnOk, OnErr};
 ghost use Rattle.std.specs.List.{All};
 ghost use Rattle.std.specs.Ordering.{nat_cmp};
-ghost use Rattle.indexset.specs.Words.{by_key, joined, pair, put, replay, value_of, IsBeginning, IsNumberedFrom};
+ghost use Rattle.indexset.specs.Words.{by_key, joined, pair, put, replay, value_of, IsBeginning, IsDelivered, IsNumberedFrom};
 
 use indexset::base::pair::Pair;
 use indexset::base::refusal::Refusal;
@@ -63,7 +63,11 @@ impl Primary {
     pub fn deliver(&self, copy: &mut Replica<Balance>, order: &[usize]) -> Result<bool, Refusal>
         requires at { IsBeginning (by_key nat_cmp) 0 [] self.now.events.items copy.old }
         requires inside { All (λ place. place < length self.now.events.items) order.now }
+        ensures delivered { OnOk result (IsDelivered (by_key nat_cmp) 0 [] self.now.events.items
+            copy.old.next order.now copy.new) }
         ensures beginning { IsBeginning (by_key nat_cmp) 0 [] self.now.events.items copy.new }
+        ensures onwards { copy.old.next ≤ copy.new.next }
+        ensures memory { IfErr result (λ refusal. refusal ≡ Refusal.Memory) }
         ensures all { IfOk result (λ all. all ≡ (copy.new.next == length self.now.events.items)) }
         ensures all_came { IfOk result (λ all. all ≡ true → copy.new.nodes ≡ self.now.map.nodes) }
     {
@@ -111,7 +115,11 @@ fn deliver_some(
     requires counted { map.now.next ≡ length events.now }
     requires at { IsBeginning (by_key nat_cmp) 0 [] events.now copy.old }
     requires inside { All (λ place. place < length events.now) order.now }
+    ensures delivered { OnOk result (IsDelivered (by_key nat_cmp) 0 [] events.now
+        copy.old.next order.now copy.new) }
     ensures beginning { IsBeginning (by_key nat_cmp) 0 [] events.now copy.new }
+    ensures onwards { copy.old.next ≤ copy.new.next }
+    ensures memory { IfErr result (λ refusal. refusal ≡ Refusal.Memory) }
     ensures all { IfOk result (λ all. all ≡ (copy.new.next == length events.now)) }
     ensures all_came { IfOk result (λ all. all ≡ true → copy.new.nodes ≡ map.now.nodes) }
 {

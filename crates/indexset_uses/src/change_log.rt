@@ -1,11 +1,12 @@
 //! A change log: the events that a copy of a tree elsewhere needs.
-ghost use Rattle.std.specs.Prelude.{◌≡◌, ◌≤◌, length, true, Some, IfOk, IfErr, OnErr, OnOk};
+ghost use Rattle.std.specs.Prelude.{◌≡◌, ◌+◌, ◌≤◌, length, true, Some, IfOk, IfErr, OnErr, OnOk};
 ghost use Rattle.std.specs.Ordering.{nat_cmp};
 ghost use Rattle.indexset.specs.Words.{IsNumberedFrom, by_key, joined, keep, pair, put, replay, value_of, without};
 
 use indexset::base::pair::Pair;
 use indexset::base::refusal::{Refusal, Refused};
 use indexset::cdc::change::ChangeEvent;
+use indexset::cdc::laws;
 use indexset::concurrent::map::BTreeMap;
 use indexset::concurrent::set::BTreeSet;
 
@@ -18,10 +19,12 @@ pub fn put(tree: &mut Numbers, value: u64) -> Result<Vec<ChangeEvent<u64>>, Refu
     ensures contents { IfOk result (λ _. joined tree.new.nodes ≡ put nat_cmp (joined tree.old.nodes) value) }
     ensures replay { IfOk result (λ events. replay nat_cmp tree.old.nodes events.items ≡ Some tree.new.nodes) }
     ensures numbered { IfOk result (λ events. IsNumberedFrom tree.old.next events.items) }
+    ensures next { IfOk result (λ events. tree.new.next ≡ tree.old.next + length events.items) }
     ensures few { IfOk result (λ events. length events.items ≤ 3) }
     ensures given_back { IfErr result (λ refused. refused.value ≡ value) }
     ensures same { OnErr result (tree.new ≡ tree.old) }
 {
+    laws::numbered_by_place::<u64>();
     let (_, events) = tree.put_cdc(value)?;
     Ok(events)
 }
@@ -41,9 +44,11 @@ pub fn take(tree: &mut Numbers, value: u64) -> Result<Vec<ChangeEvent<u64>>, Ref
     ensures contents { IfOk result (λ _. joined tree.new.nodes ≡ without nat_cmp (joined tree.old.nodes) value) }
     ensures replay { IfOk result (λ events. replay nat_cmp tree.old.nodes events.items ≡ Some tree.new.nodes) }
     ensures numbered { IfOk result (λ events. IsNumberedFrom tree.old.next events.items) }
+    ensures next { IfOk result (λ events. tree.new.next ≡ tree.old.next + length events.items) }
     ensures few { IfOk result (λ events. length events.items ≤ 3) }
     ensures same { OnErr result (tree.new ≡ tree.old) }
 {
+    laws::numbered_by_place::<u64>();
     let (_, events) = tree.remove_cdc(&value)?;
     Ok(events)
 }

@@ -1,24 +1,32 @@
 //! Copies of trees: the events of a call, applied in turn.
-ghost use Rattle.std.specs.Prelude.{◌≡◌, List, Some, OnOk};
+ghost use Rattle.std.specs.Prelude.{◌≡◌, ◌+◌, ◌-◌, ◌<◌, ◌≤◌, List, length, take, Some, OnErr, OnOk};
 ghost use Rattle.std.specs.List.{AllZip};
 ghost use Rattle.indexset.specs.Words.{replay, AreClonesEqual, AreCopies, IsEventClone};
 
 use indexset::base::refusal::Refusal;
 use indexset::cdc::change::ChangeEvent;
+use indexset::cdc::laws::replay_in_parts;
 use indexset::replica::Replica;
 use indexset::replica::laws::step_of_clones;
 
-/// Applies events one after the other. Where clones are identical, the copy then has the nodes that the
-/// events lead to. Where clones equal their sources, a copy that held copies of a tree's nodes holds
-/// copies of the nodes after the tree's events, if these are clones of them.
+/// Applies events one after the other, and stops at the first that the copy refuses. Where clones are
+/// identical, the copy then has the nodes that the applied events lead to. Where clones equal their
+/// sources, a copy that held copies of a tree's nodes holds copies of the nodes after the tree's
+/// events, if these are clones of them.
 pub fn apply_all<T: Ord + Clone + Drop>(
     copy: &mut Replica<T>,
     events: &[ChangeEvent<T>],
 ) -> Result<(), Refusal>
     ensures same { ((x y : T) → T.is_clone x y → y ≡ x) → OnOk result (replay T.cmp copy.old.nodes events.now ≡ Some copy.new.nodes) }
+    ensures applied { ((x y : T) → T.is_clone x y → y ≡ x) → replay T.cmp copy.old.nodes
+        (take (copy.new.next - copy.old.next) events.now) ≡ Some copy.new.nodes }
+    ensures next { OnOk result (copy.new.next ≡ copy.old.next + length events.now) }
+    ensures onwards { copy.old.next ≤ copy.new.next }
+    ensures stopped { OnErr result (copy.new.next < copy.old.next + length events.now) }
     ensures copies { AreClonesEqual T.cmp T.is_clone → (ns after : List (List T)) (es : List _) → AreCopies T.cmp T.is_clone ns copy.old.nodes
         → AllZip (IsEventClone T.is_clone) es events.now → replay T.cmp ns es ≡ Some after → OnOk result (AreCopies T.cmp T.is_clone after copy.new.nodes) }
 {
+    replay_in_parts::<T>();
     step_of_clones::<T>();
     for event in events {
         copy.apply(event)?;

@@ -1,11 +1,11 @@
 //! Commands to a map by name, carried out in turn.
 ghost use Rattle.std.specs.Prelude.{◌≡◌, ◌+◌, ◌*◌, ◌≤◌, length, take, Some, IfNone, string_bytes};
-ghost use Rattle.std.specs.List.{fold};
+ghost use Rattle.std.specs.List.{fold, scan};
 ghost use Rattle.std.specs.Ordering.{nat_cmp};
 ghost use Rattle.std.specs.String.{string_cmp};
 ghost use Rattle.std.specs.Cmp.Lexicographic.{slice_cmp};
 ghost use Rattle.indexset.specs.Words.{by_key, joined, replay, IsNumberedFrom, LeadsToCopies};
-ghost use Rattle.indexset_bench.specs.LoggedMap.{logged_map_after};
+ghost use Rattle.indexset_bench.specs.LoggedMap.{logged_map_after, logged_map_reply};
 
 use crate::stock::Stock;
 use crate::strings::Counts;
@@ -24,6 +24,10 @@ pub fn run_stock(
 ) -> LogRun<Stock>
     ensures replay { replay (by_key (slice_cmp nat_cmp)) stock.old.nodes result.events.items ≡ Some stock.new.nodes }
     ensures numbered { IsNumberedFrom stock.old.next result.events.items }
+    ensures next { stock.new.next ≡ stock.old.next + length result.events.items }
+    ensures replies { result.replies.items ≡ scan (logged_map_after (slice_cmp nat_cmp))
+        (logged_map_reply (slice_cmp nat_cmp)) (joined stock.old.nodes)
+        (take (length result.replies.items) commands.items) }
     ensures all { IfNone result.refused (length result.replies.items ≡ length commands.items) }
     ensures contents { joined stock.new.nodes ≡ fold (logged_map_after (slice_cmp nat_cmp)) (joined stock.old.nodes) (take (length result.replies.items) commands.items) }
 {
@@ -39,6 +43,9 @@ pub fn run_counts(
     commands: Vec<LoggedMapCommand<String, u64>>,
 ) -> LogRun<Counts>
     ensures all { IfNone result.refused (length result.replies.items ≡ length commands.items) }
+    ensures replies { result.replies.items ≡ scan (logged_map_after string_cmp)
+        (logged_map_reply string_cmp) (joined counts.old.nodes)
+        (take (length result.replies.items) commands.items) }
     ensures contents { joined counts.new.nodes ≡ fold (logged_map_after string_cmp) (joined counts.old.nodes) (take (length result.replies.items) commands.items) }
     ensures numbered { IsNumberedFrom counts.old.next result.events.items }
     ensures copies { LeadsToCopies (by_key string_cmp) (λ p q. (string_bytes q.key ≡ string_bytes p.key) × (q.value ≡ p.value)) counts.old.nodes result.events.items counts.new.nodes }

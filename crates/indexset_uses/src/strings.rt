@@ -10,6 +10,7 @@ use bytes::ByteStr;
 use indexset::base::pair::Pair;
 use indexset::base::refusal::{Refusal, Refused};
 use indexset::cdc::change::ChangeEvent;
+use indexset::cdc::laws::numbered_by_place;
 use indexset::concurrent::map::BTreeMap;
 use indexset::replica::Replica;
 use indexset::replica::laws::{clones, copies_keep};
@@ -30,11 +31,13 @@ pub fn set_count(
     ensures contents { OnOk result (joined counts.new.nodes ≡ put (by_key string_cmp) (joined counts.old.nodes) (pair name count)) }
     ensures held { OnOk result (value_of string_cmp (joined counts.new.nodes) name ≡ Some count) }
     ensures numbered { IfOk result (λ events. IsNumberedFrom counts.old.next events.items) }
+    ensures next { IfOk result (λ events. counts.new.next ≡ counts.old.next + length events.items) }
     ensures few { IfOk result (λ events. length events.items ≤ 3) }
     ensures told { IfOk result (λ events. AllZip (IsEventClone (λ p q. (string_bytes q.key ≡ string_bytes p.key) × (q.value ≡ p.value)))
         (numbered_from counts.old.next (put_events (by_key string_cmp) counts.old.size counts.old.nodes (pair name count))) events.items) }
     ensures same { OnErr result (counts.new ≡ counts.old) }
 {
+    numbered_by_place::<Count>();
     let (_, events) = counts.insert_cdc(name, count)?;
     Ok(events)
 }
@@ -65,11 +68,13 @@ pub fn forget(counts: &mut Counts, name: &String) -> Result<Vec<ChangeEvent<Coun
     ensures contents { OnOk result (joined counts.new.nodes ≡ without_key string_cmp (joined counts.old.nodes) name.now) }
     ensures gone { OnOk result (has_key string_cmp (joined counts.new.nodes) name.now ≡ false) }
     ensures numbered { IfOk result (λ events. IsNumberedFrom counts.old.next events.items) }
+    ensures next { IfOk result (λ events. counts.new.next ≡ counts.old.next + length events.items) }
     ensures few { IfOk result (λ events. length events.items ≤ 3) }
     ensures told { IfOk result (λ events. AllZip (IsEventClone (λ p q. (string_bytes q.key ≡ string_bytes p.key) × (q.value ≡ p.value)))
         (numbered_from counts.old.next (key_removal_events string_cmp counts.old.size counts.old.nodes name.now)) events.items) }
     ensures same { OnErr result (counts.new ≡ counts.old) }
 {
+    numbered_by_place::<Count>();
     let (_, events) = counts.remove_cdc(name)?;
     Ok(events)
 }

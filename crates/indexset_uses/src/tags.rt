@@ -1,5 +1,5 @@
 //! An index from tags to the names of documents: a logged map in which a tag has many names.
-ghost use Rattle.std.specs.Prelude.{◌≡◌, ℕ, List, nat_eq, false, true, is_some, Some, IfOk, OnOk, OnErr};
+ghost use Rattle.std.specs.Prelude.{◌≡◌, ◌+◌, ℕ, List, nat_eq, false, length, true, is_some, Some, IfOk, OnOk, OnErr};
 ghost use Rattle.std.specs.Ordering.{is_eq, nat_cmp};
 ghost use Rattle.std.specs.Cmp.Lexicographic.{pointwise, slice_cmp};
 ghost use Rattle.indexset.specs.Words.{by_number, entries, equal_pair, inserted_pair, joined, pairs_of, put, replay, without_first, IsNumberedFrom};
@@ -8,6 +8,7 @@ use bytes::ByteStr;
 use indexset::base::multipair::MultiPair;
 use indexset::base::refusal::{Refusal, Refused};
 use indexset::cdc::change::ChangeEvent;
+use indexset::cdc::laws;
 use indexset::concurrent::multimap::{BTreeMultiMap, Range};
 
 /// A document under a tag.
@@ -28,8 +29,10 @@ pub fn add(
     ensures others { OnOk result ((other : List ℕ) → is_eq (slice_cmp nat_cmp other tag) ≡ false → pairs_of (slice_cmp nat_cmp) (joined tags.new.nodes) other ≡ pairs_of (slice_cmp nat_cmp) (joined tags.old.nodes) other) }
     ensures replay { IfOk result (λ events. replay (by_number (slice_cmp nat_cmp)) tags.old.nodes events.items ≡ Some tags.new.nodes) }
     ensures numbered { IfOk result (λ events. IsNumberedFrom tags.old.next events.items) }
+    ensures next { IfOk result (λ events. tags.new.next ≡ tags.old.next + length events.items) }
     ensures same { OnErr result (tags.new ≡ tags.old) }
 {
+    laws::numbered_by_place::<Tagged>();
     let (_, events) = tags.insert_cdc(tag, document)?;
     Ok(events)
 }
@@ -45,8 +48,10 @@ pub fn remove(
     ensures others { OnOk result ((other : List ℕ) → is_eq (slice_cmp nat_cmp other tag.now) ≡ false → pairs_of (slice_cmp nat_cmp) (joined tags.new.nodes) other ≡ pairs_of (slice_cmp nat_cmp) (joined tags.old.nodes) other) }
     ensures replay { IfOk result (λ events. replay (by_number (slice_cmp nat_cmp)) tags.old.nodes events.items ≡ Some tags.new.nodes) }
     ensures numbered { IfOk result (λ events. IsNumberedFrom tags.old.next events.items) }
+    ensures next { IfOk result (λ events. tags.new.next ≡ tags.old.next + length events.items) }
     ensures same { OnErr result (tags.new ≡ tags.old) }
 {
+    laws::numbered_by_place::<Tagged>();
     let (_, events) = tags.remove_cdc(tag, document)?;
     Ok(events)
 }

@@ -1,11 +1,12 @@
-use Rattle.std.proofs.Common.{◌≡◌, [], ◌∷◌, ◌+◌, drop, option_and_then, ap, sym, ◌∙◌, refl, subst, arith}
+use Rattle.std.proofs.Common.{◌≡◌, [], ◌∷◌, ◌+◌, ◌++◌, Some, drop, take, add-one, option_and_then, ap, sym, ◌∙◌, refl, subst, arith}
+use Rattle.std.proofs.Math.Seq.{take-suc}
 use Rattle.std.proofs.lemmas.List.{at_drop_more, drop_all}
 use Rattle.indexset.specs.Words.{replay, step}
 use Rattle.indexset_uses.proofs.Copied.{IsOnTheWay, at_end, one_more}
 use Rattle.indexset_uses.proofs.copies.apply_all.Goals as goal
 
 pub loop-event-init : goal.loop-event-init
-loop-event-init g c = record { same = λ clones. refl; copies = λ equal ns after es copied cloned led. record { nodes = ns; events = es; copied = copied; cloned = cloned; led = led } }
+loop-event-init g c = record { counted = omega arith; applied = λ clones. refl; copies = λ equal ns after es copied cloned led. record { nodes = ns; events = es; copied = copied; cloned = cloned; led = led } }
 
 pub loop-event-preserved : goal.loop-event-preserved
 loop-event-preserved g c =
@@ -16,10 +17,14 @@ loop-event-preserved g c =
     let nodes = c.loop-event.copy.nodes in
     let rest = drop (i + 1) events in
     let next : drop i events ≡ c.event-item.result ∷ rest = at_drop_more (λ left. left) events i c.event-item.result c.loop-event-test.true ∙ ap (λ event. event ∷ rest) (sym c.event-item.is) in
+    let more : take (i + 1) events ≡ take i events ++ (c.event-item.result ∷ []) = rw (add-one, take-suc events i c.event-item.result c.loop-event-test.true) (ap (λ e. take i events ++ (e ∷ [])) (sym c.event-item.is)) in
     record {
-      same = λ clones.
-          let after = ap (λ made. option_and_then (λ ns. replay cmp ns rest) made) {x = step cmp nodes c.event-item.result} (c.in_ok-apply.ensures.step clones) in
-          sym after ∙ (ap (replay cmp nodes) (sym next) ∙ c.loop-event.invariant.same clones);
+      counted = omega (arith, c.in_ok-apply.ensures.next);
+      applied = λ clones.
+          let one : replay cmp nodes (c.event-item.result ∷ []) ≡ Some c.apply.new.self.nodes = ap (λ made. option_and_then (λ ns. Some ns) made) {x = step cmp nodes c.event-item.result} (c.in_ok-apply.ensures.step clones) in
+          ap (replay cmp c.args.copy.now.nodes) more
+          ∙ (c.replay_in_parts.ensures c.args.copy.now.nodes (take i events) (c.event-item.result ∷ [])
+          ∙ (ap (λ made. option_and_then (λ middle. replay cmp middle (c.event-item.result ∷ [])) made) {x = replay cmp c.args.copy.now.nodes (take i events)} (c.loop-event.invariant.applied clones) ∙ one));
       copies = λ equal ns after es copied cloned led.
           let way = subst (IsOnTheWay cmp C after nodes) next (c.loop-event.invariant.copies equal ns after es copied cloned led) in
           one_more cmp C after nodes (c.step_of_clones.ensures equal) c.apply.new.self.nodes c.event-item.result rest c.in_ok-apply.ensures.cloned way;

@@ -1,9 +1,33 @@
-use Rattle.std.proofs.Common.{Some, [], ap, sym, arith, ◌∙◌}
+use Rattle.std.proofs.Common.{rules, ◌≡◌, ℕ, List, [], ◌∷◌, Some, false, true, unwrap_or, ap, sym, subst, arith, ◌∙◌}
+use Rattle.std.proofs.lemmas.Grind.{common_steps}
+use Rattle.std.proofs.lemmas.Option.{option_and_then_some}
+use Rattle.std.specs.Ordering.{nat_cmp}
+use Rattle.indexset.specs.Words.{replay, step, ChangeEvent, IsNodeList}
 use Rattle.indexset_uses.proofs.follower.resume.Goals as goal
 
+-- where each step leads to nodes, events lead from nodes to nodes
+led : ((ns after : List (List ℕ)) (event : ChangeEvent ℕ) → step nat_cmp ns event ≡ Some after → IsNodeList nat_cmp after) → (ns after : List (List ℕ)) (es : List (ChangeEvent ℕ)) → IsNodeList nat_cmp ns → replay nat_cmp ns es ≡ Some after → IsNodeList nat_cmp after
+led law ns after [] good is = subst (λ r. IsNodeList nat_cmp r) (ap (λ o. unwrap_or o ns) is) good
+led law ns after (e ∷ es) good is =
+    option_and_then_some (λ r. replay nat_cmp r es) (step nat_cmp ns e) after is (λ mid first rest. led law mid after es (law ns mid e first) rest)
+
+-- a snapshot has nodes that a replica takes
+pub returns-in_err-copy-clause-memory : goal.returns-in_err-copy-clause-memory
+returns-in_err-copy-clause-memory c =
+    let good = led c.steps_lead_to_nodes.ensures.step [] _ _ (record { filled = λ k d lt. omega arith; ascending = search rules }) c.requires.snapshot in
+    let taken : false ≡ true = c.in_err-copy.ensures.lawful good in
+    cc
+
 -- the replica of the snapshot holds what the first events lead to
-pub returns : goal.returns
-returns c =
+pub returns-in_err-follow-clause-memory : goal.returns-in_err-follow-clause-memory
+returns-in_err-follow-clause-memory c =
+    let made = c.in_ok-copy.ensures.replica in
+    let failed = c.in_err-follow.ensures.memory_alone 0 c.args.next [] c.requires.feed
+    (record { within = c.requires.within; nodes = c.requires.snapshot ∙ ap (λ r. Some r.nodes) (sym made); next = omega (arith, ap (λ r. r.next) made) }) in
+    grind (arith, common_steps, failed)
+
+pub returns-clause-delivered : goal.returns-clause-delivered
+returns-clause-delivered c =
     let made = c.in_ok-copy.ensures.replica in
     c.in_ok-follow.ensures.delivery (λ x y same. same) 0 c.args.next [] c.requires.feed
     (record { within = c.requires.within; nodes = c.requires.snapshot ∙ ap (λ r. Some r.nodes) (sym made); next = omega (arith, ap (λ r. r.next) made) })
