@@ -1,5 +1,5 @@
 //! Calls of a map that take many keys at once.
-ghost use Rattle.std.specs.Prelude.{◌≡◌, ◌≢◌, ◌<◌, ◌≤◌, ◌↔◌, None, length, map, min, take};
+ghost use Rattle.std.specs.Prelude.{◌≡◌, ◌≢◌, ◌<◌, ◌≤◌, ◌↔◌, None, length, map, min, take, is_some};
 ghost use Rattle.indexset_handle.specs.Elements.{pairs, put_all, value_or, written};
 
 use indexset_handle::map_calls::{put_each, value_each};
@@ -22,6 +22,7 @@ pub extern "C" fn indexset_map_insert_all(
     ensures all { result ≡ YES → taken.new ≡ min (length keys.now) (length values.now) }
     ensures some { result ≡ MEMORY → taken.new < min (length keys.now) (length values.now) }
     ensures none { result ≡ NONE ↔ (map.old.slot.value ≡ None) }
+    ensures there { is_some map.new.slot.value ≡ is_some map.old.slot.value }
     ensures same { result ≡ NONE → map.new.slot.value ≡ map.old.slot.value }
     ensures status { (result ≢ NO) × (result ≤ NONE) }
 {

@@ -1,5 +1,5 @@
 //! Calls of a map that go by a key.
-ghost use Rattle.std.specs.Prelude.{◌≡◌, ◌≢◌, ◌≤◌, ◌↔◌, Some, None, true, false};
+ghost use Rattle.std.specs.Prelude.{◌≡◌, ◌≢◌, ◌≤◌, ◌↔◌, Some, None, true, false, is_some};
 ghost use Rattle.std.specs.Ordering.{nat_cmp};
 ghost use Rattle.indexset_core.specs.Pairs.{has_key, key_rank, put_value, value_of, without_key};
 ghost use Rattle.indexset_handle.specs.Elements.{pairs};
@@ -76,6 +76,7 @@ pub extern "C" fn indexset_map_remove(
     ensures found { result ≡ true → value_of nat_cmp (pairs map.old.slot.value) key ≡ Some out.new }
     ensures absent { result ≡ false → value_of nat_cmp (pairs map.old.slot.value) key ≡ None }
     ensures rest { pairs map.new.slot.value ≡ without_key nat_cmp (pairs map.old.slot.value) key }
+    ensures there { is_some map.new.slot.value ≡ is_some map.old.slot.value }
     ensures unwritten { result ≡ false → out.new ≡ out.old }
     ensures same { result ≡ false → map.new.slot.value ≡ map.old.slot.value }
 {

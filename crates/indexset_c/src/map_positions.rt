@@ -1,5 +1,5 @@
 //! Calls of a map that go by a position, and those at its two ends.
-ghost use Rattle.std.specs.Prelude.{◌≡◌, ◌-◌, Some, None, true, false, drop, length, take};
+ghost use Rattle.std.specs.Prelude.{◌≡◌, ◌-◌, Some, None, true, false, drop, length, take, is_some};
 ghost use Rattle.indexset_handle.specs.Elements.{entry_at, pairs};
 
 use indexset_handle::map_handle::MapHandle;
@@ -85,6 +85,7 @@ pub extern "C" fn indexset_map_pop_first(
     ensures found { result ≡ true → entry_at (pairs map.old.slot.value) 0 ≡ Some (key.new, value.new) }
     ensures absent { result ≡ false → entry_at (pairs map.old.slot.value) 0 ≡ None }
     ensures rest { pairs map.new.slot.value ≡ drop 1 (pairs map.old.slot.value) }
+    ensures there { is_some map.new.slot.value ≡ is_some map.old.slot.value }
     ensures no_key { result ≡ false → key.new ≡ key.old }
     ensures no_value { result ≡ false → value.new ≡ value.old }
     ensures same { result ≡ false → map.new.slot.value ≡ map.old.slot.value }
@@ -108,6 +109,7 @@ pub extern "C" fn indexset_map_pop_last(
     ensures found { result ≡ true → entry_at (pairs map.old.slot.value) (length (pairs map.old.slot.value) - 1) ≡ Some (key.new, value.new) }
     ensures absent { result ≡ false → entry_at (pairs map.old.slot.value) (length (pairs map.old.slot.value) - 1) ≡ None }
     ensures rest { pairs map.new.slot.value ≡ take (length (pairs map.old.slot.value) - 1) (pairs map.old.slot.value) }
+    ensures there { is_some map.new.slot.value ≡ is_some map.old.slot.value }
     ensures no_key { result ≡ false → key.new ≡ key.old }
     ensures no_value { result ≡ false → value.new ≡ value.old }
     ensures same { result ≡ false → map.new.slot.value ≡ map.old.slot.value }

@@ -1,5 +1,5 @@
 //! Calls of a set that take many keys at once.
-ghost use Rattle.std.specs.Prelude.{◌≡◌, ◌≢◌, ◌<◌, ◌≤◌, ◌↔◌, None, false, length, map, min, slice_index_or, take};
+ghost use Rattle.std.specs.Prelude.{◌≡◌, ◌≢◌, ◌<◌, ◌≤◌, ◌↔◌, None, false, length, map, min, slice_index_or, take, is_some};
 ghost use Rattle.std.specs.List.{AllWithin, fold};
 ghost use Rattle.std.specs.Ordering.{nat_cmp};
 ghost use Rattle.indexset_core.specs.Order.{has_equal, keep, rank};
@@ -25,6 +25,7 @@ pub extern "C" fn indexset_set_insert_all(
     ensures stop { result ≡ MEMORY → has_equal nat_cmp (elements set.new.slot.value)
         (slice_index_or keys.now taken.new 0) ≡ false }
     ensures none { result ≡ NONE ↔ (set.old.slot.value ≡ None) }
+    ensures there { is_some set.new.slot.value ≡ is_some set.old.slot.value }
     ensures same { result ≡ NONE → set.new.slot.value ≡ set.old.slot.value }
     ensures status { (result ≢ NO) × (result ≤ NONE) }
 {

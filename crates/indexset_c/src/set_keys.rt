@@ -1,5 +1,5 @@
 //! Calls of a set that go by a key.
-ghost use Rattle.std.specs.Prelude.{◌≡◌, ◌≢◌, ◌≤◌, ◌↔◌, Some, None, true, false};
+ghost use Rattle.std.specs.Prelude.{◌≡◌, ◌≢◌, ◌≤◌, ◌↔◌, Some, None, true, false, is_some};
 ghost use Rattle.std.specs.Ordering.{nat_cmp};
 ghost use Rattle.indexset_core.specs.Order.{has_equal, keep, lower_element, rank, without};
 ghost use Rattle.indexset_handle.specs.Elements.{elements};
@@ -38,6 +38,7 @@ pub extern "C" fn indexset_set_insert(alloc: Global, set: &mut SetHandle, key: u
 pub extern "C" fn indexset_set_remove(alloc: Global, set: &mut SetHandle, key: u64) -> bool
     ensures removed { result ≡ has_equal nat_cmp (elements set.old.slot.value) key }
     ensures rest { elements set.new.slot.value ≡ without nat_cmp (elements set.old.slot.value) key }
+    ensures there { is_some set.new.slot.value ≡ is_some set.old.slot.value }
     ensures same { result ≡ false → set.new.slot.value ≡ set.old.slot.value }
 {
     let Some(mut held) = set.take(alloc) else {

@@ -1,5 +1,7 @@
 //! Calls that make, empty, clone and free a set, and return its length.
-ghost use Rattle.std.specs.Prelude.{◌≡◌, ◌≢◌, ◌↔◌, [], Some, None, true, length, is_some};
+ghost use Rattle.std.specs.Prelude.{◌≡◌, ◌≢◌, ◌↔◌, [], Some, None, true, length, is_some, IfSome, ◌∷◌};
+ghost use Rattle.indexset_core.specs.declared.constants.TheConstants.{DEFAULT_INNER_SIZE};
+ghost use Rattle.indexset_spine.specs.Cut.{cut};
 ghost use Rattle.indexset_handle.specs.Elements.{elements};
 
 use indexset_handle::set_handle::SetHandle;
@@ -11,7 +13,7 @@ use std::alloc::Global;
 #[unsafe(no_mangle)]
 pub extern "C" fn indexset_set_new(alloc: Global, set: &mut SetHandle) -> u32
     ensures empty { result ≡ YES → elements set.new.slot.value ≡ [] }
-    ensures made { result ≡ YES → is_some set.new.slot.value ≡ true }
+    ensures made { result ≡ YES → set.new.slot.value ≡ Some (cut ([] ∷ []) DEFAULT_INNER_SIZE) }
     ensures refused { result ≢ YES → set.new.slot.value ≡ set.old.slot.value }
     ensures held { result ≡ HELD ↔ (is_some set.old.slot.value ≡ true) }
     ensures status { result ≢ YES → result ≢ HELD → result ≡ MEMORY }
@@ -77,6 +79,7 @@ pub extern "C" fn indexset_set_free(alloc: Global, set: &mut SetHandle)
 pub extern "C" fn indexset_set_clear(alloc: Global, set: &mut SetHandle)
     ensures empty { elements set.new.slot.value ≡ [] }
     ensures there { is_some set.new.slot.value ≡ is_some set.old.slot.value }
+    ensures size { IfSome set.old.slot.value (λ s. set.new.slot.value ≡ Some (cut ([] ∷ []) s.size)) }
 {
     let Some(mut held) = set.take(alloc) else {
         return;

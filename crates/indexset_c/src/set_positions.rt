@@ -1,5 +1,5 @@
 //! Calls of a set that go by a position, and those at its two ends.
-ghost use Rattle.std.specs.Prelude.{◌≡◌, ◌-◌, Some, None, true, false, drop, length, slice_get, take};
+ghost use Rattle.std.specs.Prelude.{◌≡◌, ◌-◌, Some, None, true, false, drop, length, slice_get, take, is_some};
 ghost use Rattle.indexset_handle.specs.Elements.{elements};
 
 use indexset_handle::set_handle::SetHandle;
@@ -64,6 +64,7 @@ pub extern "C" fn indexset_set_last(alloc: Global, set: &mut SetHandle, out: &mu
 pub extern "C" fn indexset_set_pop_first(alloc: Global, set: &mut SetHandle, out: &mut u64) -> bool
     ensures found { result ≡ true → slice_get (elements set.old.slot.value) 0 ≡ Some out.new }
     ensures rest { elements set.new.slot.value ≡ drop 1 (elements set.old.slot.value) }
+    ensures there { is_some set.new.slot.value ≡ is_some set.old.slot.value }
     ensures absent { result ≡ false → length (elements set.old.slot.value) ≡ 0 }
     ensures unwritten { result ≡ false → out.new ≡ out.old }
     ensures same { result ≡ false → set.new.slot.value ≡ set.old.slot.value }
@@ -81,6 +82,7 @@ pub extern "C" fn indexset_set_pop_first(alloc: Global, set: &mut SetHandle, out
 pub extern "C" fn indexset_set_pop_last(alloc: Global, set: &mut SetHandle, out: &mut u64) -> bool
     ensures found { result ≡ true → slice_get (elements set.old.slot.value) (length (elements set.old.slot.value) - 1) ≡ Some out.new }
     ensures rest { elements set.new.slot.value ≡ take (length (elements set.old.slot.value) - 1) (elements set.old.slot.value) }
+    ensures there { is_some set.new.slot.value ≡ is_some set.old.slot.value }
     ensures absent { result ≡ false → length (elements set.old.slot.value) ≡ 0 }
     ensures unwritten { result ≡ false → out.new ≡ out.old }
     ensures same { result ≡ false → set.new.slot.value ≡ set.old.slot.value }

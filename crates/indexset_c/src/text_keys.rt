@@ -1,5 +1,5 @@
 //! Calls of a map from byte strings that go by a key.
-ghost use Rattle.std.specs.Prelude.{◌≡◌, ◌≢◌, ◌≤◌, ◌↔◌, Some, None, true, false};
+ghost use Rattle.std.specs.Prelude.{◌≡◌, ◌≢◌, ◌≤◌, ◌↔◌, Some, None, true, false, is_some};
 ghost use Rattle.std.specs.Cmp.Lexicographic.{slice_cmp};
 ghost use Rattle.std.specs.Ordering.{nat_cmp};
 ghost use Rattle.indexset_core.specs.Pairs.{has_key, key_rank, put_value, value_of, without_key};
@@ -80,6 +80,7 @@ pub extern "C" fn indexset_text_map_remove(
     ensures found { result ≡ true → value_of (slice_cmp nat_cmp) (text_pairs map.old.slot.value) key.now ≡ Some out.new }
     ensures absent { result ≡ false → value_of (slice_cmp nat_cmp) (text_pairs map.old.slot.value) key.now ≡ None }
     ensures rest { text_pairs map.new.slot.value ≡ without_key (slice_cmp nat_cmp) (text_pairs map.old.slot.value) key.now }
+    ensures there { is_some map.new.slot.value ≡ is_some map.old.slot.value }
     ensures unwritten { result ≡ false → out.new ≡ out.old }
     ensures same { result ≡ false → map.new.slot.value ≡ map.old.slot.value }
 {

@@ -1,5 +1,7 @@
 //! Calls that make, empty, clone and free a map from byte strings, and return its length.
-ghost use Rattle.std.specs.Prelude.{◌≡◌, ◌≢◌, ◌↔◌, [], Some, None, true, length, is_some};
+ghost use Rattle.std.specs.Prelude.{◌≡◌, ◌≢◌, ◌↔◌, [], Some, None, true, length, is_some, IfSome};
+ghost use Rattle.indexset_core.specs.declared.constants.TheConstants.{DEFAULT_INNER_SIZE};
+ghost use Rattle.indexset_map.specs.Contents.{no_pairs};
 ghost use Rattle.indexset_handle.specs.Text.{text_pairs};
 
 use indexset_handle::status::{HELD, MEMORY, NONE, YES};
@@ -11,7 +13,7 @@ use std::alloc::Global;
 #[unsafe(no_mangle)]
 pub extern "C" fn indexset_text_map_new(alloc: Global, map: &mut TextHandle) -> u32
     ensures empty { result ≡ YES → text_pairs map.new.slot.value ≡ [] }
-    ensures made { result ≡ YES → is_some map.new.slot.value ≡ true }
+    ensures made { result ≡ YES → map.new.slot.value ≡ Some (no_pairs DEFAULT_INNER_SIZE) }
     ensures refused { result ≢ YES → map.new.slot.value ≡ map.old.slot.value }
     ensures held { result ≡ HELD ↔ (is_some map.old.slot.value ≡ true) }
     ensures status { result ≢ YES → result ≢ HELD → result ≡ MEMORY }
@@ -81,6 +83,7 @@ pub extern "C" fn indexset_text_map_free(alloc: Global, map: &mut TextHandle)
 pub extern "C" fn indexset_text_map_clear(alloc: Global, map: &mut TextHandle)
     ensures empty { text_pairs map.new.slot.value ≡ [] }
     ensures there { is_some map.new.slot.value ≡ is_some map.old.slot.value }
+    ensures size { IfSome map.old.slot.value (λ m. map.new.slot.value ≡ Some (no_pairs m.size)) }
 {
     let Some(mut held) = map.take(alloc) else {
         return;
