@@ -79,7 +79,8 @@ pub extern "C" fn indexset_set_free(alloc: Global, set: &mut SetHandle)
 pub extern "C" fn indexset_set_clear(alloc: Global, set: &mut SetHandle)
     ensures empty { elements set.new.slot.value ≡ [] }
     ensures there { is_some set.new.slot.value ≡ is_some set.old.slot.value }
-    ensures size { IfSome set.old.slot.value (λ s. set.new.slot.value ≡ Some (cut ([] ∷ []) s.size)) }
+    ensures size { IfSome set.old.slot.value
+        (λ s. set.new.slot.value ≡ Some (cut ([] ∷ []) s.size)) }
 {
     let Some(mut held) = set.take(alloc) else {
         return;
