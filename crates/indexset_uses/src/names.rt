@@ -1,5 +1,5 @@
 //! Texts by name, and a copy of them kept elsewhere: a logged map from texts to texts.
-ghost use Rattle.std.specs.Prelude.{◌≡◌, false, Some, OnOk};
+ghost use Rattle.std.specs.Prelude.{◌≡◌, ◌⊎◌, false, Some, OnErr, OnOk};
 ghost use Rattle.std.specs.Option.{option_copied};
 ghost use Rattle.std.specs.Ordering.{nat_cmp};
 ghost use Rattle.std.specs.Cmp.Lexicographic.{slice_cmp};
@@ -20,7 +20,8 @@ pub type Named = Pair<ByteStr, ByteStr>;
 pub type Names = BTreeMap<ByteStr, ByteStr, Vec<Named>>;
 
 /// Sets the text of a name, in a map and in a copy with the same nodes: both then have the same nodes
-/// again, and the copy holds the text.
+/// again, and the copy holds the text. Where it fails, nothing changed, or the map has the text and the
+/// copy is behind.
 pub fn set_text(
     names: &mut Names,
     copy: &mut Replica<Named>,
@@ -31,18 +32,25 @@ pub fn set_text(
     ensures same { OnOk result (copy.new.nodes ≡ names.new.nodes) }
     ensures held { OnOk result (value_of (slice_cmp nat_cmp) (joined copy.new.nodes) name ≡ Some text) }
     ensures contents { OnOk result (joined names.new.nodes ≡ put (by_key (slice_cmp nat_cmp)) (joined names.old.nodes) (pair name text)) }
+    ensures refused { OnErr result (((names.new ≡ names.old) × (copy.new ≡ copy.old))
+        ⊎ (joined names.new.nodes ≡ put (by_key (slice_cmp nat_cmp))
+        (joined names.old.nodes) (pair name text))) }
 {
     let (_, events) = names.insert_cdc(name, text)?;
     apply_all(copy, events.as_slice())
 }
 
 /// Removes a name from a map and from a copy with the same nodes: both then have the same nodes again,
-/// and the copy does not hold the name.
+/// and the copy does not hold the name. Where it fails, nothing changed, or the name is gone from the map
+/// and the copy is behind.
 pub fn forget(names: &mut Names, copy: &mut Replica<Named>, name: &ByteStr) -> Result<(), Refusal>
     requires { copy.old.nodes ≡ names.old.nodes }
     ensures same { OnOk result (copy.new.nodes ≡ names.new.nodes) }
     ensures gone { OnOk result (has_key (slice_cmp nat_cmp) (joined copy.new.nodes) name.now ≡ false) }
     ensures contents { OnOk result (joined names.new.nodes ≡ without_key (slice_cmp nat_cmp) (joined names.old.nodes) name.now) }
+    ensures refused { OnErr result (((names.new ≡ names.old) × (copy.new ≡ copy.old))
+        ⊎ (joined names.new.nodes ≡ without_key (slice_cmp nat_cmp)
+        (joined names.old.nodes) name.now)) }
 {
     let (_, events) = names.remove_cdc(name)?;
     apply_all(copy, events.as_slice())

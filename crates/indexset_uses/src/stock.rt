@@ -1,5 +1,5 @@
 //! A stock of named things, and a copy of it kept elsewhere: a logged map whose keys are texts.
-ghost use Rattle.std.specs.Prelude.{◌≡◌, Some, OnOk};
+ghost use Rattle.std.specs.Prelude.{◌≡◌, ◌⊎◌, Some, OnErr, OnOk};
 ghost use Rattle.std.specs.Ordering.{nat_cmp};
 ghost use Rattle.std.specs.Cmp.Lexicographic.{slice_cmp};
 ghost use Rattle.indexset.specs.Words.{by_key, joined, pair, put, value_of, without_key};
@@ -19,7 +19,8 @@ pub type Count = Pair<ByteStr, u64>;
 pub type Stock = BTreeMap<ByteStr, u64, Vec<Count>>;
 
 /// Sets how many there are of a name, in a stock and in a copy with the same nodes: both then have the
-/// same nodes again, and the copy holds the number.
+/// same nodes again, and the copy holds the number. Where it fails, nothing changed, or the stock has the
+/// number and the copy is behind.
 pub fn set_count(
     stock: &mut Stock,
     copy: &mut Replica<Count>,
@@ -30,16 +31,23 @@ pub fn set_count(
     ensures same { OnOk result (copy.new.nodes ≡ stock.new.nodes) }
     ensures held { OnOk result (value_of (slice_cmp nat_cmp) (joined copy.new.nodes) name ≡ Some count) }
     ensures contents { OnOk result (joined stock.new.nodes ≡ put (by_key (slice_cmp nat_cmp)) (joined stock.old.nodes) (pair name count)) }
+    ensures refused { OnErr result (((stock.new ≡ stock.old) × (copy.new ≡ copy.old))
+        ⊎ (joined stock.new.nodes ≡ put (by_key (slice_cmp nat_cmp))
+        (joined stock.old.nodes) (pair name count))) }
 {
     let (_, events) = stock.insert_cdc(name, count)?;
     apply_all(copy, events.as_slice())
 }
 
 /// Removes a name from a stock and from a copy with the same nodes: both then have the same nodes again.
+/// Where it fails, nothing changed, or the name is gone from the stock and the copy is behind.
 pub fn forget(stock: &mut Stock, copy: &mut Replica<Count>, name: &ByteStr) -> Result<(), Refusal>
     requires { copy.old.nodes ≡ stock.old.nodes }
     ensures same { OnOk result (copy.new.nodes ≡ stock.new.nodes) }
     ensures contents { OnOk result (joined stock.new.nodes ≡ without_key (slice_cmp nat_cmp) (joined stock.old.nodes) name.now) }
+    ensures refused { OnErr result (((stock.new ≡ stock.old) × (copy.new ≡ copy.old))
+        ⊎ (joined stock.new.nodes ≡ without_key (slice_cmp nat_cmp)
+        (joined stock.old.nodes) name.now)) }
 {
     let (_, events) = stock.remove_cdc(name)?;
     apply_all(copy, events.as_slice())

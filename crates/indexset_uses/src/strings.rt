@@ -1,6 +1,6 @@
 //! Maps whose keys are `String`s. Their clones are other values of the same bytes, so the contracts say
 //! what the map holds and which numbers the events have, and of the items of events that they are clones.
-ghost use Rattle.std.specs.Prelude.{◌≡◌, ◌+◌, ◌≤◌, ℕ, List, length, false, map, Some, IfOk, OnOk, OnErr, string_bytes};
+ghost use Rattle.std.specs.Prelude.{◌≡◌, ◌+◌, ◌≤◌, ◌⊎◌, ℕ, List, length, false, map, Some, IfOk, OnOk, OnErr, string_bytes};
 ghost use Rattle.std.specs.List.{AllZip};
 ghost use Rattle.std.specs.String.{string_cmp};
 ghost use Rattle.indexset.specs.Words.{by_key, has_key, joined, key_removal_events, numbered_from, pair, put, put_events, unassigned, value_of, without_key, AreCopies, IsClonedStep, IsEventClone, IsNumberedFrom};
@@ -43,7 +43,8 @@ pub fn set_count(
 }
 
 /// Sets the count of a name in a map and in a copy of it, whose nodes hold copies of the map's items:
-/// after it they do so again, and have the same counts by the same texts.
+/// after it they do so again, and have the same counts by the same texts. Where it fails, nothing changed,
+/// or the map has the count and the copy is behind.
 pub fn set_in_both(
     counts: &mut Counts,
     copy: &mut Replica<Count>,
@@ -54,6 +55,9 @@ pub fn set_in_both(
     ensures copies { OnOk result (AreCopies (by_key string_cmp) (λ p q. (string_bytes q.key ≡ string_bytes p.key) × (q.value ≡ p.value)) counts.new.nodes copy.new.nodes) }
     ensures contents { OnOk result (joined counts.new.nodes ≡ put (by_key string_cmp) (joined counts.old.nodes) (pair name count)) }
     ensures same { OnOk result (map (map {B = List ℕ × ℕ} (λ p. (string_bytes p.key, p.value))) copy.new.nodes ≡ map (map {B = List ℕ × ℕ} (λ p. (string_bytes p.key, p.value))) counts.new.nodes) }
+    ensures refused { OnErr result (((counts.new ≡ counts.old) × (copy.new ≡ copy.old))
+        ⊎ (joined counts.new.nodes ≡ put (by_key string_cmp)
+        (joined counts.old.nodes) (pair name count))) }
 {
     clones::texts();
     clones::pairs::<String, u64>();
