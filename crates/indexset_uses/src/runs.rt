@@ -1,10 +1,11 @@
 //! Commands to a map by name, carried out in turn.
-ghost use Rattle.std.specs.Prelude.{◌≡◌, ◌+◌, ◌*◌, ◌≤◌, length, take, Some, IfNone, string_bytes};
+ghost use Rattle.std.specs.Prelude.{◌≡◌, ◌≢◌, ◌+◌, ◌*◌, ◌<◌, ◌≤◌, length, take, Some, IfNone, IfSome, OnSome, string_bytes};
 ghost use Rattle.std.specs.List.{fold, scan};
 ghost use Rattle.std.specs.Ordering.{nat_cmp};
 ghost use Rattle.std.specs.String.{string_cmp};
 ghost use Rattle.std.specs.Cmp.Lexicographic.{slice_cmp};
 ghost use Rattle.indexset.specs.Words.{by_key, joined, replay, IsNumberedFrom, LeadsToCopies};
+ghost use Rattle.indexset_core.specs.declared.refusal.Refusal.TheVariants.{Memory, Numbers};
 ghost use Rattle.indexset_bench.specs.LoggedMap.{logged_map_after, logged_map_reply};
 
 use crate::stock::Stock;
@@ -15,8 +16,9 @@ use indexset_bench::logged::map::LoggedMapCommand;
 use indexset_bench::logged_run::{LogRun, run_logged};
 use std::alloc::Global;
 
-/// Carries out commands on a stock. The events lead from the nodes before the run to those after
-/// it, and the stock holds what the commands with a reply make of it.
+/// Carries out commands on a stock, up to the first for which memory or numbers run out. The events lead
+/// from the nodes before the run to those after it, and the stock holds what the commands with a reply
+/// make of it.
 pub fn run_stock(
     alloc: Global,
     stock: &mut Stock,
@@ -29,20 +31,26 @@ pub fn run_stock(
         (logged_map_reply (slice_cmp nat_cmp)) (joined stock.old.nodes)
         (take (length result.replies.items) commands.items) }
     ensures all { IfNone result.refused (length result.replies.items ≡ length commands.items) }
+    ensures fewer { OnSome result.refused
+        (length result.replies.items < length commands.items) }
+    ensures refused { IfSome result.refused (λ cause. cause ≢ Memory → cause ≡ Numbers) }
     ensures contents { joined stock.new.nodes ≡ fold (logged_map_after (slice_cmp nat_cmp)) (joined stock.old.nodes) (take (length result.replies.items) commands.items) }
 {
     run_logged(alloc, stock, commands)
 }
 
-/// Carries out commands on a map by `String`. It holds what the commands with a reply make of it,
-/// and the events are numbered in turn. They lead from the nodes before the run to copies of those after
-/// it: the same texts and counts, each in its place.
+/// Carries out commands on a map by `String`, up to the first for which memory or numbers run out. It
+/// holds what the commands with a reply make of it, and the events are numbered in turn. They lead from
+/// the nodes before the run to copies of those after it: the same texts and counts, each in its place.
 pub fn run_counts(
     alloc: Global,
     counts: &mut Counts,
     commands: Vec<LoggedMapCommand<String, u64>>,
 ) -> LogRun<Counts>
     ensures all { IfNone result.refused (length result.replies.items ≡ length commands.items) }
+    ensures fewer { OnSome result.refused
+        (length result.replies.items < length commands.items) }
+    ensures refused { IfSome result.refused (λ cause. cause ≢ Memory → cause ≡ Numbers) }
     ensures replies { result.replies.items ≡ scan (logged_map_after string_cmp)
         (logged_map_reply string_cmp) (joined counts.old.nodes)
         (take (length result.replies.items) commands.items) }
