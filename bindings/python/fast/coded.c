@@ -1,13 +1,31 @@
-/* Objects at byte strings, in the order of these, in a map of the library that leads to their places. */
+/* Objects at byte strings, in the order of these, in a map of the library that leads to them. */
 #include "fast.h"
+
+/* Where an object that is being collected leads to: it has no items and takes none. */
+static indexset_text_map nowhere = INDEXSET_HANDLE;
+
+/* ---- the object */
+
+/* An empty map on the heap; NULL with an error. */
+static indexset_text_map *map_new(void) {
+    indexset_text_map *made = PyMem_Calloc(1, sizeof *made);
+    if (made == NULL || indexset_text_map_new(made) != INDEXSET_YES) {
+        PyMem_Free(made);
+        return (indexset_text_map *)PyErr_NoMemory();
+    }
+    return made;
+}
 
 static PyObject *coded_new(PyTypeObject *type, PyObject *given, PyObject *words) {
     (void)given;
     (void)words;
     Coded *self = (Coded *)type->tp_alloc(type, 0);
-    if (self != NULL && indexset_text_map_new(&self->map) != INDEXSET_YES) {
-        Py_DECREF(self);
-        return PyErr_NoMemory();
+    if (self == NULL)
+        return NULL;
+    self->map = map_new();
+    if (self->map == NULL) {
+        self->map = &nowhere;
+        Py_CLEAR(self);
     }
     return (PyObject *)self;
 }
@@ -30,28 +48,46 @@ static int coded_init(Coded *self, PyObject *given, PyObject *words) {
     return 0;
 }
 
+/* The collector calls this before the map is there, too. What is noted leads nowhere. */
 static int coded_traverse(Coded *self, visitproc visit, void *arg) {
-    for (size_t i = 0; i < self->count; i++)
-        Py_VISIT(self->items[i]);
     Py_VISIT(self->key);
+    for (size_t at = 0, count = CHUNK; self->map != NULL && count == CHUNK; at += count) {
+        uint64_t read[CHUNK];
+        count = indexset_text_map_range_by_position(self->map, at, read, CHUNK);
+        for (size_t i = 0; i < count; i++)
+            Py_VISIT(OBJECT(read[i]));
+    }
     return 0;
 }
 
-/* Lets all objects go: they are out of reach before the first of them is. */
-static void coded_drop(Coded *self) {
-    PyObject **items = self->items;
-    size_t count = self->count;
-    self->items = NULL;
-    self->count = self->room = self->unused_count = 0;
+/* Lets the objects of a map go, which no code can reach any more, and frees it. */
+static void let_go(indexset_text_map *map) {
+    uint64_t read[CHUNK];
+    size_t count = CHUNK;
+    for (size_t at = 0; map != &nowhere && count == CHUNK; at += count) {
+        count = indexset_text_map_range_by_position(map, at, read, CHUNK);
+        for (size_t i = 0; i < count; i++)
+            __builtin_prefetch(OBJECT(read[i]), 1);
+        for (size_t i = 0; i < count; i++)
+            Py_DECREF(OBJECT(read[i]));
+    }
+    if (map != &nowhere) {
+        indexset_text_map_free(map);
+        PyMem_Free(map);
+    }
+}
+
+/* Has another map in place of the one before, whose objects go. */
+static void become(Coded *self, indexset_text_map *map) {
+    indexset_text_map *before = self->map;
+    self->map = map;
     self->changes++;
-    indexset_text_map_clear(&self->map);
-    for (size_t i = 0; i < count; i++)
-        Py_XDECREF(items[i]);
-    PyMem_Free(items);
+    late_drop(self);
+    let_go(before);
 }
 
 static int coded_clear(Coded *self) {
-    coded_drop(self);
+    become(self, &nowhere);
     Py_CLEAR(self->key);
     return 0;
 }
@@ -59,89 +95,53 @@ static int coded_clear(Coded *self) {
 static void coded_dealloc(Coded *self) {
     PyObject_GC_UnTrack(self);
     coded_clear(self);
-    PyMem_Free(self->unused);
-    indexset_text_map_free(&self->map);
     Py_TYPE(self)->tp_free((PyObject *)self);
 }
 
 static PyObject *clear(Coded *self, PyObject *nothing) {
     (void)nothing;
-    coded_drop(self);
+    indexset_text_map *map = map_new();
+    if (map == NULL)
+        return NULL;
+    become(self, map);
     Py_RETURN_NONE;
 }
 
-static Py_ssize_t coded_length(Coded *self) { return (Py_ssize_t)indexset_text_map_len(&self->map); }
+Py_ssize_t coded_length(Coded *self) { return (Py_ssize_t)indexset_text_map_len(self->map) + self->late_more; }
+
+indexset_text_map *coded_map(Coded *self) { return late_made(self) ? self->map : NULL; }
+
+/* Counts a reference to each object of a map. */
+static void count_objects(indexset_text_map *map) {
+    uint64_t read[CHUNK];
+    size_t count = CHUNK;
+    for (size_t at = 0; count == CHUNK; at += count) {
+        count = indexset_text_map_range_by_position(map, at, read, CHUNK);
+        for (size_t i = 0; i < count; i++)
+            __builtin_prefetch(OBJECT(read[i]), 1);
+        for (size_t i = 0; i < count; i++)
+            Py_INCREF(OBJECT(read[i]));
+    }
+}
 
 /* Becomes a clone of another, from empty. */
 static PyObject *copied(Coded *self, PyObject *given) {
-    if (!PyObject_TypeCheck(given, &CodedType) || self->count != 0) {
+    if (!PyObject_TypeCheck(given, &CodedType) || coded_length(self) != 0) {
         PyErr_SetString(PyExc_TypeError, "what is empty becomes a copy of a Coded");
         return NULL;
     }
     Coded *other = (Coded *)given;
-    PyObject **items = PyMem_Malloc(sizeof *items * (other->count + 1));
-    uint64_t *unused = PyMem_Malloc(8 * (other->unused_count + 1));
-    indexset_text_map map = INDEXSET_HANDLE;
-    if (items == NULL || unused == NULL || indexset_text_map_clone(&other->map, &map) != INDEXSET_YES) {
-        PyMem_Free(items);
-        PyMem_Free(unused);
+    if (coded_map(other) == NULL)
+        return NULL;
+    indexset_text_map *map = PyMem_Calloc(1, sizeof *map);
+    if (map == NULL || indexset_text_map_clone(other->map, map) != INDEXSET_YES) {
+        PyMem_Free(map);
         return PyErr_NoMemory();
     }
-    for (size_t i = 0; i < other->count; i++) {
-        Py_XINCREF(other->items[i]);
-        items[i] = other->items[i];
-    }
-    if (other->unused_count)
-        memcpy(unused, other->unused, 8 * other->unused_count);
-    indexset_text_map_free(&self->map);
-    PyMem_Free(self->items);
-    PyMem_Free(self->unused);
-    self->map = map;
+    count_objects(map);
     self->added = other->added;
-    self->items = items;
-    self->count = other->count;
-    self->room = other->count + 1;
-    self->unused = unused;
-    self->unused_count = other->unused_count;
-    self->unused_room = other->unused_count + 1;
+    become(self, map);
     Py_RETURN_NONE;
-}
-
-/* ---- places */
-
-/* Makes room for one more in an array; NULL with an error. */
-static void *grown(void *array, size_t count, size_t *room) {
-    if (count < *room)
-        return array;
-    size_t more = *room < 8 ? 8 : *room + *room / 2;
-    void *made = PyMem_Realloc(array, 8 * more);
-    if (made == NULL)
-        return PyErr_NoMemory();
-    *room = more;
-    return made;
-}
-
-/* Room for an object at a new place, and for each place in the array of those without one. */
-static int has_room(Coded *self) {
-    PyObject **items = grown(self->items, self->count, &self->room);
-    if (items == NULL)
-        return 0;
-    self->items = items;
-    while (self->unused_room <= self->count) {
-        uint64_t *unused = grown(self->unused, self->unused_room, &self->unused_room);
-        if (unused == NULL)
-            return 0;
-        self->unused = unused;
-    }
-    return 1;
-}
-
-PyObject *coded_object(Coded *self, uint64_t place) {
-    PyObject *item = place < self->count ? self->items[place] : NULL;
-    if (item == NULL)
-        PyErr_SetString(PyExc_RuntimeError, "the object is being collected");
-    Py_XINCREF(item);
-    return item;
 }
 
 /* ---- byte strings */
@@ -157,27 +157,22 @@ static int bytes_of(PyObject *code, const char **data, size_t *size) {
 }
 
 int coded_insert(Coded *self, const void *data, size_t size, PyObject *item) {
-    if (!has_room(self))
+    uint64_t before, ours;
+    if (coded_map(self) == NULL)
         return -1;
-    uint64_t place = self->unused_count ? self->unused[self->unused_count - 1] : self->count, before;
-    uint32_t status = indexset_text_map_insert(&self->map, data, size, place, &before);
-    if (status == INDEXSET_NO) {
-        indexset_text_map_insert(&self->map, data, size, before, &place);
-        PyErr_SetString(PyExc_RuntimeError, "the code has an object");
-        return -1;
+    uint32_t status = indexset_text_map_insert(self->map, data, size, ADDRESS(item), &before);
+    if (status == INDEXSET_YES) {
+        Py_INCREF(item);
+        self->changes++;
+        return 0;
     }
-    if (status != INDEXSET_YES) {
+    if (status == INDEXSET_NO)
+        indexset_text_map_insert(self->map, data, size, before, &ours);
+    if (status == INDEXSET_MEMORY)
         PyErr_NoMemory();
-        return -1;
-    }
-    if (self->unused_count)
-        self->unused_count--;
     else
-        self->count++;
-    Py_INCREF(item);
-    self->items[place] = item;
-    self->changes++;
-    return 0;
+        PyErr_SetString(PyExc_RuntimeError, status == INDEXSET_NO ? "the code has an object" : "the object is being collected");
+    return -1;
 }
 
 static PyObject *insert(Coded *self, PyObject *const *given, Py_ssize_t count) {
@@ -195,13 +190,17 @@ static PyObject *insert(Coded *self, PyObject *const *given, Py_ssize_t count) {
 static PyObject *rank(Coded *self, PyObject *code) {
     const char *data;
     size_t size;
-    return bytes_of(code, &data, &size) ? PyLong_FromSize_t(indexset_text_map_rank(&self->map, data, size)) : NULL;
+    if (!bytes_of(code, &data, &size) || coded_map(self) == NULL)
+        return NULL;
+    return PyLong_FromSize_t(indexset_text_map_rank(self->map, data, size));
 }
 
 static PyObject *has(Coded *self, PyObject *code) {
     const char *data;
     size_t size;
-    return bytes_of(code, &data, &size) ? PyBool_FromLong(indexset_text_map_contains(&self->map, data, size)) : NULL;
+    if (!bytes_of(code, &data, &size) || coded_map(self) == NULL)
+        return NULL;
+    return PyBool_FromLong(indexset_text_map_contains(self->map, data, size));
 }
 
 /* The byte string of the object at a position. */
@@ -209,7 +208,9 @@ static PyObject *code_at(Coded *self, size_t position) {
     char room[64];
     size_t size;
     uint64_t place;
-    if (!indexset_text_map_at(&self->map, position, room, sizeof room, &size, &place)) {
+    if (coded_map(self) == NULL)
+        return NULL;
+    if (!indexset_text_map_at(self->map, position, room, sizeof room, &size, &place)) {
         PyErr_SetString(PyExc_IndexError, "index out of range");
         return NULL;
     }
@@ -217,7 +218,7 @@ static PyObject *code_at(Coded *self, size_t position) {
         return PyBytes_FromStringAndSize(room, (Py_ssize_t)size);
     PyObject *made = PyBytes_FromStringAndSize(NULL, (Py_ssize_t)size);
     if (made != NULL)
-        indexset_text_map_at(&self->map, position, PyBytes_AS_STRING(made), size, &size, &place);
+        indexset_text_map_at(self->map, position, PyBytes_AS_STRING(made), size, &size, &place);
     return made;
 }
 
@@ -237,12 +238,15 @@ static Py_ssize_t position_of(Coded *self, PyObject *index) {
 }
 
 PyObject *coded_item(Coded *self, Py_ssize_t position) {
-    uint64_t place;
-    if (position < 0 || indexset_text_map_range_by_position(&self->map, (size_t)position, &place, 1) != 1) {
+    uint64_t object;
+    if (coded_map(self) == NULL)
+        return NULL;
+    if (position < 0 || indexset_text_map_range_by_position(self->map, (size_t)position, &object, 1) != 1) {
         PyErr_SetString(PyExc_IndexError, "index out of range");
         return NULL;
     }
-    return coded_object(self, place);
+    Py_INCREF(OBJECT(object));
+    return OBJECT(object);
 }
 
 static PyObject *subscript(Coded *self, PyObject *index) {
@@ -256,57 +260,26 @@ static PyObject *code(Coded *self, PyObject *index) {
 }
 
 int coded_remove(Coded *self, const void *data, size_t size, PyObject **item) {
-    uint64_t place;
-    if (!indexset_text_map_remove(&self->map, data, size, &place))
+    uint64_t object;
+    if (coded_map(self) == NULL)
+        return -1;
+    if (!indexset_text_map_remove(self->map, data, size, &object))
         return 0;
     self->changes++;
-    *item = place < self->count ? self->items[place] : NULL;
-    if (*item == NULL) {
-        PyErr_SetString(PyExc_RuntimeError, "the object is being collected");
-        return -1;
-    }
-    self->items[place] = NULL;
-    self->unused[self->unused_count++] = place;
+    *item = OBJECT(object);
     return 1;
 }
 
 static PyObject *pop(Coded *self, PyObject *index) {
     Py_ssize_t position = position_of(self, index);
     PyObject *item = NULL, *code = position < 0 ? NULL : code_at(self, (size_t)position);
-    if (code != NULL && coded_remove(self, PyBytes_AS_STRING(code), (size_t)PyBytes_GET_SIZE(code), &item) < 1)
-        item = NULL;
+    if (code != NULL && coded_remove(self, PyBytes_AS_STRING(code), (size_t)PyBytes_GET_SIZE(code), &item) == 0)
+        PyErr_SetString(PyExc_RuntimeError, "it changed meanwhile");
     Py_XDECREF(code);
     return item;
 }
 
-PyObject *coded_chunk(Coded *self, size_t first, size_t past) {
-    uint64_t places[CHUNK];
-    PyObject *made = list_of(indexset_text_map_len(&self->map), &first, &past);
-    for (size_t at = first; made != NULL && at < past;) {
-        size_t size = past - at < CHUNK ? past - at : CHUNK;
-        indexset_text_map_range_by_position(&self->map, at, places, size);
-        for (size_t i = 0; i < size && made != NULL; i++, at++) {
-            PyObject *item = coded_object(self, places[i]);
-            if (item == NULL)
-                Py_CLEAR(made);
-            else
-                PyList_SET_ITEM(made, (Py_ssize_t)(at - first), item);
-        }
-    }
-    return made;
-}
-
-static PyObject *chunk(Coded *self, PyObject *const *given, Py_ssize_t count) {
-    size_t first, past;
-    return two_positions(given, count, &first, &past) ? coded_chunk(self, first, past) : NULL;
-}
-
 /* ---- items, by the kind's own type here, and else by a method of the class */
-
-static PyObject *add_own(Coded *self, PyObject *item) {
-    int state = own_add(self, item, NULL);
-    return state == -1 ? NULL : PyBool_FromLong(state != NOT_OWN);
-}
 
 static PyObject *add(Coded *self, PyObject *item) {
     int state = own_add(self, item, NULL);
@@ -315,11 +288,19 @@ static PyObject *add(Coded *self, PyObject *item) {
     return state == -1 ? NULL : PyBool_FromLong(1);
 }
 
-static PyObject *discard(Coded *self, PyObject *item) {
-    int state = own_discard(self, item);
-    if (state == NOT_OWN)
-        return PyObject_CallMethodOneArg((PyObject *)self, names.discard, item);
-    return state == -1 ? NULL : PyBool_FromLong(state);
+int coded_discard(Coded *self, PyObject *value) {
+    int state = own_discard(self, value);
+    if (state != NOT_OWN)
+        return state;
+    PyObject *answer = PyObject_CallMethodOneArg((PyObject *)self, names.discard, value);
+    state = answer ? PyObject_IsTrue(answer) : -1;
+    Py_XDECREF(answer);
+    return state;
+}
+
+static PyObject *discard(Coded *self, PyObject *value) {
+    int state = coded_discard(self, value);
+    return state < 0 ? NULL : PyBool_FromLong(state);
 }
 
 static PyObject *bisect(Coded *self, PyObject *const *given, Py_ssize_t count) {
@@ -352,15 +333,21 @@ static PyObject *own_span(Coded *self, PyObject *key) {
     return state == -1 ? NULL : Py_BuildValue("nn", (Py_ssize_t)first, (Py_ssize_t)past);
 }
 
+static PyObject *changed(Coded *self, PyObject *nothing) {
+    (void)nothing;
+    self->changes++;
+    Py_RETURN_NONE;
+}
+
 /* ---- the type */
 
 static PyMethodDef methods[] = {
     {"add", (PyCFunction)add, METH_O, "Adds an object behind its equals."},
-    {"add_own", (PyCFunction)add_own, METH_O, "Adds an object whose sort key is of the kind's own type, and tells whether it is."},
     {"bisect", (PyCFunction)(void (*)(void))bisect, METH_FASTCALL, "How many objects are below a value, or not above it."},
     {"discard", (PyCFunction)discard, METH_O, "Removes the first object that equals a value, and tells whether there was one."},
     {"own_span", (PyCFunction)own_span, METH_O, "The positions of a sort key of the kind's own type, or None."},
-    {"chunk", (PyCFunction)(void (*)(void))chunk, METH_FASTCALL, "The objects at the positions from the first and before the second."},
+    {"chunk", (PyCFunction)(void (*)(void))chunk_method, METH_FASTCALL, "The objects at the positions from the first and before the second."},
+    {"changed", (PyCFunction)changed, METH_NOARGS, "Counts a change."},
     {"clear", (PyCFunction)clear, METH_NOARGS, "Removes all objects."},
     {"code", (PyCFunction)code, METH_O, "The byte string of the object at a position."},
     {"copied", (PyCFunction)copied, METH_O, "Becomes a clone of another, from empty."},
@@ -373,7 +360,7 @@ static PyMethodDef methods[] = {
     {0},
 };
 static PyMemberDef members[] = {
-    {"changes", T_ULONGLONG, offsetof(Coded, changes), 0, NULL},
+    {"changes", T_ULONGLONG, offsetof(Coded, changes), READONLY, NULL},
     {"added", T_ULONGLONG, offsetof(Coded, added), 0, NULL},
     {"key", T_OBJECT, offsetof(Coded, key), READONLY, "The function that makes sort keys, or None."},
     {0},

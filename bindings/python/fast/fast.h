@@ -1,8 +1,11 @@
 /* The classes that order keys, as C types over the library: what `indexset/_pure.py` has by ctypes.
  *
- * The interpreter's lock is held throughout a call, so that reads of several threads go one by one. What a
- * type holds of the library is freed with the object and not before: the collector of cycles runs each
- * `__del__` first, and none of them finds it empty. */
+ * The library's maps lead from codes to the addresses of objects, and each address in a map counts as one
+ * reference. An address that was read of a map is used before any Python code runs, or once `changes` says
+ * that the map is as it was.
+ *
+ * The interpreter's lock is held throughout a call, so that reads of several threads go one by one. The
+ * collector of cycles runs each `__del__` before it empties an object, so that none of them finds one empty. */
 #ifndef FAST_H
 #define FAST_H
 
@@ -17,34 +20,42 @@
 /* The most that one call of the library writes for a walk. */
 #define CHUNK 256
 
+#define OBJECT(address) ((PyObject *)(uintptr_t)(address))
+#define ADDRESS(object) ((uint64_t)(uintptr_t)(object))
+
 enum kind { INT64, UINT64, FLOAT64, TEXT, BYTES, OTHER };
 
-/* Distinct numbers of a kind, in order. */
+/* Distinct numbers of a kind, in order. The map leads from the code of each to the object that was given, or
+ * to 0 where none was: then one is made of the code. */
 typedef struct {
     PyObject_HEAD
-    indexset_set set;
+    indexset_map map;
     enum kind kind;
     PyObject *python; /* the kind in `_kinds`, which knows of other types */
     unsigned long long changes;
 } Numbers;
 
-/* Objects at byte strings, in the order of these: `items` has each at the place that the map leads to.
+/* Objects at byte strings, in the order of these.
  *
  * Where the sort keys are of a kind other than OTHER, those of the kind's own type are encoded here. Where they
  * may repeat, their codes are followed by how many were added before. */
 typedef struct {
     PyObject_HEAD
-    indexset_text_map map;
-    PyObject *key; /* the function that makes sort keys, or NULL */
+    indexset_text_map *map; /* on the heap, or `nowhere` */
+    PyObject *key;          /* the function that makes sort keys, or NULL */
     enum kind kind;
     int repeats;
-    unsigned long long added;
-    PyObject **items;
-    size_t count, room;
-    uint64_t *unused;
-    size_t unused_count, unused_room;
-    unsigned long long changes;
+    unsigned long long added, changes;
+    uint64_t *late; /* the changes that are noted, and how much longer they make it */
+    size_t late_count, late_room;
+    Py_ssize_t late_more;
 } Coded;
+
+/* Some items in a row: their objects, and of numbers their codes too. */
+typedef struct {
+    size_t count;
+    uint64_t objects[CHUNK], codes[CHUNK];
+} Part;
 
 /* What stands before what orders the items. */
 typedef struct {
@@ -53,18 +64,24 @@ typedef struct {
     PyObject *members; /* the items as a set, or False where numbers may repeat, or None */
 } Front;
 
-extern PyTypeObject NumbersType, CodedType, FrontType, WalkType;
+/* A dict whose keys are in order too. */
+typedef struct {
+    PyDictObject dict;
+    PyObject *order;
+} DictFront;
+
+extern PyTypeObject NumbersType, CodedType, FrontType, DictFrontType, WalkType;
 
 /* The module `_kinds`, and the names of the methods that are called. */
 extern PyObject *kinds;
 extern struct names {
-    PyObject *add, *bisect, *bound, *code, *codes_of, *contains, *discard, *find, *flipped, *slice;
+    PyObject *add, *bisect, *bound, *code, *codes_of, *contains, *discard, *find, *flipped, *order_keys, *slice;
 } names;
 
 /* ---- numbers.c */
 PyObject *numbers_item(Numbers *self, Py_ssize_t position);
-PyObject *numbers_value(Numbers *self, uint64_t code);
-PyObject *numbers_chunk(Numbers *self, size_t first, size_t past);
+/* A number of a kind that has a code, as a new object. */
+PyObject *number_of(enum kind kind, uint64_t code);
 int numbers_contains(Numbers *self, PyObject *value);
 int numbers_add(Numbers *self, PyObject *value);
 int numbers_discard(Numbers *self, PyObject *value);
@@ -75,31 +92,50 @@ int number_code(enum kind kind, PyObject *value, uint64_t *code);
 
 /* ---- coded.c */
 PyObject *coded_item(Coded *self, Py_ssize_t position);
-/* The object at a place, as a new reference. */
-PyObject *coded_object(Coded *self, uint64_t place);
 /* Puts an object at a byte string: 0, or -1 with an error. */
 int coded_insert(Coded *self, const void *data, size_t size, PyObject *item);
+Py_ssize_t coded_length(Coded *self);
+/* The map, once the changes that were noted are made; NULL with an error. */
+indexset_text_map *coded_map(Coded *self);
 /* Takes out the object at a byte string: 1, or 0 where there is none, or -1 with an error. */
 int coded_remove(Coded *self, const void *data, size_t size, PyObject **item);
-PyObject *coded_chunk(Coded *self, size_t first, size_t past);
+/* Removes the first object that equals a value: 1, or 0 where there is none, or -1 with an error. */
+int coded_discard(Coded *self, PyObject *value);
 
 /* ---- own.c: what is done of items whose sort keys are of the kind's own type. Each answers NOT_OWN, and has
  * done nothing, where that of an item is not. */
 #define NOT_OWN (-2)
 int own_add(Coded *self, PyObject *item, PyObject *members);
 int own_discard(Coded *self, PyObject *item);
+/* Removes an item that is there. */
+int own_drop(Coded *self, PyObject *item);
 int own_contains(Coded *self, PyObject *item);
 Py_ssize_t own_bisect(Coded *self, PyObject *value, int right);
 /* The positions of a sort key. */
 int own_places(Coded *self, PyObject *key, size_t *first, size_t *past);
 
+/* ---- late.c */
+/* Notes that an object of so many bytes comes or goes: 1, or 0 where it is to be done at once, or -1 with an
+ * error. */
+int late_note(Coded *self, PyObject *object, size_t size, int is_gone);
+/* Makes the changes that are noted; 0 with an error, and then the rest stay noted. */
+int late_made(Coded *self);
+/* Forgets them. */
+void late_drop(Coded *self);
+
 /* ---- walk.c */
+size_t length_of(PyObject *owner);
+/* Reads the items from a position on, as many as `size`, at most CHUNK. */
+void read_part(PyObject *owner, size_t from, size_t size, Part *part);
 PyObject *walk_new(PyObject *owner, size_t first, size_t past, int reverse);
-/* The method `walk` of both. */
+/* The items at the positions from `first` and before `past`, as a list. */
+PyObject *chunk_of(PyObject *owner, size_t first, size_t past);
+/* The methods `walk` and `chunk` of both. */
 PyObject *walk_method(PyObject *self, PyObject *const *given, Py_ssize_t count);
-/* Reads two positions, `first` and `past`, that are not negative. */
-int two_positions(PyObject *const *given, Py_ssize_t count, size_t *first, size_t *past);
-/* A list with room for the items of some positions, of how many the collection has. */
-PyObject *list_of(size_t length, size_t *first, size_t *past);
+PyObject *chunk_method(PyObject *self, PyObject *const *given, Py_ssize_t count);
+
+/* ---- front.c */
+/* Whether an object can be what orders items; else an error says so. */
+int is_order(PyObject *order);
 
 #endif

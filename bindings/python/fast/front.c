@@ -30,18 +30,17 @@ static int has_numbers(Front *self) { return self->order != NULL && Py_TYPE(self
 
 static int has_members(Front *self) { return self->members != NULL && PySet_Check(self->members); }
 
-static Py_ssize_t front_length(Front *self) {
-    if (has_numbers(self))
-        return (Py_ssize_t)indexset_set_len(&((Numbers *)self->order)->set);
-    return is_made(self) ? PyObject_Size(self->order) : -1;
-}
+static Py_ssize_t front_length(Front *self) { return is_made(self) ? (Py_ssize_t)length_of(self->order) : -1; }
 
+/* What is asked for a value outlives what runs meanwhile of its type. */
 static int front_contains(Front *self, PyObject *value) {
-    if (has_numbers(self))
-        return numbers_contains((Numbers *)self->order, value);
-    if (has_members(self))
-        return PySequence_Contains(self->members, value);
-    return is_made(self) ? PySequence_Contains(self->order, value) : -1;
+    if (!is_made(self))
+        return -1;
+    PyObject *asked = has_members(self) ? self->members : self->order;
+    Py_INCREF(asked);
+    int is_there = Py_TYPE(asked) == &NumbersType ? numbers_contains((Numbers *)asked, value) : PySequence_Contains(asked, value);
+    Py_DECREF(asked);
+    return is_there;
 }
 
 static PyObject *front_iter(Front *self) {
@@ -58,7 +57,7 @@ static PyObject *slice(Front *self, PyObject *index) {
         return PyObject_CallMethodOneArg((PyObject *)self, names.slice, index);
     PySlice_AdjustIndices(length, &first, &past, step);
     past = past < first ? first : past;
-    return has_numbers(self) ? numbers_chunk((Numbers *)self->order, (size_t)first, (size_t)past) : coded_chunk((Coded *)self->order, (size_t)first, (size_t)past);
+    return chunk_of(self->order, (size_t)first, (size_t)past);
 }
 
 static PyObject *front_subscript(Front *self, PyObject *index) {
@@ -78,17 +77,26 @@ static PyObject *front_subscript(Front *self, PyObject *index) {
     return has_numbers(self) ? numbers_item((Numbers *)self->order, position) : coded_item((Coded *)self->order, position);
 }
 
+/* Adds an item of the kind's own type: 1, or 0 where it is there, or NOT_OWN, or -1 with an error. */
+static int add_own(PyObject *order, PyObject *members, PyObject *value) {
+    uint64_t code;
+    if (Py_TYPE(order) != &NumbersType)
+        return own_add((Coded *)order, value, PySet_Check(members) ? members : NULL);
+    return number_code(((Numbers *)order)->kind, value, &code) ? numbers_add((Numbers *)order, value) : NOT_OWN;
+}
+
 /* `_add` of the class finds the kind, and keeps apart what is equal. */
 static PyObject *add(Front *self, PyObject *value) {
-    uint64_t code;
-    int state = NOT_OWN;
     if (!is_made(self))
         return NULL;
-    if (!has_numbers(self))
-        state = own_add((Coded *)self->order, value, has_members(self) ? self->members : NULL);
-    else if (number_code(((Numbers *)self->order)->kind, value, &code))
-        state = numbers_add((Numbers *)self->order, value);
-    if (state == NOT_OWN || (state == 0 && self->members == Py_False))
+    /* They outlive what runs meanwhile of the key function and of comparisons. */
+    PyObject *order = self->order, *members = self->members ? self->members : Py_None;
+    Py_INCREF(order);
+    Py_INCREF(members);
+    int state = add_own(order, members, value), may_repeat = members == Py_False;
+    Py_DECREF(order);
+    Py_DECREF(members);
+    if (state == NOT_OWN || (state == 0 && may_repeat))
         return PyObject_CallMethodOneArg((PyObject *)self, names.add, value);
     if (state < 0)
         return NULL;
@@ -101,35 +109,49 @@ static PyObject *discard(Front *self, PyObject *value) {
         if (answer == NULL)
             return NULL;
         Py_DECREF(answer);
-    } else if (numbers_discard((Numbers *)self->order, value) < 0) {
-        return NULL;
+        Py_RETURN_NONE;
     }
+    Numbers *order = (Numbers *)self->order;
+    Py_INCREF(order);
+    int state = numbers_discard(order, value);
+    Py_DECREF(order);
+    if (state < 0)
+        return NULL;
     Py_RETURN_NONE;
 }
 
-static PyObject *bisect(Front *self, PyObject *value, int right) {
-    if (!is_made(self))
-        return NULL;
-    Py_ssize_t position = has_numbers(self) ? numbers_bisect((Numbers *)self->order, value, right) : own_bisect((Coded *)self->order, value, right);
+static PyObject *bisect_of(PyObject *order, PyObject *value, int right) {
+    int is_numbers = Py_TYPE(order) == &NumbersType;
+    Py_ssize_t position = is_numbers ? numbers_bisect((Numbers *)order, value, right) : own_bisect((Coded *)order, value, right);
     if (position == NOT_OWN)
-        return PyObject_CallMethodObjArgs(self->order, names.bisect, value, right ? Py_True : Py_False, NULL);
+        return PyObject_CallMethodObjArgs(order, names.bisect, value, right ? Py_True : Py_False, NULL);
     return position < 0 ? NULL : PyLong_FromSsize_t(position);
+}
+
+static PyObject *bisect(Front *self, PyObject *value, int right) {
+    PyObject *order = is_made(self) ? self->order : NULL;
+    Py_XINCREF(order);
+    PyObject *position = order ? bisect_of(order, value, right) : NULL;
+    Py_XDECREF(order);
+    return position;
 }
 
 static PyObject *bisect_left(Front *self, PyObject *value) { return bisect(self, value, 0); }
 static PyObject *bisect_right(Front *self, PyObject *value) { return bisect(self, value, 1); }
 
-/* The order is one that walks can go over. */
+int is_order(PyObject *order) {
+    if (order != NULL && (Py_TYPE(order) == &NumbersType || PyObject_TypeCheck(order, &CodedType)))
+        return 1;
+    PyErr_SetString(PyExc_TypeError, "an order is Numbers or a Coded");
+    return 0;
+}
+
 static int set_order(Front *self, PyObject *order, void *nothing) {
     (void)nothing;
-    if (order == NULL || (Py_TYPE(order) != &NumbersType && !PyObject_TypeCheck(order, &CodedType))) {
-        PyErr_SetString(PyExc_TypeError, "an order is Numbers or a Coded");
+    if (!is_order(order))
         return -1;
-    }
     Py_INCREF(order);
-    PyObject *before = self->order;
-    self->order = order;
-    Py_XDECREF(before);
+    Py_XSETREF(self->order, order);
     return 0;
 }
 

@@ -12,7 +12,7 @@ static struct PyModuleDef module = {
 };
 
 static int make_names(void) {
-    const char *texts[] = {"_add", "_bisect", "bound", "code", "codes_of", "_contains", "_discard", "find", "flipped", "_slice"};
+    const char *texts[] = {"_add", "_bisect", "bound", "code", "codes_of", "_contains", "_discard", "find", "flipped", "_order_keys", "_slice"};
     PyObject **places = (PyObject **)&names;
     for (size_t i = 0; i < sizeof names / sizeof *places; i++)
         if ((places[i] = PyUnicode_InternFromString(texts[i])) == NULL)
@@ -21,11 +21,12 @@ static int make_names(void) {
 }
 
 static int add_types(PyObject *made) {
-    PyTypeObject *types[] = {&NumbersType, &CodedType, &FrontType};
-    const char *names[] = {"Numbers", "Coded", "Front"};
+    PyTypeObject *types[] = {&NumbersType, &CodedType, &FrontType, &DictFrontType};
+    const char *names[] = {"Numbers", "Coded", "Front", "DictFront"};
+    DictFrontType.tp_base = &PyDict_Type;
     if (PyType_Ready(&WalkType) < 0)
         return 0;
-    for (int i = 0; i < 3; i++) {
+    for (size_t i = 0; i < sizeof types / sizeof *types; i++) {
         if (PyType_Ready(types[i]) < 0)
             return 0;
         Py_INCREF(types[i]);

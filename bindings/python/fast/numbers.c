@@ -1,36 +1,7 @@
-/* Distinct numbers of a kind, in order, in a set of the library. */
+/* Distinct numbers of a kind, in order, in a map of the library that leads to the objects that were given. */
 #include "fast.h"
 
-/* ---- numbers and codes */
-
-static uint64_t code_of_double(double number) {
-    uint64_t bits;
-    number += 0.0;
-    memcpy(&bits, &number, sizeof bits);
-    return bits & TOP ? ~bits : bits | TOP;
-}
-
-int number_code(enum kind kind, PyObject *value, uint64_t *code) {
-    if (kind == FLOAT64) {
-        if (!PyFloat_CheckExact(value) || PyFloat_AS_DOUBLE(value) != PyFloat_AS_DOUBLE(value))
-            return 0;
-        *code = code_of_double(PyFloat_AS_DOUBLE(value));
-        return 1;
-    }
-    if (!PyLong_CheckExact(value))
-        return 0;
-    if (kind == INT64) {
-        int overflow;
-        *code = (uint64_t)PyLong_AsLongLongAndOverflow(value, &overflow) ^ TOP;
-        return !overflow;
-    }
-    *code = PyLong_AsUnsignedLongLong(value);
-    if (*code == UINT64_MAX && PyErr_Occurred()) {
-        PyErr_Clear();
-        return 0;
-    }
-    return 1;
-}
+/* ---- codes */
 
 /* Asks the kind for the code of a value: 1, or 0 where it answers None, or -1. */
 static int asked(Numbers *self, PyObject *call, PyObject *value, uint64_t *code) {
@@ -48,39 +19,6 @@ static int asked(Numbers *self, PyObject *call, PyObject *value, uint64_t *code)
 
 static int found(Numbers *self, PyObject *value, uint64_t *code) {
     return number_code(self->kind, value, code) ? 1 : asked(self, names.find, value, code);
-}
-
-#if PY_VERSION_HEX >= 0x030B0000 && PY_VERSION_HEX < 0x030C0000 && PYLONG_BITS_IN_DIGIT == 30
-/* An integer of two or three digits, which Python's own call makes by loops over them. */
-static PyObject *integer(long long value) {
-    uint64_t size = value < 0 ? 0 - (uint64_t)value : (uint64_t)value;
-    if (size >> 30 == 0)
-        return PyLong_FromLongLong(value);
-    Py_ssize_t digits = size >> 60 ? 3 : 2;
-    PyLongObject *made = _PyLong_New(digits);
-    if (made == NULL)
-        return NULL;
-    made->ob_digit[0] = size & PyLong_MASK;
-    made->ob_digit[1] = size >> 30 & PyLong_MASK;
-    if (digits == 3)
-        made->ob_digit[2] = (digit)(size >> 60);
-    if (value < 0)
-        Py_SET_SIZE(made, -digits);
-    return (PyObject *)made;
-}
-#else
-#define integer PyLong_FromLongLong
-#endif
-
-PyObject *numbers_value(Numbers *self, uint64_t code) {
-    if (self->kind == INT64)
-        return integer((long long)(code ^ TOP));
-    if (self->kind == UINT64)
-        return PyLong_FromUnsignedLongLong(code);
-    uint64_t bits = code & TOP ? code & ~TOP : ~code;
-    double number;
-    memcpy(&number, &bits, sizeof number);
-    return PyFloat_FromDouble(number);
 }
 
 /* ---- the object */
@@ -102,15 +40,28 @@ static PyObject *numbers_new(PyTypeObject *type, PyObject *given, PyObject *word
     }
     self->python = python;
     self->kind = name[0] == 'i' ? INT64 : name[0] == 'u' ? UINT64 : FLOAT64;
-    if (indexset_set_new(&self->set) != INDEXSET_YES) {
+    if (indexset_map_new(&self->map) != INDEXSET_YES) {
         Py_DECREF(self);
         return PyErr_NoMemory();
     }
     return (PyObject *)self;
 }
 
+/* Counts a reference to each object, or one less: numbers run no code as they go. */
+static void count_objects(Numbers *self, int more) {
+    Part part;
+    size_t at = 0;
+    do {
+        read_part((PyObject *)self, at, CHUNK, &part);
+        for (size_t i = 0; i < part.count; i++)
+            more ? Py_XINCREF(OBJECT(part.objects[i])) : Py_XDECREF(OBJECT(part.objects[i]));
+        at += part.count;
+    } while (part.count == CHUNK);
+}
+
 static void numbers_dealloc(Numbers *self) {
-    indexset_set_free(&self->set);
+    count_objects(self, 0);
+    indexset_map_free(&self->map);
     Py_XDECREF(self->python);
     Py_TYPE(self)->tp_free((PyObject *)self);
 }
@@ -123,59 +74,74 @@ static PyObject *numbers_clone(Numbers *self, PyObject *nothing) {
     Py_INCREF(self->python);
     made->python = self->python;
     made->kind = self->kind;
-    if (indexset_set_clone(&self->set, &made->set) != INDEXSET_YES) {
+    if (indexset_map_clone(&self->map, &made->map) != INDEXSET_YES) {
         Py_DECREF(made);
         return PyErr_NoMemory();
     }
+    count_objects(made, 1);
     return (PyObject *)made;
 }
 
 /* ---- one key */
 
-static Py_ssize_t numbers_length(Numbers *self) { return (Py_ssize_t)indexset_set_len(&self->set); }
+static Py_ssize_t numbers_length(Numbers *self) { return (Py_ssize_t)indexset_map_len(&self->map); }
 
 int numbers_contains(Numbers *self, PyObject *value) {
     uint64_t code;
     int state = found(self, value, &code);
-    return state < 1 ? state : indexset_set_contains(&self->set, code);
+    return state < 1 ? state : indexset_map_contains(&self->map, code);
+}
+
+/* Puts an object, or NULL, at a code where there is none: 1, or 0, or -1 with an error. */
+static int put(Numbers *self, uint64_t code, PyObject *given) {
+    uint64_t before, ours;
+    if (self->kind == FLOAT64 && code == TOP) /* there is one zero */
+        given = NULL;
+    uint32_t status = indexset_map_insert(&self->map, code, ADDRESS(given), &before);
+    if (status == INDEXSET_NO) {
+        indexset_map_insert(&self->map, code, before, &ours);
+        return 0;
+    }
+    if (status != INDEXSET_YES) {
+        PyErr_NoMemory();
+        return -1;
+    }
+    Py_XINCREF(given);
+    self->changes++;
+    return 1;
 }
 
 int numbers_add(Numbers *self, PyObject *value) {
     uint64_t code;
-    if (!number_code(self->kind, value, &code) && asked(self, names.code, value, &code) != 1)
-        return -1;
-    uint32_t status = indexset_set_insert(&self->set, code);
-    if (status == INDEXSET_MEMORY) {
-        PyErr_NoMemory();
-        return -1;
-    }
-    self->changes += status == INDEXSET_YES;
-    return status == INDEXSET_YES;
+    if (number_code(self->kind, value, &code))
+        return put(self, code, value);
+    return asked(self, names.code, value, &code) == 1 ? put(self, code, NULL) : -1;
+}
+
+static int take_out(Numbers *self, uint64_t code) {
+    uint64_t object;
+    if (!indexset_map_remove(&self->map, code, &object))
+        return 0;
+    self->changes++;
+    Py_XDECREF(OBJECT(object));
+    return 1;
 }
 
 int numbers_discard(Numbers *self, PyObject *value) {
     uint64_t code;
     int state = found(self, value, &code);
-    if (state < 1 || !indexset_set_remove(&self->set, code))
-        return state < 0 ? -1 : 0;
-    self->changes++;
-    return 1;
+    return state < 1 ? state : take_out(self, code);
 }
 
 static PyObject *truth(int state) { return state < 0 ? NULL : PyBool_FromLong(state); }
 static PyObject *add(Numbers *self, PyObject *value) { return truth(numbers_add(self, value)); }
-
-static PyObject *add_own(Numbers *self, PyObject *value) {
-    uint64_t code;
-    return number_code(self->kind, value, &code) ? truth(numbers_add(self, value) < 0 ? -1 : 1) : truth(0);
-}
 
 static PyObject *discard(Numbers *self, PyObject *value) { return truth(numbers_discard(self, value)); }
 
 Py_ssize_t numbers_bisect(Numbers *self, PyObject *value, int right) {
     uint64_t code;
     int exact = 1;
-    if (indexset_set_len(&self->set) == 0)
+    if (indexset_map_len(&self->map) == 0)
         return 0;
     if (!number_code(self->kind, value, &code)) {
         PyObject *bound = PyObject_CallMethodOneArg(self->python, names.bound, value);
@@ -189,8 +155,8 @@ Py_ssize_t numbers_bisect(Numbers *self, PyObject *value, int right) {
             return numbers_length(self);
         }
     }
-    size_t rank = indexset_set_rank(&self->set, code);
-    return (Py_ssize_t)(rank + (right && exact && indexset_set_contains(&self->set, code)));
+    size_t rank = indexset_map_rank(&self->map, code);
+    return (Py_ssize_t)(rank + (right && exact && indexset_map_contains(&self->map, code)));
 }
 
 static PyObject *bisect(Numbers *self, PyObject *const *given, Py_ssize_t count) {
@@ -204,13 +170,23 @@ static PyObject *bisect(Numbers *self, PyObject *const *given, Py_ssize_t count)
 
 /* ---- positions */
 
-PyObject *numbers_item(Numbers *self, Py_ssize_t position) {
+static PyObject *find(Numbers *self, PyObject *value) {
     uint64_t code;
-    if (position < 0 || !indexset_set_at(&self->set, (size_t)position, &code)) {
+    int state = found(self, value, &code);
+    if (state < 0)
+        return NULL;
+    int is_there = state && indexset_map_contains(&self->map, code);
+    return PyLong_FromSsize_t(is_there ? (Py_ssize_t)indexset_map_rank(&self->map, code) : -1);
+}
+
+PyObject *numbers_item(Numbers *self, Py_ssize_t position) {
+    uint64_t code, object;
+    if (position < 0 || !indexset_map_at(&self->map, (size_t)position, &code, &object)) {
         PyErr_SetString(PyExc_IndexError, "index out of range");
         return NULL;
     }
-    return numbers_value(self, code);
+    Py_XINCREF(OBJECT(object));
+    return object ? OBJECT(object) : number_of(self->kind, code);
 }
 
 static PyObject *subscript(Numbers *self, PyObject *index) {
@@ -227,51 +203,32 @@ static PyObject *pop(Numbers *self, PyObject *index) {
     return value;
 }
 
-PyObject *numbers_chunk(Numbers *self, size_t first, size_t past) {
-    uint64_t codes[CHUNK];
-    PyObject *made = list_of(indexset_set_len(&self->set), &first, &past);
-    for (size_t at = first; made != NULL && at < past;) {
-        size_t size = past - at < CHUNK ? past - at : CHUNK;
-        indexset_set_range_by_position(&self->set, at, codes, size);
-        for (size_t i = 0; i < size && made != NULL; i++, at++) {
-            PyObject *value = numbers_value(self, codes[i]);
-            if (value == NULL)
-                Py_CLEAR(made);
-            else
-                PyList_SET_ITEM(made, (Py_ssize_t)(at - first), value);
-        }
-    }
+/* ---- many keys */
+
+/* Room for numbers; NULL with an error. */
+static uint64_t *room(size_t count) {
+    uint64_t *made = count < PY_SSIZE_T_MAX / 8 ? PyMem_Malloc(8 * (count + 1)) : NULL;
+    if (made == NULL)
+        PyErr_NoMemory();
     return made;
 }
 
-static PyObject *chunk(Numbers *self, PyObject *const *given, Py_ssize_t count) {
-    size_t first, past;
-    return two_positions(given, count, &first, &past) ? numbers_chunk(self, first, past) : NULL;
-}
-
-/* ---- many keys */
-
-/* Writes the codes of a list or tuple of numbers of the kind's own type; 0 where it is none. */
-static int own_codes(Numbers *self, PyObject *values, uint64_t *codes) {
+/* The codes of the items of a list or tuple, where all are of the kind's own type, in memory of their own; else
+ * NULL, with an error where memory is missing. */
+static uint64_t *own_codes(Numbers *self, PyObject *values) {
     Py_ssize_t count = PySequence_Fast_GET_SIZE(values);
     PyObject **items = PySequence_Fast_ITEMS(values);
-    for (Py_ssize_t i = 0; i < count; i++)
-        if (!number_code(self->kind, items[i], codes + i))
-            return 0;
-    return 1;
+    uint64_t *codes = room((size_t)count);
+    for (Py_ssize_t i = 0; codes != NULL && i < count; i++)
+        if (!number_code(self->kind, items[i], codes + i)) {
+            PyMem_Free(codes);
+            codes = NULL;
+        }
+    return codes;
 }
 
-/* The codes of values, in memory of their own, and how many; NULL with an error. */
-static uint64_t *codes_of(Numbers *self, PyObject *values, size_t *count) {
-    if (PyList_CheckExact(values) || PyTuple_CheckExact(values)) {
-        *count = (size_t)PySequence_Fast_GET_SIZE(values);
-        uint64_t *codes = PyMem_Malloc(8 * (*count + 1));
-        if (codes == NULL)
-            return (uint64_t *)PyErr_NoMemory();
-        if (own_codes(self, values, codes))
-            return codes;
-        PyMem_Free(codes);
-    }
+/* The codes of values of any type, in memory of their own, and how many; NULL with an error. */
+static uint64_t *asked_codes(Numbers *self, PyObject *values, size_t *count) {
     PyObject *array = PyObject_CallMethodObjArgs(kinds, names.codes_of, self->python, values, NULL);
     Py_buffer view;
     if (array == NULL || PyObject_GetBuffer(array, &view, PyBUF_SIMPLE) < 0) {
@@ -279,46 +236,72 @@ static uint64_t *codes_of(Numbers *self, PyObject *values, size_t *count) {
         return NULL;
     }
     *count = (size_t)view.len / 8;
-    uint64_t *codes = PyMem_Malloc(8 * (*count + 1));
-    if (codes == NULL)
-        PyErr_NoMemory();
-    else
+    uint64_t *codes = room(*count);
+    if (codes != NULL)
         memcpy(codes, view.buf, (size_t)view.len);
     PyBuffer_Release(&view);
     Py_DECREF(array);
     return codes;
 }
 
-/* The codes of another's keys. */
-static uint64_t *codes_from(Numbers *other, size_t *count) {
-    *count = indexset_set_len(&other->set);
-    uint64_t *codes = PyMem_Malloc(8 * (*count + 1));
+static int is_list(PyObject *values) { return PyList_CheckExact(values) || PyTuple_CheckExact(values); }
+
+/* The codes of values and how many; and the values themselves as an array, or NULL where they are not kept. */
+static uint64_t *codes_of(Numbers *self, PyObject *values, size_t *count, PyObject ***items) {
+    uint64_t *codes = is_list(values) ? own_codes(self, values) : NULL;
+    *items = NULL;
     if (codes == NULL)
-        return (uint64_t *)PyErr_NoMemory();
-    indexset_set_range_by_position(&other->set, 0, codes, *count);
+        return PyErr_Occurred() ? NULL : asked_codes(self, values, count);
+    *items = PySequence_Fast_ITEMS(values);
+    *count = (size_t)PySequence_Fast_GET_SIZE(values);
     return codes;
 }
 
-static PyObject *take(Numbers *self, PyObject *values) {
-    size_t count, taken, before = indexset_set_len(&self->set);
-    uint64_t *codes = Py_TYPE(values) == &NumbersType ? codes_from((Numbers *)values, &count) : codes_of(self, values, &count);
+static int take_values(Numbers *self, PyObject *values) {
+    size_t count, i = 0;
+    PyObject **items;
+    uint64_t *codes = codes_of(self, values, &count, &items);
     if (codes == NULL)
-        return NULL;
-    uint32_t status = indexset_set_insert_all(&self->set, codes, count, &taken);
+        return 0;
+    while (i < count && put(self, codes[i], items ? items[i] : NULL) >= 0)
+        i++;
     PyMem_Free(codes);
-    self->changes += indexset_set_len(&self->set) != before;
-    if (status != INDEXSET_YES)
-        return PyErr_NoMemory();
+    return i == count;
+}
+
+static int take_numbers(Numbers *self, Numbers *other) {
+    Part part;
+    size_t at = 0;
+    do {
+        read_part((PyObject *)other, at, CHUNK, &part);
+        for (size_t i = 0; i < part.count; i++)
+            if (put(self, part.codes[i], OBJECT(part.objects[i])) < 0)
+                return 0;
+        at += part.count;
+    } while (part.count == CHUNK);
+    return 1;
+}
+
+static PyObject *take(Numbers *self, PyObject *values) {
+    int is_set = PyAnySet_CheckExact(values) || PyDict_CheckExact(values);
+    PyObject *list = is_set ? PySequence_List(values) : NULL;
+    if (is_set && list == NULL)
+        return NULL;
+    int done = Py_TYPE(values) == &NumbersType ? take_numbers(self, (Numbers *)values) : take_values(self, is_set ? list : values);
+    Py_XDECREF(list);
+    if (!done)
+        return NULL;
     Py_RETURN_NONE;
 }
 
 static PyObject *ranks(Numbers *self, PyObject *values) {
     size_t count;
-    uint64_t *codes = codes_of(self, values, &count);
+    PyObject **items;
+    uint64_t *codes = codes_of(self, values, &count, &items);
     if (codes == NULL)
         return NULL;
     for (size_t i = 0; i < count; i++)
-        codes[i] = indexset_set_rank(&self->set, codes[i]);
+        codes[i] = indexset_map_rank(&self->map, codes[i]);
     PyObject *bytes = PyBytes_FromStringAndSize((char *)codes, (Py_ssize_t)(8 * count));
     PyMem_Free(codes);
     PyObject *mask = bytes ? PyLong_FromLong(0) : NULL;
@@ -341,7 +324,14 @@ static PyObject *at_all(Numbers *self, PyObject *positions) {
 static PyObject *clear(Numbers *self, PyObject *nothing) {
     (void)nothing;
     self->changes++;
-    indexset_set_clear(&self->set);
+    count_objects(self, 0);
+    indexset_map_clear(&self->map);
+    Py_RETURN_NONE;
+}
+
+static PyObject *changed(Numbers *self, PyObject *nothing) {
+    (void)nothing;
+    self->changes++;
     Py_RETURN_NONE;
 }
 
@@ -354,20 +344,21 @@ static PyObject *kind_name(Numbers *self, void *nothing) {
 
 static PyMethodDef methods[] = {
     {"add", (PyCFunction)add, METH_O, "Adds a key, and tells whether it was not there."},
-    {"add_own", (PyCFunction)add_own, METH_O, "Adds a key of the kind's own type, and tells whether it is one."},
     {"at_all", (PyCFunction)at_all, METH_O, "The keys at positions, in one call."},
     {"bisect", (PyCFunction)(void (*)(void))bisect, METH_FASTCALL, "How many keys are below a value, or not above it."},
-    {"chunk", (PyCFunction)(void (*)(void))chunk, METH_FASTCALL, "The keys at the positions from the first and before the second."},
+    {"chunk", (PyCFunction)(void (*)(void))chunk_method, METH_FASTCALL, "The keys at the positions from the first and before the second."},
+    {"changed", (PyCFunction)changed, METH_NOARGS, "Counts a change."},
     {"clear", (PyCFunction)clear, METH_NOARGS, "Removes all keys."},
     {"clone", (PyCFunction)numbers_clone, METH_NOARGS, "The same numbers again."},
     {"discard", (PyCFunction)discard, METH_O, "Removes a key, and tells whether it was there."},
+    {"find", (PyCFunction)find, METH_O, "The position of the key that a value equals, or -1."},
     {"pop", (PyCFunction)pop, METH_O, "Removes the key at a position and returns it."},
     {"ranks", (PyCFunction)ranks, METH_O, "How many keys are below each key, in one call."},
     {"take", (PyCFunction)take, METH_O, "Adds keys, or none where one does not fit."},
     {"walk", (PyCFunction)(void (*)(void))walk_method, METH_FASTCALL, "The keys at positions one by one."},
     {0},
 };
-static PyMemberDef members[] = {{"changes", T_ULONGLONG, offsetof(Numbers, changes), 0, NULL}, {0}};
+static PyMemberDef members[] = {{"changes", T_ULONGLONG, offsetof(Numbers, changes), READONLY, NULL}, {0}};
 static PyGetSetDef properties[] = {{"kind", (getter)kind_name, NULL, "The name of the kind.", NULL}, {0}};
 static PySequenceMethods sequence = {.sq_length = (lenfunc)numbers_length, .sq_contains = (objobjproc)numbers_contains};
 static PyMappingMethods mapping = {.mp_length = (lenfunc)numbers_length, .mp_subscript = (binaryfunc)subscript};
@@ -375,7 +366,7 @@ static PyMappingMethods mapping = {.mp_length = (lenfunc)numbers_length, .mp_sub
 PyTypeObject NumbersType = {
     PyVarObject_HEAD_INIT(NULL, 0)
     .tp_name = "indexset._fast.Numbers",
-    .tp_doc = "Distinct numbers of a kind, in order, in a set of the library.",
+    .tp_doc = "Distinct numbers of a kind, in order, in a map of the library.",
     .tp_basicsize = sizeof(Numbers),
     .tp_flags = Py_TPFLAGS_DEFAULT,
     .tp_new = numbers_new,

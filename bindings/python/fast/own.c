@@ -3,17 +3,14 @@
 
 #define SHORT 120
 
-/* A code, with room for the number that may follow it. */
+/* A code: the bytes of the item itself, or bytes with room for the number that may follow them. */
 typedef struct {
-    unsigned char *data;
+    unsigned char *data, *owned;
     size_t size;
     unsigned char brief[SHORT];
 } Code;
 
-static void drop(Code *code) {
-    if (code->data != code->brief)
-        PyMem_Free(code->data);
-}
+static void drop(Code *code) { PyMem_Free(code->owned); }
 
 static void put_number(unsigned char *to, uint64_t number) {
     for (int i = 0; i < 8; i++)
@@ -22,22 +19,22 @@ static void put_number(unsigned char *to, uint64_t number) {
 
 /* Makes room for a code of at most so many bytes; 0 with an error. */
 static int make_room(Code *code, size_t size) {
-    code->data = size + 9 <= SHORT ? code->brief : PyMem_Malloc(size + 9);
+    code->owned = size + 9 <= SHORT ? NULL : PyMem_Malloc(size + 9);
+    code->data = size + 9 <= SHORT ? code->brief : code->owned;
     if (code->data == NULL)
         PyErr_NoMemory();
     return code->data != NULL;
 }
 
-/* The bytes of a text or a byte string; framed as `_tuple.py` has it where sort keys may repeat. */
-static int encode_bytes(Code *code, const char *data, size_t size, int framed, unsigned char first) {
+/* The bytes of a text or a byte string, framed as `_tuple.py` has it. */
+static int encode_framed(Code *code, const char *data, size_t size, unsigned char first) {
     size_t zeros = 0;
-    for (size_t i = 0; framed && i < size; i++)
+    for (size_t i = 0; i < size; i++)
         zeros += data[i] == 0;
     if (!make_room(code, size + zeros + 2))
         return -1;
     unsigned char *to = code->data;
-    if (framed)
-        *to++ = first;
+    *to++ = first;
     if (zeros == 0) {
         memcpy(to, data, size);
         to += size;
@@ -47,9 +44,18 @@ static int encode_bytes(Code *code, const char *data, size_t size, int framed, u
         if (data[i] == 0)
             *to++ = 0xFF;
     }
-    if (framed)
-        *to++ = 0;
+    *to++ = 0;
     code->size = (size_t)(to - code->data);
+    return 1;
+}
+
+/* The same, framed where sort keys may repeat: they do where a function makes them. */
+static int encode_bytes(Coded *self, Code *code, const char *data, size_t size, unsigned char first) {
+    if (self->repeats || self->key != NULL)
+        return encode_framed(code, data, size, first);
+    code->data = (unsigned char *)data;
+    code->owned = NULL;
+    code->size = size;
     return 1;
 }
 
@@ -60,12 +66,13 @@ static int encode(Coded *self, PyObject *key, Code *code) {
         if (!number_code(self->kind, key, &number))
             return NOT_OWN;
         code->data = code->brief;
+        code->owned = NULL;
         code->size = 8;
         put_number(code->data, number);
         return 1;
     }
     if (self->kind == BYTES && PyBytes_CheckExact(key))
-        return encode_bytes(code, PyBytes_AS_STRING(key), (size_t)PyBytes_GET_SIZE(key), self->repeats, 1);
+        return encode_bytes(self, code, PyBytes_AS_STRING(key), (size_t)PyBytes_GET_SIZE(key), 1);
     if (self->kind != TEXT || !PyUnicode_CheckExact(key))
         return NOT_OWN;
     Py_ssize_t size;
@@ -74,7 +81,7 @@ static int encode(Coded *self, PyObject *key, Code *code) {
         PyErr_Clear();
         return NOT_OWN;
     }
-    return encode_bytes(code, text, (size_t)size, self->repeats, 2);
+    return encode_bytes(self, code, text, (size_t)size, 2);
 }
 
 /* Encodes the sort key of an item. */
@@ -89,47 +96,59 @@ static int encode_item(Coded *self, PyObject *item, Code *code) {
     return state;
 }
 
-/* The positions of a code, which gets a byte more where sort keys may repeat. */
-static void places_of(Coded *self, Code *code, size_t *first, size_t *past) {
-    *first = indexset_text_map_rank(&self->map, code->data, code->size);
+/* The positions of a code, which gets a byte more where sort keys may repeat: 1, or -1 with an error. */
+static int places_of(Coded *self, Code *code, size_t *first, size_t *past) {
+    if (coded_map(self) == NULL)
+        return -1;
+    *first = indexset_text_map_rank(self->map, code->data, code->size);
     if (!self->repeats) {
-        *past = *first + indexset_text_map_contains(&self->map, code->data, code->size);
-        return;
+        *past = *first + indexset_text_map_contains(self->map, code->data, code->size);
+        return 1;
     }
     code->data[code->size] = 0xFE;
-    *past = indexset_text_map_rank(&self->map, code->data, code->size + 1);
+    *past = indexset_text_map_rank(self->map, code->data, code->size + 1);
+    return 1;
 }
 
 int own_places(Coded *self, PyObject *key, size_t *first, size_t *past) {
     Code code;
     int state = encode(self, key, &code);
-    if (state == 1) {
-        places_of(self, &code, first, past);
-        drop(&code);
-    }
+    if (state != 1)
+        return state;
+    state = places_of(self, &code, first, past);
+    drop(&code);
     return state;
+}
+
+static Py_ssize_t bisect_code(Coded *self, Code *code, int right) {
+    if (coded_map(self) == NULL)
+        return -1;
+    if (right && self->repeats)
+        code->data[code->size++] = 0xFE;
+    size_t position = indexset_text_map_rank(self->map, code->data, code->size);
+    if (right && !self->repeats)
+        position += indexset_text_map_contains(self->map, code->data, code->size);
+    return (Py_ssize_t)position;
 }
 
 Py_ssize_t own_bisect(Coded *self, PyObject *value, int right) {
     Code code;
-    if (indexset_text_map_len(&self->map) == 0)
+    if (coded_length(self) == 0)
         return 0;
     int state = encode_item(self, value, &code);
     if (state != 1)
         return state;
-    if (right && self->repeats)
-        code.data[code.size++] = 0xFE;
-    size_t position = indexset_text_map_rank(&self->map, code.data, code.size);
-    if (right && !self->repeats)
-        position += indexset_text_map_contains(&self->map, code.data, code.size);
+    Py_ssize_t position = bisect_code(self, &code, right);
     drop(&code);
-    return (Py_ssize_t)position;
+    return position;
 }
 
 /* Whether an object is at a code. Where sort keys may repeat, the code becomes the whole one of the first. */
 static int is_there(Coded *self, Code *code) {
+    if (coded_map(self) == NULL)
+        return -1;
     if (!self->repeats)
-        return indexset_text_map_contains(&self->map, code->data, code->size);
+        return indexset_text_map_contains(self->map, code->data, code->size);
     unsigned char found[SHORT + 9], *whole = found;
     size_t size, wanted = code->size + 8;
     uint64_t place;
@@ -137,7 +156,7 @@ static int is_there(Coded *self, Code *code) {
         PyErr_NoMemory();
         return -1;
     }
-    int is_first = indexset_text_map_lower_bound(&self->map, code->data, code->size, whole, wanted, &size, &place);
+    int is_first = indexset_text_map_lower_bound(self->map, code->data, code->size, whole, wanted, &size, &place);
     is_first = is_first && size == wanted && memcmp(whole, code->data, code->size) == 0;
     if (is_first)
         memcpy(code->data, whole, wanted);
@@ -172,6 +191,24 @@ int own_discard(Coded *self, PyObject *item) {
     return state;
 }
 
+/* Whether a code is the bytes of an item itself, which are there for as long as the item is. */
+static int is_items(Coded *self, const Code *code) { return self->kind >= TEXT && code->data != code->brief && code->owned == NULL; }
+
+int own_drop(Coded *self, PyObject *item) {
+    Code code;
+    int state = self->key == NULL ? encode(self, item, &code) : NOT_OWN;
+    if (state != 1)
+        return state;
+    state = is_items(self, &code) ? late_note(self, item, code.size, 1) : 0;
+    drop(&code);
+    return state == 0 ? own_discard(self, item) : state;
+}
+
+static int insert(Coded *self, Code *code, PyObject *item) {
+    int state = is_items(self, code) ? late_note(self, item, code->size, 0) : 0;
+    return state == 0 ? coded_insert(self, code->data, code->size, item) : state;
+}
+
 /* Adds an item, also to a set of those that there are, if one is given: 1, or 0 where it is there. */
 static int add_code(Coded *self, PyObject *item, PyObject *members, Code *code) {
     if (members != NULL) {
@@ -185,7 +222,7 @@ static int add_code(Coded *self, PyObject *item, PyObject *members, Code *code) 
         put_number(code->data + code->size, self->added++);
         code->size += 8;
     }
-    if (coded_insert(self, code->data, code->size, item) == 0)
+    if (insert(self, code, item) >= 0)
         return 1;
     if (members != NULL) {
         PyObject *type, *value, *trace;

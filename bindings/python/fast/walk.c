@@ -1,7 +1,74 @@
 /* Walks over positions, and what the methods of both collections share. */
 #include "fast.h"
 
-int two_positions(PyObject *const *given, Py_ssize_t count, size_t *first, size_t *past) {
+/* ---- parts */
+
+size_t length_of(PyObject *owner) {
+    if (Py_TYPE(owner) == &NumbersType)
+        return indexset_map_len(&((Numbers *)owner)->map);
+    return (size_t)coded_length((Coded *)owner);
+}
+
+/* Makes the changes that are noted; 0 with an error. */
+static int is_ready(PyObject *owner) { return Py_TYPE(owner) == &NumbersType || coded_map((Coded *)owner) != NULL; }
+
+/* Where the objects lie is known by then, so that they are fetched side by side. No change is noted here. */
+void read_part(PyObject *owner, size_t from, size_t size, Part *part) {
+    if (Py_TYPE(owner) == &NumbersType)
+        part->count = indexset_map_range_by_position(&((Numbers *)owner)->map, from, part->codes, size, part->objects, size);
+    else
+        part->count = indexset_text_map_range_by_position(((Coded *)owner)->map, from, part->objects, size);
+    for (size_t i = 0; i < part->count; i++)
+        __builtin_prefetch(OBJECT(part->objects[i]), 1);
+}
+
+/* An item of a part, as a new reference. */
+static inline PyObject *item_of(PyObject *owner, const Part *part, size_t i) {
+    PyObject *item = OBJECT(part->objects[i]);
+    if (item == NULL)
+        return number_of(((Numbers *)owner)->kind, part->codes[i]);
+    Py_INCREF(item);
+    return item;
+}
+
+/* Fills the list from a place on with the items of a part. */
+static int put_part(PyObject *owner, const Part *part, PyObject *list, size_t place) {
+    for (size_t i = 0; i < part->count; i++) {
+        PyObject *item = item_of(owner, part, i);
+        if (item == NULL)
+            return 0;
+        PyList_SET_ITEM(list, (Py_ssize_t)(place + i), item);
+    }
+    return 1;
+}
+
+static PyObject *chunk_of_held(PyObject *owner, size_t first, size_t past) {
+    size_t length = length_of(owner);
+    past = past < length ? past : length;
+    first = first < past ? first : past;
+    PyObject *made = PyList_New((Py_ssize_t)(past - first));
+    Part part;
+    if (made != NULL && !is_ready(owner))
+        Py_CLEAR(made);
+    for (size_t at = first; made != NULL && at < past; at += part.count) {
+        read_part(owner, at, past - at < CHUNK ? past - at : CHUNK, &part);
+        if (part.count == 0) /* the list was made, and a `__del__` ran */
+            PyErr_SetString(PyExc_RuntimeError, "it changed meanwhile");
+        if (part.count == 0 || !put_part(owner, &part, made, at - first))
+            Py_CLEAR(made);
+    }
+    return made;
+}
+
+PyObject *chunk_of(PyObject *owner, size_t first, size_t past) {
+    Py_INCREF(owner);
+    PyObject *made = chunk_of_held(owner, first, past);
+    Py_DECREF(owner);
+    return made;
+}
+
+/* Reads two positions, `first` and `past`, that are not negative. */
+static int two_positions(PyObject *const *given, Py_ssize_t count, size_t *first, size_t *past) {
     if (count < 2) {
         PyErr_SetString(PyExc_TypeError, "two positions are needed");
         return 0;
@@ -17,40 +84,9 @@ int two_positions(PyObject *const *given, Py_ssize_t count, size_t *first, size_
     return 1;
 }
 
-PyObject *list_of(size_t length, size_t *first, size_t *past) {
-    *past = *past < length ? *past : length;
-    *first = *first < *past ? *first : *past;
-    return PyList_New((Py_ssize_t)(*past - *first));
-}
-
-typedef struct {
-    PyObject_HEAD
-    PyObject *owner; /* Numbers or Coded; NULL at the end */
+PyObject *chunk_method(PyObject *self, PyObject *const *given, Py_ssize_t count) {
     size_t first, past;
-    unsigned long long *counter, changes; /* of the owner, now and at the start */
-    int reverse, is_numbers;
-    size_t at, count, next; /* in `read`, and how many are read next */
-    uint64_t read[CHUNK];
-} Walk;
-
-PyObject *walk_new(PyObject *owner, size_t first, size_t past, int reverse) {
-    int is_numbers = Py_TYPE(owner) == &NumbersType;
-    size_t length = is_numbers ? indexset_set_len(&((Numbers *)owner)->set) : indexset_text_map_len(&((Coded *)owner)->map);
-    Walk *self = PyObject_GC_New(Walk, &WalkType);
-    if (self == NULL)
-        return NULL;
-    Py_INCREF(owner);
-    self->owner = owner;
-    self->past = past < length ? past : length;
-    self->first = first < self->past ? first : self->past;
-    self->is_numbers = is_numbers;
-    self->counter = is_numbers ? &((Numbers *)owner)->changes : &((Coded *)owner)->changes;
-    self->changes = *self->counter;
-    self->reverse = reverse;
-    self->at = self->count = 0;
-    self->next = 1;
-    PyObject_GC_Track(self);
-    return (PyObject *)self;
+    return two_positions(given, count, &first, &past) ? chunk_of(self, first, past) : NULL;
 }
 
 PyObject *walk_method(PyObject *self, PyObject *const *given, Py_ssize_t count) {
@@ -59,6 +95,44 @@ PyObject *walk_method(PyObject *self, PyObject *const *given, Py_ssize_t count) 
         return NULL;
     int reverse = count > 2 ? PyObject_IsTrue(given[2]) : 0;
     return reverse < 0 ? NULL : walk_new(self, first, past, reverse);
+}
+
+/* ---- walks */
+
+typedef struct {
+    PyObject_HEAD
+    PyObject *owner; /* Numbers or Coded; NULL at the end */
+    size_t first, past;
+    unsigned long long *counter, changes; /* of the owner, now and at the start */
+    int reverse;
+    size_t at, next; /* in `part`, and how many are read next */
+    Part part;
+} Walk;
+
+PyObject *walk_new(PyObject *owner, size_t first, size_t past, int reverse) {
+    Py_INCREF(owner); /* before the walk is made, which may run a `__del__` */
+    Walk *self = PyObject_GC_New(Walk, &WalkType);
+    if (self == NULL) {
+        Py_DECREF(owner);
+        return NULL;
+    }
+    if (!is_ready(owner)) {
+        self->owner = owner;
+        Py_DECREF(self);
+        return NULL;
+    }
+    int is_numbers = Py_TYPE(owner) == &NumbersType;
+    size_t length = length_of(owner);
+    self->owner = owner;
+    self->past = past < length ? past : length;
+    self->first = first < self->past ? first : self->past;
+    self->counter = is_numbers ? &((Numbers *)owner)->changes : &((Coded *)owner)->changes;
+    self->changes = *self->counter;
+    self->reverse = reverse;
+    self->at = self->part.count = 0;
+    self->next = 1;
+    PyObject_GC_Track(self);
+    return (PyObject *)self;
 }
 
 static int walk_traverse(Walk *self, visitproc visit, void *arg) {
@@ -77,21 +151,19 @@ static void walk_dealloc(Walk *self) {
     PyObject_GC_Del(self);
 }
 
-/* Reads the next codes or places. */
-static void read_more(Walk *self) {
+/* Reads the next items; 0 where there are none. */
+static int read_more(Walk *self) {
     size_t left = self->past - self->first, size = left < self->next ? left : self->next;
-    size_t from = self->reverse ? self->past - size : self->first;
-    if (self->is_numbers)
-        indexset_set_range_by_position(&((Numbers *)self->owner)->set, from, self->read, size);
-    else
-        indexset_text_map_range_by_position(&((Coded *)self->owner)->map, from, self->read, size);
+    if (size == 0)
+        return 0;
+    read_part(self->owner, self->reverse ? self->past - size : self->first, size, &self->part);
     if (self->reverse)
         self->past -= size;
     else
         self->first += size;
     self->at = 0;
-    self->count = size;
     self->next = self->next * 8 < CHUNK ? self->next * 8 : CHUNK;
+    return 1;
 }
 
 static PyObject *walk_next(Walk *self) {
@@ -102,33 +174,26 @@ static PyObject *walk_next(Walk *self) {
         PyErr_SetString(PyExc_RuntimeError, "it changed during iteration");
         return NULL;
     }
-    if (self->at == self->count) {
-        if (self->first >= self->past) {
-            Py_CLEAR(self->owner);
-            return NULL;
-        }
-        read_more(self);
+    if (self->at == self->part.count && !read_more(self)) {
+        Py_CLEAR(self->owner);
+        return NULL;
     }
     size_t at = self->at++;
-    uint64_t code = self->read[self->reverse ? self->count - 1 - at : at];
-    if (self->is_numbers)
-        return numbers_value((Numbers *)self->owner, code);
-    return coded_object((Coded *)self->owner, code);
+    return item_of(self->owner, &self->part, self->reverse ? self->part.count - 1 - at : at);
 }
 
 static PyObject *length_hint(Walk *self, PyObject *nothing) {
     (void)nothing;
-    return PyLong_FromSize_t(self->owner ? self->count - self->at + self->past - self->first : 0);
+    return PyLong_FromSize_t(self->owner ? self->part.count - self->at + self->past - self->first : 0);
 }
 
 /* A pickle of a walk is that of the list of what is left. */
 static PyObject *reduce(Walk *self, PyObject *nothing) {
     (void)nothing;
-    PyObject *owner = self->owner;
-    size_t left = self->count - self->at;
-    PyObject *items = owner == NULL             ? PyList_New(0)
-                      : self->reverse ? PyObject_CallMethod(owner, "chunk", "nn", (Py_ssize_t)self->first, (Py_ssize_t)(self->past + left))
-                                      : PyObject_CallMethod(owner, "chunk", "nn", (Py_ssize_t)(self->first - left), (Py_ssize_t)self->past);
+    size_t left = self->part.count - self->at;
+    PyObject *items = self->owner == NULL ? PyList_New(0)
+                      : self->reverse     ? chunk_of(self->owner, self->first, self->past + left)
+                                          : chunk_of(self->owner, self->first - left, self->past);
     if (items == NULL || (self->reverse && PyList_Reverse(items) < 0)) {
         Py_XDECREF(items);
         return NULL;

@@ -4,9 +4,10 @@ from __future__ import annotations
 import warnings
 from collections.abc import Mapping
 from reprlib import recursive_repr
-from typing import Any, Callable, Dict, Generic, Iterable, Iterator, Literal, Optional, TypeVar, Union, overload
+from typing import Any, Callable, Generic, Iterable, Iterator, Literal, Optional, TypeVar, Union, overload
 
 from ._kinds import known
+from ._native import DictFront
 from ._orders import KeyFunction, fitted, order_of
 from ._views import SortedItemsView, SortedKeysView, SortedValuesView
 
@@ -15,10 +16,9 @@ V = TypeVar("V")
 
 
 _NOT_GIVEN: Any = object()
-_set = dict.__setitem__
 
 
-class SortedDict(Dict[K, V], Generic[K, V]):
+class SortedDict(DictFront[K, V], Generic[K, V]):
     """A dictionary in the order of its keys, with the calls of `sortedcontainers.SortedDict`: a `dict` that
     finds values, beside what orders its keys.
 
@@ -39,9 +39,8 @@ class SortedDict(Dict[K, V], Generic[K, V]):
     (SortedDict({'apple': 1, 'pear': 2}), SortedDict(<built-in function len>, {'fig': 1, 'pear': 2}))
     """
 
-    __slots__ = ("_order", "_named", "__weakref__")
+    __slots__ = ("_named", "__weakref__")
 
-    _order: Any
     _named: Optional[str]
 
     @overload
@@ -100,19 +99,6 @@ class SortedDict(Dict[K, V], Generic[K, V]):
 
     # ---- one key
 
-    def __setitem__(self, key: K, value: V) -> None:
-        """Makes a value that of a key.
-
-        >>> ages = SortedDict(); ages[1] = "a"; ages[1] = "b"; ages
-        SortedDict({1: 'b'})
-        """
-        if key not in self and not self._order.add_own(key):
-            self._order_keys([key])
-        _set(self, key, value)
-
-    def __delitem__(self, key: Any) -> None:
-        self.pop(key)
-
     def setdefault(self, key: K, default: Any = None) -> Any:
         """The value of a key, which becomes the default where the key is not there."""
         if key in self:
@@ -145,7 +131,7 @@ class SortedDict(Dict[K, V], Generic[K, V]):
         else:
             order.take(keys)
         if order is not self._order:
-            self._order.changes += 1
+            self._order.changed()
             self._order = order
 
     # ---- many keys
@@ -201,9 +187,8 @@ class SortedDict(Dict[K, V], Generic[K, V]):
     def index(self, value: Any, start: Optional[int] = None, stop: Optional[int] = None) -> int:
         """The position of a key, from `start` and before `stop`. ValueError where it is not there."""
         first, past, _ = slice(start, stop).indices(len(self))
-        order = self._order
         if value in self:
-            position: int = order.find(value) if hasattr(order, "find") else order.bisect(value, False)
+            position: int = self._order.find(value)
             if first <= position < past:
                 return position
         raise ValueError(f"{value!r} is not there")
@@ -236,11 +221,6 @@ class SortedDict(Dict[K, V], Generic[K, V]):
         return position
 
     # ---- walks
-
-    def __iter__(self) -> Iterator[K]:
-        """Walks over the keys in order. RuntimeError once keys came or went."""
-        walk: Iterator[K] = self._order.walk(0, len(self), False)
-        return walk
 
     def __reversed__(self) -> Iterator[K]:
         """Walks over the keys from the last to the first."""

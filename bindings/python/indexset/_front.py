@@ -1,8 +1,10 @@
-"""What stands before what orders the items, by ctypes: the class that the compiled module `_fast` has too."""
+"""What stands before what orders the items, by ctypes: the classes that the compiled module `_fast` has too."""
 from __future__ import annotations
 
-from typing import Any, Generic, Iterator, TypeVar
+from typing import Any, Dict, Generic, Iterator, TypeVar
 
+K = TypeVar("K")
+V = TypeVar("V")
 T = TypeVar("T")
 
 
@@ -20,7 +22,9 @@ class Front(Generic[T]):
 
     def __contains__(self, value: Any) -> bool:
         """Whether an item equals a value."""
-        return value in (self._members or self._order)
+        members = self._members
+        found: bool = value in members if members else self._order.holds(value)
+        return found
 
     def __iter__(self) -> Iterator[T]:
         """Walks over the items in order. RuntimeError once there was a change."""
@@ -37,7 +41,9 @@ class Front(Generic[T]):
 
     def add(self, value: T) -> None:
         """Adds an item. One that is there stays, of a set. It takes a time that grows as log n."""
-        if self._members is not None or not self._order.add_own(value):
+        members = self._members
+        added = self._order.add_own(value) if members is None or members is False else None
+        if added is None or (added is False and members is False):
             self._add(value)
 
     def _add(self, value: T) -> None:
@@ -61,3 +67,30 @@ class Front(Generic[T]):
         return position
 
     bisect = bisect_right
+
+
+class DictFront(Dict[K, V], Generic[K, V]):
+    """A dict whose keys are in order too: what changes one key goes straight to the dict and to the order."""
+
+    __slots__ = ("_order",)
+
+    _order: Any
+
+    def __setitem__(self, key: K, value: V) -> None:
+        if key not in self and self._order.add_own(key) is None:
+            self._order_keys([key])
+        super().__setitem__(key, value)
+
+    def _order_keys(self, keys: list[Any]) -> None:
+        raise NotImplementedError
+
+    def __delitem__(self, key: Any) -> None:
+        if key not in self:
+            raise KeyError(key)
+        self._order.discard(key)
+        super().__delitem__(key)
+
+    def __iter__(self) -> Iterator[K]:
+        order = self._order
+        walk: Iterator[K] = order.walk(0, len(order), False)
+        return walk

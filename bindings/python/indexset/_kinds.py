@@ -6,6 +6,7 @@ from __future__ import annotations
 
 import math
 import struct
+import sys
 from array import array
 from numbers import Complex, Real
 from operator import index
@@ -14,6 +15,7 @@ from typing import Any, Iterable, Optional, Union
 from ._tuple import framed_bytes, framed_text, pack
 
 Key = Union[int, float]
+Buffer = Union[bytes, "array[int]"]
 
 TOP = 1 << 63
 ALL = (1 << 64) - 1
@@ -78,8 +80,11 @@ class Integers:
 
     def find(self, value: Any) -> Optional[int]:
         """The number of the key that a value equals, or None where it equals none."""
-        number = whole(value)
-        return number - self._least if number is not None and 0 <= number - self._least <= ALL else None
+        number = value if type(value) is int else whole(value)
+        if number is None:
+            return None
+        code = number - self._least
+        return code if 0 <= code <= ALL else None
 
     def bound(self, value: Any) -> tuple[int, bool]:
         """The number of the first key that is not below a value, 2**64 where there is none, and whether the
@@ -246,10 +251,17 @@ def _fits(name: str, format: str) -> bool:
     return format in {"int64": ("q", "l"), "uint64": ("Q", "L")}.get(name, ())
 
 
+# Each byte with its highest bit turned, and where that of a number of 64 bits stands.
+_TURNED, _HIGHEST = bytes(byte ^ 128 for byte in range(256)), 7 if sys.byteorder == "little" else 0
+
+
+def turned(data: Buffer) -> bytearray:
+    """The numbers of 64 bits in some bytes, each with its highest bit turned: two operations for all."""
+    made = bytearray(data)
+    made[_HIGHEST::8] = made[_HIGHEST::8].translate(_TURNED)
+    return made
+
+
 def flipped(data: bytes, mask: int) -> array[int]:
-    """The numbers of 64 bits in some bytes, each by exclusive-or with a mask: one operation for all."""
-    size = len(data)
-    if mask:
-        pattern = int.from_bytes(mask.to_bytes(8, "little") * (size // 8), "little")
-        data = (int.from_bytes(data, "little") ^ pattern).to_bytes(size, "little")
-    return array("Q", data)
+    """The numbers of 64 bits in some bytes; with the mask TOP, each with its highest bit turned."""
+    return array("Q", turned(data) if mask else data)

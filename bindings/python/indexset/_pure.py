@@ -3,11 +3,12 @@ from __future__ import annotations
 
 import ctypes
 from array import array
+from itertools import chain
 from operator import index as as_index
 from typing import Any, Callable, Generic, Iterable, Iterator, Optional, TypeVar, Union
 
 from . import _library as library
-from ._kinds import ALL, NUMBERS, TOP, codes_of, flipped
+from ._kinds import ALL, NUMBERS, TOP, codes_of, flipped, turned
 from ._library import Count, Number, check, lib, memory, place, zeros
 
 BACKEND = "ctypes"
@@ -20,9 +21,15 @@ _OWN: dict[str, type] = {"str": str, "bytes": bytes}
 class Ordered(Generic[T]):
     """Items at positions, and a count of the changes that were made to them."""
 
-    __slots__ = ("changes",)
+    __slots__ = ("changes", "_walked", "_out", "_place")
 
-    changes: int
+    def __init__(self) -> None:
+        self.changes = 0
+        # The lists that walks are in, by their addresses.
+        self._walked: dict[int, list[T]] = {}
+        # Where a change has the library write a number: changes do not go on side by side.
+        self._out = Number()
+        self._place = place(self._out)
 
     def __len__(self) -> int:
         raise NotImplementedError
@@ -34,29 +41,43 @@ class Ordered(Generic[T]):
         """The items at the positions from `first` and before `past`."""
         raise NotImplementedError
 
+    def changed(self) -> None:
+        """Counts a change, and ends the lists that walks are in."""
+        self.changes += 1
+        if self._walked:
+            for part in list(self._walked.values()):
+                part.clear()
+
     def walk(self, first: int, past: int, reverse: bool) -> Iterator[T]:
         """The same one by one. RuntimeError once there was a change."""
+        return chain.from_iterable(self._parts(first, past, reverse))
+
+    def _parts(self, first: int, past: int, reverse: bool) -> Iterator[list[T]]:
         seen, size = self.changes, 1
         while first < past:
             size = min(size, past - first)
             start = past - size if reverse else first
-            items = self.chunk(start, start + size) if size > 1 else [self[start]]
+            part = self.chunk(start, start + size)
             if reverse:
                 past -= size
-                items.reverse()
+                part.reverse()
             else:
                 first += size
-            for item in items:
-                if self.changes != seen:
-                    raise RuntimeError("it changed during iteration")
-                yield item
+            self._walked[id(part)] = part
+            try:
+                if self.changes == seen:
+                    yield part
+            finally:
+                del self._walked[id(part)]
+            if self.changes != seen:
+                break
             size = min(size * 8, _CHUNK)
         if self.changes != seen:
             raise RuntimeError("it changed during iteration")
 
     def _position(self, index: int) -> int:
         """A position from 0 on, which may be past the end."""
-        at = as_index(index)
+        at = index if type(index) is int else as_index(index)
         at = at + len(self) if at < 0 else at
         if not 0 <= at <= ALL:
             raise IndexError("index out of range")
@@ -66,14 +87,17 @@ class Ordered(Generic[T]):
 class Numbers(Ordered[Any]):
     """Distinct numbers of a kind, in order, in a set of the library."""
 
-    __slots__ = ("_handle", "_kind", "_code", "_decode", "_own")
+    __slots__ = ("_handle", "_kind", "_code", "_find", "_decode", "_own")
 
     def __init__(self, kind: str) -> None:
-        self.changes = 0
-        self._kind = NUMBERS[kind]
-        self._code, self._decode = self._kind.code, self._kind.decode
-        self._own = float if kind == "float64" else int
+        self._begin(NUMBERS[kind])
         self._handle = library.new("set")
+
+    def _begin(self, kind: Any) -> None:
+        super().__init__()
+        self._kind = kind
+        self._code, self._find, self._decode = kind.code, kind.find, kind.decode
+        self._own = float if kind.name == "float64" else int
 
     @property
     def kind(self) -> str:
@@ -84,8 +108,7 @@ class Numbers(Ordered[Any]):
     def clone(self) -> Numbers:
         """The same numbers again."""
         made = Numbers.__new__(Numbers)
-        made.changes, made._kind, made._own = 0, self._kind, self._own
-        made._code, made._decode = self._code, self._decode
+        made._begin(self._kind)
         made._handle = library.handle("set")
         check(lib.indexset_set_clone(self._handle, made._handle))
         return made
@@ -95,7 +118,11 @@ class Numbers(Ordered[Any]):
         return size
 
     def __contains__(self, value: Any) -> bool:
-        code = self._kind.find(value)
+        return self.holds(value)
+
+    def holds(self, value: Any) -> bool:
+        """Whether a key equals a value."""
+        code = self._find(value)
         return code is not None and lib.indexset_set_contains(self._handle, code)
 
     def __getitem__(self, index: int) -> Any:
@@ -106,27 +133,27 @@ class Numbers(Ordered[Any]):
 
     def add(self, value: Any) -> bool:
         """Adds a key, and tells whether it was not there."""
-        if not check(lib.indexset_set_insert(self._handle, self._code(value))):
+        return self._put(self._code(value))
+
+    def _put(self, code: int) -> bool:
+        if not check(lib.indexset_set_insert(self._handle, code)):
             return False
-        self.changes += 1
+        self.changed()
         return True
 
-    def add_own(self, value: Any) -> bool:
-        """Adds a key of the kind's own type, and tells whether it is one."""
+    def add_own(self, value: Any) -> Optional[bool]:
+        """Adds a key of the kind's own type, and tells whether it was not there; None of another type."""
         if type(value) is not self._own:
-            return False
-        code = self._kind.find(value)
-        if code is None:
-            return False
-        self.changes += check(lib.indexset_set_insert(self._handle, code))
-        return True
+            return None
+        code = self._find(value)
+        return None if code is None else self._put(code)
 
     def discard(self, value: Any) -> bool:
         """Removes a key, and tells whether it was there."""
-        code = self._kind.find(value)
+        code = self._find(value)
         if code is None or not lib.indexset_set_remove(self._handle, code):
             return False
-        self.changes += 1
+        self.changed()
         return True
 
     def pop(self, index: int) -> Any:
@@ -137,13 +164,23 @@ class Numbers(Ordered[Any]):
 
     def bisect(self, value: Any, right: bool) -> int:
         """How many keys are below a value, or not above it."""
-        size = len(self)
-        code, exact = self._kind.bound(value) if size else (0, False)
-        if code > ALL:
-            return size
+        code, exact = (self._find(value), True) if type(value) is self._own else (None, False)
+        if code is None:
+            size = len(self)
+            code, exact = self._kind.bound(value) if size else (0, False)
+            if code > ALL:
+                return size
         rank: int = lib.indexset_set_rank(self._handle, code)
         if right and exact:
             rank += lib.indexset_set_contains(self._handle, code)
+        return rank
+
+    def find(self, value: Any) -> int:
+        """The position of the key that a value equals, or -1."""
+        code = self._find(value)
+        if code is None or not lib.indexset_set_contains(self._handle, code):
+            return -1
+        rank: int = lib.indexset_set_rank(self._handle, code)
         return rank
 
     def take(self, values: Union[Iterable[Any], Numbers]) -> None:
@@ -152,14 +189,15 @@ class Numbers(Ordered[Any]):
         if codes:
             taken, before = Count(), len(self)
             status = lib.indexset_set_insert_all(self._handle, memory(codes), len(codes), place(taken))
-            self.changes += len(self) != before
+            if len(self) != before:
+                self.changed()
             check(status)
 
     def _codes(self, values: Iterable[Any]) -> array[int]:
         if isinstance(values, (list, tuple, set, frozenset, range)) and self.kind != "float64":
             try:
                 signed = self.kind == "int64"
-                return flipped(array("q" if signed else "Q", values).tobytes(), TOP if signed else 0)
+                return flipped(array("q", values).tobytes(), TOP) if signed else array("Q", values)
             except (TypeError, OverflowError):
                 pass
         return codes_of(self._kind, values)
@@ -175,11 +213,10 @@ class Numbers(Ordered[Any]):
         return self._decoded(self.codes(first, past))
 
     def _decoded(self, codes: array[int]) -> list[Any]:
-        if self.kind == "float64":
+        name = self._kind.name
+        if name == "float64":
             return list(map(self._decode, codes))
-        if self.kind == "uint64":
-            return codes.tolist()
-        return array("q", flipped(codes.tobytes(), TOP).tobytes()).tolist()
+        return codes.tolist() if name == "uint64" else memoryview(turned(codes)).cast("q").tolist()
 
     def ranks(self, values: Iterable[Any]) -> array[int]:
         """How many keys are below each key, in one call."""
@@ -198,7 +235,7 @@ class Numbers(Ordered[Any]):
 
     def clear(self) -> None:
         """Removes all keys."""
-        self.changes += 1
+        self.changed()
         lib.indexset_set_clear(self._handle)
 
 
@@ -211,9 +248,10 @@ class Coded(Ordered[T]):
     __slots__ = ("_handle", "_objects", "_unused", "_own", "_once", "key", "added", "__weakref__")
 
     def __init__(self, kind: str, key: Optional[Callable[[Any], Any]], repeats: bool) -> None:
+        super().__init__()
         self.key, self._once = key, not repeats
         self._own = _OWN.get(kind) if key is None else None
-        self.added = self.changes = 0
+        self.added = 0
         self._objects: list[Any] = []
         self._unused: list[int] = []
         self._handle = library.new("text_map")
@@ -237,6 +275,9 @@ class Coded(Ordered[T]):
         return item
 
     def __contains__(self, value: Any) -> bool:
+        return self._contains(value)
+
+    def holds(self, value: Any) -> bool:
         """Whether an object equals a value."""
         return self._contains(value)
 
@@ -250,12 +291,9 @@ class Coded(Ordered[T]):
     def _add(self, item: T) -> bool:
         raise NotImplementedError
 
-    def add_own(self, item: T) -> bool:
-        """Adds an object whose sort key is of the kind's own type, and tells whether it is."""
-        if type(item) is not self._own:
-            return False
-        self._add(item)
-        return True
+    def add_own(self, item: T) -> Optional[bool]:
+        """Adds an object whose sort key is of the kind's own type; None of another type."""
+        return self._add(item) if type(item) is self._own else None
 
     def discard(self, value: Any) -> bool:
         """Removes the first object that equals a value, and tells whether there was one."""
@@ -272,7 +310,11 @@ class Coded(Ordered[T]):
 
     def bisect(self, value: Any, right: bool) -> int:
         """How many objects are below a value, or not above it."""
-        return self._bisect(value, right)
+        if type(value) is not self._own or not self._once:
+            return self._bisect(value, right)
+        code = self._code_of(value)
+        rank = self.rank(code)
+        return rank + self.has(code) if right else rank
 
     def _bisect(self, value: Any, right: bool) -> int:
         raise NotImplementedError
@@ -299,13 +341,12 @@ class Coded(Ordered[T]):
             self._objects.append(item)
         else:
             self._objects[at] = item
-        before = Number()
-        status = lib.indexset_text_map_insert(self._handle, code, len(code), at, place(before))
+        status = lib.indexset_text_map_insert(self._handle, code, len(code), at, self._place)
         if status == library.YES:
-            self.changes += 1
+            self.changed()
             return
         if status == library.NO:
-            lib.indexset_text_map_insert(self._handle, code, len(code), before, place(Number()))
+            lib.indexset_text_map_insert(self._handle, code, len(code), self._out.value, place(Number()))
             status = library.HELD
         self._objects[at] = None
         unused.append(at)
@@ -332,23 +373,23 @@ class Coded(Ordered[T]):
 
     def _take_out(self, code: bytes) -> Optional[tuple[T]]:
         """Removes the object at a byte string and returns it, or None where there is none."""
-        out = Number()
-        if not lib.indexset_text_map_remove(self._handle, code, len(code), place(out)):
+        if not lib.indexset_text_map_remove(self._handle, code, len(code), self._place):
             return None
-        self.changes += 1
-        item, self._objects[out.value] = self._objects[out.value], None
-        self._unused.append(out.value)
+        self.changed()
+        at = self._out.value
+        item, self._objects[at] = self._objects[at], None
+        self._unused.append(at)
         return (item,)
 
     def chunk(self, first: int, past: int) -> list[T]:
         size, objects = max(0, past - first), self._objects
         out = zeros(size)
         del out[lib.indexset_text_map_range_by_position(self._handle, first, memory(out), size) :]
-        return [objects[at] for at in out]
+        return list(map(objects.__getitem__, out))
 
     def clear(self) -> None:
         """Removes all objects."""
         objects, self._objects, self._unused = self._objects, [], []
-        self.changes += 1
+        self.changed()
         lib.indexset_text_map_clear(self._handle)
         objects.clear()

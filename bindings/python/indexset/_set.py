@@ -273,7 +273,7 @@ class SortedSet(Sorted[T], MutableSet[T], Generic[T]):
 
     def _take_over(self, made: SortedSet[T]) -> SortedSet[T]:
         """Takes over the items of a set that is not used further."""
-        self._order.changes += 1
+        self._order.changed()
         self._order, self._members = made._order, made._members
         return self
 

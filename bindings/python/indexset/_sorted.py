@@ -46,7 +46,7 @@ class Sorted(Front[T], Sequence[T], Generic[T]):
     def _become(self, order: Order) -> None:
         """Has another order, which has the items of the one before and maybe more."""
         if order is not self._order:
-            self._order.changes += 1
+            self._order.changed()
             self._order = order
 
     # ---- positions
@@ -93,9 +93,6 @@ class Sorted(Front[T], Sequence[T], Generic[T]):
     def _find(self, value: Any, first: int) -> int:
         """The first position of a value from a position on, or -1."""
         order = self._order
-        if isinstance(order, Numbers):
-            position: int = order.bisect(value, False) if value in order else -1
-            return position
         found: int = order.find(value)
         while 0 <= found < first:
             found = found + 1 if found + 1 < len(order) and order[found + 1] == value else -1

@@ -1,0 +1,144 @@
+/* A dict whose keys are in order too: what changes one key goes straight to the dict and to the order. */
+#include "fast.h"
+
+static int dict_traverse(DictFront *self, visitproc visit, void *arg) {
+    Py_VISIT(self->order);
+    return PyDict_Type.tp_traverse((PyObject *)self, visit, arg);
+}
+
+static int dict_clear(DictFront *self) {
+    Py_CLEAR(self->order);
+    return PyDict_Type.tp_clear((PyObject *)self);
+}
+
+static void dict_dealloc(DictFront *self) {
+    PyObject_GC_UnTrack(self);
+    Py_CLEAR(self->order);
+    PyDict_Type.tp_dealloc((PyObject *)self);
+}
+
+/* What orders the keys, as a new reference: it outlives what runs meanwhile. There is none before `__init__`. */
+static PyObject *order_of(DictFront *self) {
+    if (self->order == NULL)
+        PyErr_SetString(PyExc_RuntimeError, "the object was not made");
+    Py_XINCREF(self->order);
+    return self->order;
+}
+
+/* ---- one key */
+
+/* Has a key in order that is not there: 1, or NOT_OWN, or -1 with an error. */
+static int add_key(PyObject *order, PyObject *key) {
+    uint64_t code;
+    if (Py_TYPE(order) != &NumbersType)
+        return own_add((Coded *)order, key, NULL);
+    return number_code(((Numbers *)order)->kind, key, &code) ? numbers_add((Numbers *)order, key) : NOT_OWN;
+}
+
+/* Takes out a key that is there. */
+static int discard_key(PyObject *order, PyObject *key) {
+    if (Py_TYPE(order) == &NumbersType)
+        return numbers_discard((Numbers *)order, key);
+    int state = own_drop((Coded *)order, key);
+    return state == NOT_OWN ? coded_discard((Coded *)order, key) : state;
+}
+
+/* The same by `_order_keys` of the class, which finds the kind. */
+static int order_key(DictFront *self, PyObject *key) {
+    PyObject *keys = PyList_New(1);
+    if (keys == NULL)
+        return -1;
+    Py_INCREF(key);
+    PyList_SET_ITEM(keys, 0, key);
+    PyObject *done = PyObject_CallMethodOneArg((PyObject *)self, names.order_keys, keys);
+    Py_DECREF(keys);
+    Py_XDECREF(done);
+    return done == NULL ? -1 : 1;
+}
+
+static int add(DictFront *self, PyObject *key) {
+    PyObject *order = order_of(self);
+    int state = order ? add_key(order, key) : -1;
+    Py_XDECREF(order);
+    return state == NOT_OWN ? order_key(self, key) : state;
+}
+
+/* Takes a key out of the order; an error that there is stays. */
+static int discard(DictFront *self, PyObject *key) {
+    PyObject *type, *value, *trace, *order = order_of(self);
+    PyErr_Fetch(&type, &value, &trace);
+    int state = order ? discard_key(order, key) : -1;
+    Py_XDECREF(order);
+    if (type != NULL)
+        PyErr_Restore(type, value, trace);
+    return state;
+}
+
+static int set_value(DictFront *self, PyObject *key, PyObject *value) {
+    int is_there = PyDict_Contains((PyObject *)self, key);
+    if (is_there < 0 || (!is_there && add(self, key) < 0))
+        return -1;
+    if (PyDict_SetItem((PyObject *)self, key, value) == 0)
+        return 0;
+    if (!is_there)
+        discard(self, key);
+    return -1;
+}
+
+static int delete(DictFront *self, PyObject *key) {
+    int is_there = PyDict_Contains((PyObject *)self, key);
+    if (is_there == 0) {
+        PyObject *words = PyTuple_Pack(1, key);
+        PyErr_SetObject(PyExc_KeyError, words);
+        Py_XDECREF(words);
+    }
+    if (is_there < 1 || discard(self, key) < 0)
+        return -1;
+    return PyDict_DelItem((PyObject *)self, key);
+}
+
+static int assign(DictFront *self, PyObject *key, PyObject *value) {
+    return value == NULL ? delete(self, key) : set_value(self, key, value);
+}
+
+static PyObject *walk(DictFront *self) {
+    PyObject *order = order_of(self);
+    PyObject *made = order ? walk_new(order, 0, PY_SSIZE_T_MAX, 0) : NULL;
+    Py_XDECREF(order);
+    return made;
+}
+
+/* ---- the type */
+
+static int set_order(DictFront *self, PyObject *order, void *nothing) {
+    (void)nothing;
+    if (!is_order(order))
+        return -1;
+    Py_INCREF(order);
+    Py_XSETREF(self->order, order);
+    return 0;
+}
+
+static PyObject *get_order(DictFront *self, void *nothing) {
+    (void)nothing;
+    return order_of(self);
+}
+
+static PyMethodDef methods[] = {{"__class_getitem__", Py_GenericAlias, METH_O | METH_CLASS, NULL}, {0}};
+static PyGetSetDef properties[] = {{"_order", (getter)get_order, (setter)set_order, NULL, NULL}, {0}};
+static PyMappingMethods mapping = {.mp_ass_subscript = (objobjargproc)assign};
+
+PyTypeObject DictFrontType = {
+    PyVarObject_HEAD_INIT(NULL, 0)
+    .tp_name = "indexset._fast.DictFront",
+    .tp_doc = "A dict whose keys are in order too.",
+    .tp_basicsize = sizeof(DictFront),
+    .tp_flags = Py_TPFLAGS_DEFAULT | Py_TPFLAGS_BASETYPE | Py_TPFLAGS_HAVE_GC,
+    .tp_dealloc = (destructor)dict_dealloc,
+    .tp_traverse = (traverseproc)dict_traverse,
+    .tp_clear = (inquiry)dict_clear,
+    .tp_iter = (getiterfunc)walk,
+    .tp_methods = methods,
+    .tp_getset = properties,
+    .tp_as_mapping = &mapping,
+};
