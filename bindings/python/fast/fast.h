@@ -61,7 +61,7 @@ typedef struct {
 typedef struct {
     PyObject_HEAD
     PyObject *order;
-    PyObject *members; /* the items as a set, or False where numbers may repeat, or None */
+    PyObject *members; /* the items as a set, or None where they may repeat */
 } Front;
 
 /* A dict whose keys are in order too. */
@@ -78,17 +78,29 @@ extern struct names {
     PyObject *add, *bisect, *bound, *code, *codes_of, *contains, *discard, *find, *flipped, *order_keys, *slice;
 } names;
 
-/* ---- numbers.c */
-PyObject *numbers_item(Numbers *self, Py_ssize_t position);
+/* ---- codes.c */
 /* A number of a kind that has a code, as a new object. */
 PyObject *number_of(enum kind kind, uint64_t code);
+/* Whether a value is of the type that a kind of numbers gives back, and of its range; then its code is
+ * written. */
+int number_code(enum kind kind, PyObject *value, uint64_t *code);
+
+/* ---- numbers.c */
+PyObject *numbers_item(Numbers *self, Py_ssize_t position);
 int numbers_contains(Numbers *self, PyObject *value);
 int numbers_add(Numbers *self, PyObject *value);
 int numbers_discard(Numbers *self, PyObject *value);
 Py_ssize_t numbers_bisect(Numbers *self, PyObject *value, int right);
-/* Whether a value is of the type that a kind of numbers gives back, and of its range; then its code is
- * written. */
-int number_code(enum kind kind, PyObject *value, uint64_t *code);
+/* Puts an object, or NULL, at a code where there is none: 1, or 0, or -1 with an error. */
+int numbers_put(Numbers *self, uint64_t code, PyObject *given);
+/* Asks the kind for the code of a value: 1, or 0 where it answers None, or -1 with an error. */
+int numbers_asked(Numbers *self, PyObject *call, PyObject *value, uint64_t *code);
+
+/* ---- batch.c */
+PyObject *numbers_take(Numbers *self, PyObject *values);
+PyObject *numbers_own(Numbers *self, PyObject *values);
+PyObject *numbers_are_own(Numbers *self, PyObject *values);
+PyObject *numbers_ranks(Numbers *self, PyObject *values);
 
 /* ---- coded.c */
 PyObject *coded_item(Coded *self, Py_ssize_t position);
@@ -111,6 +123,8 @@ int own_discard(Coded *self, PyObject *item);
 int own_drop(Coded *self, PyObject *item);
 int own_contains(Coded *self, PyObject *item);
 Py_ssize_t own_bisect(Coded *self, PyObject *value, int right);
+/* Takes an item out of a set; an error that there is stays. */
+void discard_quietly(PyObject *members, PyObject *item);
 /* The positions of a sort key. */
 int own_places(Coded *self, PyObject *key, size_t *first, size_t *past);
 

@@ -26,8 +26,6 @@ static int is_made(Front *self) {
     return self->order != NULL;
 }
 
-static int has_numbers(Front *self) { return self->order != NULL && Py_TYPE(self->order) == &NumbersType; }
-
 static int has_members(Front *self) { return self->members != NULL && PySet_Check(self->members); }
 
 static Py_ssize_t front_length(Front *self) { return is_made(self) ? (Py_ssize_t)length_of(self->order) : -1; }
@@ -74,15 +72,25 @@ static PyObject *front_subscript(Front *self, PyObject *index) {
     }
     if (!is_made(self))
         return NULL;
-    return has_numbers(self) ? numbers_item((Numbers *)self->order, position) : coded_item((Coded *)self->order, position);
+    int is_numbers = Py_TYPE(self->order) == &NumbersType;
+    return is_numbers ? numbers_item((Numbers *)self->order, position) : coded_item((Coded *)self->order, position);
 }
 
-/* Adds an item of the kind's own type: 1, or 0 where it is there, or NOT_OWN, or -1 with an error. */
-static int add_own(PyObject *order, PyObject *members, PyObject *value) {
+/* Adds a number of the kind's own type, also to a set of those that there are, if one is given: 1, or 0 where it
+ * is there, or NOT_OWN, or -1 with an error. */
+static int add_number(Numbers *order, PyObject *members, PyObject *value) {
     uint64_t code;
-    if (Py_TYPE(order) != &NumbersType)
-        return own_add((Coded *)order, value, PySet_Check(members) ? members : NULL);
-    return number_code(((Numbers *)order)->kind, value, &code) ? numbers_add((Numbers *)order, value) : NOT_OWN;
+    if (!number_code(order->kind, value, &code))
+        return NOT_OWN;
+    int is_there = members ? PySet_Contains(members, value) : 0;
+    if (is_there != 0)
+        return is_there < 0 ? -1 : 0;
+    if (members != NULL && PySet_Add(members, value) < 0)
+        return -1;
+    int state = numbers_add(order, value);
+    if (state < 0 && members != NULL)
+        discard_quietly(members, value);
+    return state;
 }
 
 /* `_add` of the class finds the kind, and keeps apart what is equal. */
@@ -90,12 +98,13 @@ static PyObject *add(Front *self, PyObject *value) {
     if (!is_made(self))
         return NULL;
     /* They outlive what runs meanwhile of the key function and of comparisons. */
-    PyObject *order = self->order, *members = self->members ? self->members : Py_None;
+    PyObject *order = self->order, *members = has_members(self) ? self->members : NULL;
     Py_INCREF(order);
-    Py_INCREF(members);
-    int state = add_own(order, members, value), may_repeat = members == Py_False;
+    Py_XINCREF(members);
+    int is_numbers = Py_TYPE(order) == &NumbersType, may_repeat = members == NULL;
+    int state = is_numbers ? add_number((Numbers *)order, members, value) : own_add((Coded *)order, value, members);
     Py_DECREF(order);
-    Py_DECREF(members);
+    Py_XDECREF(members);
     if (state == NOT_OWN || (state == 0 && may_repeat))
         return PyObject_CallMethodOneArg((PyObject *)self, names.add, value);
     if (state < 0)
@@ -104,19 +113,10 @@ static PyObject *add(Front *self, PyObject *value) {
 }
 
 static PyObject *discard(Front *self, PyObject *value) {
-    if (!has_numbers(self)) {
-        PyObject *answer = PyObject_CallMethodOneArg((PyObject *)self, names.discard, value);
-        if (answer == NULL)
-            return NULL;
-        Py_DECREF(answer);
-        Py_RETURN_NONE;
-    }
-    Numbers *order = (Numbers *)self->order;
-    Py_INCREF(order);
-    int state = numbers_discard(order, value);
-    Py_DECREF(order);
-    if (state < 0)
+    PyObject *answer = PyObject_CallMethodOneArg((PyObject *)self, names.discard, value);
+    if (answer == NULL)
         return NULL;
+    Py_DECREF(answer);
     Py_RETURN_NONE;
 }
 

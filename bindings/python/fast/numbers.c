@@ -3,8 +3,7 @@
 
 /* ---- codes */
 
-/* Asks the kind for the code of a value: 1, or 0 where it answers None, or -1. */
-static int asked(Numbers *self, PyObject *call, PyObject *value, uint64_t *code) {
+int numbers_asked(Numbers *self, PyObject *call, PyObject *value, uint64_t *code) {
     PyObject *answer = PyObject_CallMethodOneArg(self->python, call, value);
     if (answer == NULL)
         return -1;
@@ -18,7 +17,7 @@ static int asked(Numbers *self, PyObject *call, PyObject *value, uint64_t *code)
 }
 
 static int found(Numbers *self, PyObject *value, uint64_t *code) {
-    return number_code(self->kind, value, code) ? 1 : asked(self, names.find, value, code);
+    return number_code(self->kind, value, code) ? 1 : numbers_asked(self, names.find, value, code);
 }
 
 /* ---- the object */
@@ -92,8 +91,7 @@ int numbers_contains(Numbers *self, PyObject *value) {
     return state < 1 ? state : indexset_map_contains(&self->map, code);
 }
 
-/* Puts an object, or NULL, at a code where there is none: 1, or 0, or -1 with an error. */
-static int put(Numbers *self, uint64_t code, PyObject *given) {
+int numbers_put(Numbers *self, uint64_t code, PyObject *given) {
     uint64_t before, ours;
     if (self->kind == FLOAT64 && code == TOP) /* there is one zero */
         given = NULL;
@@ -114,8 +112,8 @@ static int put(Numbers *self, uint64_t code, PyObject *given) {
 int numbers_add(Numbers *self, PyObject *value) {
     uint64_t code;
     if (number_code(self->kind, value, &code))
-        return put(self, code, value);
-    return asked(self, names.code, value, &code) == 1 ? put(self, code, NULL) : -1;
+        return numbers_put(self, code, value);
+    return numbers_asked(self, names.code, value, &code) == 1 ? numbers_put(self, code, NULL) : -1;
 }
 
 static int take_out(Numbers *self, uint64_t code) {
@@ -203,113 +201,7 @@ static PyObject *pop(Numbers *self, PyObject *index) {
     return value;
 }
 
-/* ---- many keys */
-
-/* Room for numbers; NULL with an error. */
-static uint64_t *room(size_t count) {
-    uint64_t *made = count < PY_SSIZE_T_MAX / 8 ? PyMem_Malloc(8 * (count + 1)) : NULL;
-    if (made == NULL)
-        PyErr_NoMemory();
-    return made;
-}
-
-/* The codes of the items of a list or tuple, where all are of the kind's own type, in memory of their own; else
- * NULL, with an error where memory is missing. */
-static uint64_t *own_codes(Numbers *self, PyObject *values) {
-    Py_ssize_t count = PySequence_Fast_GET_SIZE(values);
-    PyObject **items = PySequence_Fast_ITEMS(values);
-    uint64_t *codes = room((size_t)count);
-    for (Py_ssize_t i = 0; codes != NULL && i < count; i++)
-        if (!number_code(self->kind, items[i], codes + i)) {
-            PyMem_Free(codes);
-            codes = NULL;
-        }
-    return codes;
-}
-
-/* The codes of values of any type, in memory of their own, and how many; NULL with an error. */
-static uint64_t *asked_codes(Numbers *self, PyObject *values, size_t *count) {
-    PyObject *array = PyObject_CallMethodObjArgs(kinds, names.codes_of, self->python, values, NULL);
-    Py_buffer view;
-    if (array == NULL || PyObject_GetBuffer(array, &view, PyBUF_SIMPLE) < 0) {
-        Py_XDECREF(array);
-        return NULL;
-    }
-    *count = (size_t)view.len / 8;
-    uint64_t *codes = room(*count);
-    if (codes != NULL)
-        memcpy(codes, view.buf, (size_t)view.len);
-    PyBuffer_Release(&view);
-    Py_DECREF(array);
-    return codes;
-}
-
-static int is_list(PyObject *values) { return PyList_CheckExact(values) || PyTuple_CheckExact(values); }
-
-/* The codes of values and how many; and the values themselves as an array, or NULL where they are not kept. */
-static uint64_t *codes_of(Numbers *self, PyObject *values, size_t *count, PyObject ***items) {
-    uint64_t *codes = is_list(values) ? own_codes(self, values) : NULL;
-    *items = NULL;
-    if (codes == NULL)
-        return PyErr_Occurred() ? NULL : asked_codes(self, values, count);
-    *items = PySequence_Fast_ITEMS(values);
-    *count = (size_t)PySequence_Fast_GET_SIZE(values);
-    return codes;
-}
-
-static int take_values(Numbers *self, PyObject *values) {
-    size_t count, i = 0;
-    PyObject **items;
-    uint64_t *codes = codes_of(self, values, &count, &items);
-    if (codes == NULL)
-        return 0;
-    while (i < count && put(self, codes[i], items ? items[i] : NULL) >= 0)
-        i++;
-    PyMem_Free(codes);
-    return i == count;
-}
-
-static int take_numbers(Numbers *self, Numbers *other) {
-    Part part;
-    size_t at = 0;
-    do {
-        read_part((PyObject *)other, at, CHUNK, &part);
-        for (size_t i = 0; i < part.count; i++)
-            if (put(self, part.codes[i], OBJECT(part.objects[i])) < 0)
-                return 0;
-        at += part.count;
-    } while (part.count == CHUNK);
-    return 1;
-}
-
-static PyObject *take(Numbers *self, PyObject *values) {
-    int is_set = PyAnySet_CheckExact(values) || PyDict_CheckExact(values);
-    PyObject *list = is_set ? PySequence_List(values) : NULL;
-    if (is_set && list == NULL)
-        return NULL;
-    int done = Py_TYPE(values) == &NumbersType ? take_numbers(self, (Numbers *)values) : take_values(self, is_set ? list : values);
-    Py_XDECREF(list);
-    if (!done)
-        return NULL;
-    Py_RETURN_NONE;
-}
-
-static PyObject *ranks(Numbers *self, PyObject *values) {
-    size_t count;
-    PyObject **items;
-    uint64_t *codes = codes_of(self, values, &count, &items);
-    if (codes == NULL)
-        return NULL;
-    for (size_t i = 0; i < count; i++)
-        codes[i] = indexset_map_rank(&self->map, codes[i]);
-    PyObject *bytes = PyBytes_FromStringAndSize((char *)codes, (Py_ssize_t)(8 * count));
-    PyMem_Free(codes);
-    PyObject *mask = bytes ? PyLong_FromLong(0) : NULL;
-    PyObject *made = mask ? PyObject_CallMethodObjArgs(kinds, names.flipped, bytes, mask, NULL) : NULL;
-    Py_XDECREF(bytes);
-    Py_XDECREF(mask);
-    return made;
-}
+/* ---- many keys: the rest is in batch.c */
 
 static PyObject *at_all(Numbers *self, PyObject *positions) {
     PyObject *every = PySequence_List(positions);
@@ -344,6 +236,7 @@ static PyObject *kind_name(Numbers *self, void *nothing) {
 
 static PyMethodDef methods[] = {
     {"add", (PyCFunction)add, METH_O, "Adds a key, and tells whether it was not there."},
+    {"are_own", (PyCFunction)numbers_are_own, METH_O, "Whether all values of a list are of the kind's own type and range."},
     {"at_all", (PyCFunction)at_all, METH_O, "The keys at positions, in one call."},
     {"bisect", (PyCFunction)(void (*)(void))bisect, METH_FASTCALL, "How many keys are below a value, or not above it."},
     {"chunk", (PyCFunction)(void (*)(void))chunk_method, METH_FASTCALL, "The keys at the positions from the first and before the second."},
@@ -352,9 +245,10 @@ static PyMethodDef methods[] = {
     {"clone", (PyCFunction)numbers_clone, METH_NOARGS, "The same numbers again."},
     {"discard", (PyCFunction)discard, METH_O, "Removes a key, and tells whether it was there."},
     {"find", (PyCFunction)find, METH_O, "The position of the key that a value equals, or -1."},
+    {"own", (PyCFunction)numbers_own, METH_O, "The keys that values become, as a list."},
     {"pop", (PyCFunction)pop, METH_O, "Removes the key at a position and returns it."},
-    {"ranks", (PyCFunction)ranks, METH_O, "How many keys are below each key, in one call."},
-    {"take", (PyCFunction)take, METH_O, "Adds keys, or none where one does not fit."},
+    {"ranks", (PyCFunction)numbers_ranks, METH_O, "How many keys are below each key, in one call."},
+    {"take", (PyCFunction)numbers_take, METH_O, "Adds keys, or none where one does not fit."},
     {"walk", (PyCFunction)(void (*)(void))walk_method, METH_FASTCALL, "The keys at positions one by one."},
     {0},
 };

@@ -209,6 +209,13 @@ static int insert(Coded *self, Code *code, PyObject *item) {
     return state == 0 ? coded_insert(self, code->data, code->size, item) : state;
 }
 
+void discard_quietly(PyObject *members, PyObject *item) {
+    PyObject *type, *value, *trace;
+    PyErr_Fetch(&type, &value, &trace);
+    PySet_Discard(members, item);
+    PyErr_Restore(type, value, trace);
+}
+
 /* Adds an item, also to a set of those that there are, if one is given: 1, or 0 where it is there. */
 static int add_code(Coded *self, PyObject *item, PyObject *members, Code *code) {
     if (members != NULL) {
@@ -224,12 +231,8 @@ static int add_code(Coded *self, PyObject *item, PyObject *members, Code *code) 
     }
     if (insert(self, code, item) >= 0)
         return 1;
-    if (members != NULL) {
-        PyObject *type, *value, *trace;
-        PyErr_Fetch(&type, &value, &trace);
-        PySet_Discard(members, item);
-        PyErr_Restore(type, value, trace);
-    }
+    if (members != NULL)
+        discard_quietly(members, item);
     return -1;
 }
 

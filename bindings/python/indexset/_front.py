@@ -14,7 +14,7 @@ class Front(Generic[T]):
     __slots__ = ("_order", "_members")
 
     _order: Any
-    # The items as a set, or False where numbers may repeat, or None.
+    # The items as a set, or None where they may repeat.
     _members: Any
 
     def __len__(self) -> int:
@@ -23,7 +23,7 @@ class Front(Generic[T]):
     def __contains__(self, value: Any) -> bool:
         """Whether an item equals a value."""
         members = self._members
-        found: bool = value in members if members else self._order.holds(value)
+        found: bool = self._order.holds(value) if members is None else value in members
         return found
 
     def __iter__(self) -> Iterator[T]:
@@ -42,9 +42,12 @@ class Front(Generic[T]):
     def add(self, value: T) -> None:
         """Adds an item. One that is there stays, of a set. It takes a time that grows as log n."""
         members = self._members
-        added = self._order.add_own(value) if members is None or members is False else None
-        if added is None or (added is False and members is False):
+        if members is not None and value in members:
+            return
+        if not self._order.add_own(value):
             self._add(value)
+        elif members is not None:
+            members.add(value)
 
     def _add(self, value: T) -> None:
         raise NotImplementedError

@@ -135,7 +135,7 @@ class SortedList(Sorted[T], MutableSequence[T], Generic[T]):
     def copy(self) -> Any:
         """A list of the same items, in a time that grows with their number."""
         made = type(self).__new__(type(self))
-        made._named, made._order, made._members = self._named, self._order.clone(), False
+        made._named, made._order, made._members = self._named, self._order.clone(), None
         return made
 
     def __copy__(self) -> Any:

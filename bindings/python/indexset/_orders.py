@@ -55,6 +55,10 @@ class Keyed(Coded[T]):
         """The same items again."""
         raise NotImplementedError
 
+    def own(self, items: list[T]) -> list[T]:
+        """What items become here: they stay as they are."""
+        return items
+
     def _bisect(self, value: Any, right: bool) -> int:
         return self.place(self.sort_key(value), right) if len(self) else 0
 
@@ -278,7 +282,7 @@ def kind_of(keys: list[Any]) -> str:
 def fitted(order: Order, items: list[Any], key: KeyFunction, repeats: bool) -> Order:
     """An order whose kind was found, or another with its items, where others come that the kind does not
     take. It is found anew where there are no items."""
-    if not items or (order.kind == OBJECT and len(order)):
+    if not items or (order.kind == OBJECT and len(order)) or (isinstance(order, Numbers) and order.are_own(items)):
         return order
     kind = kind_of(items if key is None else [key(item) for item in items])
     if kind == order.kind:

@@ -5,7 +5,7 @@ import ctypes
 from array import array
 from itertools import chain
 from operator import index as as_index
-from typing import Any, Callable, Generic, Iterable, Iterator, Optional, TypeVar, Union
+from typing import Any, Callable, Generic, Iterable, Iterator, Optional, TypeVar
 
 from . import _library as library
 from ._kinds import ALL, NUMBERS, TOP, codes_of, flipped, turned
@@ -183,9 +183,21 @@ class Numbers(Ordered[Any]):
         rank: int = lib.indexset_set_rank(self._handle, code)
         return rank
 
-    def take(self, values: Union[Iterable[Any], Numbers]) -> None:
-        """Adds keys, or those of other numbers of the kind; none where one does not fit."""
-        codes = values.codes() if isinstance(values, Numbers) else self._codes(values)
+    def are_own(self, values: list[Any]) -> bool:
+        """Whether all values are of the kind's own type and range."""
+        if not set(map(type, values)) <= {self._own} or self._own is float:
+            return False
+        return not values or (self._find(min(values)) is not None and self._find(max(values)) is not None)
+
+    def own(self, values: list[Any]) -> list[Any]:
+        """The keys that values become. TypeError, OverflowError or ValueError where one does not fit."""
+        if set(map(type, values)) <= {self._own}:
+            return values
+        return [value if type(value) is self._own else self._decode(self._code(value)) for value in values]
+
+    def take(self, values: Iterable[Any]) -> None:
+        """Adds keys, or none where one does not fit."""
+        codes = self._codes(values)
         if codes:
             taken, before = Count(), len(self)
             status = lib.indexset_set_insert_all(self._handle, memory(codes), len(codes), place(taken))
@@ -202,15 +214,11 @@ class Numbers(Ordered[Any]):
                 pass
         return codes_of(self._kind, values)
 
-    def codes(self, first: int = 0, past: Optional[int] = None) -> array[int]:
-        """The numbers at positions as the library has them."""
-        size = max(0, (len(self) if past is None else past) - first)
+    def chunk(self, first: int, past: int) -> list[Any]:
+        size = max(0, past - first)
         out = zeros(size)
         del out[lib.indexset_set_range_by_position(self._handle, first, memory(out), size) :]
-        return out
-
-    def chunk(self, first: int, past: int) -> list[Any]:
-        return self._decoded(self.codes(first, past))
+        return self._decoded(out)
 
     def _decoded(self, codes: array[int]) -> list[Any]:
         name = self._kind.name

@@ -8,7 +8,6 @@ from typing import Any, Callable, Generic, Iterable, Literal, Optional, TypeVar,
 
 from ._kinds import items_of
 from ._native import Numbers
-from ._orders import KeyFunction, Order, kind_of
 from ._sorted import Sorted
 
 T = TypeVar("T")
@@ -26,8 +25,8 @@ class SortedSet(Sorted[T], MutableSet[T], Generic[T]):
     are kept as such until others come. `key` is a function whose results order the items.
 
     Cost: with n items, a call on one item or one position takes a time that grows as log n, and with the kind
-    "object" that many comparisons; `in` asks a hash table, but for numbers, which are kept in the library
-    alone. A walk, a slice or a batch takes a time that grows with its length.
+    "object" that many comparisons; `in` asks a hash table. A walk, a slice or a batch takes a time that grows
+    with its length.
 
     Reads may go on in several threads at once. A walk raises RuntimeError once there was a change; changes
     from several threads are kept apart by the caller.
@@ -78,37 +77,24 @@ class SortedSet(Sorted[T], MutableSet[T], Generic[T]):
     # ---- one item
 
     def _add(self, value: T) -> None:
-        if self._members is None and self._named is not None:
-            self._order.add(value)
-        elif value not in self:
-            order = self._fitting([value])
-            members = self._members_of(order)
-            if members is not None:
-                members.add(value)
-            try:
-                order.add(value)
-            except BaseException:
-                if members is not None:
-                    members.discard(value)
-                raise
-            self._become(order)
-            self._members = members
-
-    def _members_of(self, order: Order) -> Optional[set[T]]:
-        """The items as a set, for an order that is no set of numbers."""
-        if isinstance(order, Numbers):
-            return None
-        return set(self._order.chunk(0, len(self))) if self._members is None else self._members
+        members = self._members
+        if value in members:
+            return
+        order = self._fitting([value])
+        (value,) = order.own([value])
+        members.add(value)
+        try:
+            order.add(value)
+        except BaseException:
+            members.discard(value)
+            raise
+        self._become(order)
 
     def _discard(self, value: Any) -> bool:
-        members = self._members
-        if members is None:
-            found: bool = self._order.discard(value)
-            return found
-        if value not in members:
+        if value not in self._members:
             return False
         self._order.discard(value)
-        members.discard(value)
+        self._members.discard(value)
         return True
 
     def remove(self, value: Any) -> None:
@@ -128,15 +114,13 @@ class SortedSet(Sorted[T], MutableSet[T], Generic[T]):
         (3, 1)
         """
         value: T = self._order.pop(index)
-        if self._members is not None:
-            self._members.discard(value)
+        self._members.discard(value)
         return value
 
     def clear(self) -> None:
         """Removes all items."""
         self._order.clear()
-        if self._members is not None:
-            self._members.clear()
+        self._members.clear()
 
     # ---- many at once
 
@@ -152,29 +136,18 @@ class SortedSet(Sorted[T], MutableSet[T], Generic[T]):
         return self
 
     def _fill(self, items: Iterable[T]) -> None:
-        order = self._order
-        same = getattr(items, "_order", None)
-        if isinstance(order, Numbers) and isinstance(same, Numbers) and same.kind == order.kind:
-            order.take(same)
-        elif isinstance(order, Numbers) and self._named is not None:
-            order.take(items if hasattr(items, "__len__") else list(items))
-        else:
-            self._fill_found(items_of(items))
-
-    def _fill_found(self, items: list[T]) -> None:
-        """Adds items where the kind may become another, or where they are held as a set too."""
-        order = self._order
-        if isinstance(order, Numbers) and len(order) and kind_of(items) != order.kind:
-            items = [item for item in items if item not in order]
-        order = self._fitting(items)
-        members = self._members_of(order)
-        if members is not None:
-            items = list(dict.fromkeys(item for item in items if item not in members))
-        order.take(items)
+        given, members = items_of(items), self._members
+        if members:
+            given = [item for item in given if item not in members]
+        order = self._fitting(given)
+        given = order.own(given)
+        found = set(given)
+        order.take(given if len(found) == len(given) else list(dict.fromkeys(given)))
         self._become(order)
-        if members is not None:
-            members.update(items)
-        self._members = members
+        if members:
+            members.update(found)
+        else:
+            self._members = found
 
     def ranks(self, values: Iterable[Any]) -> array[int]:
         """How many items are below each value; of numbers by one call.
@@ -205,8 +178,7 @@ class SortedSet(Sorted[T], MutableSet[T], Generic[T]):
     def copy(self) -> Any:
         """A set of the same items, in a time that grows with their number."""
         made = type(self).__new__(type(self))
-        made._named, made._order = self._named, self._order.clone()
-        made._members = None if self._members is None else self._members.copy()
+        made._named, made._order, made._members = self._named, self._order.clone(), self._members.copy()
         return made
 
     def __copy__(self) -> Any:

@@ -6,7 +6,7 @@ from reprlib import recursive_repr
 from typing import Any, Callable, Generic, Iterable, Iterator, Optional, TypeVar
 
 from ._kinds import known
-from ._native import Front, Numbers
+from ._native import Front
 from ._orders import KeyFunction, Order, fitted, order_of
 
 T = TypeVar("T")
@@ -25,7 +25,7 @@ class Sorted(Front[T], Sequence[T], Generic[T]):
         known(kind)
         self._named = kind
         self._order = order_of(kind or "int64", key, self._repeats)
-        self._members = False if self._repeats else None if isinstance(self._order, Numbers) else set()
+        self._members = None if self._repeats else set()
 
     @property
     def kind(self) -> str:
