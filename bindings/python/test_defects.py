@@ -227,6 +227,19 @@ class Changed(unittest.TestCase):
                 for _ in ours:
                     ours.clear()
 
+    def test_within_a_walk(self):
+        for ours in (SortedSet(range(900)), SortedSet(map(str, range(900))), SortedDict.fromkeys(range(900)), SortedList("ab" * 450)):
+            for begin in (iter, reversed):
+                for steps in (5, 70, 600):
+                    walk, other = begin(ours), begin(ours)
+                    for _ in range(steps):
+                        next(walk), next(other)
+                    next(other)
+                    taken = ours.pop(300)
+                    self.assertRaises(RuntimeError, next, walk)
+                    self.assertRaises(RuntimeError, list, other)
+                    ours.update({300: taken} if isinstance(ours, dict) else [taken])
+
     def test_widened(self):
         ours = SortedSet([1, 2, 3])
         walk = iter(ours)

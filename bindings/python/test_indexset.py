@@ -12,7 +12,7 @@ from array import array
 from bisect import bisect_left, insort
 
 import indexset
-from indexset import SortedDict, SortedSet, _dict, _set
+from indexset import SortedDict, SortedList, SortedSet, _dict, _set
 
 try:
     from sortedcontainers import SortedSet as Peer
@@ -318,6 +318,28 @@ class Dictionaries(unittest.TestCase):
         self.assertRaises(KeyError, other.popitem)
         self.assertRaises(IndexError, other.peekitem)
         self.assertRaises(TypeError, hash, other)
+
+    def test_references(self):
+        """What is held of a number ends with the number, and with the object."""
+        number = 10**15 + len(repr(self))
+        before = sys.getrefcount(number)
+        for make in (SortedSet, SortedList, SortedDict.fromkeys):
+            for end in (list, len, lambda it: it.clear(), lambda it: it.copy(), lambda it: isinstance(it, dict) and it.pop(number, 0)):
+                ours = make([number])
+                ours.update({number: 1, 5: 2})
+                end(ours), end(ours.copy())
+                ours.update([(number, 3)] if isinstance(ours, dict) else [number])
+                if indexset.BACKEND == "extension":
+                    self.assertIs(list(ours)[-1], number)
+                del ours
+                self.assertEqual(sys.getrefcount(number), before)
+
+    def test_zero_is_one(self):
+        for zeros in ([0.0, -0.0], [-0.0, 0.0]):
+            for ours in (SortedSet(zeros), SortedSet(zeros[:1], keys="float64"), SortedSet([-1.5, *zeros])):
+                ours.add(zeros[0])
+                ours.update(zeros)
+                self.assertEqual(str(ours[-1]), "0.0")
 
     def test_objects_are_let_go(self):
         class Thing:

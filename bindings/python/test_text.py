@@ -147,6 +147,84 @@ class Calls(unittest.TestCase):
         self.assertEqual(list(ages), ["\ud7ff", "\ud800", "\uffff"])
 
 
+class Named(str):
+    """A text of another class."""
+
+
+class Noted(unittest.TestCase):
+    """Many changes of one key each, before an order is asked for."""
+
+    def check(self, ours, peer):
+        self.assertEqual((len(ours), list(ours), list(ours.items())), (len(peer), sorted(peer), sorted(peer.items())))
+
+    def change(self, ours, peer, key, value):
+        if key in peer and value % 3:
+            del ours[key], peer[key]
+        else:
+            ours[key] = peer[key] = value
+
+    def test_beside_a_dict(self):
+        for kind, some, most in (("str", 40, 30000), ("bytes", 20000, 60000)):
+            rng = random.Random(kind)
+            ours, peer = SortedDict(keys=kind), {}
+            for step in range(most):
+                name = f"{rng.randrange(some)}" + "long" * 300 * (rng.random() < 0.01)
+                key = name if kind == "str" else name.encode()
+                self.change(ours, peer, key, step)
+                if step % 9973 == 0:
+                    self.check(ours, peer)
+            self.check(ours, peer)
+
+    def test_reads(self):
+        """Each read finds the changes made."""
+        reads = [
+            lambda it: it.peekitem(1), lambda it: it.bisect_left("b"), lambda it: it.bisect_right("b"), lambda it: it.index("c"),
+            list, lambda it: list(reversed(it)), lambda it: it.keys()[0:2], lambda it: list(it.irange("b")), lambda it: it.popitem(0),
+            lambda it: list(it.copy()), lambda it: list(pickle.loads(pickle.dumps(it))), lambda it: it.pop("c"), len, repr,
+        ]
+        wanted = [
+            ("b", 2), 1, 2, 2, ["a", "b", "c"], ["c", "b", "a"], ["a", "b"], ["b", "c"], ("a", 1), ["a", "b", "c"],
+            ["a", "b", "c"], 3, 3, "SortedDict({'a': 1, 'b': 2, 'c': 3})",
+        ]
+        for read, answer in zip(reads, wanted):
+            ours = SortedDict({"x": 0, "b": 0})
+            ours["c"], ours["y"], ours["a"], ours["b"] = 3, 4, 1, 2
+            del ours["x"], ours["y"]
+            self.assertEqual(read(ours), answer)
+
+    def test_other_classes(self):
+        ours = SortedDict({"b": 1})
+        for key in ("a", Named("c"), "e", Named("d")):
+            ours[key] = 2
+        del ours[Named("a")], ours["c"]
+        self.assertEqual(list(ours), ["b", "d", "e"])
+        self.assertIs(type(ours.keys()[1]), Named)
+
+    def test_cleared(self):
+        ours = SortedDict({"b": 1})
+        ours["a"] = 1
+        ours.clear()
+        ours["c"] = 1
+        self.assertEqual(list(ours), ["c"])
+
+    def test_references(self):
+        """What is held of a key ends with the key, and with the object."""
+        key = "".join(["k", "ey"])
+        before = sys.getrefcount(key)
+        for end in (list, len, lambda it: it.clear(), lambda it: it.copy()):
+            ours, names = SortedDict(), SortedSet()
+            ours[key] = 1
+            names.add(key)
+            end(ours), end(names)
+            if key in ours:
+                del ours[key]
+            names.discard(key)
+            ours["other"] = ours[key] = 2
+            self.assertIs(ours.keys()[0] if end is list else key, key)
+            del ours, names
+            self.assertEqual(sys.getrefcount(key), before)
+
+
 if __name__ == "__main__":
     result = unittest.main(exit=False, verbosity=0).result
     wrong = len(result.failures) + len(result.errors)
