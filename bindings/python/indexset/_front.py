@@ -7,6 +7,8 @@ K = TypeVar("K")
 V = TypeVar("V")
 T = TypeVar("T")
 
+_set, _delete = dict.__setitem__, dict.__delitem__
+
 
 class Front(Generic[T]):
     """What stands before what orders the items: its calls on one item go straight there."""
@@ -18,7 +20,8 @@ class Front(Generic[T]):
     _members: Any
 
     def __len__(self) -> int:
-        return len(self._order)
+        members = self._members
+        return len(self._order if members is None else members)
 
     def __contains__(self, value: Any) -> bool:
         """Whether an item equals a value."""
@@ -28,8 +31,7 @@ class Front(Generic[T]):
 
     def __iter__(self) -> Iterator[T]:
         """Walks over the items in order. RuntimeError once there was a change."""
-        order = self._order
-        walk: Iterator[T] = order.walk(0, len(order), False)
+        walk: Iterator[T] = self._order.walk(0, len(self), False)
         return walk
 
     def __getitem__(self, position: Any) -> Any:
@@ -82,7 +84,7 @@ class DictFront(Dict[K, V], Generic[K, V]):
     def __setitem__(self, key: K, value: V) -> None:
         if key not in self and self._order.add_own(key) is None:
             self._order_keys([key])
-        super().__setitem__(key, value)
+        _set(self, key, value)
 
     def _order_keys(self, keys: list[Any]) -> None:
         raise NotImplementedError
@@ -91,9 +93,8 @@ class DictFront(Dict[K, V], Generic[K, V]):
         if key not in self:
             raise KeyError(key)
         self._order.discard(key)
-        super().__delitem__(key)
+        _delete(self, key)
 
     def __iter__(self) -> Iterator[K]:
-        order = self._order
-        walk: Iterator[K] = order.walk(0, len(order), False)
+        walk: Iterator[K] = self._order.walk(0, len(self), False)
         return walk

@@ -54,26 +54,29 @@ class Ordered(Generic[T]):
 
     def _parts(self, first: int, past: int, reverse: bool) -> Iterator[list[T]]:
         seen, size = self.changes, 1
-        while first < past:
+        while first < past and self.changes == seen:
             size = min(size, past - first)
             start = past - size if reverse else first
-            part = self.chunk(start, start + size)
-            if reverse:
-                past -= size
-                part.reverse()
+            first, past = (first, start) if reverse else (start + size, past)
+            if size == 1:
+                yield [self[start]]
             else:
-                first += size
-            self._walked[id(part)] = part
-            try:
-                if self.changes == seen:
-                    yield part
-            finally:
-                del self._walked[id(part)]
-            if self.changes != seen:
-                break
+                yield from self._part(start, start + size, reverse, seen)
             size = min(size * 8, _CHUNK)
         if self.changes != seen:
             raise RuntimeError("it changed during iteration")
+
+    def _part(self, first: int, past: int, reverse: bool, seen: int) -> Iterator[list[T]]:
+        """A list that a change empties."""
+        part = self.chunk(first, past)
+        if reverse:
+            part.reverse()
+        self._walked[id(part)] = part
+        try:
+            if self.changes == seen:
+                yield part
+        finally:
+            del self._walked[id(part)]
 
     def _position(self, index: int) -> int:
         """A position from 0 on, which may be past the end."""
@@ -136,8 +139,9 @@ class Numbers(Ordered[Any]):
         return self._put(self._code(value))
 
     def _put(self, code: int) -> bool:
-        if not check(lib.indexset_set_insert(self._handle, code)):
-            return False
+        status = lib.indexset_set_insert(self._handle, code)
+        if status != library.YES:
+            return check(status)
         self.changed()
         return True
 
