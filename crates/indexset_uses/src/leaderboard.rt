@@ -1,44 +1,62 @@
-//! A leaderboard: scores with their ranks.
-ghost use Rattle.std.specs.Prelude.{◌≡◌, ◌+◌, ◌++◌, ◌-◌, ◌<◌, ◌≤◌, true, [], length, slice_get, IfOk, OnOk, OnErr, IfSome};
-ghost use Rattle.std.specs.List.{All};
-ghost use Rattle.std.specs.Option.{option_copied};
-ghost use Rattle.std.specs.Ordering.{nat_cmp};
-ghost use Rattle.indexset.specs.Words.{above, items, keep, rank};
+//! A leaderboard: players by their scores, the best first, read page by page.
+ghost use Rattle.std.specs.Prelude.{◌≡◌, ◌<◌, ◌+◌, ◌*◌, ◌^◌, true, not, IfOk, OnOk, OnErr, length, take, drop};
+ghost use Rattle.std.specs.declared.cmp.Ordering.TheVariants.{Less};
+ghost use Rattle.std.specs.List.{AllWithin};
+ghost use Rattle.indexset.specs.Words.{has_equal, index_of, items, keep, rank};
 
 use indexset::BTreeSet;
-use indexset::base::refusal::Refusal;
+use indexset::base::refusal::Refused;
+use std::alloc::{AllocError, Global};
+use std::cmp::Reverse;
+use std::ops::Bound;
 
-/// Inserts a score, and returns whether it is on the board, as it then always is.
-pub fn enter(board: &mut BTreeSet<u64>, score: u64) -> Result<bool, Refusal>
-    ensures there { IfOk result (λ on_board. on_board ≡ true) }
-    ensures contents { OnOk result (items board.new ≡ keep nat_cmp (items board.old) score) }
+/// A score and its player. A higher score comes first, and of equal scores the lower player.
+#[derive(Clone, Copy, Debug, PartialEq, Eq, PartialOrd, Ord)]
+pub struct Entry {
+    pub score: Reverse<u64>,
+    pub player: u64,
+}
+
+/// The entries, the best first.
+pub type Board = BTreeSet<Entry>;
+
+/// Adds an entry, and returns whether it is new.
+pub fn add(board: &mut Board, entry: Entry) -> Result<bool, Refused<Entry>>
+    ensures new { IfOk result (λ new. new ≡ not (has_equal ⟦<Entry as Ord>⟧.cmp (items board.old) entry)) }
+    ensures there { OnOk result (has_equal ⟦<Entry as Ord>⟧.cmp (items board.new) entry ≡ true) }
+    ensures contents { OnOk result (items board.new ≡ keep ⟦<Entry as Ord>⟧.cmp (items board.old) entry) }
     ensures same { OnErr result (board.new ≡ board.old) }
 {
-    board.insert(score)?;
-    Ok(board.contains(&score))
+    board.insert(entry)
 }
 
-/// Returns the best score: none is above it.
-pub fn best(board: &BTreeSet<u64>) -> Option<u64>
-    ensures last { result ≡ slice_get (items board.now) (length (items board.now) - 1) }
-    ensures greatest { IfSome result (λ best. above nat_cmp (items board.now) best ≡ []) }
+/// The place of an entry, counted from 0, and so how many are better; or `None` if it is absent.
+pub fn place(board: &Board, entry: Entry) -> Option<usize>
+    ensures { result ≡ index_of ⟦<Entry as Ord>⟧.cmp (items board.now) entry }
 {
-    board.last().copied()
+    board.index_of(&entry)
 }
 
-/// Returns how many scores are not below this one.
-pub fn scores_from(board: &BTreeSet<u64>, score: u64) -> usize
-    ensures { result + rank nat_cmp (items board.now) score ≡ length (items board.now) }
+/// How many entries are better than this one, which may be absent: those before its place.
+pub fn better(board: &Board, entry: Entry) -> usize
+    ensures count { result ≡ rank ⟦<Entry as Ord>⟧.cmp (items board.now) entry }
+    ensures inside { has_equal ⟦<Entry as Ord>⟧.cmp (items board.now) entry ≡ true → result < length (items board.now) }
+    ensures before { AllWithin (λ other. ⟦<Entry as Ord>⟧.cmp other entry ≡ Less) (items board.now) 0 result }
 {
-    board.len() - board.rank(&score)
+    board.rank(&entry)
 }
 
-/// Removes the scores from one on, and returns them.
-pub fn take_from(board: &mut BTreeSet<u64>, score: u64) -> Result<BTreeSet<u64>, Refusal>
-    ensures left { OnOk result (All (λ x. x < score) (items board.new)) }
-    ensures taken { IfOk result (λ taken. All (λ x. score ≤ x) (items taken)) }
-    ensures all { IfOk result (λ taken. items board.old ≡ items board.new ++ items taken) }
-    ensures same { OnErr result (board.new ≡ board.old) }
+/// A page of `size` entries. The first page has the number 0.
+pub fn page(
+    alloc: Global,
+    board: &Board,
+    number: usize,
+    size: usize,
+) -> Result<Vec<Entry>, AllocError>
+    requires { number * size + size < 2 ^ 64 }
+    ensures { IfOk result (λ page. page.items ≡ take size (drop (number * size) (items board.now))) }
 {
-    board.split_off(&score)
+    let from = number * size;
+    let bounds = (Bound::Included(from), Bound::Excluded(from + size));
+    board.range_idx(bounds).copied().collect(alloc)
 }

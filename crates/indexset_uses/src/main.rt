@@ -9,14 +9,20 @@ mod follower;
 mod journal;
 mod leaderboard;
 mod listing;
+mod matching;
 mod names;
 mod order_book;
 mod orders;
 mod prices;
+mod programs;
 mod runs;
+mod scores;
+mod secondary_index;
 mod stock;
 mod strings;
 mod tags;
+mod takeover;
+mod window;
 
 use anyhow::Result;
 use bytes::ByteStr;
@@ -25,36 +31,37 @@ use indexset::replica::Replica;
 use indexset::{BTreeMap, BTreeSet};
 
 fn main(rt: HostRuntime) -> Result<()> {
-    show_leaderboard(&rt)?;
-    show_order_book(&rt)?;
+    show_scores(&rt)?;
+    show_matching(&rt)?;
     show_counts(&rt)?;
     show_prices(&rt)?;
     show_changes(&rt)?;
     show_takeover(&rt)?;
-    show_stock(&rt)
+    show_stock(&rt)?;
+    programs::show(&rt)
 }
 
-fn show_leaderboard(rt: &HostRuntime) -> Result<()> {
+fn show_scores(rt: &HostRuntime) -> Result<()> {
     let mut board = BTreeSet::new(rt.alloc())?;
-    play_leaderboard(rt, &mut board)
+    play_scores(rt, &mut board)
 }
 
-fn play_leaderboard(rt: &HostRuntime, board: &mut BTreeSet<u64>) -> Result<()> {
+fn play_scores(rt: &HostRuntime, board: &mut BTreeSet<u64>) -> Result<()> {
     for score in [30, 10, 20, 50, 40] {
-        leaderboard::enter(board, score)?;
+        scores::enter(board, score)?;
     }
-    println!(rt; "best: {:?}", leaderboard::best(board))?;
-    println!(rt; "scores from 35: {}", leaderboard::scores_from(board, 35))?;
+    println!(rt; "best: {:?}", scores::best(board))?;
+    println!(rt; "scores from 35: {}", scores::scores_from(board, 35))?;
     println!(rt;
         "second page of two: {:?}",
         listing::page(rt.alloc(), board, 2, 2)?
     )?;
     println!(rt; "pages: {}", listing::page_count(board, 2))?;
-    println!(rt; "taken from 35: {:?}", leaderboard::take_from(board, 35)?)?;
+    println!(rt; "taken from 35: {:?}", scores::take_from(board, 35)?)?;
     Ok(())
 }
 
-fn show_order_book(rt: &HostRuntime) -> Result<()> {
+fn show_matching(rt: &HostRuntime) -> Result<()> {
     let mut bids = BTreeSet::from(rt.alloc(), vec![in rt.alloc(); 98, 101, 99]?)?;
     let mut asks = BTreeSet::from(rt.alloc(), vec![in rt.alloc(); 100, 103, 102]?)?;
     match_orders(rt, &mut bids, &mut asks)
@@ -66,11 +73,11 @@ fn match_orders(
     asks: &mut BTreeSet<u64>,
 ) -> Result<()> {
     for _ in 0..2 {
-        let found = order_book::take_match(bids, asks);
+        let found = matching::take_match(bids, asks);
         println!(rt; "match: {found:?}")?;
     }
     println!(rt; "asks: {asks:?}")?;
-    println!(rt; "in all: {}", order_book::clear(asks))?;
+    println!(rt; "in all: {}", matching::clear(asks))?;
     Ok(())
 }
 
@@ -135,7 +142,7 @@ fn show_takeover(rt: &HostRuntime) -> Result<()> {
     journal::insert(&mut tree, &mut events, 2)?;
     if events.len() >= 3 {
         let order = [1, 0, 0, 2, 1];
-        let late = follower::resume(Vec::new(rt.alloc()), 0, events.as_slice(), &order)?;
+        let late = takeover::resume(Vec::new(rt.alloc()), 0, events.as_slice(), &order)?;
         println!(rt; "after 1, 0, 0, 2, 1 a copy awaits {}", late.next())?;
     }
     let mut copy = Replica::new(rt.alloc(), 0);
@@ -143,7 +150,7 @@ fn show_takeover(rt: &HostRuntime) -> Result<()> {
         println!(rt; "event {event}")?;
         copy.apply(event)?;
     }
-    let mut next = follower::promote(copy, 4)?;
+    let mut next = takeover::promote(copy, 4)?;
     for event in change_log::put(&mut next, 4)?.as_slice() {
         println!(rt; "event {event}")?;
     }

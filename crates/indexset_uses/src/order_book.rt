@@ -1,39 +1,68 @@
-//! An order book: prices that are bid and prices that are asked, each a set.
-ghost use Rattle.std.specs.Prelude.{◌≡◌, ◌-◌, ◌≤◌, ◌<◌, ◌^◌, [], length, min, slice_get, drop, sum, take, Some, IfSome, OnSome, IfNone};
-ghost use Rattle.std.specs.List.{All};
-ghost use Rattle.indexset.specs.Words.{items};
+//! An order book: how much is bid and how much is asked at each price.
+ghost use Rattle.std.specs.Prelude.{◌≡◌, ◌<◌, ◌+◌, ◌-◌, ◌^◌, [], length, slice_get, min, Some, None, IfOk, IfSome, IfNone, OnErr, unwrap_or};
+ghost use Rattle.std.specs.Option.{option_map};
+ghost use Rattle.std.specs.Ordering.{nat_cmp};
+ghost use Rattle.indexset.specs.Words.{above, below, entry_of, pair_keys, set_value, value_of, with_entry, without_entry};
 
-use indexset::BTreeSet;
+use indexset::BTreeMap;
+use indexset::base::refusal::Refused;
 
-/// Removes the highest bid and the lowest ask, and returns them, if that bid is not below that ask.
-pub fn take_match(bids: &mut BTreeSet<u64>, asks: &mut BTreeSet<u64>) -> Option<(u64, u64)>
-    ensures bid { IfSome result (λ pair. slice_get (items bids.old) (length (items bids.old) - 1) ≡ Some pair.0) }
-    ensures ask { IfSome result (λ pair. slice_get (items asks.old) 0 ≡ Some pair.1) }
-    ensures crossed { IfSome result (λ pair. pair.1 ≤ pair.0) }
-    ensures bids { OnSome result (items bids.new ≡ take (length (items bids.old) - 1) (items bids.old)) }
-    ensures asks { OnSome result (items asks.new ≡ drop 1 (items asks.old)) }
-    ensures uncrossed { IfNone result
-        (All (λ bid. All (λ ask. bid < ask) (items asks.old)) (items bids.old)) }
-    ensures same { IfNone result ((items bids.new ≡ items bids.old) × (items asks.new ≡ items asks.old)) }
-{
-    let bid = *bids.last()?;
-    let ask = *asks.first()?;
-    if bid < ask {
-        return None;
-    }
-    bids.pop_last();
-    asks.pop_first();
-    Some((bid, ask))
+/// How much there is at each price.
+pub type Levels = BTreeMap<u64, u64>;
+
+/// Both sides of a book.
+#[derive(Drop)]
+pub struct Book {
+    pub bids: Levels,
+    pub asks: Levels,
 }
 
-/// Removes all prices, the lowest first, and returns their sum, up to `u64::MAX`.
-pub fn clear(asks: &mut BTreeSet<u64>) -> u64
-    ensures sum { result ≡ min (sum (items asks.old)) (2 ^ 64 - 1) }
-    ensures empty { items asks.new ≡ [] }
+/// Adds a quantity at a price, up to the greatest u64, and returns how much there then is.
+pub fn add(levels: &mut Levels, price: u64, quantity: u64) -> Result<u64, Refused<(u64, u64)>>
+    ensures sum { IfOk result (λ now. now ≡ min (unwrap_or (value_of nat_cmp levels.old.pairs price) 0 + quantity) (2 ^ 64 - 1)) }
+    ensures held { IfOk result (λ now. value_of nat_cmp levels.new.pairs price ≡ Some now) }
+    ensures contents { IfOk result (λ now. levels.new ≡ with_entry nat_cmp levels.old price now) }
+    ensures same { OnErr result (levels.new ≡ levels.old) }
 {
-    let mut sum = 0u64;
-    while let Some(price) = asks.pop_first() {
-        sum = sum.saturating_add(price);
+    let before = levels.get(&price).copied().unwrap_or(0);
+    let now = before.saturating_add(quantity);
+    levels.insert(price, now)?;
+    Ok(now)
+}
+
+/// Takes a quantity off a price, and returns what is left, or `None` where the price has none. A price
+/// of which nothing is left is removed.
+pub fn reduce(levels: &mut Levels, price: u64, quantity: u64) -> Option<u64>
+    ensures left { IfSome result (λ left. left ≡ unwrap_or (value_of nat_cmp levels.old.pairs price) 0 - quantity) }
+    ensures removed { IfSome result (λ left. left ≡ 0 → levels.new ≡ without_entry nat_cmp levels.old price) }
+    ensures kept { IfSome result (λ left. 0 < left → levels.new.pairs ≡ set_value nat_cmp levels.old.pairs price left) }
+    ensures none { IfNone result (value_of nat_cmp levels.old.pairs price ≡ None) }
+    ensures same { IfNone result (levels.new ≡ levels.old) }
+{
+    let level = levels.get(&price).copied()?;
+    if level <= quantity {
+        levels.remove(&price);
+        return Some(0);
     }
-    sum
+    let left = level - quantity;
+    *levels.get_mut(&price)? = left;
+    Some(left)
+}
+
+/// The highest bid, with its quantity.
+pub fn best_bid(book: &Book) -> Option<(u64, u64)>
+    ensures last { result ≡ option_map entry_of (slice_get book.now.bids.pairs (length book.now.bids.pairs - 1)) }
+    ensures highest { IfSome result (λ best. above nat_cmp (pair_keys book.now.bids.pairs) best.0 ≡ []) }
+{
+    let (price, quantity) = book.bids.last_key_value()?;
+    Some((*price, *quantity))
+}
+
+/// The lowest ask, with its quantity.
+pub fn best_ask(book: &Book) -> Option<(u64, u64)>
+    ensures first { result ≡ option_map entry_of (slice_get book.now.asks.pairs 0) }
+    ensures lowest { IfSome result (λ best. below nat_cmp (pair_keys book.now.asks.pairs) best.0 ≡ []) }
+{
+    let (price, quantity) = book.asks.first_key_value()?;
+    Some((*price, *quantity))
 }

@@ -3,7 +3,7 @@ use Rattle.std.proofs.lemmas.Grind.{common_steps}
 use Rattle.std.specs.Option.{option_and_then}
 use Rattle.std.specs.Ordering.{nat_cmp}
 use Rattle.indexset.specs.Words.{by_key, replay, IsNumberedFrom}
-use Rattle.indexset_callers.proofs.follower.set_and_keep.Goals as goal
+use Rattle.indexset_uses.proofs.follower.set_and_keep.Goals as goal
 
 pub returns-clause-replayed : goal.returns-clause-replayed
 returns-clause-replayed c =

@@ -1,7 +1,7 @@
 -- Each price that is taken out leaves one less, and adds to the sum.
 use Rattle.std.proofs.Common.{◌≡◌, ◌+◌, ◌-◌, ◌^◌, ◌≤◌, length, min, sum}
 use Rattle.indexset.specs.Words.{items}
-use Rattle.indexset_uses.proofs.order_book.clear.Given as goal
+use Rattle.indexset_uses.proofs.matching.clear.Given as goal
 
 abbrev pub invariant-loop-price : goal.invariant-loop-price
 invariant-loop-price l = record {

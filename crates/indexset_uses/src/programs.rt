@@ -1,33 +1,26 @@
-//! Programs in small, as a user of the library writes them: each module has the contract that its writer
-//! wants. The program prints what they return.
-#![tactic(auto)]
+//! What the programs in small return: a time window, an order book, a leaderboard, a secondary index, a map and its copy.
 
 ghost use Rattle.std.specs.Prelude.{◌<◌};
 
-mod follower;
-mod leaderboard;
-mod order_book;
-mod secondary_index;
-mod window;
-
+use crate::follower::{self, Primary};
+use crate::leaderboard::{self, Board, Entry};
+use crate::order_book::{self, Book};
+use crate::secondary_index::{self, Index};
+use crate::window::{self, Window};
 use anyhow::Result;
 use bytes::ByteStr;
-use follower::Primary;
 use indexset::base::pair::Pair;
 use indexset::replica::Replica;
 use indexset::{BTreeMap, BTreeSet};
-use leaderboard::{Board, Entry};
-use order_book::Book;
-use secondary_index::Index;
 use std::cmp::Reverse;
-use window::Window;
 
-fn main(rt: HostRuntime) -> Result<()> {
-    show_window(&rt)?;
-    show_order_book(&rt)?;
-    show_leaderboard(&rt)?;
-    show_index(&rt)?;
-    show_follower(&rt)
+/// Prints what each returns.
+pub fn show(rt: &HostRuntime) -> Result<()> {
+    show_window(rt)?;
+    show_order_book(rt)?;
+    show_leaderboard(rt)?;
+    show_index(rt)?;
+    show_follower(rt)
 }
 
 fn show_window(rt: &HostRuntime) -> Result<()> {

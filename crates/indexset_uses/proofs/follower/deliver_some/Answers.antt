@@ -1,6 +1,6 @@
 use Rattle.std.proofs.Common.{rules, ◌≡◌, ◌-◌, [], ap, arith, is_some}
 use Rattle.std.proofs.lemmas.Grind.{common_steps}
-use Rattle.indexset_callers.proofs.follower.deliver_some.Goals as goal
+use Rattle.indexset_uses.proofs.follower.deliver_some.Goals as goal
 
 -- the events are a feed, and the copy is at the place that it awaits
 pub returns-in_err-follow-clause-memory : goal.returns-in_err-follow-clause-memory

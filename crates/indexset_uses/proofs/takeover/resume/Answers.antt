@@ -3,7 +3,7 @@ use Rattle.std.proofs.lemmas.Grind.{common_steps}
 use Rattle.std.proofs.lemmas.Option.{option_and_then_some}
 use Rattle.std.specs.Ordering.{nat_cmp}
 use Rattle.indexset.specs.Words.{replay, step, ChangeEvent, IsNodeList}
-use Rattle.indexset_uses.proofs.follower.resume.Goals as goal
+use Rattle.indexset_uses.proofs.takeover.resume.Goals as goal
 
 -- where each step leads to nodes, events lead from nodes to nodes
 led : ((ns after : List (List ℕ)) (event : ChangeEvent ℕ) → step nat_cmp ns event ≡ Some after → IsNodeList nat_cmp after) → (ns after : List (List ℕ)) (es : List (ChangeEvent ℕ)) → IsNodeList nat_cmp ns → replay nat_cmp ns es ≡ Some after → IsNodeList nat_cmp after

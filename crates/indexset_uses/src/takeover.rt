@@ -1,0 +1,46 @@
+//! A follower: a copy of a set of numbers kept elsewhere, which takes over where the set is lost.
+ghost use Rattle.std.specs.Prelude.{◌≡◌, ◌<◌, ◌≤◌, [], length, take, Some, IfErr, IfOk};
+ghost use Rattle.std.specs.List.{All};
+ghost use Rattle.std.specs.Ordering.{nat_cmp};
+ghost use Rattle.indexset.specs.Words.{IsBeginning, IsDelivered, IsFeed, replay, vec_items};
+
+use crate::change_log::Numbers;
+use indexset::base::refusal::Refusal;
+use indexset::cdc::change::ChangeEvent;
+use indexset::cdc::laws::steps_lead_to_nodes;
+use indexset::replica::Replica;
+
+/// Returns a copy made of a snapshot, the nodes that a set had and the number of its next event, which
+/// then follows the set's events as they came. It holds what the longest beginning of all events leads
+/// to that the snapshot and the events in turn make up.
+pub fn resume(
+    nodes: Vec<Vec<u64>>,
+    next: u64,
+    events: &[ChangeEvent<u64>],
+    order: &[usize],
+) -> Result<Replica<u64>, Refusal>
+    requires feed { IsFeed nat_cmp 0 [] events.now }
+    requires within { next ≤ length events.now }
+    requires snapshot { replay nat_cmp [] (take next events.now) ≡ Some (vec_items nodes.items) }
+    requires inside { All (λ p. p < length events.now) order.now }
+    ensures delivered { IfOk result (λ copy.
+        IsDelivered nat_cmp 0 [] events.now next order.now copy) }
+    ensures beginning { IfOk result (λ copy. IsBeginning nat_cmp 0 [] events.now copy) }
+    ensures onwards { IfOk result (λ copy. next ≤ copy.next) }
+    ensures memory { IfErr result (λ refusal. refusal ≡ Refusal.Memory) }
+{
+    steps_lead_to_nodes::<u64>();
+    let mut copy = Replica::from_nodes(nodes, next)?;
+    copy.follow(events, order)?;
+    Ok(copy)
+}
+
+/// Returns a set that goes on where the copy stopped: it has the copy's nodes, and its next event has
+/// the number that the copy waits for.
+pub fn promote(copy: Replica<u64>, size: usize) -> Result<Numbers, Refusal>
+    requires { 2 ≤ size }
+    ensures { IfOk result (λ tree. tree ≡ record { nodes = copy.nodes; size = size; next = copy.next }) }
+{
+    let next = copy.next();
+    Ok(Numbers::from_nodes(copy.into_nodes(), size, next)?)
+}
