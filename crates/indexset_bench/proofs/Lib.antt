@@ -3,14 +3,10 @@ pub mod CallerLemmas
 pub mod ClonedRuns
 pub mod CommandRuns
 pub mod Digits
-pub mod Faults
-pub mod Lines
 pub mod LoggedMaps
 pub mod LoggedRuns
 pub mod Meanings
 pub mod PairChanges
 pub mod PairMeanings
-pub mod Pieces
-pub mod Runs
 pub mod Spellings
 pub mod Written

@@ -1,6 +1,4 @@
 pub mod Command
-pub mod Fault
-pub mod Lines
 pub mod LoggedMap
 pub mod LoggedMulti
 pub mod LoggedSet
@@ -8,7 +6,6 @@ pub mod MapRun
 pub mod PairCommand
 pub mod PairText
 pub mod Pairs
-pub mod Reading
 pub mod Replies
 pub mod Reply
 pub mod Run

@@ -1,10 +1,11 @@
 -- The text that answers an input.
-use Rattle.std.specs.Prelude.{ℕ, ◌≢◌, List, [], ◌∷◌, ◌++◌, MatchOption}
+use Rattle.std.specs.Prelude.{ℕ, ◌≢◌, List, [], MatchOption}
 use Rattle.std.specs.Option.{option_map_or}
 use Rattle.indexset_log.specs.Tree.{fresh}
 use Rattle.indexset_bench.specs.Command.{meaning}
 use Rattle.indexset_bench.specs.PairCommand.{pair_meaning}
-use Rattle.indexset_bench.specs.Lines.{lines_of}
+use Rattle.indexset_lines.specs.Lines.{lines_of}
+use Rattle.indexset_lines.specs.Run.{left_by, replies_to}
 use Rattle.indexset_bench.specs.Pairs.{PairTree, pair_events, pair_reply, pairs_after, reply_ended}
 use Rattle.indexset_bench.specs.Reply.{AddsNew, reply_to, contents_after}
 
@@ -33,14 +34,12 @@ abbrev pub Changes : Stores → List ℕ → Type 0
 Changes s line = MatchOption (pair_meaning line) (AddsNew s.numbers (meaning line)) (λ c. pair_events s.pairs c ≢ [])
 
 -- the replies to the lines, joined
-unfoldable pub replies_of : Stores → List (List ℕ) → List ℕ
-replies_of s [] = []
-replies_of s (line ∷ lines) = reply_line s line ++ replies_of (stores_after s line) lines
+abbrev pub replies_of : Stores → List (List ℕ) → List ℕ
+replies_of = replies_to reply_line stores_after
 
 -- what the run holds after the lines
-unfoldable pub stores_of : Stores → List (List ℕ) → Stores
-stores_of s [] = s
-stores_of s (line ∷ lines) = stores_of (stores_after s line) lines
+abbrev pub stores_of : Stores → List (List ℕ) → Stores
+stores_of = left_by stores_after
 
 -- the replies to the lines of the input, from nothing on
 abbrev pub text_of : List ℕ → List ℕ

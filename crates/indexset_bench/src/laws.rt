@@ -5,7 +5,7 @@ ghost use Rattle.indexset_bench.specs.declared.command.Command.{Command};
 ghost use Rattle.indexset_bench.specs.Command.{FitsU64, meaning, spelling};
 ghost use Rattle.indexset_bench.specs.declared.pair_command.PairCommand.{PairCommand};
 ghost use Rattle.indexset_bench.specs.PairCommand.{PairFitsU64, pair_meaning, pair_spelling};
-ghost use Rattle.indexset_bench.specs.Lines.{HasNoEnd, lines_of};
+ghost use Rattle.indexset_lines.specs.Lines.{HasNoEnd, lines_of};
 
 /// A line means the command of which it is the spelling, and no other line means one.
 pub fn meaning_is_spelling()

@@ -2,18 +2,15 @@
 //!
 //! [`set_run::run_set`], [`map_run::run_map`] and [`logged_run::run_logged`] carry out a list of
 //! commands and return the replies, the last the events too; [`logged::Logged`] is what a run needs
-//! of a logged tree. [`run`] reads lines of a reader and writes the reply to each: `line` reads,
-//! `command` and `pair_command` say what a line means, `perform` and `pairs` carry it out, `write`
-//! writes. The text that it writes is defined in `specs/Text.antt`, and [`laws`] says what the
+//! of a logged tree. [`run`] writes the reply to each line of a reader, as `indexset_lines` has them
+//! answered: `command` and `pair_command` say what a line means, `perform` and `pairs` carry it out,
+//! `write` writes. The text that it writes is defined in `specs/Text.antt`, and [`laws`] says what the
 //! definitions mean.
 #![tactic(auto)]
 
-pub mod bytes;
 pub mod command;
 pub mod command_run;
-mod fault;
 pub mod laws;
-pub mod line;
 pub mod logged;
 pub mod logged_run;
 pub mod map_run;
@@ -26,6 +23,6 @@ mod reply;
 pub mod set_run;
 pub mod write;
 
-pub use fault::RunFault;
+pub use indexset_lines::RunFault;
 pub use indexset_replica::Replica;
 pub use program::run;

@@ -4,8 +4,8 @@ ghost use Rattle.std.specs.Prelude.{◌≡◌, ◌≢◌, ℕ, ◌^◌, ◌<◌,
 ghost use Rattle.std.specs.Fmt.{decimal};
 ghost use Rattle.indexset_bench.specs.PairCommand.{pair_meaning};
 
-use crate::bytes::first_place;
 use crate::command::number;
+use indexset_lines::bytes::first_place;
 
 /// A command to the map.
 #[derive(Clone, Copy, Debug, PartialEq, Eq)]

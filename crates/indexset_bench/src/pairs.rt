@@ -6,11 +6,11 @@ ghost use Rattle.std.specs.Io.KnownBytes.{Appends, Keeps};
 ghost use Rattle.indexset_bench.specs.Pairs.{pair_events, pair_reply, pairs_after};
 ghost use Rattle.std.below.core.specs.declared.int.u64.TheConstants.{MAX};
 
-use crate::fault::RunFault;
 use crate::pair_command::PairCommand;
 use crate::reply::Reply;
 use crate::write::{write_events, write_line, write_nodes};
 use indexset_core::pair::Pair;
+use indexset_lines::RunFault;
 use indexset_log::map::BTreeMap;
 use std::io::Write;
 

@@ -3,22 +3,22 @@
 ghost use Rattle.std.specs.Prelude.{◌≡◌, ◌≢◌, ◌⊎◌, ◌<◌, [], Some, Err, OnOk, IfErr, IfSome, OnSome};
 ghost use Rattle.std.below.core.specs.declared.int.u64.TheConstants.{MAX};
 ghost use Rattle.std.specs.Io.KnownBytes.{Appends, Keeps};
-ghost use Rattle.indexset_log.specs.Tree.{fresh};
 ghost use Rattle.indexset_spine.specs.Cut.{items};
-ghost use Rattle.indexset_bench.specs.Lines.{HasNoEnd, IsLinePart};
+ghost use Rattle.indexset_lines.specs.Lines.{HasNoEnd, IsLinePart};
 ghost use Rattle.indexset_bench.specs.Reply.{AddsNew, contents_after, reply_to};
 ghost use Rattle.indexset_bench.specs.Pairs.{reply_ended};
 ghost use Rattle.indexset_bench.specs.Run.{AnswersAll, AnswersWholeLines, LacksNumbers};
 ghost use Rattle.indexset_bench.specs.Text.{Changes, reply_line, stores, stores_after, text_of};
 
 use crate::command::{Command, parse};
-use crate::fault::RunFault;
-use crate::line::{Part, is_at_end, next_line};
 use crate::pair_command::parse_pairs;
 use crate::pairs::{Pairs, answer_pairs};
 use crate::perform::perform;
 use crate::reply::Reply;
-use crate::write::{flush, write_line};
+use crate::write::write_line;
+use indexset_lines::RunFault;
+use indexset_lines::output::flush;
+use indexset_lines::run::{Answers, answer_lines};
 use indexset_set::BTreeSet;
 use std::alloc::Global;
 use std::io::{BufRead, Write};
@@ -60,14 +60,40 @@ pub fn run<R: BufRead, W: Write>(
         (R.remaining reader.old) (R.remaining reader.new)
         (W.contents writer.old) (W.contents writer.new) }
 {
-    let answered = answer_lines(alloc, reader, writer);
+    let answered = answer_all(alloc, reader, writer);
     let flushed = flush(writer);
     answered.and(flushed)
 }
 
-/// Writes the reply to each line. The writer is flushed before each read that may wait, and is left
-/// to be flushed at the end.
-fn answer_lines<R: BufRead, W: Write>(
+/// What a run holds: the numbers of the set, and the map.
+#[derive(Drop)]
+struct Holding {
+    set: BTreeSet<u64>,
+    pairs: Pairs,
+}
+
+impl Answers for Holding {
+    ghost use Rattle.indexset_spine.specs.Cut.{items};
+    ghost use Rattle.indexset_bench.specs.Run.{lacks};
+    ghost use Rattle.indexset_bench.specs.Text.{Stores, reply_line, stores, stores_after};
+
+    ghost State = { Stores };
+
+    ghost state = { λ held. stores (items held.set) held.pairs };
+
+    ghost reply = { λ _. reply_line };
+
+    ghost after = { stores_after };
+
+    ghost lacks_numbers = { lacks };
+
+    fn answer<W: Write>(&mut self, writer: &mut W, line: &[u8]) -> Result<(), RunFault> {
+        answer_line(writer, &mut self.set, &mut self.pairs, line)
+    }
+}
+
+/// Writes the reply to each line, and leaves the writer to be flushed at the end.
+fn answer_all<R: BufRead, W: Write>(
     alloc: Global,
     reader: &mut R,
     writer: &mut W,
@@ -85,53 +111,10 @@ fn answer_lines<R: BufRead, W: Write>(
         (R.remaining reader.old) (R.remaining reader.new)
         (W.contents writer.old) (W.contents writer.new) }
 {
-    let mut set = BTreeSet::new(alloc)?;
-    let mut pairs = Pairs::with_maximum_node_size(alloc, 4);
+    let set = BTreeSet::new(alloc)?;
+    let pairs = Pairs::with_maximum_node_size(alloc, 4);
     let mut line = Vec::new(alloc);
-    answer_each(reader, writer, &mut set, &mut pairs, &mut line)
-}
-
-/// The same, over a set and a map that are given empty, and room for a line.
-fn answer_each<R: BufRead, W: Write>(
-    reader: &mut R,
-    writer: &mut W,
-    set: &mut BTreeSet<u64>,
-    pairs: &mut Pairs,
-    line: &mut Vec<u8>,
-) -> Result<(), RunFault>
-    requires empty { items set.old ≡ [] }
-    requires fresh { pairs.old ≡ fresh 4 }
-    ensures given_answered { OnOk result (AnswersAll
-        (R.remaining reader.old) (R.remaining reader.new)
-        (W.contents writer.old) (W.contents writer.new)) }
-    ensures read_failed { result ≡ Err RunFault.Read → AnswersWholeLines HasNoEnd
-        (R.remaining reader.old) (R.remaining reader.new)
-        (W.contents writer.old) (W.contents writer.new) }
-    ensures memory_refused { result ≡ Err RunFault.Memory → AnswersWholeLines IsLinePart
-        (R.remaining reader.old) (R.remaining reader.new)
-        (W.contents writer.old) (W.contents writer.new) }
-    ensures numbers_refused { result ≡ Err RunFault.Numbers → LacksNumbers
-        (R.remaining reader.old) (R.remaining reader.new)
-        (W.contents writer.old) (W.contents writer.new) }
-{
-    for _ in 0..u64::MAX {
-        match next_line(reader, writer, line)? {
-            Part::Whole { is_used_up } => {
-                answer_line(writer, set, pairs, line)?;
-                if is_used_up {
-                    flush(writer)?;
-                }
-            }
-            Part::Last => return answer_line(writer, set, pairs, line),
-            Part::End => return Ok(()),
-        }
-    }
-    // No line may follow.
-    if is_at_end(reader)? {
-        Ok(())
-    } else {
-        Err(RunFault::Read)
-    }
+    answer_lines(&mut Holding { set, pairs }, reader, writer, &mut line)
 }
 
 /// Writes the reply to one line. Where it fails, nothing is written.

@@ -1,25 +1,17 @@
 //! What is written: lines of a reply, of events and of nodes.
 
 ghost use Rattle.std.specs.Prelude.{◌≡◌, OnOk, IfErr};
-ghost use Rattle.std.specs.Io.KnownBytes.{Appends, Keeps};
+ghost use Rattle.std.specs.Io.KnownBytes.{Appends};
 ghost use Rattle.indexset_bench.specs.Pairs.{reply_ended};
 ghost use Rattle.indexset_bench.specs.PairText.{ended, event_text, lines_for, node_text};
 
-use crate::fault::RunFault;
 use crate::pair_text::{EventText, PairText};
 use crate::pairs::Pairs;
 use crate::reply::Reply;
 use indexset_core::pair::Pair;
+use indexset_lines::RunFault;
 use indexset_log::change::ChangeEvent;
 use std::io::Write;
-
-/// Passes on what the writer holds back.
-pub fn flush<W: Write>(writer: &mut W) -> Result<(), RunFault>
-    ensures unwritten { Keeps (W.contents writer.old) (W.contents writer.new) }
-    ensures fault { IfErr result (λ fault. fault ≡ RunFault.Write) }
-{
-    writer.flush().map_err(|_| RunFault::Write)
-}
 
 /// Writes a reply as a line.
 pub fn write_line<W: Write>(writer: &mut W, reply: Reply) -> Result<(), RunFault>

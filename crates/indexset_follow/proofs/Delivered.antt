@@ -3,6 +3,7 @@ use Rattle.std.proofs.Common.{Option, None, Some, ◌≡◌, inl, ℕ, zero, suc
 use Rattle.std.proofs.lemmas.Option.{slice_get-get_or}
 use Rattle.std.specs.List.{All}
 use Rattle.std.specs.Option.{option_map_or}
+use Rattle.indexset_lines.specs.Run.{left_by}
 use Rattle.indexset_bench.specs.PairText.{event_text}
 use Rattle.indexset_bench.specs.Text.{no_stores, stores_of}
 use Rattle.indexset_log.proofs.CallerLemmas.{Each, all_each, each_all}
@@ -65,7 +66,7 @@ each_told Q (l ∷ ls) h = at (event_of l) h.0 (each_told Q ls h.1)
 
 -- other lines change nothing
 only_told : (r : State) (ls : List (List ℕ)) → Each Known ls → state_after r ls ≡ state_after r (event_lines ls)
-unfolding state_after
+unfolding left_by
 only_told r [] h = refl
 only_told r (l ∷ ls) h = at (event_of l) (λ none. h.0 none r) (only_told r ls h.1) (only_told (after_line r l) ls h.1)
   where

@@ -8,6 +8,7 @@ use Rattle.std.proofs.lemmas.List.{drop_more, length-drop, take-append-drop, tak
 use Rattle.std.proofs.lemmas.List.Elements.{All-head, All-tail}
 use Rattle.std.specs.List.{All}
 use Rattle.std.specs.Ordering.{nat_cmp}
+use Rattle.indexset_lines.specs.Run.{left_by}
 use Rattle.indexset_bench.specs.PairText.{event_text}
 use Rattle.indexset_core.specs.Pairs.{by_key}
 use Rattle.indexset_core.specs.declared.pair.Pair.{Pair}
@@ -124,7 +125,7 @@ module _ (s : ℕ) (ns : List (List (Pair ℕ ℕ))) (es : List Event) (feed : I
         by false here = passed j d.place r d.event (eqb-false d.place j here) at d.at
 
     pub beginning : (j : ℕ) (r : State) (ls : List (List ℕ)) → HoldsFirst s ns es j r → All (IsDrawn es) ls → (k : ℕ) × HoldsFirst s ns es k (state_after r ls)
-    unfolding state_after
+    unfolding left_by
     beginning j r [] at drawn = (j, at)
     beginning j r (l ∷ ls) at drawn =
         let d = All-head (IsDrawn es) l ls drawn in
@@ -162,7 +163,7 @@ module _ (s : ℕ) (ns : List (List (Pair ℕ ℕ))) (es : List Event) (feed : I
         at false past false here = empty_came (texts_from j) ls (omega (arith, length_map event_text (drop j es), length-drop j es, ltb-false j (length es) past))
 
     pub whole : (j : ℕ) (r : State) (ls : List (List ℕ)) → HoldsFirst s ns es j r → All (IsDrawn es) ls → IsSubsequence (texts_from j) ls → HoldsFirst s ns es (length es) (state_after r ls)
-    unfolding state_after
+    unfolding left_by
     whole j r [] at drawn came =
         let all : j ≡ length es = omega (arith, none_of_none (texts_from j) came, length_map event_text (drop j es), length-drop j es, at.within) in
         subst (λ k. HoldsFirst s ns es k r) all at

@@ -8,8 +8,6 @@ pub mod Passing
 pub mod Programs
 pub mod Readings
 pub mod RequestLines
-pub mod Lines
 pub mod Rows
-pub mod Runs
 pub mod Snapshots
 pub mod Taking

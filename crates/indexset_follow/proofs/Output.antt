@@ -9,8 +9,9 @@ use Rattle.std.specs.Option.{option_map, option_map_or}
 use Rattle.std.specs.Prelude.{IfSome}
 use Rattle.std.specs.Ordering.{is_eq, is_gt, is_lt, nat_cmp}
 use Rattle.std.specs.declared.cmp.Ordering.TheVariants.{Less, Equal, Greater}
+use Rattle.indexset_lines.specs.Run.{left_by, replies_to}
 use Rattle.indexset_bench.specs.Command.{FitsU64, meaning}
-use Rattle.indexset_bench.specs.Lines.{HasNoEnd, lines_of}
+use Rattle.indexset_lines.specs.Lines.{HasNoEnd, lines_of}
 use Rattle.indexset_bench.specs.PairCommand.{pair_meaning}
 use Rattle.indexset_bench.specs.PairText.{ended, event_head, event_text, lines_for, node_text, pair_text}
 use Rattle.indexset_bench.specs.Pairs.{PairTree, change_reply, pair_reply, pairs_after, reply_ended, told_events}
@@ -283,7 +284,7 @@ line_tells count less s g h line = at (pair_meaning line)
     at (Some c) fits = command_tells s.pairs g c fits
 
 lines_tell : (count : ℕ) (s : Stores) → Good s.pairs → Few count s.numbers → (lines : List (List ℕ)) → count + length lines < 2 ^ 64 → (stores_of s lines).pairs.next ≤ MAX → Tells (replies_of s lines) (events_from s lines)
-unfolding replies_of stores_of events_from
+unfolding replies_to left_by events_from
 lines_tell count s g h [] many less = tells_none
 lines_tell count s g h (line ∷ lines) many less =
     let first = line_onward s g line in

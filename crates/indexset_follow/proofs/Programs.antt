@@ -8,6 +8,7 @@ use Rattle.std.specs.List.{All}
 use Rattle.std.specs.Option.{option_map_or}
 use Rattle.std.specs.Ordering.{nat_cmp}
 use Rattle.std.specs.Prelude.{is_some, unwrap_or}
+use Rattle.indexset_lines.specs.Run.{left_by}
 use Rattle.indexset_bench.specs.PairCommand.{PairFitsU64, pair_meaning}
 use Rattle.indexset_bench.specs.PairText.{event_text}
 use Rattle.indexset_bench.specs.Pairs.{PairTree, pair_events, pairs_after, told_events}
@@ -113,7 +114,7 @@ both_onward t mid after first rest a b = record {
 }
 
 pub lines_onward : (s : Stores) → Good s.pairs → (lines : List (List ℕ)) → Onward s.pairs (stores_of s lines).pairs (events_from s lines)
-unfolding stores_of events_from
+unfolding left_by events_from
 lines_onward s g [] = still s.pairs g
 lines_onward s g (line ∷ lines) =
     let first = line_onward s g line in
@@ -121,7 +122,7 @@ lines_onward s g (line ∷ lines) =
 
 -- the events of a beginning of the lines are a beginning of the events
 pub events_part : (s : Stores) (front back : List (List ℕ)) → events_from s (front ++ back) ≡ events_from s front ++ events_from (stores_of s front) back
-unfolding stores_of events_from
+unfolding left_by events_from
 events_part s [] back = refl
 events_part s (line ∷ front) back =
     ap (λ l. line_events s line ++ l) (events_part (stores_after s line) front back)

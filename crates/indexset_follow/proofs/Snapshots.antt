@@ -8,8 +8,9 @@ use Rattle.std.proofs.lemmas.List.Sums.{sum_by-cons}
 use Rattle.std.specs.Fmt.{decimal}
 use Rattle.std.specs.List.{All, list_all}
 use Rattle.std.specs.Ordering.{is_lt, nat_cmp}
-use Rattle.indexset_bench.proofs.CallerLemmas.{lines_of-line}
-use Rattle.indexset_bench.specs.Lines.{HasNoEnd, lines_of}
+use Rattle.indexset_lines.specs.Run.{left_by}
+use Rattle.indexset_lines.proofs.CallerLemmas.{lines_of-line}
+use Rattle.indexset_lines.specs.Lines.{HasNoEnd, lines_of}
 use Rattle.indexset_bench.specs.PairText.{ended, lines_for, node_text, pair_text}
 use Rattle.indexset_core.proofs.CallerLemmas.{joined-append}
 use Rattle.indexset_core.specs.Nodes.{IsNodeList, joined}
@@ -97,7 +98,7 @@ node_line_told s n fit =
 
 -- the nodes, one line after the other
 filled_up : (next : ℕ) (done rest : List (List (Pair ℕ ℕ))) → Ruled (by_key nat_cmp) (done ++ rest) → All NodeFits rest → state_after (state done next) (map node_line rest) ≡ state (done ++ rest) next
-unfolding state_after
+unfolding left_by
 filled_up next done [] rule fit = ap (λ ns. state ns next) (sym (append_none done))
   where
     append_none : (xs : List (List (Pair ℕ ℕ))) → xs ++ [] ≡ xs
@@ -137,7 +138,7 @@ snapshot_lines s small fit =
     first_line (start_line s.next) (lines_for node_line s.nodes) none ∙ ap (λ ls. start_line s.next ∷ ls) (node_lines s.nodes fit)
 
 pub snapshot_taken : (s t : State) → IsNodeList (by_key nat_cmp) s.nodes → s.next < 2 ^ 64 → All NodeFits s.nodes → state_after t (lines_of (snapshot_text s)) ≡ s
-unfolding state_after
+unfolding left_by
 snapshot_taken s t lawful small fit =
     ap (state_after t) (snapshot_lines s small fit) ∙ ap (λ r. state_after r (map node_line s.nodes)) (start_told t s.next small)
     ∙ filled_up s.next [] s.nodes (nodes_ruled (by_key nat_cmp) s.nodes lawful) fit

@@ -21,7 +21,7 @@ use Rattle.indexset_replica.specs.declared.lookup.Turn.{Turn}
 use Rattle.indexset_replica.specs.declared.lookup.Turn.TheVariants.{Next, Had, Missing}
 use Rattle.indexset_follow.specs.EventLine.{Event}
 use Rattle.indexset_follow.specs.Follow.{State, after_event, event_reply, state, taken_reply}
-use Rattle.indexset_bench.specs.declared.fault.RunFault.{RunFault}
+use Rattle.indexset_lines.specs.declared.fault.RunFault.{RunFault}
 use Rattle.indexset_follow.specs.declared.reply.Reply.{Reply}
 use Rattle.indexset_follow.specs.declared.reply.Reply.TheVariants as reply
 

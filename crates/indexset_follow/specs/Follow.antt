@@ -4,7 +4,8 @@ use Rattle.std.below.core.specs.declared.int.usize.TheConstants.{MAX}
 use Rattle.std.specs.Option.{option_map_or}
 use Rattle.std.specs.Ordering.{nat_cmp}
 use Rattle.std.specs.declared.ops.Bound.TheVariants.{Included}
-use Rattle.indexset_bench.specs.Lines.{lines_of}
+use Rattle.indexset_lines.specs.Lines.{lines_of}
+use Rattle.indexset_lines.specs.Run.{left_by, replies_to}
 use Rattle.indexset_bench.specs.PairText.{ended, lines_for, node_text}
 use Rattle.indexset_core.specs.Bounds.{in_range}
 use Rattle.indexset_core.specs.Nodes.{joined}
@@ -116,14 +117,12 @@ reply_line o s line =
     (option_map_or (request_text s) (request_of line) (others_text o)))
 
 -- the answers to the lines, joined
-unfoldable pub replies_of : Others → State → List (List ℕ) → List ℕ
-replies_of o s [] = []
-replies_of o s (line ∷ lines) = reply_line o s line ++ replies_of o (after_line s line) lines
+abbrev pub replies_of : Others → State → List (List ℕ) → List ℕ
+replies_of o = replies_to (reply_line o) after_line
 
 -- the state after the lines
-unfoldable pub state_after : State → List (List ℕ) → State
-state_after s [] = s
-state_after s (line ∷ lines) = state_after (after_line s line) lines
+abbrev pub state_after : State → List (List ℕ) → State
+state_after = left_by after_line
 
 -- at first: no nodes, and event 0 is awaited
 abbrev pub start_state : State

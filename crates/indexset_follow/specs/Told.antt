@@ -1,7 +1,7 @@
 -- The events that the first program tells, and the lines of its output that tell them.
 use Rattle.std.specs.Prelude.{◌≡◌, ℕ, is_some, Some, List, [], ◌∷◌, ◌++◌, filter, slice_get}
 use Rattle.std.specs.Option.{option_map_or}
-use Rattle.indexset_bench.specs.Lines.{lines_of}
+use Rattle.indexset_lines.specs.Lines.{lines_of}
 use Rattle.indexset_bench.specs.PairCommand.{pair_meaning}
 use Rattle.indexset_bench.specs.Pairs.{told_events}
 use Rattle.indexset_bench.specs.Text.{Stores, no_stores, replies_of, stores_after}

@@ -3,7 +3,7 @@
 ghost use Rattle.std.specs.Prelude.{◌≡◌, ◌↔◌, ◌<◌, ◌≤◌, ◌^◌, ℕ, List, [], length, map, drop, take, Some};
 ghost use Rattle.std.specs.List.{All};
 ghost use Rattle.std.specs.Ordering.{nat_cmp};
-ghost use Rattle.indexset_bench.specs.Lines.{lines_of};
+ghost use Rattle.indexset_lines.specs.Lines.{lines_of};
 ghost use Rattle.indexset_bench.specs.PairText.{event_text};
 ghost use Rattle.indexset_bench.specs.Reply.{reply_text};
 ghost use Rattle.indexset_bench.specs.Text.{no_stores, stores_of};

@@ -4,9 +4,9 @@ ghost use Rattle.std.specs.Prelude.{◌≡◌};
 ghost use Rattle.std.specs.Option.{option_map};
 ghost use Rattle.indexset_follow.specs.Numbers.{cut_at, number_of, pair_of};
 
-use indexset_bench::bytes::first_place;
 use indexset_bench::command::number;
 use indexset_core::pair::Pair;
+use indexset_lines::bytes::first_place;
 
 /// Returns the number of which this is the plain decimal text.
 pub fn read_number(text: &[u8]) -> Option<u64>

@@ -2,16 +2,16 @@
 
 ghost use Rattle.std.specs.Prelude.{◌≡◌, ◌≢◌, [], Some, Err, OnOk, IfSome, OnSome};
 ghost use Rattle.std.specs.Io.KnownBytes.{Appends};
-ghost use Rattle.indexset_bench.specs.Lines.{HasNoEnd, IsLinePart};
+ghost use Rattle.indexset_lines.specs.Lines.{HasNoEnd, IsLinePart};
 ghost use Rattle.indexset_follow.specs.Follow.{text_of};
 ghost use Rattle.indexset_follow.specs.Run.{AnswersAll, AnswersWholeLines};
 
 use crate::answer::answer_line;
 use crate::others::Others;
 use crate::write::Nodes;
-use indexset_bench::RunFault;
-use indexset_bench::line::{Part, is_at_end, next_line};
-use indexset_bench::write::flush;
+use indexset_lines::RunFault;
+use indexset_lines::output::flush;
+use indexset_lines::run::{Answers, answer_lines};
 use std::alloc::Global;
 use std::io::{BufRead, Write};
 
@@ -50,14 +50,39 @@ pub fn run<R: BufRead, W: Write>(
         (W.contents writer.old) (W.contents writer.new) }
     ensures no_numbers { result ≢ Err RunFault.Numbers }
 {
-    let answered = answer_lines(alloc, others, reader, writer);
+    let answered = answer_all(alloc, others, reader, writer);
     let flushed = flush(writer);
     answered.and(flushed)
 }
 
-/// Writes the reply to each line. The writer is flushed before each read that may wait, and is left
-/// to be flushed at the end.
-fn answer_lines<R: BufRead, W: Write>(
+/// Nodes that follow, as a run has lines answered.
+#[derive(Drop)]
+struct Following {
+    alloc: Global,
+    others: Others,
+    nodes: Nodes,
+}
+
+impl Answers for Following {
+    ghost use Rattle.indexset_follow.specs.Follow.{State, after_line, reply_line};
+
+    ghost State = { State };
+
+    ghost state = { λ following. following.nodes };
+
+    ghost reply = { λ following. reply_line following.others };
+
+    ghost after = { after_line };
+
+    ghost lacks_numbers = { λ _. ⊥ };
+
+    fn answer<W: Write>(&mut self, writer: &mut W, line: &[u8]) -> Result<(), RunFault> {
+        answer_line(self.alloc, self.others, writer, &mut self.nodes, line)
+    }
+}
+
+/// Writes the reply to each line, and leaves the writer to be flushed at the end.
+fn answer_all<R: BufRead, W: Write>(
     alloc: Global,
     others: Others,
     reader: &mut R,
@@ -74,24 +99,7 @@ fn answer_lines<R: BufRead, W: Write>(
         (W.contents writer.old) (W.contents writer.new) }
     ensures no_numbers { result ≢ Err RunFault.Numbers }
 {
-    let mut nodes = Nodes::new(alloc, 0);
+    let nodes = Nodes::new(alloc, 0);
     let mut line = Vec::new(alloc);
-    for _ in 0..u64::MAX {
-        match next_line(reader, writer, &mut line)? {
-            Part::Whole { is_used_up } => {
-                answer_line(alloc, others, writer, &mut nodes, &line)?;
-                if is_used_up {
-                    flush(writer)?;
-                }
-            }
-            Part::Last => return answer_line(alloc, others, writer, &mut nodes, &line),
-            Part::End => return Ok(()),
-        }
-    }
-    // No line may follow.
-    if is_at_end(reader)? {
-        Ok(())
-    } else {
-        Err(RunFault::Read)
-    }
+    answer_lines(&mut Following { alloc, others, nodes }, reader, writer, &mut line)
 }

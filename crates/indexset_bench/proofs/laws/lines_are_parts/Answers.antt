@@ -1,6 +1,6 @@
 use Rattle.std.proofs.Common.{refl}
-use Rattle.indexset_bench.specs.Lines.{lines_of}
-use Rattle.indexset_bench.proofs.Lines.{lines_of-line, lines_of-last}
+use Rattle.indexset_lines.specs.Lines.{lines_of}
+use Rattle.indexset_lines.proofs.CallerLemmas.{lines_of-line, lines_of-last}
 use Rattle.indexset_bench.proofs.laws.lines_are_parts.Goals as goal
 
 pub returns-clause-none : goal.returns-clause-none

@@ -10,7 +10,7 @@ use Rattle.indexset_bench.specs.PairText.{event_text, lines_for}
 use Rattle.indexset_bench.specs.declared.pair_command.PairCommand.TheVariants.{Put, Cut}
 use Rattle.indexset_bench.specs.declared.reply.Reply.TheVariants.{New, OldValue}
 use Rattle.indexset_bench.proofs.Acts.{tree_led}
-use Rattle.indexset_bench.proofs.Faults.{err_same, failed, mapped_ok, on_ok_any, write_not_memory, write_not_numbers, write_not_read}
+use Rattle.indexset_lines.proofs.CallerLemmas.{err_same, failed, mapped_ok, on_ok_any, write_not_memory, write_not_numbers, write_not_read}
 use Rattle.indexset_bench.proofs.PairChanges.{put_some}
 use Rattle.indexset_bench.proofs.pairs.answer_pairs.Goals as goal
 

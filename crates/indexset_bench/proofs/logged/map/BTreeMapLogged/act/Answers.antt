@@ -7,7 +7,7 @@ use Rattle.indexset_log.specs.Keys.{key_removal_events}
 use Rattle.indexset_log.specs.Table.{checked_put_events, put_events}
 use Rattle.indexset_bench.specs.declared.logged.map.LoggedMapReply.TheVariants.{OldValue, Added, Out}
 use Rattle.indexset_bench.proofs.Acts.{tree_led}
-use Rattle.indexset_bench.proofs.Faults.{failed}
+use Rattle.indexset_lines.proofs.CallerLemmas.{failed}
 use Rattle.indexset_bench.proofs.LoggedMaps.{checked_there}
 use Rattle.indexset_bench.proofs.logged.map.BTreeMapLogged.act.Goals as goal
 

@@ -7,7 +7,7 @@ use Rattle.indexset_multi.specs.Keys.{equal_pair, first_pair}
 use Rattle.indexset_multi.specs.Tree.{insertion_events, lacks_number, pair_next_after, pair_removal_events}
 use Rattle.indexset_bench.specs.declared.logged.multimap.LoggedMultiReply.TheVariants.{OldValue, Out}
 use Rattle.indexset_bench.proofs.Acts.{either_lack, multi_led, multi_state}
-use Rattle.indexset_bench.proofs.Faults.{failed}
+use Rattle.indexset_lines.proofs.CallerLemmas.{failed}
 use Rattle.indexset_bench.proofs.logged.multimap.BTreeMultiMapLogged.act.Goals as goal
 
 pub returns-in_err-old-in-Insert : goal.returns-in_err-old-in-Insert

@@ -6,7 +6,7 @@ use Rattle.indexset_core.specs.Order.{has_equal}
 use Rattle.indexset_log.specs.Table.{checked_put_events, put_events, removal_events}
 use Rattle.indexset_bench.specs.declared.logged.set.LoggedSetReply.TheVariants.{Old, Added}
 use Rattle.indexset_bench.proofs.Acts.{tree_led}
-use Rattle.indexset_bench.proofs.Faults.{failed}
+use Rattle.indexset_lines.proofs.CallerLemmas.{failed}
 use Rattle.indexset_bench.proofs.LoggedMaps.{checked_there}
 use Rattle.indexset_bench.proofs.logged.set.BTreeSetLogged.act.Goals as goal
 

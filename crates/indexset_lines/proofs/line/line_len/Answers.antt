@@ -1,8 +1,8 @@
 use Rattle.std.proofs.Common.{◌≡◌, ◌==◌, length, rules, ◌∙◌, ap}
 use Rattle.std.specs.List.{position}
 use Rattle.std.specs.Prelude.{unwrap_or}
-use Rattle.indexset_bench.proofs.Pieces.{position-or_len}
-use Rattle.indexset_bench.proofs.line.line_len.Goals as goal
+use Rattle.indexset_lines.proofs.Pieces.{position-or_len}
+use Rattle.indexset_lines.proofs.line.line_len.Goals as goal
 
 pub returns : goal.returns
 returns c =

@@ -3,12 +3,12 @@
 ghost use Rattle.std.specs.Prelude.{◌⊎◌, ◌≡◌, ◌≢◌, ◌==◌, ◌+◌, ◌<◌, length, vec_len, vec_capacity, false, Ok, Err, IfOk, IfErr, IfSome, OnErr, OnSome, IsTrue};
 ghost use Rattle.std.specs.List.{position_or_len};
 ghost use Rattle.std.specs.Io.KnownBytes.{IsAtEnd, Keeps};
-ghost use Rattle.indexset_bench.specs.Lines.{HasNoEnd};
-ghost use Rattle.indexset_bench.specs.Reading.{Reads, Stops, TakesPiece};
+ghost use Rattle.indexset_lines.specs.Lines.{HasNoEnd};
+ghost use Rattle.indexset_lines.specs.Reading.{Reads, Stops, TakesPiece};
 
 use crate::bytes::first_place;
 use crate::fault::RunFault;
-use crate::write::flush;
+use crate::output::flush;
 use std::io::{BufRead, ErrorKind, Write};
 
 /// What a read of a line found.

@@ -1,9 +1,9 @@
 -- What reading a line does to the bytes that a reader has left, and to the line.
 use Rattle.std.specs.Prelude.{Option, ◌≡◌, ℕ, ◌<◌, List, [], ◌∷◌, ◌++◌, length, None, Some, OnSome}
 use Rattle.std.specs.Io.KnownBytes.{Consumes, IsAtEnd}
-use Rattle.indexset_bench.specs.declared.line.Part.{Part}
-use Rattle.indexset_bench.specs.declared.line.Part.TheVariants.{Whole, Last, End}
-use Rattle.indexset_bench.specs.Lines.{HasNoEnd}
+use Rattle.indexset_lines.specs.declared.line.Part.{Part}
+use Rattle.indexset_lines.specs.declared.line.Part.TheVariants.{Whole, Last, End}
+use Rattle.indexset_lines.specs.Lines.{HasNoEnd}
 
 -- bytes went from the reader: a line and its end, or the last line, or none
 abbrev pub Reads : Option (List ℕ) → Option (List ℕ) → List ℕ → Part → Type 0

@@ -1,7 +1,7 @@
 -- How a fault is told, and which fault a refusal is.
 use Rattle.std.specs.Prelude.{ℕ, List, codes}
-use Rattle.indexset_bench.specs.declared.fault.RunFault.{RunFault}
-use Rattle.indexset_bench.specs.declared.fault.RunFault.TheVariants.{Memory, Numbers, Read, Write}
+use Rattle.indexset_lines.specs.declared.fault.RunFault.{RunFault}
+use Rattle.indexset_lines.specs.declared.fault.RunFault.TheVariants.{Memory, Numbers, Read, Write}
 use Rattle.indexset_core.specs.declared.refusal.Refusal.{Refusal}
 use Rattle.indexset_core.specs.declared.refusal.Refusal.TheVariants as refusal
 

@@ -19,7 +19,7 @@ pub enum RunFault {
 
 impl RunFault {
     ghost use Rattle.std.specs.Prelude.{◌≡◌};
-    ghost use Rattle.indexset_bench.specs.Fault.{status_of, word_of};
+    ghost use Rattle.indexset_lines.specs.Fault.{status_of, word_of};
 
     /// Returns the exit status that tells this fault.
     pub fn status(self) -> u8
@@ -48,7 +48,7 @@ impl RunFault {
 
 impl fmt::Display for RunFault {
     ghost use Rattle.std.specs.Prelude.{Some};
-    ghost use Rattle.indexset_bench.specs.Fault.{word_of};
+    ghost use Rattle.indexset_lines.specs.Fault.{word_of};
 
     ghost output = { λ fault. Some (word_of fault) };
 
@@ -61,7 +61,7 @@ impl Error for RunFault {}
 
 impl From<Refusal> for RunFault {
     ghost use Rattle.std.specs.Prelude.{◌≡◌};
-    ghost use Rattle.indexset_bench.specs.Fault.{fault_of};
+    ghost use Rattle.indexset_lines.specs.Fault.{fault_of};
 
     ghost from_gives = { λ refusal fault. fault ≡ fault_of refusal };
 

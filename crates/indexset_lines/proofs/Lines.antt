@@ -2,8 +2,8 @@
 use Rattle.std.proofs.Common.{◌≡◌, ◌≢◌, ℕ, suc, ◌-◌, ◌<◌, get_or, Bool, true, false, cond, eqb, List, [], ◌∷◌, ◌++◌, length, refl, sym, ap, ◌∙◌, arith, append_assoc, eq-eqb, ne_eqb}
 use Rattle.std.proofs.lemmas.List.{get_or_push, length_push}
 use Rattle.std.proofs.lemmas.List.Elements.{All-head, All-tail}
-use Rattle.indexset_bench.specs.Lines.{HasNoEnd, IsWhole, onto_first, lines_of}
-use Rattle.indexset_bench.specs.Text.{Stores, replies_of, reply_line, stores_after, stores_of}
+use Rattle.indexset_lines.specs.Lines.{HasNoEnd, IsWhole, onto_first, lines_of}
+use Rattle.indexset_lines.specs.Run.{left_by, replies_to}
 
 -- a line and its end go first
 pub lines_of-line : (line rest : List ℕ) → HasNoEnd line → lines_of (line ++ 10 ∷ rest) ≡ line ∷ lines_of rest
@@ -69,14 +69,15 @@ lines_of-append (x ∷ y ∷ ys) part is_whole = at (eqb x 10) (lines_of-append 
     at true rest = ap (λ l. [] ∷ l) rest
     at false rest = ap (onto_first x) rest ∙ onto_first-append x (lines_of (y ∷ ys)) (lines_of part) (lines_of-some y ys)
 
-pub replies_of-append : (s : Stores) (ls ms : List (List ℕ)) → replies_of s (ls ++ ms) ≡ replies_of s ls ++ replies_of (stores_of s ls) ms
-unfolding replies_of stores_of
-replies_of-append s [] ms = refl
-replies_of-append s (l ∷ ls) ms =
-    ap (λ rest. reply_line s l ++ rest) (replies_of-append (stores_after s l) ls ms)
-    ∙ sym (append_assoc (reply_line s l) (replies_of (stores_after s l) ls) (replies_of (stores_of (stores_after s l) ls) ms))
+module _ {S : Type 0} (after : S → List ℕ → S) where
+  pub left_by-append : (s : S) (ls ms : List (List ℕ)) → left_by after s (ls ++ ms) ≡ left_by after (left_by after s ls) ms
+  unfolding left_by
+  left_by-append s [] ms = refl
+  left_by-append s (l ∷ ls) ms = left_by-append (after s l) ls ms
 
-pub stores_of-append : (s : Stores) (ls ms : List (List ℕ)) → stores_of s (ls ++ ms) ≡ stores_of (stores_of s ls) ms
-unfolding stores_of
-stores_of-append s [] ms = refl
-stores_of-append s (l ∷ ls) ms = stores_of-append (stores_after s l) ls ms
+  pub replies_to-append : (reply : S → List ℕ → List ℕ) (s : S) (ls ms : List (List ℕ)) → replies_to reply after s (ls ++ ms) ≡ replies_to reply after s ls ++ replies_to reply after (left_by after s ls) ms
+  unfolding replies_to left_by
+  replies_to-append reply s [] ms = refl
+  replies_to-append reply s (l ∷ ls) ms =
+      ap (λ rest. reply s l ++ rest) (replies_to-append reply (after s l) ls ms)
+      ∙ sym (append_assoc (reply s l) (replies_to reply after (after s l) ls) (replies_to reply after (left_by after (after s l) ls) ms))

@@ -3,9 +3,9 @@ use Rattle.std.specs.Io.BufRead.{FillKeeps}
 use Rattle.std.proofs.KnownBytes.{Consumes-kept, Consumes-nil}
 use Rattle.std.proofs.lemmas.List.Elements.{All-nil}
 use Rattle.std.proofs.BufReadLemmas.{Consumes_shown}
-use Rattle.indexset_bench.proofs.Faults.{err_is, err_same, ok_not_err, read_not_memory}
-use Rattle.indexset_bench.proofs.Pieces.{ends_there, first_end_within, moves_whole, moves_on, no_bytes, no_room_left}
-use Rattle.indexset_bench.proofs.line.take_piece.Goals as goal
+use Rattle.indexset_lines.proofs.Faults.{err_is, err_same, ok_not_err, read_not_memory}
+use Rattle.indexset_lines.proofs.Pieces.{ends_there, first_end_within, moves_whole, moves_on, no_bytes, no_room_left}
+use Rattle.indexset_lines.proofs.line.take_piece.Goals as goal
 
 pub returns-then-is_whole-clause-ok : goal.returns-then-is_whole-clause-ok
 returns-then-is_whole-clause-ok g c =

@@ -10,10 +10,10 @@ use Rattle.std.specs.Prelude.{Bool, nat_lt, unwrap_or}
 use Rattle.std.specs.List.{position, position_or_len}
 use Rattle.std.specs.Io.{StartsWith}
 use Rattle.std.specs.Io.KnownBytes.{Consumes, IsAtEnd, Keeps}
-use Rattle.indexset_bench.specs.declared.line.Part.{Part}
-use Rattle.indexset_bench.specs.declared.line.Part.TheVariants.{Whole, Last, End}
-use Rattle.indexset_bench.specs.Lines.{HasNoEnd}
-use Rattle.indexset_bench.specs.Reading.{Reads, Stops, Moves, Ends, TakesPiece}
+use Rattle.indexset_lines.specs.declared.line.Part.{Part}
+use Rattle.indexset_lines.specs.declared.line.Part.TheVariants.{Whole, Last, End}
+use Rattle.indexset_lines.specs.Lines.{HasNoEnd}
+use Rattle.indexset_lines.specs.Reading.{Reads, Stops, Moves, Ends, TakesPiece}
 
 -- ---- the first end among the bytes shown
 

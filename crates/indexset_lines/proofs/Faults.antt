@@ -2,8 +2,8 @@
 use Rattle.std.proofs.Common.{◌≡◌, ◌⊎◌, true, Result, Ok, Err, OnOk, refl, ap, subst, inl, inr}
 use Rattle.std.proofs.lemmas.Bool.{false≢true}
 use Rattle.std.specs.Result.{IsErr, IsErrAnd, MatchResult, is_err}
-use Rattle.indexset_bench.specs.declared.fault.RunFault.{RunFault}
-use Rattle.indexset_bench.specs.declared.fault.RunFault.TheVariants.{Memory, Numbers, Read, Write}
+use Rattle.indexset_lines.specs.declared.fault.RunFault.{RunFault}
+use Rattle.indexset_lines.specs.declared.fault.RunFault.TheVariants.{Memory, Numbers, Read, Write}
 
 -- a `?` hands on the error
 pub failed : {T E : Type 0} (r : Result T E) (e : E) → IsErr r × IsErrAnd r (λ f. f ≡ e) → r ≡ Err e

@@ -1,6 +1,6 @@
 use Rattle.std.specs.Io.KnownBytes.{Keeps}
-use Rattle.indexset_bench.specs.Reading.{Stops}
-use Rattle.indexset_bench.proofs.line.next_line.Given as goal
+use Rattle.indexset_lines.specs.Reading.{Stops}
+use Rattle.indexset_lines.proofs.line.next_line.Given as goal
 
 abbrev pub invariant-loop : goal.invariant-loop
 invariant-loop g l =

@@ -1,9 +1,9 @@
 use Rattle.std.proofs.Common.{◌≢◌, refl}
 use Rattle.std.proofs.KnownBytes.{Consumes-kept, Consumes-nil, Keeps-refl, Keeps-trans}
 use Rattle.std.proofs.lemmas.List.Elements.{All-nil}
-use Rattle.indexset_bench.proofs.Faults.{err_same, failed, neither_numbers, ok_not_err, read_not_numbers, write_not_numbers}
-use Rattle.indexset_bench.proofs.Pieces.{reads_part, stops_further}
-use Rattle.indexset_bench.proofs.line.next_line.Goals as goal
+use Rattle.indexset_lines.proofs.Faults.{err_same, failed, neither_numbers, ok_not_err, read_not_numbers, write_not_numbers}
+use Rattle.indexset_lines.proofs.Pieces.{reads_part, stops_further}
+use Rattle.indexset_lines.proofs.line.next_line.Goals as goal
 
 pub loop-init : goal.loop-init
 loop-init g c =

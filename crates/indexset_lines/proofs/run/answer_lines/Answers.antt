@@ -2,78 +2,77 @@ use Rattle.std.proofs.Common.{◌≡◌, Err, refl, sym, ap, ◌∙◌}
 use Rattle.std.proofs.KnownBytes.{Keeps-trans}
 use Rattle.std.proofs.lemmas.Result.{on_ok_weaker}
 use Rattle.std.proofs.Transfers.{StopsAt-of_All}
-use Rattle.indexset_spine.specs.Cut.{items}
-use Rattle.indexset_bench.specs.Lines.{HasNoEnd, IsLinePart}
-use Rattle.indexset_bench.specs.Text.{stores}
-use Rattle.indexset_bench.specs.declared.line.Part.TheVariants.{Whole, Last}
-use Rattle.indexset_bench.proofs.Faults.{err_same, failed, ok_not_err, read_not_memory, read_not_numbers, write_not_memory, write_not_numbers, write_not_read}
-use Rattle.indexset_bench.proofs.Runs.{all_but_end, all_read, flushed, further, lacking, last_not_end, rest_read, start, stopped, unanswered, unread, whole_not_end}
-use Rattle.indexset_bench.proofs.program.answer_each.Goals.{then-is_used_up+in_ok-flush-in-Whole, else-is_used_up}
-use Rattle.indexset_bench.proofs.program.answer_each.Goals as goal
+use Rattle.indexset_lines.specs.Lines.{HasNoEnd, IsLinePart}
+use Rattle.indexset_lines.specs.declared.line.Part.TheVariants.{Whole, Last}
+use Rattle.indexset_lines.proofs.Faults.{err_same, failed, ok_not_err, read_not_memory, read_not_numbers, write_not_memory, write_not_numbers, write_not_read}
+use Rattle.indexset_lines.proofs.Runs.{all_but_end, all_read, flushed, further, lacking, last_not_end, rest_read, start, stopped, unanswered, unread, whole_not_end}
+use Rattle.indexset_lines.proofs.run.answer_lines.Goals.{then-is_used_up+in_ok-flush-in-Whole, else-is_used_up}
+use Rattle.indexset_lines.proofs.run.answer_lines.Goals as goal
 
 pub loop-init : goal.loop-init
-loop-init g c = start _ _ _ (λ i. stores (c.requires.empty i) (c.requires.fresh i))
+loop-init g c = (start _ _ _ _ _ _ refl, refl)
 
 pub returns-in_err-is_used_up-clause-read_failed : goal.returns-in_err-is_used_up-clause-read_failed
 returns-in_err-is_used_up-clause-read_failed g c failed =
     let stops = c.in_err-is_used_up.ensures.err in
-    stopped _ _ (g.R.Read.remaining c.next_line.new.reader) _ _ (g.W.Write.contents c.next_line.new.writer) _ c.next_line.new.line.items c.loop.invariant HasNoEnd stops.0 stops.1 c.next_line.ensures.unwritten
+    stopped _ _ _ _ _ (g.R.Read.remaining c.next_line.new.reader) _ _ (g.W.Write.contents c.next_line.new.writer) _ c.next_line.new.line.items c.loop.invariant.0 HasNoEnd stops.0 stops.1 c.next_line.ensures.unwritten
 
 pub returns-in_err-is_used_up-clause-memory_refused : goal.returns-in_err-is_used_up-clause-memory_refused
 returns-in_err-is_used_up-clause-memory_refused g c refused =
     let stops = c.in_err-is_used_up.ensures.err in
-    stopped _ _ (g.R.Read.remaining c.next_line.new.reader) _ _ (g.W.Write.contents c.next_line.new.writer) _ c.next_line.new.line.items c.loop.invariant IsLinePart (StopsAt-of_All c.next_line.new.line.items 10 stops.0) stops.1 c.next_line.ensures.unwritten
+    stopped _ _ _ _ _ (g.R.Read.remaining c.next_line.new.reader) _ _ (g.W.Write.contents c.next_line.new.writer) _ c.next_line.new.line.items c.loop.invariant.0 IsLinePart (StopsAt-of_All c.next_line.new.line.items 10 stops.0) stops.1 c.next_line.ensures.unwritten
 
 pub returns-in_err-is_at_end-clause-read_failed : goal.returns-in_err-is_at_end-clause-read_failed
-returns-in_err-is_at_end-clause-read_failed g c failed = unread _ _ (g.R.Read.remaining c.is_at_end.new.reader) _ _ _ c.loop.invariant c.is_at_end.ensures.unread
+returns-in_err-is_at_end-clause-read_failed g c failed = unread _ _ _ _ _ (g.R.Read.remaining c.is_at_end.new.reader) _ _ _ c.loop.invariant.0 c.is_at_end.ensures.unread
 
 pub returns-else-branch-clause-read_failed : goal.returns-else-branch-clause-read_failed
-returns-else-branch-clause-read_failed g c failed = unread _ _ (g.R.Read.remaining c.is_at_end.new.reader) _ _ _ c.loop.invariant c.is_at_end.ensures.unread
+returns-else-branch-clause-read_failed g c failed = unread _ _ _ _ _ (g.R.Read.remaining c.is_at_end.new.reader) _ _ _ c.loop.invariant.0 c.is_at_end.ensures.unread
 
 pub returns-in-Last-clause-memory_refused : goal.returns-in-Last-clause-memory_refused
 returns-in-Last-clause-memory_refused g c refused =
-    let kept = Keeps-trans _ _ _ c.next_line.ensures.unwritten (c.answer_line-in-Last.ensures.memory_refused refused) in
-    unanswered _ _ (g.R.Read.remaining c.next_line.new.reader) _ _ _ _ c.next_line.new.line.items c.loop.invariant Last last_not_end (rw c.in-Last.is at c.in_ok-is_used_up.ensures.ok) kept
+    let kept = Keeps-trans _ _ _ c.next_line.ensures.unwritten (c.answer-in-Last.ensures.memory_refused refused) in
+    unanswered _ _ _ _ _ (g.R.Read.remaining c.next_line.new.reader) _ _ _ _ c.next_line.new.line.items c.loop.invariant.0 Last last_not_end (rw c.in-Last.is at c.in_ok-is_used_up.ensures.ok) kept
 
-pub returns-in_err-answer_line-in-Whole-clause-memory_refused : goal.returns-in_err-answer_line-in-Whole-clause-memory_refused
-returns-in_err-answer_line-in-Whole-clause-memory_refused g c refused =
-    let told = c.in_err-answer_line-in-Whole.was ∙ (sym (failed c.from_residual-in_err-answer_line-in-Whole.result _ c.from_residual-in_err-answer_line-in-Whole.ensures) ∙ refused) in
-    let kept = Keeps-trans _ _ _ c.next_line.ensures.unwritten (c.answer_line.ensures.memory_refused told) in
-    unanswered _ _ (g.R.Read.remaining c.next_line.new.reader) _ _ _ _ c.next_line.new.line.items c.loop.invariant (Whole c.in-Whole.is_used_up) (whole_not_end c.in-Whole.is_used_up) (rw c.in-Whole.is at c.in_ok-is_used_up.ensures.ok) kept
+pub returns-in_err-answer-in-Whole-clause-memory_refused : goal.returns-in_err-answer-in-Whole-clause-memory_refused
+returns-in_err-answer-in-Whole-clause-memory_refused g c refused =
+    let told = c.in_err-answer-in-Whole.was ∙ (sym (failed c.from_residual-in_err-answer-in-Whole.result _ c.from_residual-in_err-answer-in-Whole.ensures) ∙ refused) in
+    let kept = Keeps-trans _ _ _ c.next_line.ensures.unwritten (c.answer.ensures.memory_refused told) in
+    unanswered _ _ _ _ _ (g.R.Read.remaining c.next_line.new.reader) _ _ _ _ c.next_line.new.line.items c.loop.invariant.0 (Whole c.in-Whole.is_used_up) (whole_not_end c.in-Whole.is_used_up) (rw c.in-Whole.is at c.in_ok-is_used_up.ensures.ok) kept
 
-pub returns-in_err-answer_line-in-Whole-clause-numbers_refused : goal.returns-in_err-answer_line-in-Whole-clause-numbers_refused
-returns-in_err-answer_line-in-Whole-clause-numbers_refused g c refused =
-    let told = c.in_err-answer_line-in-Whole.was ∙ (sym (failed c.from_residual-in_err-answer_line-in-Whole.result _ c.from_residual-in_err-answer_line-in-Whole.ensures) ∙ refused) in
-    let kept = Keeps-trans _ _ _ c.next_line.ensures.unwritten (c.answer_line.ensures.numbers_refused told) in
-    lacking _ _ (g.R.Read.remaining c.next_line.new.reader) _ _ _ _ c.next_line.new.line.items c.loop.invariant (Whole c.in-Whole.is_used_up) c.deref.result.now (whole_not_end c.in-Whole.is_used_up) c.deref.ensures.value
-    (rw c.in-Whole.is at c.in_ok-is_used_up.ensures.ok) kept (c.answer_line.ensures.no_numbers told)
+pub returns-in_err-answer-in-Whole-clause-numbers_refused : goal.returns-in_err-answer-in-Whole-clause-numbers_refused
+returns-in_err-answer-in-Whole-clause-numbers_refused g c refused =
+    let told = c.in_err-answer-in-Whole.was ∙ (sym (failed c.from_residual-in_err-answer-in-Whole.result _ c.from_residual-in_err-answer-in-Whole.ensures) ∙ refused) in
+    let kept = Keeps-trans _ _ _ c.next_line.ensures.unwritten (c.answer.ensures.numbers_refused told) in
+    lacking _ _ _ _ _ (g.R.Read.remaining c.next_line.new.reader) _ _ _ _ c.next_line.new.line.items c.loop.invariant.0 g.A.Answers.lacks_numbers (Whole c.in-Whole.is_used_up) c.deref.result.now (whole_not_end c.in-Whole.is_used_up) c.deref.ensures.value
+    (rw c.in-Whole.is at c.in_ok-is_used_up.ensures.ok) kept (c.answer.ensures.no_numbers told)
 
 pub returns-in-Last-clause-given_answered : goal.returns-in-Last-clause-given_answered
 returns-in-Last-clause-given_answered g c =
-    on_ok_weaker c.answer_line-in-Last.result
-    (all_but_end _ _ (g.R.Read.remaining c.next_line.new.reader) _ _ (g.W.Write.contents c.answer_line-in-Last.new.writer) _ c.next_line.new.line.items (flushed _ _ _ _ _ _ c.loop.invariant c.next_line.ensures.unwritten)
+    on_ok_weaker c.answer-in-Last.result
+    (all_but_end _ _ _ _ _ (g.R.Read.remaining c.next_line.new.reader) _ _ (g.W.Write.contents c.answer-in-Last.new.writer) _ c.next_line.new.line.items (flushed _ _ _ _ _ _ _ _ _ c.loop.invariant.0 c.next_line.ensures.unwritten)
     c.in_ok-is_used_up.field-0 c.deref-in-Last.result.now c.in-Last.is c.deref-in-Last.ensures.value c.in_ok-is_used_up.ensures.ok)
-    c.answer_line-in-Last.ensures.told
+    (rw c.loop.invariant.1 at c.answer-in-Last.ensures.told)
 
 pub returns-in-Last-clause-numbers_refused : goal.returns-in-Last-clause-numbers_refused
 returns-in-Last-clause-numbers_refused g c refused =
-    let kept = Keeps-trans _ _ _ c.next_line.ensures.unwritten (c.answer_line-in-Last.ensures.numbers_refused refused) in
-    lacking _ _ (g.R.Read.remaining c.next_line.new.reader) _ _ _ _ c.next_line.new.line.items c.loop.invariant Last c.deref-in-Last.result.now last_not_end c.deref-in-Last.ensures.value
-    (rw c.in-Last.is at c.in_ok-is_used_up.ensures.ok) kept (c.answer_line-in-Last.ensures.no_numbers refused)
+    let kept = Keeps-trans _ _ _ c.next_line.ensures.unwritten (c.answer-in-Last.ensures.numbers_refused refused) in
+    lacking _ _ _ _ _ (g.R.Read.remaining c.next_line.new.reader) _ _ _ _ c.next_line.new.line.items c.loop.invariant.0 g.A.Answers.lacks_numbers Last c.deref-in-Last.result.now last_not_end c.deref-in-Last.ensures.value
+    (rw c.in-Last.is at c.in_ok-is_used_up.ensures.ok) kept (c.answer-in-Last.ensures.no_numbers refused)
 
 pub loop-preserved : goal.loop-preserved
 loop-preserved g c =
-    let far = flushed _ _ _ _ _ _ c.loop.invariant c.next_line.ensures.unwritten in
-    let told = further _ _ (g.R.Read.remaining c.next_line.new.reader) _ _ (g.W.Write.contents c.answer_line.new.writer) (stores (items c.loop.set) c.loop.pairs) c.next_line.new.line.items far c.in_ok-is_used_up.field-0 c.in-Whole.is_used_up c.deref.result.now (stores (items c.answer_line.new.set) c.answer_line.new.pairs)
-    c.in-Whole.is c.deref.ensures.value c.in_ok-is_used_up.ensures.ok c.in_ok-answer_line-in-Whole.ensures.told c.in_ok-answer_line-in-Whole.ensures.held in
+    let far = flushed _ _ _ _ _ _ _ _ _ c.loop.invariant.0 c.next_line.ensures.unwritten in
+    let told = further _ _ _ _ _ (g.R.Read.remaining c.next_line.new.reader) _ _ (g.W.Write.contents c.answer.new.writer) (g.A.Answers.state c.loop.answers) c.next_line.new.line.items far c.in_ok-is_used_up.field-0 c.in-Whole.is_used_up c.deref.result.now (g.A.Answers.state c.answer.new.self)
+    c.in-Whole.is c.deref.ensures.value c.in_ok-is_used_up.ensures.ok (rw c.loop.invariant.1 at c.in_ok-answer-in-Whole.ensures.told) c.in_ok-answer-in-Whole.ensures.held in
+    let alike = c.in_ok-answer-in-Whole.ensures.alike ∙ c.loop.invariant.1 in
     elim c.if-is_used_up.branch [
-      | then-is_used_up+in_ok-flush-in-Whole w ↦ rw w.writer-is (flushed _ _ _ _ _ _ told w.flush.ensures.unwritten)
-      | else-is_used_up w ↦ rw w.writer-is told
+      | then-is_used_up+in_ok-flush-in-Whole w ↦ (rw w.writer-is (flushed _ _ _ _ _ _ _ _ _ told w.flush.ensures.unwritten), alike)
+      | else-is_used_up w ↦ (rw w.writer-is told, alike)
     ]
 
 pub returns-in-End-clause-given_answered : goal.returns-in-End-clause-given_answered
 returns-in-End-clause-given_answered g c =
-    all_read _ _ (g.R.Read.remaining c.next_line.new.reader) _ _ _ _ c.next_line.new.line.items c.loop.invariant c.in_ok-is_used_up.field-0 c.in-End.is c.in_ok-is_used_up.ensures.ok c.next_line.ensures.unwritten
+    all_read _ _ _ _ _ (g.R.Read.remaining c.next_line.new.reader) _ _ _ _ c.next_line.new.line.items c.loop.invariant.0 c.in_ok-is_used_up.field-0 c.in-End.is c.in_ok-is_used_up.ensures.ok c.next_line.ensures.unwritten
 
 pub returns-in_err-is_used_up-clause-given_answered : goal.returns-in_err-is_used_up-clause-given_answered
 returns-in_err-is_used_up-clause-given_answered g c = rw (failed c.from_residual.result _ c.from_residual.ensures) tt
@@ -82,12 +81,12 @@ pub returns-in_err-is_used_up-clause-numbers_refused : goal.returns-in_err-is_us
 returns-in_err-is_used_up-clause-numbers_refused g c refused =
     absurd (c.next_line.ensures.numbers_fit (c.in_err-is_used_up.was ∙ ap Err (err_same c.from_residual.result (failed c.from_residual.result _ c.from_residual.ensures) refused)))
 
-pub returns-in_err-answer_line-in-Whole-clause-given_answered : goal.returns-in_err-answer_line-in-Whole-clause-given_answered
-returns-in_err-answer_line-in-Whole-clause-given_answered g c = rw (failed c.from_residual-in_err-answer_line-in-Whole.result _ c.from_residual-in_err-answer_line-in-Whole.ensures) tt
+pub returns-in_err-answer-in-Whole-clause-given_answered : goal.returns-in_err-answer-in-Whole-clause-given_answered
+returns-in_err-answer-in-Whole-clause-given_answered g c = rw (failed c.from_residual-in_err-answer-in-Whole.result _ c.from_residual-in_err-answer-in-Whole.ensures) tt
 
-pub returns-in_err-answer_line-in-Whole-clause-read_failed : goal.returns-in_err-answer_line-in-Whole-clause-read_failed
-returns-in_err-answer_line-in-Whole-clause-read_failed g c failure =
-    absurd (c.answer_line.ensures.no_read (c.in_err-answer_line-in-Whole.was ∙ (sym (failed c.from_residual-in_err-answer_line-in-Whole.result _ c.from_residual-in_err-answer_line-in-Whole.ensures) ∙ failure)))
+pub returns-in_err-answer-in-Whole-clause-read_failed : goal.returns-in_err-answer-in-Whole-clause-read_failed
+returns-in_err-answer-in-Whole-clause-read_failed g c failure =
+    absurd (c.answer.ensures.no_read (c.in_err-answer-in-Whole.was ∙ (sym (failed c.from_residual-in_err-answer-in-Whole.result _ c.from_residual-in_err-answer-in-Whole.ensures) ∙ failure)))
 
 pub returns-in_err-flush-in-Whole-clause-given_answered : goal.returns-in_err-flush-in-Whole-clause-given_answered
 returns-in_err-flush-in-Whole-clause-given_answered g c = rw (failed c.from_residual-in_err-flush-in-Whole.result _ c.from_residual-in_err-flush-in-Whole.ensures) tt
@@ -105,7 +104,7 @@ returns-in_err-flush-in-Whole-clause-numbers_refused g c failure =
     write_not_numbers (rw c.in_err-flush-in-Whole.ensures.fault at (err_same c.from_residual-in_err-flush-in-Whole.result (failed c.from_residual-in_err-flush-in-Whole.result _ c.from_residual-in_err-flush-in-Whole.ensures) failure))
 
 pub returns-in-Last-clause-read_failed : goal.returns-in-Last-clause-read_failed
-returns-in-Last-clause-read_failed g c failure = absurd (c.answer_line-in-Last.ensures.no_read failure)
+returns-in-Last-clause-read_failed g c failure = absurd (c.answer-in-Last.ensures.no_read failure)
 
 pub returns-in-End-clause-read_failed : goal.returns-in-End-clause-read_failed
 returns-in-End-clause-read_failed g c failure = ok_not_err failure
@@ -129,7 +128,7 @@ returns-in_err-is_at_end-clause-numbers_refused g c failure =
 
 pub returns-then-branch-clause-given_answered : goal.returns-then-branch-clause-given_answered
 returns-then-branch-clause-given_answered g c =
-    rest_read _ _ (g.R.Read.remaining c.is_at_end.new.reader) _ _ _ c.loop.invariant c.is_at_end.ensures.unread (c.in_ok-is_at_end.ensures.end c.if-branch.true)
+    rest_read _ _ _ _ _ (g.R.Read.remaining c.is_at_end.new.reader) _ _ _ c.loop.invariant.0 c.is_at_end.ensures.unread (c.in_ok-is_at_end.ensures.end c.if-branch.true)
 
 pub returns-then-branch-clause-read_failed : goal.returns-then-branch-clause-read_failed
 returns-then-branch-clause-read_failed g c failure = ok_not_err failure

@@ -1,0 +1,162 @@
+-- How a run goes on, line by line.
+use Rattle.std.proofs.Common.{Option, OnSome, Bool, ◌≡◌, ◌≢◌, ℕ, List, [], ◌∷◌, ◌++◌, refl, sym, ap, subst, ◌∙◌, arith, append_assoc, append-nil}
+use Rattle.std.proofs.lemmas.List.Elements.{All-nil}
+use Rattle.std.specs.Io.KnownBytes.{Appends, Consumes, IsAtEnd, Keeps}
+use Rattle.std.proofs.KnownBytes.{Consumes-nil, Consumes-kept, Appends-nil, Consumes-trans, Appends-trans, Appends-kept, Keeps-refl}
+use Rattle.std.proofs.Transfers.{StopsAt-of_All, StopsAt-append}
+use Rattle.indexset_lines.specs.declared.line.Part.{Part}
+use Rattle.indexset_lines.specs.declared.line.Part.TheVariants.{Whole, Last, End}
+use Rattle.indexset_lines.specs.Lines.{HasNoEnd, IsLinePart, IsWhole, lines_of}
+use Rattle.indexset_lines.specs.Reading.{Reads}
+use Rattle.indexset_lines.specs.Run.{AnswersAll, AnswersWholeLines, LacksNumbers, left_by, replies_to, text_of}
+use Rattle.indexset_lines.proofs.Lines.{lines_of-end, lines_of-last, lines_of-append, IsWhole-end, left_by-append, replies_to-append}
+use Rattle.indexset_lines.proofs.Pieces.{at_end-after}
+
+pub whole_not_end : (is_used_up : Bool) → Whole is_used_up ≢ End
+whole_not_end is_used_up e = cc
+
+pub last_not_end : Last ≢ End
+last_not_end e = cc
+
+
+module _ {S : Type 0} (reply : S → List ℕ → List ℕ) (after : S → List ℕ → S) (begun : S) where
+  -- whole lines were read and answered, and what is held is what they leave
+  pub record SoFar (reader reader' writer writer' : Option (List ℕ)) (held : S) : Type 0 where
+    pub whole : List ℕ
+    pub is_whole : IsWhole whole
+    pub read : Consumes reader reader' whole
+    pub written : Appends writer writer' (text_of reply after begun whole)
+    pub left : held ≡ left_by after begun (lines_of whole)
+
+  pub start : (r w : Option (List ℕ)) (held : S) → held ≡ begun → SoFar r r w w held
+  unfolding IsWhole lines_of replies_to left_by
+  start r w held none = record { whole = []; is_whole = λ some. absurd (omega (arith, some)); read = Consumes-nil r; written = Appends-nil w; left = none }
+
+  -- the writer was flushed
+  pub flushed : (r r1 w w1 w2 : Option (List ℕ)) (held : S) → SoFar r r1 w w1 held → Keeps w1 w2 → SoFar r r1 w w2 held
+  flushed r r1 w w1 w2 held far kept = record { whole = far.whole; is_whole = far.is_whole; read = far.read; written = Appends-kept w w1 w2 (text_of reply after begun far.whole) far.written kept; left = far.left }
+
+  -- nothing was read, and nothing answered
+  pub nothing_read : (r w : Option (List ℕ)) → AnswersWholeLines reply after begun IsLinePart r r w w
+  unfolding IsWhole lines_of replies_to
+  nothing_read r w = record {
+    whole = [];
+    rest = [];
+    is_whole = λ some. absurd (omega (arith, some));
+    is_rest = StopsAt-of_All [] 10 (All-nil (λ x. x ≢ 10));
+    read = Consumes-nil r;
+    written = Appends-nil w;
+  }
+
+  -- ---- whole lines and one more
+
+  module _ (whole part line : List ℕ) (held : S) (is_whole : IsWhole whole) (one : lines_of part ≡ line ∷ []) (left : held ≡ left_by after begun (lines_of whole)) where
+    text_of-more : text_of reply after begun (whole ++ part) ≡ text_of reply after begun whole ++ reply held line
+    unfolding replies_to
+    text_of-more =
+        ap (replies_to reply after begun) (lines_of-append whole part is_whole ∙ ap (λ ls. lines_of whole ++ ls) one)
+        ∙ replies_to-append after reply begun (lines_of whole) (line ∷ [])
+        ∙ ap (λ t. text_of reply after begun whole ++ t) (append-nil (reply (left_by after begun (lines_of whole)) line) ∙ ap (λ s. reply s line) (sym left))
+
+    left_by-more : left_by after begun (lines_of (whole ++ part)) ≡ after held line
+    unfolding left_by
+    left_by-more =
+        ap (left_by after begun) (lines_of-append whole part is_whole ∙ ap (λ ls. lines_of whole ++ ls) one)
+        ∙ left_by-append after begun (lines_of whole) (line ∷ [])
+        ∙ ap (λ s. after s line) (sym left)
+
+  module _ (r r1 r2 w w1 w2 : Option (List ℕ)) (held : S) (line : List ℕ) (far : SoFar r r1 w w1 held) where
+    -- a line that was answered
+    pub further : (part : Part) (is_used_up : Bool) (passed : List ℕ) (held' : S) → part ≡ Whole is_used_up → passed ≡ line → Reads r1 r2 line part
+        → Appends w1 w2 (reply held passed) → held' ≡ after held passed → SoFar r r2 w w2 held'
+    further part is_used_up passed held' is same reads told next =
+        let read = subst (Reads r1 r2 line) is reads in
+        let one = lines_of-end line read.0 in
+        let line_told = subst (λ l. Appends w1 w2 (reply held l)) same told in
+        record {
+          whole = far.whole ++ (line ++ 10 ∷ []);
+          is_whole = subst IsWhole (append_assoc far.whole line (10 ∷ [])) (IsWhole-end (far.whole ++ line));
+          read = Consumes-trans r r1 r2 far.whole (line ++ 10 ∷ []) far.read read.1;
+          written = subst (Appends w w2) (sym (text_of-more far.whole (line ++ 10 ∷ []) line held far.is_whole one far.left)) (Appends-trans w w1 w2 (text_of reply after begun far.whole) (reply held line) far.written line_told);
+          left = next ∙ ap (λ l. after held l) same ∙ sym (left_by-more far.whole (line ++ 10 ∷ []) line held far.is_whole one far.left);
+        }
+
+    -- the last line was answered
+    pub all_but_end : (part : Part) (passed : List ℕ) → part ≡ Last → passed ≡ line → Reads r1 r2 line part → Appends w1 w2 (reply held passed) → AnswersAll reply after begun r r2 w w2
+    all_but_end part passed is same reads told =
+        let read = subst (Reads r1 r2 line) is reads in
+        let line_told = subst (λ l. Appends w1 w2 (reply held l)) same told in
+        record {
+          input = far.whole ++ line;
+          read = Consumes-trans r r1 r2 far.whole line far.read read.1;
+          at_end = at_end-after r r1 r2 far.whole far.read read.3;
+          written = subst (Appends w w2) (sym (text_of-more far.whole line line held far.is_whole (lines_of-last line read.0 read.2) far.left)) (Appends-trans w w1 w2 (text_of reply after begun far.whole) (reply held line) far.written line_told);
+        }
+
+    -- the reader stopped within a line
+    pub stopped : (IsRest : List ℕ → Type 0) → IsRest line → Consumes r1 r2 line → Keeps w1 w2 → AnswersWholeLines reply after begun IsRest r r2 w w2
+    stopped IsRest is_rest read kept = record {
+      whole = far.whole;
+      rest = line;
+      is_whole = far.is_whole;
+      is_rest = is_rest;
+      read = Consumes-trans r r1 r2 far.whole line far.read read;
+      written = Appends-kept w w1 w2 (text_of reply after begun far.whole) far.written kept;
+    }
+
+    -- a line was read, and not answered
+    unanswered_rest : (rest : List ℕ) → IsLinePart rest → Consumes r1 r2 rest → Keeps w1 w2 → AnswersWholeLines reply after begun IsLinePart r r2 w w2
+    unanswered_rest rest stops read kept = record {
+      whole = far.whole;
+      rest = rest;
+      is_whole = far.is_whole;
+      is_rest = stops;
+      read = Consumes-trans r r1 r2 far.whole rest far.read read;
+      written = Appends-kept w w1 w2 (text_of reply after begun far.whole) far.written kept;
+    }
+
+    pub unanswered : (part : Part) → part ≢ End → Reads r1 r2 line part → Keeps w1 w2 → AnswersWholeLines reply after begun IsLinePart r r2 w w2
+    unanswered (Whole is_used_up) other reads kept = unanswered_rest (line ++ 10 ∷ []) (StopsAt-append line (10 ∷ []) 10 reads.0 (All-nil (λ x. x ≢ 10))) reads.1 kept
+    unanswered Last other reads kept = unanswered_rest line (StopsAt-of_All line 10 reads.0) reads.1 kept
+    unanswered End other reads kept = absurd (other refl)
+
+    -- a line was read whose numbers are lacking
+    lacking_rest : (lacks : S → Type 0) (rest passed : List ℕ) → lines_of rest ≡ line ∷ [] → IsLinePart rest → Consumes r1 r2 rest → passed ≡ line → Keeps w1 w2 → lacks (after held passed) → LacksNumbers reply after begun lacks r r2 w w2
+    unfolding unanswered_rest
+    lacking_rest lacks rest passed one stops read same kept many =
+        let onward = ap (λ l. after held l) same ∙ sym (left_by-more far.whole rest line held far.is_whole one far.left) in
+        (unanswered_rest rest stops read kept, subst lacks onward many)
+
+    pub lacking : (lacks : S → Type 0) (part : Part) (passed : List ℕ) → part ≢ End → passed ≡ line → Reads r1 r2 line part → Keeps w1 w2 → lacks (after held passed) → LacksNumbers reply after begun lacks r r2 w w2
+    lacking lacks (Whole is_used_up) passed other same reads kept many = lacking_rest lacks (line ++ 10 ∷ []) passed (lines_of-end line reads.0) (StopsAt-append line (10 ∷ []) 10 reads.0 (All-nil (λ x. x ≢ 10))) reads.1 same kept many
+    lacking lacks Last passed other same reads kept many = lacking_rest lacks line passed (lines_of-last line reads.0 reads.2) (StopsAt-of_All line 10 reads.0) reads.1 same kept many
+    lacking lacks End passed other same reads kept many = absurd (other refl)
+
+    -- nothing was left, and the writer was flushed
+    pub all_read : (part : Part) → part ≡ End → Reads r1 r2 line part → Keeps w1 w2 → AnswersAll reply after begun r r2 w w2
+    all_read part is reads kept =
+        let read = subst (Reads r1 r2 line) is reads in
+        record {
+          input = far.whole;
+          read = subst (Consumes r r2) (append-nil far.whole) (Consumes-trans r r1 r2 far.whole [] far.read read.1);
+          at_end = at_end-after r r1 r2 far.whole far.read read.2;
+          written = Appends-kept w w1 w2 (text_of reply after begun far.whole) far.written kept;
+        }
+
+  -- nothing more was there to read
+  pub rest_read : (r r1 r2 w w1 : Option (List ℕ)) (held : S) → SoFar r r1 w w1 held → Keeps r1 r2 → OnSome r1 (IsAtEnd r2) → AnswersAll reply after begun r r2 w w1
+  rest_read r r1 r2 w w1 held far kept end = record {
+    input = far.whole;
+    read = Consumes-kept r r1 r2 far.whole far.read kept;
+    at_end = at_end-after r r1 r2 far.whole far.read end;
+    written = far.written;
+  }
+
+  -- nothing more was read
+  pub unread : (r r1 r2 w w1 : Option (List ℕ)) (held : S) → SoFar r r1 w w1 held → Keeps r1 r2 → AnswersWholeLines reply after begun HasNoEnd r r2 w w1
+  unread r r1 r2 w w1 held far kept = stopped r r1 r2 w w1 w1 held [] far HasNoEnd (All-nil (λ x. x ≢ 10)) (Consumes-kept r1 r1 r2 [] (Consumes-nil r1) kept) (Keeps-refl w1)
+
+  -- the writer was flushed
+  pub flushed_lacking : (lacks : S → Type 0) (r r' w w1 w2 : Option (List ℕ)) → LacksNumbers reply after begun lacks r r' w w1 → Keeps w1 w2 → LacksNumbers reply after begun lacks r r' w w2
+  flushed_lacking lacks r r' w w1 w2 (a, many) kept =
+      (record { whole = a.whole; rest = a.rest; is_whole = a.is_whole; is_rest = a.is_rest; read = a.read; written = Appends-kept w w1 w2 (text_of reply after begun a.whole) a.written kept }, many)

@@ -1,0 +1,4 @@
+pub mod Fault
+pub mod Lines
+pub mod Reading
+pub mod Run

@@ -1,0 +1,41 @@
+-- What a run does to the bytes that a reader has left and to those that a writer holds.
+use Rattle.std.specs.Prelude.{Option, ℕ, List, [], ◌∷◌, ◌++◌, OnSome}
+use Rattle.std.specs.Io.KnownBytes.{Appends, Consumes, IsAtEnd}
+use Rattle.indexset_lines.specs.Lines.{IsLinePart, IsWhole, lines_of}
+
+-- what is left after the lines
+module _ {S : Type 0} (after : S → List ℕ → S) where
+  unfoldable pub left_by : S → List (List ℕ) → S
+  left_by s [] = s
+  left_by s (line ∷ lines) = left_by (after s line) lines
+
+module _ {S : Type 0} (reply : S → List ℕ → List ℕ) (after : S → List ℕ → S) where
+  -- the replies to the lines, joined
+  unfoldable pub replies_to : S → List (List ℕ) → List ℕ
+  replies_to s [] = []
+  replies_to s (line ∷ lines) = reply s line ++ replies_to (after s line) lines
+
+  module _ (start : S) where
+    -- the replies to the lines of an input
+    abbrev pub text_of : List ℕ → List ℕ
+    text_of input = replies_to start (lines_of input)
+
+    -- the reader gave an input, to its end, and the writer got its text
+    pub record AnswersAll (reader reader' writer writer' : Option (List ℕ)) : Type 0 where
+      pub input : List ℕ
+      pub read : Consumes reader reader' input
+      pub at_end : OnSome reader (IsAtEnd reader')
+      pub written : Appends writer writer' (text_of input)
+
+    -- the reader gave whole lines and such a rest, and the writer got the text of the whole lines
+    pub record AnswersWholeLines (IsRest : List ℕ → Type 0) (reader reader' writer writer' : Option (List ℕ)) : Type 0 where
+      pub whole : List ℕ
+      pub rest : List ℕ
+      pub is_whole : IsWhole whole
+      pub is_rest : IsRest rest
+      pub read : Consumes reader reader' (whole ++ rest)
+      pub written : Appends writer writer' (text_of whole)
+
+    -- the same, where the rest is the line that numbers are lacking for
+    abbrev pub LacksNumbers : (S → Type 0) → (reader reader' writer writer' : Option (List ℕ)) → Type 0
+    LacksNumbers lacks reader reader' writer writer' = (answered : AnswersWholeLines IsLinePart reader reader' writer writer') × lacks (left_by after start (lines_of (answered.whole ++ answered.rest)))

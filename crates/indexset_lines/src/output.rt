@@ -1,0 +1,15 @@
+//! What a writer holds back.
+
+ghost use Rattle.std.specs.Prelude.{◌≡◌, IfErr};
+ghost use Rattle.std.specs.Io.KnownBytes.{Keeps};
+
+use crate::fault::RunFault;
+use std::io::Write;
+
+/// Passes on what the writer holds back.
+pub fn flush<W: Write>(writer: &mut W) -> Result<(), RunFault>
+    ensures unwritten { Keeps (W.contents writer.old) (W.contents writer.new) }
+    ensures fault { IfErr result (λ fault. fault ≡ RunFault.Write) }
+{
+    writer.flush().map_err(|_| RunFault::Write)
+}
