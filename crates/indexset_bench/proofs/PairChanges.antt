@@ -7,7 +7,7 @@ use Rattle.indexset_log.specs.Nodes.{is_filled}
 use Rattle.indexset_log.specs.Table.{halving_events, node_events, part_for, put_events, replace_events, target, target_events}
 use Rattle.indexset_bench.specs.Command.{meaning}
 use Rattle.indexset_bench.specs.PairCommand.{pair_meaning}
-use Rattle.indexset_bench.specs.Pairs.{PairTree, pair_events, pair_reply, pairs_after, reply_ended}
+use Rattle.indexset_bench.specs.Pairs.{PairTree, pair_reply, pairs_after, reply_ended}
 use Rattle.indexset_bench.specs.Reply.{AddsNew, contents_after, reply_to}
 use Rattle.indexset_bench.specs.Text.{Changes, reply_line, stores, stores_after}
 use Rattle.indexset_bench.specs.declared.pair_command.PairCommand.{PairCommand}
@@ -47,16 +47,6 @@ module _ {T : Type 0} (cmp : T → T → Ordering) where
 -- ---- a line of either kind
 
 module _ (s : List ℕ) (t : PairTree) (line : List ℕ) where
-  module _ (c : PairCommand) (e : pair_meaning line ≡ Some c) where
-    pub pairs_reply : reply_line (stores s t) line ≡ pair_reply t c
-    pairs_reply = ap (λ o. option_map_or (pair_reply t) o (reply_ended (reply_to s (meaning line)))) e
-
-    pub pairs_left : stores_after (stores s t) line ≡ stores s (pairs_after t c)
-    pairs_left = ap (λ o. option_map_or (λ d. stores s (pairs_after t d)) o (stores (contents_after s (meaning line)) t)) e
-
-    pub pairs_change : pair_events t c ≢ [] → Changes (stores s t) line
-    pairs_change some = rw e some
-
   module _ (e : pair_meaning line ≡ None) where
     pub numbers_reply : reply_line (stores s t) line ≡ reply_ended (reply_to s (meaning line))
     numbers_reply = ap (λ o. option_map_or (pair_reply t) o (reply_ended (reply_to s (meaning line)))) e

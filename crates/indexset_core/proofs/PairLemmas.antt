@@ -20,12 +20,6 @@ use Rattle.indexset_core.proofs.OrderLemmas.{equal_from, gap_at}
 use Rattle.indexset_core.proofs.PartedLemmas.{front-is_le, passes_below, filter_all}
 
 module _ {K V : Type 0} where
-  pub length-set_value_at : (l : List (Pair K V)) (i : ℕ) (w : V) → length (set_value_at l i w) ≡ length l
-  length-set_value_at l i w = elim (slice_get l i) as (λ o. length (option_map_or (λ p. slice_set l i (valued p w)) o l) ≡ length l) [
-    | Some p ↦ length-set l i (valued p w)
-    | None ↦ refl
-  ]
-
   -- a written value leaves the keys, and so their order
   key_kept : (l : List (Pair K V)) (i k : ℕ) (p d : Pair K V) (w : V) → slice_get l i ≡ Some p → (get_or (slice_set l i (valued p w)) k d).key ≡ (get_or l k d).key
   key_kept [] i k p d w at = refl

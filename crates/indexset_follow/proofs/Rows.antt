@@ -10,8 +10,6 @@ use Rattle.indexset_bench.proofs.CallerLemmas.{lead_after}
 use Rattle.std.specs.List.{join_with_byte}
 use Rattle.indexset_follow.specs.Follow.{row_text}
 use Rattle.indexset_follow.specs.NodeLine.{node_line}
-use Rattle.indexset_follow.specs.Reply.{reply_ended}
-use Rattle.indexset_follow.specs.declared.reply.Reply.TheVariants.{Nothing}
 
 module _ {R X : Type 0} (text : X → List ℕ) (read : R → X) where
   lines_push : (xs : List R) (x : R) → lines_for text (map read (xs ++ x ∷ [])) ≡ lines_for text (map read xs) ++ ended (text (read x))
@@ -54,10 +52,6 @@ module _ {R X : Type 0} (text : X → List ℕ) (read : R → X) where
         after (z ∷ ys) = refl
 
 -- ---- the end of a row
-
-pub row_empty : (ps : List (Pair ℕ ℕ)) (w w1 w2 : Option (List ℕ)) → lead_after ps ≡ [] → Appends w w1 (node_text ps) → Appends w1 w2 (reply_ended Nothing) → Appends w w2 (row_text ps)
-row_empty [] w w1 w2 none far told = Appends-trans w w1 w2 [] (reply_ended Nothing) far told
-row_empty (p ∷ ps) w w1 w2 none far told = absurd (cc)
 
 pub row_full : (ps : List (Pair ℕ ℕ)) (w w1 w2 : Option (List ℕ)) → lead_after ps ≢ [] → Appends w w1 (node_text ps) → Appends w1 w2 (10 ∷ []) → Appends w w2 (row_text ps)
 row_full [] w w1 w2 some far told = absurd (some refl)

@@ -7,7 +7,6 @@ use Rattle.std.specs.List.{insert, remove, slice_set}
 use Rattle.std.proofs.Math.ListN.{drop_of_length-le}
 use Rattle.std.proofs.lemmas.Bool.{false≢true}
 use Rattle.std.proofs.lemmas.List.{append-nil}
-use Rattle.std.proofs.lemmas.List.Edits.{length-insert}
 use Rattle.indexset_core.specs.declared.pair.Pair.{Pair}
 use Rattle.indexset_core.specs.Nodes.{node_lengths}
 use Rattle.indexset_spine.specs.Cut.{Cut, items, with_item_at}
@@ -98,18 +97,12 @@ module _ {K V : Type 0} where
     put_new h w = rw h refl
 
     module _ (i : ℕ) (gap : (w : V) → IsGapFor (by_key cmp) l (pair k w) i) where
-      pub put_inside : (v : V) → i < length (put (by_key cmp) l (pair k v))
-      put_inside v = rw (gap_put (by_key cmp) l (pair k v) i (gap v)) (let n = length-insert l i (pair k v) (gap v).inside in let le = (gap v).inside in omega arith)
-
       pub put_read : (v : V) → option_map (λ p. p.value) (slice_get (put (by_key cmp) l (pair k v)) i) ≡ Some v
       put_read v = rw (gap_put (by_key cmp) l (pair k v) i (gap v)) (ap (option_map (λ p. p.value)) (get_insert l i (pair k v) (gap v).inside))
 
       pub put_written : has_key cmp l k ≡ false → (v w : V) → set_value_at (put (by_key cmp) l (pair k v)) i w ≡ put_value cmp l k w
       put_written h v w =
           ap (λ t. set_value_at t i w) (gap_put (by_key cmp) l (pair k v) i (gap v)) ∙ (at_insert l i k v w (gap v).inside ∙ (sym (gap_put (by_key cmp) l (pair k w) i (gap w)) ∙ sym (put_new h w)))
-
-      pub kept_inside : has_key cmp l k ≡ false → (v : V) → i < length (put_value cmp l k v)
-      kept_inside h v = rw (put_new h v) (put_inside v)
 
       pub kept_read : has_key cmp l k ≡ false → (v : V) → option_map (λ p. p.value) (slice_get (put_value cmp l k v) i) ≡ Some v
       kept_read h v = rw (put_new h v) (put_read v)

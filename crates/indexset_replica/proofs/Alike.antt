@@ -254,9 +254,6 @@ module _ {T : Type 0} (cmp : T → T → Ordering) (o : IsTotalOrder cmp) (E : T
     adds_alike (MergeNodes m w) f g s a = (s.0, s.1, subst (λ q. AddsClone cmp C q g) s.2 a, s.3, s.4)
 
   module _ (itself : (x : T) → E x x) where
-    pub nodes_itself : (ns : List (List T)) → NN ns ns
-    nodes_itself ns = zip_itself N (zip_itself E itself) ns
-
     pub event_itself : (e : ChangeEventUnassigned T) → IsEventAlike e e
     event_itself (InsertAt m v i) = (m, v, refl, itself m, itself v)
     event_itself (RemoveAt m v i) = (m, v, refl, itself m, itself v)

@@ -75,10 +75,6 @@ module _ {T : Type 0} (cmp : T → T → Ordering) where
   unfolding put_all
   moved_all l xs m rest h none = takes_all (put cmp) l m xs rest h none
 
-pub nothing_left : {T : Type 0} (l : List T) → length l ≡ 0 → l ≡ []
-nothing_left [] e = refl
-nothing_left (x ∷ xs) e = absurd (omega arith)
-
 -- one read twice
 pub item_is : {T : Type 0} (l : List T) (i : ℕ) (x y : T) → slice_get l i ≡ Some x → slice_get l i ≡ Some y → x ≡ y
 item_is l i x y a b = cc

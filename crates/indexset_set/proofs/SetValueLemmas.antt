@@ -1,5 +1,5 @@
 -- A value written into a set of pairs.
-use Rattle.std.proofs.Common.{◌≡◌, ℕ, Option, Some, None, Ordering, slice_get, refl, ap, sym, subst}
+use Rattle.std.proofs.Common.{◌≡◌, ℕ, Some, None, Ordering, slice_get, refl, sym, subst}
 use Rattle.std.specs.Option.{option_map_or}
 use Rattle.std.specs.List.{slice_set}
 use Rattle.indexset_core.specs.declared.pair.Pair.{Pair}
@@ -23,10 +23,6 @@ module _ {K V : Type 0} where
     | Some p ↦ refl
     | None ↦ refl
   ]
-
-  -- a write through the pair that is read at the position
-  pub written_at : (s : Cut (Pair K V)) (i : ℕ) (p : Pair K V) (w : V) → slice_get (items s) i ≡ Some p → with_item_at s i (valued p w) ≡ with_value_at s i w
-  written_at s i p w at = ap (λ (o : Option (Pair K V)). option_map_or (λ q. with_item_at s i (valued q w)) o s) (sym at)
 
   pub nodes_ascending : (cmp : K → K → Ordering) (s : Cut (Pair K V)) (i : ℕ) (p : Pair K V) (w : V) → slice_get (items s) i ≡ Some p → IsAscending (by_key cmp) (items s) → IsAscending (by_key cmp) (items (with_item_at s i (valued p w)))
   nodes_ascending cmp s i p w at up = subst (λ l. IsAscending (by_key cmp) l) (sym (joined-set s.nodes i (valued p w))) (value_ascending cmp (items s) i p w at up)

@@ -1,5 +1,5 @@
 -- Pulls of a walk from both ends.
-use Rattle.std.proofs.Common.{◌≡◌, ◌-◌, Bool, true, false, List, [], ◌∷◌, ◌++◌, length, Option, None, Some, refl, ap, sym, ◌∙◌, arith, append_assoc, length-append}
+use Rattle.std.proofs.Common.{◌≡◌, ◌-◌, Bool, true, false, List, [], ◌∷◌, ◌++◌, length, Option, None, Some, ap, sym, ◌∙◌, arith, append_assoc, length-append}
 use Rattle.std.proofs.lemmas.List.{append-nil}
 use Rattle.std.specs.Map.Iter.{TakesFirst, TakesLast}
 use Rattle.indexset_set.specs.SetWalks.{Pulls, given_in_front, given_at_back}
@@ -42,11 +42,3 @@ module _ {A X : Type 0} (shows : A → X) where
   ends_at_last (end ∷ ends) s t [] h = absurd h
   ends_at_last (true ∷ ends) s t (r ∷ rs) h = omega (arith, ends_at_last ends h.0 t rs h.2, one_less r s h.0 h.1)
   ends_at_last (false ∷ ends) s t (r ∷ rs) h = omega (arith, ends_at_last ends h.0 t rs h.2, one_less_back r s h.0 h.1)
-
-  pub stays_first : (r : Option A) (t : List X) → TakesFirst shows [] r t → (r ≡ None) × (t ≡ [])
-  stays_first None t h = (refl, h.1)
-  stays_first (Some x) t h = absurd (cc)
-
-  pub stays_last : (r : Option A) (t : List X) → TakesLast shows [] r t → (r ≡ None) × (t ≡ [])
-  stays_last None t h = (refl, h.1)
-  stays_last (Some x) t h = absurd (omega (arith, long h, length-append t (shows x ∷ [])))

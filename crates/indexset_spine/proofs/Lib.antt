@@ -5,7 +5,6 @@ pub mod CellLemmas
 pub mod CopyLemmas
 pub mod CutEdits
 pub mod CutExamples
-pub mod CutJoins
 pub mod CutLemmas
 pub mod CutSplits
 pub mod EditSteps

@@ -40,9 +40,6 @@ module _ {S X : Type 0} (R : S → X → Bool → S → X → Type 0) where
     pub rest : drop i ys ≡ drop i xs
     pub run : (left : List X) (t : S) → RetainsTo R s (drop i xs) left t → RetainsTo R first xs (take k ys ++ left) t
 
-  pub sifted_none : (first : S) (xs : List X) → SiftedTo first xs first xs 0 0
-  sifted_none first xs = record { rest = refl; run = λ left t h. h }
-
   pub sifted_all : (first : S) (xs : List X) (s : S) (ys : List X) (k i : ℕ) → length xs ≤ i → SiftedTo first xs s ys k i → RetainsTo R first xs (take k ys) s
   sifted_all first xs s ys k i ended h =
       subst (λ l. RetainsTo R first xs l s) (append-nil (take k ys)) (h.run [] s (subst (λ l. RetainsTo R s l [] s) (sym (drop_all i xs ended)) (refl, refl)))

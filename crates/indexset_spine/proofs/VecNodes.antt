@@ -1,7 +1,5 @@
 -- The nodes of a spine as the code holds them.
 use Rattle.std.proofs.Common.{◌≡◌, ℕ, ◌+◌, ◌<◌, List, length, take, get_or, slice_set, slice_get, Some}
-use Rattle.std.proofs.lemmas.List.{get_or-take}
-use Rattle.std.proofs.Common.{◌∙◌}
 use Rattle.std.specs.List.{splice}
 use Rattle.std.specs.declared.vec.Vec.{Vec}
 use Rattle.indexset_core.specs.Nodes.{joined, vec_items}
@@ -22,10 +20,6 @@ module _ {X Z : Type 0} where
 
   pub more_read : (vs : List (Vec X Z)) (k : ℕ) (v : Vec X Z) → k < length vs → v ≡ get_or vs k v → length (joined (take (k + 1) (vec_items vs))) ≡ length (joined (take k (vec_items vs))) + length v.items
   more_read = nodes.more_read (λ v. v.items)
-
-  -- the same, read from the first j nodes
-  pub more_read_in : (vs : List (Vec X Z)) (j k : ℕ) (v : Vec X Z) → k < j → k < length vs → v ≡ get_or (take j vs) k v → length (joined (take (k + 1) (vec_items vs))) ≡ length (joined (take k (vec_items vs))) + length v.items
-  more_read_in vs j k v lt h e = more_read vs k v h (e ∙ get_or-take j vs k v lt)
 
   pub item_read : (vs : List (Vec X Z)) (k o : ℕ) (v : Vec X Z) (x : X) → k < length vs → o < length v.items → v ≡ get_or vs k v → x ≡ get_or v.items o x → slice_get (joined (vec_items vs)) (length (joined (take k (vec_items vs))) + o) ≡ Some x
   item_read = nodes.item_read (λ v. v.items)
