@@ -1,5 +1,5 @@
 //! A leaderboard: scores with their ranks.
-ghost use Rattle.std.specs.Prelude.{◌≡◌, ◌+◌, ◌++◌, ◌-◌, ◌<◌, ◌≤◌, true, [], length, slice_get, IfOk, OnOk, OnErr, IfSome};
+ghost use Rattle.std.specs.Prelude.{◌≡◌, ◌+◌, ◌++◌, ◌-◌, ◌<◌, ◌≤◌, true, [], length, slice_get, IfErr, IfOk, OnOk, OnErr, IfSome};
 ghost use Rattle.std.specs.List.{All};
 ghost use Rattle.std.specs.Option.{option_copied};
 ghost use Rattle.std.specs.Ordering.{nat_cmp};
@@ -13,6 +13,7 @@ pub fn enter(board: &mut BTreeSet<u64>, score: u64) -> Result<bool, Refusal>
     ensures there { IfOk result (λ on_board. on_board ≡ true) }
     ensures contents { OnOk result (items board.new ≡ keep nat_cmp (items board.old) score) }
     ensures same { OnErr result (board.new ≡ board.old) }
+    ensures memory { IfErr result (λ refusal. refusal ≡ Refusal.Memory) }
 {
     board.insert(score)?;
     Ok(board.contains(&score))
@@ -39,6 +40,7 @@ pub fn take_from(board: &mut BTreeSet<u64>, score: u64) -> Result<BTreeSet<u64>,
     ensures taken { IfOk result (λ taken. All (λ x. score ≤ x) (items taken)) }
     ensures all { IfOk result (λ taken. items board.old ≡ items board.new ++ items taken) }
     ensures same { OnErr result (board.new ≡ board.old) }
+    ensures memory { IfErr result (λ refusal. refusal ≡ Refusal.Memory) }
 {
     board.split_off(&score)
 }
