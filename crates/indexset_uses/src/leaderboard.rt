@@ -1,7 +1,8 @@
 //! A leaderboard: players by their scores, the best first, read page by page.
-ghost use Rattle.std.specs.Prelude.{◌≡◌, ◌<◌, ◌+◌, ◌*◌, ◌^◌, true, not, IfOk, OnOk, OnErr, length, take, drop};
+ghost use Rattle.std.specs.Prelude.{◌≡◌, ◌<◌, ◌+◌, ◌*◌, ◌^◌, true, not, IfOk, OnOk, OnErr, length, take, drop, IfErr};
 ghost use Rattle.std.specs.declared.cmp.Ordering.TheVariants.{Less};
 ghost use Rattle.std.specs.List.{AllWithin};
+ghost use Rattle.indexset.specs.declared.base.refusal.Refusal.TheVariants.{Memory};
 ghost use Rattle.indexset.specs.Words.{has_equal, index_of, items, keep, rank};
 
 use indexset::BTreeSet;
@@ -26,6 +27,8 @@ pub fn add(board: &mut Board, entry: Entry) -> Result<bool, Refused<Entry>>
     ensures there { OnOk result (has_equal ⟦<Entry as Ord>⟧.cmp (items board.new) entry ≡ true) }
     ensures contents { OnOk result (items board.new ≡ keep ⟦<Entry as Ord>⟧.cmp (items board.old) entry) }
     ensures same { OnErr result (board.new ≡ board.old) }
+    ensures given_back { IfErr result (λ refused.
+        (refused.value ≡ entry) × (refused.cause ≡ Memory)) }
 {
     board.insert(entry)
 }

@@ -1,7 +1,8 @@
 //! An order book: how much is bid and how much is asked at each price.
-ghost use Rattle.std.specs.Prelude.{◌≡◌, ◌<◌, ◌+◌, ◌-◌, ◌^◌, [], length, slice_get, min, Some, None, IfOk, IfSome, IfNone, OnErr, unwrap_or};
+ghost use Rattle.std.specs.Prelude.{◌≡◌, ◌<◌, ◌+◌, ◌-◌, ◌^◌, [], length, slice_get, min, Some, None, IfOk, IfSome, IfNone, OnErr, unwrap_or, IfErr};
 ghost use Rattle.std.specs.Option.{option_map};
 ghost use Rattle.std.specs.Ordering.{nat_cmp};
+ghost use Rattle.indexset.specs.declared.base.refusal.Refusal.TheVariants.{Memory};
 ghost use Rattle.indexset.specs.Words.{above, below, entry_of, pair_keys, set_value, value_of, with_entry, without_entry};
 
 use indexset::BTreeMap;
@@ -23,6 +24,7 @@ pub fn add(levels: &mut Levels, price: u64, quantity: u64) -> Result<u64, Refuse
     ensures held { IfOk result (λ now. value_of nat_cmp levels.new.pairs price ≡ Some now) }
     ensures contents { IfOk result (λ now. levels.new ≡ with_entry nat_cmp levels.old price now) }
     ensures same { OnErr result (levels.new ≡ levels.old) }
+    ensures memory { IfErr result (λ refused. refused.cause ≡ Memory) }
 {
     let before = levels.get(&price).copied().unwrap_or(0);
     let now = before.saturating_add(quantity);

@@ -1,5 +1,5 @@
 //! A secondary index: the documents of each tag.
-ghost use Rattle.std.specs.Prelude.{◌≡◌, ℕ, List, nat_eq, true, false, not, is_some, length, IfOk, OnOk, OnErr};
+ghost use Rattle.std.specs.Prelude.{◌≡◌, ℕ, List, nat_eq, true, false, not, is_some, length, IfOk, OnOk, OnErr, IfErr};
 ghost use Rattle.std.specs.Ordering.{is_eq, nat_cmp};
 ghost use Rattle.std.specs.Cmp.Lexicographic.{slice_cmp};
 ghost use Rattle.indexset.specs.Words.{by_number, entries, equal_pair, inserted_pair, joined, pairs_of, put, without_first};
@@ -23,6 +23,7 @@ pub fn add(index: &mut Index, tag: ByteStr, document: u64) -> Result<bool, Refus
     ensures contents { OnOk result (joined index.new.nodes ≡ put (by_number (slice_cmp nat_cmp)) (joined index.old.nodes) (inserted_pair (slice_cmp nat_cmp) nat_eq index.old tag document)) }
     ensures other_tags { OnOk result ((other : List ℕ) → is_eq (slice_cmp nat_cmp other tag) ≡ false → pairs_of (slice_cmp nat_cmp) (joined index.new.nodes) other ≡ pairs_of (slice_cmp nat_cmp) (joined index.old.nodes) other) }
     ensures same { OnErr result (index.new ≡ index.old) }
+    ensures given_back { IfErr result (λ refused. refused.value ≡ (tag, document)) }
 {
     let before = index.insert(tag, document)?;
     Ok(before.is_none())
@@ -34,6 +35,8 @@ pub fn remove(index: &mut Index, tag: &ByteStr, document: u64) -> Result<bool, R
     ensures gone { OnOk result (pairs_of (slice_cmp nat_cmp) (joined index.new.nodes) tag.now ≡ without_first (λ pair. nat_eq pair.value document) (pairs_of (slice_cmp nat_cmp) (joined index.old.nodes) tag.now)) }
     ensures other_tags { OnOk result ((other : List ℕ) → is_eq (slice_cmp nat_cmp other tag.now) ≡ false → pairs_of (slice_cmp nat_cmp) (joined index.new.nodes) other ≡ pairs_of (slice_cmp nat_cmp) (joined index.old.nodes) other) }
     ensures same { OnErr result (index.new ≡ index.old) }
+    ensures listed { OnErr result (is_some (equal_pair (slice_cmp nat_cmp) nat_eq
+        (joined index.old.nodes) tag.now document) ≡ true) }
 {
     let removed = index.remove(tag, &document)?;
     Ok(removed.is_some())

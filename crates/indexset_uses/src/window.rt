@@ -1,9 +1,10 @@
 //! A window of time: values by the time at which they came, of which the oldest expire.
-ghost use Rattle.std.specs.Prelude.{◌≡◌, ℕ, ◌≤◌, ◌<◌, false, [], slice_get, Some, IfOk, IfSome, OnOk, OnErr};
+ghost use Rattle.std.specs.Prelude.{◌≡◌, ℕ, ◌≤◌, ◌<◌, false, [], slice_get, Some, IfOk, IfSome, OnOk, OnErr, IfErr};
 ghost use Rattle.std.specs.List.{All};
 ghost use Rattle.std.specs.Option.{option_map};
 ghost use Rattle.std.specs.Ordering.{is_eq, nat_cmp};
 ghost use Rattle.std.specs.declared.ops.Bound.TheVariants.{Included, Excluded, Unbounded};
+ghost use Rattle.indexset.specs.declared.base.refusal.Refusal.TheVariants.{Memory};
 ghost use Rattle.indexset.specs.Words.{IsAscending, below, by_key, entry_of, pair_keys, pairs_within, put_value, value_of};
 
 use indexset::base::refusal::{Refusal, Refused};
@@ -20,6 +21,8 @@ pub fn push(window: &mut Window, time: u64, value: u64) -> Result<Option<u64>, R
     ensures others { OnOk result ((other : ℕ) → is_eq (nat_cmp other time) ≡ false → value_of nat_cmp window.new.pairs other ≡ value_of nat_cmp window.old.pairs other) }
     ensures before { IfOk result (λ old. old ≡ value_of nat_cmp window.old.pairs time) }
     ensures same { OnErr result (window.new ≡ window.old) }
+    ensures given_back { IfErr result (λ refused.
+        (refused.value ≡ (time, value)) × (refused.cause ≡ Memory)) }
 {
     window.insert(time, value)
 }
@@ -31,6 +34,7 @@ pub fn expire(window: &mut Window, start: u64) -> Result<Window, Refusal>
     ensures expired { IfOk result (λ old. old.pairs ≡ pairs_within nat_cmp window.old.pairs Unbounded (Excluded start)) }
     ensures all_expired { IfOk result (λ old. All (λ time. time < start) (pair_keys old.pairs)) }
     ensures same { OnErr result (window.new ≡ window.old) }
+    ensures memory { IfErr result (λ refusal. refusal ≡ Memory) }
 {
     let kept = window.split_off(&start)?;
     Ok(mem::replace(window, kept))
