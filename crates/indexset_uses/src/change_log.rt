@@ -1,5 +1,5 @@
 //! A change log: the events that a copy of a tree elsewhere needs.
-ghost use Rattle.std.specs.Prelude.{◌≡◌, ◌+◌, ◌≤◌, length, true, Some, IfOk, IfErr, OnErr, OnOk};
+ghost use Rattle.std.specs.Prelude.{◌≡◌, ◌≢◌, ◌+◌, ◌≤◌, length, true, Some, IfOk, IfErr, OnErr, OnOk};
 ghost use Rattle.std.specs.Ordering.{nat_cmp};
 ghost use Rattle.indexset.specs.Words.{IsNumberedFrom, by_key, joined, keep, pair, put, replay, value_of, without};
 
@@ -23,6 +23,8 @@ pub fn put(tree: &mut Numbers, value: u64) -> Result<Vec<ChangeEvent<u64>>, Refu
     ensures few { IfOk result (λ events. length events.items ≤ 3) }
     ensures given_back { IfErr result (λ refused. refused.value ≡ value) }
     ensures same { OnErr result (tree.new ≡ tree.old) }
+    ensures cause { IfErr result (λ refused.
+        refused.cause ≢ Refusal.Memory → refused.cause ≡ Refusal.Numbers) }
 {
     laws::numbered_by_place::<u64>();
     let (_, events) = tree.put_cdc(value)?;
@@ -47,6 +49,8 @@ pub fn take(tree: &mut Numbers, value: u64) -> Result<Vec<ChangeEvent<u64>>, Ref
     ensures next { IfOk result (λ events. tree.new.next ≡ tree.old.next + length events.items) }
     ensures few { IfOk result (λ events. length events.items ≤ 3) }
     ensures same { OnErr result (tree.new ≡ tree.old) }
+    ensures cause { IfErr result (λ refusal.
+        refusal ≢ Refusal.Memory → refusal ≡ Refusal.Numbers) }
 {
     laws::numbered_by_place::<u64>();
     let (_, events) = tree.remove_cdc(&value)?;

@@ -1,5 +1,5 @@
 //! A journal: the events of all calls on a set since it was empty, kept in one list.
-ghost use Rattle.std.specs.Prelude.{◌≡◌, [], length, take, Some, IfErr, OnErr, OnOk};
+ghost use Rattle.std.specs.Prelude.{◌≡◌, ◌≢◌, [], length, take, Some, IfErr, OnErr, OnOk};
 ghost use Rattle.std.specs.Ordering.{nat_cmp};
 ghost use Rattle.indexset.specs.Words.{IsNumberedFrom, joined, put, replay, without};
 
@@ -25,6 +25,8 @@ pub fn insert(
     ensures kept { take (length journal.old.items) journal.new.items ≡ journal.old.items }
     ensures given_back { IfErr result (λ refused. refused.value ≡ value) }
     ensures same { OnErr result (tree.new ≡ tree.old) }
+    ensures cause { IfErr result (λ refused.
+        refused.cause ≢ Refusal.Memory → refused.cause ≡ Refusal.Numbers) }
 {
     // A call returns at most three events: with room for three before it, none is lost.
     if journal.reserve(3).is_err() {
