@@ -1,6 +1,6 @@
 -- What crates above this one may cite of its proofs.
 pub use Rattle.indexset_log.proofs.Attaches.{Attaches, ascending_answer, attaches_node, filled_first, map_insert, not_refused, refused_empty, refused_overlap, refused_unsorted}
-pub use Rattle.indexset_log.proofs.Changed.{Changed, Told, either_way, if_ok_map, removal_changed, told, unchanged}
+pub use Rattle.indexset_log.proofs.Changed.{Altered, altered_nowhere, either_way, if_ok_map, on_ok_both, removal_altered, same_spaced, told, told_where}
 pub use Rattle.indexset_log.proofs.Changes.{Leads, key_removal_leads, nothing_leads, put_leads, removal_leads}
 pub use Rattle.indexset_log.proofs.Clones.{clones_numbered, event_same, zip_on}
 pub use Rattle.indexset_log.proofs.Follows.{only_large}

@@ -1,22 +1,28 @@
 -- What callers learn of a change that one equation says.
 use Rattle.std.proofs.Common.{◌≡◌, ℕ, ◌+◌, ◌/◌, ◌<◌, ◌≤◌, true, false, List, [], length, slice_get, Option, Some, None, IfSome, MatchOption, Result, Ok, Err, IfOk, OnOk, OnErr, Ordering, refl, ap, sym, ◌∙◌, subst, arith}
+use Rattle.std.below.core.specs.declared.int.u64.TheConstants.{MAX}
 use Rattle.std.specs.Cmp.{IsTotalOrder}
 use Rattle.std.proofs.lemmas.List.Elements.{length_all_zip, same_from_all_zip}
 use Rattle.std.proofs.lemmas.Option.{slice_get_within}
+use Rattle.indexset_core.specs.declared.pair.Pair.{Pair}
 use Rattle.indexset_core.specs.Nodes.{joined, node_at, IsLawful}
 use Rattle.indexset_core.specs.Order.{equal_element, has_equal, keep, put, without}
+use Rattle.indexset_core.specs.Pairs.{by_key}
 use Rattle.indexset_core.proofs.CallerLemmas.{found_has_equal, found_rank, has_put, parted_by_item}
-use Rattle.indexset_log.specs.Clones.{IsEventClone, IsTold}
+use Rattle.indexset_log.specs.Changed.{Change, Changed, Fits, ItemsTold, PairsTold, Told, checked_put_change, put_change, removal_change, taken_change}
+use Rattle.indexset_log.specs.Clones.{AreIdentical, IsEventClone, IsTold}
 use Rattle.indexset_log.specs.Edits.{after_put, after_removal, after_taken, with_taken}
 use Rattle.indexset_log.specs.Joining.{IsSpaced, item_removed, join_after, with_joined}
+use Rattle.indexset_log.specs.Keys.{IsPairClone}
 use Rattle.indexset_log.specs.Located.{located, IsFoundIn}
-use Rattle.indexset_log.specs.Replay.{IsNumberedFrom, numbered_from, replay}
-use Rattle.indexset_log.specs.Table.{checked_put_events, put_events, removal_events, taking_count, taking_events}
+use Rattle.indexset_log.specs.Replay.{numbered_from, replay}
+use Rattle.indexset_log.specs.Table.{put_events, removal_events, taking_count, taking_events}
 use Rattle.indexset_log.specs.Taking.{after_taking, events_from, item_from}
 use Rattle.indexset_log.specs.Tree.{IsTree, Tree}
 use Rattle.indexset_log.specs.declared.change.ChangeEvent.{ChangeEvent}
 use Rattle.indexset_log.specs.declared.change.ChangeEventUnassigned.{ChangeEventUnassigned}
-use Rattle.indexset_log.proofs.Clones.{clones_numbered, event_same}
+use Rattle.indexset_log.proofs.Checked.{absent_change, there_change}
+use Rattle.indexset_log.proofs.Clones.{clones_numbered, event_same, pair_same}
 use Rattle.indexset_log.proofs.Places.{found_at, gap_found}
 use Rattle.indexset_log.proofs.Puts.{put_contents, put_replayed}
 use Rattle.indexset_log.proofs.SpacedKept.{put_spaced, taken_spaced}
@@ -25,8 +31,8 @@ use Rattle.indexset_log.proofs.Theorem.{length-numbered, three_at_most, up_node}
 use Rattle.indexset_log.proofs.Ups.{ascends, lawful_ruled}
 use Rattle.indexset_log.proofs.Views.{lawful_filled, lawful_parted}
 
--- the events of the table lead from the old tree to the new one, whose items are l
-pub record Changed {T : Type 0} (cmp : T → T → Ordering) (old new : Tree T) (l : List T) (es : List (ChangeEventUnassigned T)) : Type 0 where
+-- what holds of a change also where there are no numbers for its events
+pub record Altered {T : Type 0} (cmp : T → T → Ordering) (old new : Tree T) (l : List T) (es : List (ChangeEventUnassigned T)) : Type 0 where
   pub contents : joined new.nodes ≡ l
   pub size : new.size ≡ old.size
   pub next : new.next ≡ old.next + length es
@@ -34,27 +40,49 @@ pub record Changed {T : Type 0} (cmp : T → T → Ordering) (old new : Tree T) 
   pub few : length es ≤ 3
   pub spaced : IsSpaced (old.size / 2) old.nodes → IsSpaced (new.size / 2) new.nodes
 
--- what its events tell
-pub record Told {T : Type 0} (cmp : T → T → Ordering) (C : T → T → Type 0) (old new : Tree T) (es : List (ChangeEventUnassigned T)) (fs : List (ChangeEvent T)) : Type 0 where
-  pub events : ((x y : T) → C x y → y ≡ x) → fs ≡ numbered_from old.next es
-  pub numbered : IsNumberedFrom old.next fs
-  pub replay : ((x y : T) → C x y → y ≡ x) → replay cmp old.nodes fs ≡ Some new.nodes
-  pub few : length fs ≤ 3
+module _ {T : Type 0} {cmp : T → T → Ordering} {old new : Tree T} {made : Change T} where
+  pub changed : new ≡ made.tree → Fits old made → Altered cmp old new made.items made.events → Changed cmp old new made
+  changed e fits a = record {
+    tree = e;
+    contents = a.contents;
+    nodes = ap (λ t. t.nodes) e;
+    size = a.size;
+    next = a.next;
+    fits = fits;
+    table = a.table;
+    few = a.few;
+    spaced = a.spaced;
+  }
 
-module _ {T : Type 0} {cmp : T → T → Ordering} {old new : Tree T} {l : List T} {es : List (ChangeEventUnassigned T)} where
-  pub told : (C : T → T → Type 0) (fs : List (ChangeEvent T)) → Changed cmp old new l es → IsTold C old.next es fs → Told cmp C old new es fs
-  told C fs d clones =
-      let same : ((x y : T) → C x y → y ≡ x) → fs ≡ numbered_from old.next es = λ h. same_from_all_zip (IsEventClone C) (numbered_from old.next es) fs clones (event_same C h) in
+  pub told_where : {H : Type 0} (C : T → T → Type 0) → (H → AreIdentical C) → (fs : List (ChangeEvent T)) → Changed cmp old new made → IsTold C old.next made.events fs → Told H cmp C old new made fs
+  told_where {H} C identical fs d clones =
+      let same : H → fs ≡ numbered_from old.next made.events = λ h. same_from_all_zip (IsEventClone C) (numbered_from old.next made.events) fs clones (event_same C (identical h)) in
       record {
+        clones = clones;
         events = same;
-        numbered = clones_numbered C old.next es fs clones;
+        numbered = clones_numbered C old.next made.events fs clones;
         replay = λ h. rw (same h) d.table;
-        few = omega (arith, length_all_zip (IsEventClone C) (numbered_from old.next es) fs clones, length-numbered old.next es, d.few);
+        few = omega (arith, length_all_zip (IsEventClone C) (numbered_from old.next made.events) fs clones, length-numbered old.next made.events, d.few);
       }
+
+  pub told : (C : T → T → Type 0) (fs : List (ChangeEvent T)) → Changed cmp old new made → IsTold C old.next made.events fs → ItemsTold cmp C old new made fs
+  told C = told_where C (λ h. h)
+
+-- what a set tells of pairs is what a map tells
+pub pairs_told : {K V : Type 0} (cmp : K → K → Ordering) (C : K → K → Type 0) (D : V → V → Type 0) {old new : Tree (Pair K V)} {made : Change (Pair K V)} {fs : List (ChangeEvent (Pair K V))} → ItemsTold (by_key cmp) (IsPairClone C D) old new made fs → PairsTold cmp C D old new made fs
+pairs_told cmp C D s = record { clones = s.clones; events = λ h. s.events (pair_same h.0 h.1); numbered = s.numbered; replay = λ h. s.replay (pair_same h.0 h.1); few = s.few }
+
+pub if_some_map : {A : Type 0} (r : Option A) {P Q : A → Type 0} → IfSome r P → ((x : A) → P x → Q x) → IfSome r Q
+if_some_map (Some x) p f = f x p
+if_some_map None p f = tt
 
 pub if_ok_map : {A E : Type 0} (r : Result A E) {P Q : A → Type 0} {D : Type 0} → IfOk r P → OnOk r D → ((x : A) → P x → D → Q x) → IfOk r Q
 if_ok_map (Ok x) p d f = f x p d
 if_ok_map (Err e) p d f = tt
+
+pub on_ok_both : {A E : Type 0} (r : Result A E) {P Q X : Type 0} → OnOk r P → OnOk r Q → (P → Q → X) → OnOk r X
+on_ok_both (Ok x) p q f = f p q
+on_ok_both (Err e) p q f = tt
 
 -- a call that makes the change, or is refused and changes nothing
 pub either_way : {A E : Type 0} (r : Result A E) {P Q X : Type 0} → OnOk r P → (P → X) → OnErr r Q → (Q → X) → X
@@ -66,11 +94,14 @@ same_spaced same = subst (λ t. IsSpaced (t.size / 2) t.nodes) (sym same)
 
 -- a put
 module _ {T : Type 0} {cmp : T → T → Ordering} {most len : ℕ} {old new : Tree T} (o : IsTotalOrder cmp) (t : IsTree cmp most old.nodes old.size len) (v : T) where
-  pub put_changed : new ≡ after_put cmp old v → Changed cmp old new (put cmp (joined old.nodes) v) (put_events cmp old.size old.nodes v)
-  put_changed e = record {
+  pub put_changed : new ≡ after_put cmp old v → Fits old (put_change cmp old v) → Changed cmp old new (put_change cmp old v)
+  put_changed e fits = record {
+    tree = e;
     contents = ap (λ t. joined t.nodes) e ∙ put_contents o t v;
+    nodes = ap (λ t. t.nodes) e;
     size = ap (λ t. t.size) e;
     next = ap (λ t. t.next) e;
+    fits = fits;
     table = put_replayed o t v old.next ∙ ap (λ t. Some t.nodes) (sym e);
     few = three_at_most cmp old.size v old.nodes;
     spaced = λ s. subst (λ t. IsSpaced (t.size / 2) t.nodes) (sym e) (put_spaced cmp o old.size t.two old.nodes v t.lawful s);
@@ -83,15 +114,13 @@ pub keep_there : {T : Type 0} {cmp : T → T → Ordering} {m : List T} → IsTo
 unfolding keep
 keep_there o l v absent e = put_there o l v (rw (← absent) at e)
 
--- a checked put where no equal item is
-module _ {T : Type 0} {cmp : T → T → Ordering} {most len : ℕ} {old new : Tree T} (o : IsTotalOrder cmp) (t : IsTree cmp most old.nodes old.size len) (v : T) (absent : false ≡ has_equal cmp (joined old.nodes) v) (e : new ≡ after_put cmp old v) where
-  pub checked_changed : Changed cmp old new (keep cmp (joined old.nodes) v) (checked_put_events cmp old.size old.nodes v)
-  unfolding keep checked_put_events
-  checked_changed = rw (← absent) (put_changed o t v e)
+-- a checked put where no equal item is, and where one is
+module _ {T : Type 0} {cmp : T → T → Ordering} {most len : ℕ} {old new : Tree T} (o : IsTotalOrder cmp) (t : IsTree cmp most old.nodes old.size len) (v : T) where
+  pub checked_changed : false ≡ has_equal cmp (joined old.nodes) v → new ≡ after_put cmp old v → Fits old (put_change cmp old v) → Changed cmp old new (checked_put_change cmp old v)
+  checked_changed absent e fits = subst (Changed cmp old new) (sym (absent_change cmp old v absent)) (put_changed o t v e fits)
 
-  pub checked_told : (C : T → T → Type 0) (fs : List (ChangeEvent T)) → IsTold C old.next (put_events cmp old.size old.nodes v) fs → Told cmp C old new (checked_put_events cmp old.size old.nodes v) fs
-  unfolding checked_put_events
-  checked_told C fs clones = rw (← absent) (told C fs (put_changed o t v e) clones)
+  pub checked_told : (C : T → T → Type 0) (fs : List (ChangeEvent T)) → false ≡ has_equal cmp (joined old.nodes) v → Changed cmp old new (checked_put_change cmp old v) → IsTold C old.next (put_events cmp old.size old.nodes v) fs → ItemsTold cmp C old new (checked_put_change cmp old v) fs
+  checked_told C fs absent d clones = told C fs d (subst (λ m. IsTold C old.next m.events fs) (sym (absent_change cmp old v absent)) clones)
 
 -- the removal of the item at a place
 module _ {T : Type 0} (old : Tree T) (k i : ℕ) {nodes : List (List T)} {size next : ℕ} where
@@ -103,8 +132,8 @@ module _ {T : Type 0} (old : Tree T) (k i : ℕ) {nodes : List (List T)} {size n
   lone_after join n s c = rw join (λ i. record { nodes = n i; size = s i; next = c i })
 
 module _ {T : Type 0} {cmp : T → T → Ordering} {most len : ℕ} {old new : Tree T} (o : IsTotalOrder cmp) (t : IsTree cmp most old.nodes old.size len) where
-  pub taken_changed : (k i : ℕ) → k < length old.nodes → {x : T} → slice_get (node_at old.nodes k) i ≡ Some x → new ≡ after_taken old k i → Changed cmp old new (joined (with_taken old.size old.nodes k i)) (taking_events old.size old.nodes k i x)
-  taken_changed k i inside {x} here e =
+  pub taken_altered : (k i : ℕ) → k < length old.nodes → {x : T} → slice_get (node_at old.nodes k) i ≡ Some x → new ≡ after_taken old k i → Altered cmp old new (joined (with_taken old.size old.nodes k i)) (taking_events old.size old.nodes k i x)
+  taken_altered k i inside {x} here e =
       let count = taking_length old.size old.nodes k i x in
       record {
         contents = ap (λ t. joined t.nodes) e;
@@ -114,6 +143,10 @@ module _ {T : Type 0} {cmp : T → T → Ordering} {most len : ℕ} {old new : T
         few = omega (arith, count, two_at_most old.size old.nodes k i);
         spaced = λ s. subst (λ t. IsSpaced (t.size / 2) t.nodes) (sym e) (taken_spaced cmp old.size t.two old.nodes k i t.lawful inside (slice_get_within (node_at old.nodes k) i x here) s);
       }
+
+  pub taken_changed : (k i : ℕ) → k < length old.nodes → {x : T} → slice_get (node_at old.nodes k) i ≡ Some x → new ≡ after_taken old k i → old.next + taking_count old.size old.nodes k i ≤ MAX → Changed cmp old new (taken_change old k i x)
+  taken_changed k i inside {x} here e fits =
+      changed {made = taken_change old k i x} e (omega (arith, fits, taking_length old.size old.nodes k i x)) (taken_altered k i inside here e)
 
 -- a removal, by where its item stands
 module _ {T : Type 0} {cmp : T → T → Ordering} (old : Tree T) where
@@ -147,17 +180,29 @@ events_counted old k i here =
     let x = some_read (node_at old.nodes k) i here in
     rw x.1 (taking_length old.size old.nodes k i x.0)
 
-pub unchanged : {T : Type 0} (cmp : T → T → Ordering) (old new : Tree T) → new ≡ old → Changed cmp old new (joined old.nodes) []
-unchanged cmp old new same = subst (λ t. Changed cmp old t (joined old.nodes) []) (sym same) (record { contents = refl; size = refl; next = omega arith; table = refl; few = omega arith; spaced = λ s. s })
+-- nothing changes where no event is given
+pub altered_nowhere : {T : Type 0} (cmp : T → T → Ordering) (old new : Tree T) → new ≡ old → Altered cmp old new (joined old.nodes) []
+altered_nowhere cmp old new same = subst (λ t. Altered cmp old t (joined old.nodes) []) (sym same) (record { contents = refl; size = refl; next = omega arith; table = refl; few = omega arith; spaced = λ s. s })
 
-pub removal_changed : {T : Type 0} {cmp : T → T → Ordering} {most len : ℕ} {old new : Tree T} → IsTotalOrder cmp → IsTree cmp most old.nodes old.size len → (v : T) → new ≡ after_removal cmp old v → Changed cmp old new (without cmp (joined old.nodes) v) (removal_events cmp old.size old.nodes v)
-removal_changed {T = T} {cmp = cmp} {old = old} {new = new} o t v e = at (located (λ x. cmp x v) old.nodes) refl
+pub unchanged : {T : Type 0} (cmp : T → T → Ordering) (old new : Tree T) → new ≡ old → old.next ≤ MAX → {made : Change T} → made ≡ record { tree = old; items = joined old.nodes; events = [] } → Changed cmp old new made
+unchanged cmp old new same in_range is =
+    subst (Changed cmp old new) (sym is) (changed {made = record { tree = old; items = joined old.nodes; events = [] }} same (omega (arith, in_range)) (altered_nowhere cmp old new same))
+
+pub there_changed : {T : Type 0} (cmp : T → T → Ordering) (old : Tree T) (v : T) → old.next ≤ MAX → true ≡ has_equal cmp (joined old.nodes) v → Changed cmp old old (checked_put_change cmp old v)
+there_changed cmp old v in_range there = unchanged cmp old old refl in_range (there_change cmp old v there)
+
+-- a removal
+pub removal_altered : {T : Type 0} {cmp : T → T → Ordering} {most len : ℕ} {old new : Tree T} → IsTotalOrder cmp → IsTree cmp most old.nodes old.size len → (v : T) → new ≡ after_removal cmp old v → Altered cmp old new (without cmp (joined old.nodes) v) (removal_events cmp old.size old.nodes v)
+removal_altered {T = T} {cmp = cmp} {old = old} {new = new} o t v e = at (located (λ x. cmp x v) old.nodes) refl
   where
-    at : (r : Result (ℕ × ℕ) (ℕ × ℕ)) → r ≡ located (λ x. cmp x v) old.nodes → Changed cmp old new (without cmp (joined old.nodes) v) (removal_events cmp old.size old.nodes v)
+    at : (r : Result (ℕ × ℕ) (ℕ × ℕ)) → r ≡ located (λ x. cmp x v) old.nodes → Altered cmp old new (without cmp (joined old.nodes) v) (removal_events cmp old.size old.nodes v)
     at (Ok p) w =
         let found : IsFoundIn cmp old.nodes v p.0 p.1 = found_at cmp o v old.size old.nodes t.lawful (Ok p) w p refl in
         let read = some_read (node_at old.nodes p.0) p.1 found.here.inside in
-        rw (found_events o t.lawful found read.1, ← found_contents o t.lawful found read.1) (taken_changed o t p.0 p.1 found.node_in read.1 (e ∙ found_after old o t.lawful found))
+        rw (found_events o t.lawful found read.1, ← found_contents o t.lawful found read.1) (taken_altered o t p.0 p.1 found.node_in read.1 (e ∙ found_after old o t.lawful found))
     at (Err p) w =
         let none = gap_found (λ x. cmp x v) old.nodes (lawful_filled cmp old.size old.nodes t.lawful) (lawful_parted cmp old.size old.nodes t.lawful o v) (Err p) w p refl in
-        rw (absent_events cmp old.nodes v none old.size, ← absent_contents cmp old.nodes v none) (unchanged cmp old new (e ∙ absent_after cmp old v none))
+        rw (absent_events cmp old.nodes v none old.size, ← absent_contents cmp old.nodes v none) (altered_nowhere cmp old new (e ∙ absent_after cmp old v none))
+
+pub removal_changed : {T : Type 0} {cmp : T → T → Ordering} {most len : ℕ} {old new : Tree T} → IsTotalOrder cmp → IsTree cmp most old.nodes old.size len → (v : T) → new ≡ after_removal cmp old v → Fits old (removal_change cmp old v) → Changed cmp old new (removal_change cmp old v)
+removal_changed {cmp = cmp} {old = old} o t v e fits = changed {made = removal_change cmp old v} e fits (removal_altered o t v e)

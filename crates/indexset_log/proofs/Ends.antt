@@ -1,5 +1,6 @@
 -- The item at a position of lawful nodes: what its removal tells, and what is below it or above it at either end.
-use Rattle.std.proofs.Common.{◌≡◌, ℕ, zero, suc, ◌+◌, ◌-◌, ◌<◌, ◌≤◌, Bool, true, false, List, [], ◌∷◌, length, length-append, filter, take, drop, remove, slice_get, Option, Some, None, IfSome, MatchOption, Ordering, refl, ap, sym, ◌∙◌, arith}
+use Rattle.std.proofs.Common.{◌≡◌, ℕ, zero, suc, ◌+◌, ◌-◌, ◌<◌, ◌≤◌, Bool, true, false, List, [], ◌∷◌, length, length-append, filter, take, drop, remove, slice_get, Option, Some, None, IfSome, MatchOption, Ordering, refl, ap, sym, subst, ◌∙◌, arith}
+use Rattle.std.below.core.specs.declared.int.u64.TheConstants.{MAX}
 use Rattle.std.specs.Borrow.{Bor}
 use Rattle.std.specs.Cmp.{IsTotalOrder}
 use Rattle.std.specs.Map.Iter.{TakesFirst, TakesLast, deref}
@@ -14,11 +15,12 @@ use Rattle.indexset_core.specs.Nodes.{joined, node_at, IsLawful}
 use Rattle.indexset_core.specs.Order.{IsAscending, IsFoundAt, above, below, put, without}
 use Rattle.indexset_core.specs.Pairs.{pair_keys}
 use Rattle.indexset_core.proofs.CallerLemmas.{equal_read, found_put, found_without, get_in_node, length-joined-more, located_found, parted_by_item, rank-slice_get, slice_get-right}
+use Rattle.indexset_log.specs.Changed.{Change, Changed, Fits, first_removal, last_removal}
 use Rattle.indexset_log.specs.Edits.{after_removal}
 use Rattle.indexset_log.specs.Ends.{IsItemAt, after_removal_at, removal_events_at}
 use Rattle.indexset_log.specs.Table.{removal_events}
 use Rattle.indexset_log.specs.Tree.{IsTree, Tree}
-use Rattle.indexset_log.proofs.Changed.{Changed, Goes, found_after, removal_changed, unchanged}
+use Rattle.indexset_log.proofs.Changed.{Goes, found_after, removal_changed, unchanged}
 use Rattle.indexset_log.proofs.PlaceTakes.{found_there, place_events}
 use Rattle.indexset_log.proofs.Takes.{removal_few, some_read}
 use Rattle.indexset_log.proofs.Views.{lawful_ascends}
@@ -75,22 +77,6 @@ remove_beyond [] (suc i) none = refl
 remove_beyond (x ∷ l) zero none = cc
 remove_beyond (x ∷ l) (suc i) none = ap (λ q. x ∷ q) (remove_beyond l i none)
 
-pub popped_changed : {T : Type 0} {cmp : T → T → Ordering} {most len : ℕ} {old new : Tree T} → IsTotalOrder cmp → IsTree cmp most old.nodes old.size len → (i : ℕ) → new ≡ after_removal_at cmp old i → Changed cmp old new (remove (joined old.nodes) i) (removal_events_at cmp old.size old.nodes i)
-unfolding after_removal_at removal_events_at
-popped_changed {T = T} {cmp = cmp} {old = old} {new = new} o t i e = at (slice_get (joined old.nodes) i) refl e
-  where
-    at : (r : Option T) → slice_get (joined old.nodes) i ≡ r → new ≡ option_map_or (after_removal cmp old) r old → Changed cmp old new (remove (joined old.nodes) i) (option_map_or (λ x. removal_events cmp old.size old.nodes x) r [])
-    at None is e = rw (← remove_beyond (joined old.nodes) i is) (unchanged cmp old new e)
-    at (Some x) is e = rw (← without_there cmp o (joined old.nodes) (lawful_ascends cmp old.size old.nodes t.lawful) i x is) (removal_changed o t x e)
-
-pub few_at : {T : Type 0} (cmp : T → T → Ordering) (size : ℕ) (ns : List (List T)) (i : ℕ) → length (removal_events_at cmp size ns i) ≤ 3
-unfolding removal_events_at
-few_at cmp size ns i =
-    elim (slice_get (joined ns) i) as (λ r. length (option_map_or (λ x. removal_events cmp size ns x) r []) ≤ 3) [
-      | None ↦ omega arith
-      | Some x ↦ removal_few cmp size ns x
-    ]
-
 -- what is left of a list without its first or its last item
 pub remove_first : {X : Type 0} (l : List X) → remove l 0 ≡ drop 1 l
 remove_first [] = refl
@@ -102,6 +88,35 @@ remove_last [] (suc i) last = refl
 remove_last (x ∷ []) zero last = refl
 remove_last (x ∷ y ∷ l) zero last = absurd (omega (arith, last))
 remove_last (x ∷ l) (suc i) last = ap (λ q. x ∷ q) (remove_last l i (omega (arith, last)))
+
+-- the item at position i was removed, and l is left
+abbrev Popped : {T : Type 0} → (T → T → Ordering) → Tree T → Tree T → ℕ → List T → Type 0
+Popped cmp old new i l = Changed cmp old new (record { tree = after_removal_at cmp old i; items = l; events = removal_events_at cmp old.size old.nodes i })
+
+module _ {T : Type 0} {cmp : T → T → Ordering} {most len : ℕ} {old new : Tree T} (o : IsTotalOrder cmp) (t : IsTree cmp most old.nodes old.size len) where
+  popped : (i : ℕ) → new ≡ after_removal_at cmp old i → old.next + length (removal_events_at cmp old.size old.nodes i) ≤ MAX → Popped cmp old new i (remove (joined old.nodes) i)
+  unfolding after_removal_at removal_events_at
+  popped i e fits = at (slice_get (joined old.nodes) i) refl e fits
+    where
+      at : (r : Option T) → slice_get (joined old.nodes) i ≡ r → new ≡ option_map_or (after_removal cmp old) r old → old.next + length (option_map_or (λ x. removal_events cmp old.size old.nodes x) r []) ≤ MAX → Changed cmp old new (record { tree = option_map_or (after_removal cmp old) r old; items = remove (joined old.nodes) i; events = option_map_or (λ x. removal_events cmp old.size old.nodes x) r [] })
+      at None is e fits = rw (← remove_beyond (joined old.nodes) i is) (unchanged cmp old new e (omega (arith, fits)) refl)
+      at (Some x) is e fits = rw (← without_there cmp o (joined old.nodes) (lawful_ascends cmp old.size old.nodes t.lawful) i x is) (removal_changed o t x e fits)
+
+  pub first_changed : new ≡ after_removal_at cmp old 0 → Fits old (first_removal cmp old) → Changed cmp old new (first_removal cmp old)
+  first_changed e fits = subst (Popped cmp old new 0) (remove_first (joined old.nodes)) (popped 0 e fits)
+
+  pub last_changed : new ≡ after_removal_at cmp old (length (joined old.nodes) - 1) → Fits old (last_removal cmp old) → Changed cmp old new (last_removal cmp old)
+  last_changed e fits =
+      let last = length (joined old.nodes) - 1 in
+      subst (Popped cmp old new last) (remove_last (joined old.nodes) last refl) (popped last e fits)
+
+pub few_at : {T : Type 0} (cmp : T → T → Ordering) (size : ℕ) (ns : List (List T)) (i : ℕ) → length (removal_events_at cmp size ns i) ≤ 3
+unfolding removal_events_at
+few_at cmp size ns i =
+    elim (slice_get (joined ns) i) as (λ r. length (option_map_or (λ x. removal_events cmp size ns x) r []) ≤ 3) [
+      | None ↦ omega arith
+      | Some x ↦ removal_few cmp size ns x
+    ]
 
 -- the last item stands at the end of the last node
 pub last_there : {T : Type 0} (ns : List (List T)) (k o : ℕ) → k + 1 ≡ length ns → o + 1 ≡ length (node_at ns k) → IsItemAt ns (k, o) (length (joined ns) - 1)

@@ -1,5 +1,6 @@
 -- What a search for a key tells of lawful nodes of pairs.
 use Rattle.std.proofs.Common.{◌≡◌, ℕ, ◌<◌, ◌≤◌, true, false, List, [], ◌∷◌, length, get_or, Some, None, Result, Ok, Err, Ordering, slice_get, refl, ap, sym, ◌∙◌, subst, arith}
+use Rattle.std.below.core.specs.declared.int.u64.TheConstants.{MAX}
 use Rattle.std.specs.Cmp.{IsTotalOrder}
 use Rattle.std.specs.List.{All, position}
 use Rattle.std.specs.Option.{option_map_or}
@@ -12,12 +13,14 @@ use Rattle.indexset_core.specs.Nodes.{joined, node_at, node_lengths, IsLawful}
 use Rattle.indexset_core.specs.Parted.{IsParted}
 use Rattle.indexset_core.specs.Pairs.{by_key, pair_of, without_key}
 use Rattle.indexset_core.proofs.CallerLemmas.{absent_without, equal_from, key_absent, pairs_total, parted_by_key}
+use Rattle.indexset_log.specs.Changed.{Changed, PairsTold, key_removal, taken_change}
 use Rattle.indexset_log.specs.Keys.{after_key_removal, key_removal_events}
 use Rattle.indexset_log.specs.Located.{located, IsFoundIn}
 use Rattle.indexset_log.specs.Edits.{after_taken, with_taken}
 use Rattle.indexset_log.specs.Table.{removal_events, taking_count, taking_events}
 use Rattle.indexset_log.specs.Tree.{Tree}
-use Rattle.indexset_log.proofs.Changed.{found_after}
+use Rattle.indexset_log.specs.declared.change.ChangeEvent.{ChangeEvent}
+use Rattle.indexset_log.proofs.Changed.{found_after, unchanged}
 use Rattle.indexset_log.proofs.Places.{IsEnd, found_at, end_at, end_found, end_offset, end_read, gap_found, gap_position}
 use Rattle.indexset_log.proofs.Takes.{found_events, removal_few, taken_contents, taking_length}
 use Rattle.indexset_log.proofs.Views.{lawful_ascends, lawful_filled}
@@ -110,3 +113,15 @@ module _ {K V : Type 0} {cmp : K → K → Ordering} (o : IsTotalOrder cmp) (old
   pub no_key_after : NoKey o law k → after_key_removal cmp old k ≡ old
   unfolding after_key_removal
   no_key_after none = rw none.pair_is refl
+
+  key_change : {p : ℕ × ℕ} {x : Pair K V} → KeyTaken o law k p x → key_removal cmp old k ≡ taken_change old p.0 p.1 x
+  key_change taken = λ i. record { tree = key_after taken i; items = sym taken.contents i; events = taken.events i }
+
+  pub key_changed : {p : ℕ × ℕ} {x : Pair K V} {new : Tree (Pair K V)} → KeyTaken o law k p x → Changed (by_key cmp) old new (taken_change old p.0 p.1 x) → Changed (by_key cmp) old new (key_removal cmp old k)
+  key_changed {new = new} taken = subst (Changed (by_key cmp) old new) (sym (key_change taken))
+
+  pub key_told : {p : ℕ × ℕ} {x : Pair K V} {C : K → K → Type 0} {D : V → V → Type 0} {new : Tree (Pair K V)} {fs : List (ChangeEvent (Pair K V))} → KeyTaken o law k p x → PairsTold cmp C D old new (taken_change old p.0 p.1 x) fs → PairsTold cmp C D old new (key_removal cmp old k) fs
+  key_told {C = C} {D = D} {new = new} {fs = fs} taken = subst (λ made. PairsTold cmp C D old new made fs) (sym (key_change taken))
+
+  pub no_key_changed : NoKey o law k → old.next ≤ MAX → Changed (by_key cmp) old old (key_removal cmp old k)
+  no_key_changed none in_range = unchanged (by_key cmp) old old refl in_range (λ i. record { tree = no_key_after none i; items = sym none.contents i; events = none.events i })

@@ -20,6 +20,10 @@ module _ {K V : Type 0} where
   unfoldable pub after_key_removal : (K → K → Ordering) → Tree (Pair K V) → K → Tree (Pair K V)
   after_key_removal cmp t k = option_map_or (after_removal (by_key cmp) t) (pair_of cmp (joined t.nodes) k) t
 
+  -- q is p, with clones of its key and of its value
+  abbrev pub IsPairClone : (K → K → Type 0) → (V → V → Type 0) → Pair K V → Pair K V → Type 0
+  IsPairClone C D p q = C p.key q.key × D p.value q.value
+
   -- what was under a key, but for k, in the nodes before is under it in those after
   abbrev pub KeepsOthers : (K → K → Ordering) → List (List (Pair K V)) → List (List (Pair K V)) → K → Type 0
   KeepsOthers cmp before after k = (other : K) → is_eq (cmp other k) ≡ false → value_of cmp (joined after) other ≡ value_of cmp (joined before) other

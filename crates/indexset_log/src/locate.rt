@@ -71,11 +71,14 @@ pub(crate) fn last_started<T: Ord + Drop, Node: NodeLike<T>, P: Probe<T>>(
     requires node { node < length nodes.now }
     requires filled { All (λ n. 1 ≤ n) (node_lengths (map Node.list nodes.now)) }
     requires parted { IsParted (P.answer probe.old) (joined (map Node.list nodes.now)) }
-    requires started { length (joined (take node (map Node.list nodes.now))) < not_greater_count (P.answer probe.old) (joined (map Node.list nodes.now)) }
+    requires started { length (joined (take node (map Node.list nodes.now)))
+        < not_greater_count (P.answer probe.old) (joined (map Node.list nodes.now)) }
     ensures node { result < length nodes.now }
     ensures order { node ≤ result }
-    ensures started { length (joined (take result (map Node.list nodes.now))) < not_greater_count (P.answer probe.old) (joined (map Node.list nodes.now)) }
-    ensures ended { not_greater_count (P.answer probe.old) (joined (map Node.list nodes.now)) ≤ length (joined (take (result + 1) (map Node.list nodes.now))) }
+    ensures started { length (joined (take result (map Node.list nodes.now)))
+        < not_greater_count (P.answer probe.old) (joined (map Node.list nodes.now)) }
+    ensures ended { not_greater_count (P.answer probe.old) (joined (map Node.list nodes.now))
+        ≤ length (joined (take (result + 1) (map Node.list nodes.now))) }
     ensures fixed { P.answer probe.new ≡ P.answer probe.old }
     ensures few { P.asked probe.new ≤ P.asked probe.old + (2 * digits (result - node) + 1) }
 {
@@ -101,7 +104,8 @@ pub(crate) fn last_started<T: Ord + Drop, Node: NodeLike<T>, P: Probe<T>>(
 fn next_step(from: usize, low: usize, high: usize, ahead: bool) -> usize
     requires order { from ≤ low }
     requires some { low < high }
-    ensures { result ≡ low + (if ahead then min (low - from) (high - low - 1) else (high - low) / 2) }
+    ensures { result ≡ low + (if ahead then min (low - from) (high - low - 1) else
+        (high - low) / 2) }
 {
     if ahead {
         low + (low - from).min(high - low - 1)

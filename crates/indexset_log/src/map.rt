@@ -66,11 +66,17 @@ impl<K: Ord + Clone + Drop, V: Clone + Drop, Node: NodeLike<Pair<K, V>>> BTreeMa
     pub fn from_nodes(nodes: Vec<Node>, size: usize, next: u64) -> Result<Self, Refused<Vec<Node>>>
         requires two { 2 ≤ size }
         requires within { size ≤ Node.most }
-        ensures tree { IfOk result (λ t. t ≡ record { nodes = map Node.list nodes.items; size = size; next = next }) }
-        ensures good { OnOk result (nodes_refusal (by_key K.cmp) size (map Node.list nodes.items) ≡ None) }
-        ensures refusal { IfErr result (λ e. e.cause ≡ unwrap_or (nodes_refusal (by_key K.cmp) size (map Node.list nodes.items)) Memory) }
-        ensures memory { IfErr result (λ e. nodes_refusal (by_key K.cmp) size (map Node.list nodes.items) ≡ None → usize.MAX < length (joined (map Node.list nodes.items))) }
-        ensures lawful { IsLawful (by_key K.cmp) size (map Node.list nodes.items) → length (joined (map Node.list nodes.items)) ≤ usize.MAX → IsOk result }
+        ensures tree { IfOk result (λ t.
+            t ≡ record { nodes = map Node.list nodes.items; size = size; next = next }) }
+        ensures good { OnOk result (nodes_refusal (by_key K.cmp) size (map Node.list nodes.items)
+            ≡ None) }
+        ensures refusal { IfErr result (λ e. e.cause ≡ unwrap_or
+            (nodes_refusal (by_key K.cmp) size (map Node.list nodes.items)) Memory) }
+        ensures memory { IfErr result (λ e. nodes_refusal (by_key K.cmp) size
+            (map Node.list nodes.items) ≡ None → usize.MAX
+            < length (joined (map Node.list nodes.items))) }
+        ensures lawful { IsLawful (by_key K.cmp) size (map Node.list nodes.items)
+            → length (joined (map Node.list nodes.items)) ≤ usize.MAX → IsOk result }
         ensures given_back { IfErr result (λ e. e.value ≡ nodes) }
     {
         match BTreeSet::from_nodes(nodes, size, next) {
@@ -162,11 +168,15 @@ impl<K: Ord + Clone + Drop, V: Clone + Drop, Node: NodeLike<Pair<K, V>>> BTreeMa
     /// Inserts a whole node of pairs, as the set does. It gives no event and uses up no number. A
     /// failed call hands the node back and changes nothing.
     pub fn attach_node(&mut self, node: Node) -> Result<(), Refused<Node>>
-        ensures nodes { OnOk result (self.new.nodes ≡ attached (by_key K.cmp) self.old.nodes (Node.list node)) }
+        ensures nodes { OnOk result (self.new.nodes ≡ attached (by_key K.cmp) self.old.nodes
+            (Node.list node)) }
         ensures ascending { OnOk result (IsAscending (by_key K.cmp) (joined self.new.nodes)) }
-        ensures count { OnOk result (length (joined self.new.nodes) ≡ length (joined self.old.nodes) + length (Node.list node)) }
-        ensures good { IsOk result → attach_refusal (by_key K.cmp) self.old.size self.old.nodes (Node.list node) ≡ None }
-        ensures refusal { IfErr result (λ e. e.cause ≡ unwrap_or (attach_refusal (by_key K.cmp) self.old.size self.old.nodes (Node.list node)) Memory) }
+        ensures count { OnOk result (length (joined self.new.nodes)
+            ≡ length (joined self.old.nodes) + length (Node.list node)) }
+        ensures good { IsOk result → attach_refusal (by_key K.cmp) self.old.size self.old.nodes
+            (Node.list node) ≡ None }
+        ensures refusal { IfErr result (λ e. e.cause ≡ unwrap_or
+            (attach_refusal (by_key K.cmp) self.old.size self.old.nodes (Node.list node)) Memory) }
         ensures given_back { IfErr result (λ e. e.value ≡ node) }
         ensures size { self.new.size ≡ self.old.size }
         ensures next { self.new.next ≡ self.old.next }
@@ -195,9 +205,11 @@ impl<K: Ord + Clone + Drop, V: Clone + Drop, Node: NodeLike<Pair<K, V>>> BTreeMa
     /// the Rust crate.)
     pub fn get_by<P: Probe<Pair<K, V>>>(&self, probe: &mut P) -> Option<&Pair<K, V>>
         requires { IsParted (P.answer probe.old) (joined self.now.nodes) }
-        ensures value { option_copied result ≡ find (λ p. is_eq (P.answer probe.old p)) (joined self.now.nodes) }
+        ensures value { option_copied result ≡ find (λ p. is_eq (P.answer probe.old p))
+            (joined self.now.nodes) }
         ensures fixed { P.answer probe.new ≡ P.answer probe.old }
-        ensures few { P.asked probe.new ≤ P.asked probe.old + (digits (length self.now.nodes) + digits self.now.size + 1) }
+        ensures few { P.asked probe.new ≤ P.asked probe.old +
+            (digits (length self.now.nodes) + digits self.now.size + 1) }
     {
         self.set.get_by(probe)
     }

@@ -33,11 +33,15 @@ pub(crate) fn halve_at<T: Ord + Drop, Node: NodeLike<T>>(
 ) -> Result<(), Refusal>
     requires place { place < length nodes.old.items }
     requires two { 2 ≤ length (node_at (map Node.list nodes.old.items) place) }
-    ensures nodes { OnOk result (map Node.list nodes.new.items ≡ with_halved (map Node.list nodes.old.items) place) }
-    ensures left_room { OnOk result (HoldsAt (λ n. length (Node.list n) < Node.room n) nodes.new.items place) }
-    ensures right_room { OnOk result (HoldsAt (λ n. length (Node.list n) < Node.room n) nodes.new.items (place + 1)) }
+    ensures nodes { OnOk result (map Node.list nodes.new.items
+        ≡ with_halved (map Node.list nodes.old.items) place) }
+    ensures left_room { OnOk result (HoldsAt (λ n. length (Node.list n)
+        < Node.room n) nodes.new.items place) }
+    ensures right_room { OnOk result (HoldsAt (λ n. length (Node.list n)
+        < Node.room n) nodes.new.items (place + 1)) }
     ensures refusal { IfErr result (λ e. e ≡ Refusal.Memory) }
-    ensures unchanged { OnErr result (map Node.list nodes.new.items ≡ map Node.list nodes.old.items) }
+    ensures unchanged { OnErr result (map Node.list nodes.new.items
+        ≡ map Node.list nodes.old.items) }
 {
     nodes.reserve(1)?;
     let node = &mut nodes[place];
@@ -55,14 +59,20 @@ pub(crate) fn make_room<T: Ord + Drop, Node: NodeLike<T>>(
     aim: &Aim,
 ) -> Result<usize, Refusal>
     requires place { aim.now.node < length nodes.old.items }
-    requires two { (aim.now.full ≡ true) → 2 ≤ length (node_at (map Node.list nodes.old.items) aim.now.node) }
-    requires most { (aim.now.full ≡ false) → length (node_at (map Node.list nodes.old.items) aim.now.node) < Node.most }
+    requires two { (aim.now.full ≡ true) → 2 ≤ length (node_at
+        (map Node.list nodes.old.items) aim.now.node) }
+    requires most { (aim.now.full ≡ false) → length (node_at
+        (map Node.list nodes.old.items) aim.now.node) < Node.most }
     requires right { (aim.now.full ≡ false) → aim.now.right ≡ false }
-    ensures nodes { OnOk result (map Node.list nodes.new.items ≡ (if aim.now.full then with_halved (map Node.list nodes.old.items) aim.now.node else map Node.list nodes.old.items)) }
+    ensures nodes { OnOk result (map Node.list nodes.new.items
+        ≡ (if aim.now.full then with_halved
+        (map Node.list nodes.old.items) aim.now.node else map Node.list nodes.old.items)) }
     ensures place { IfOk result (λ place. place ≡ aim.now.node + cond aim.now.right 1 0) }
-    ensures room { IfOk result (λ place. is_err aim.now.at ≡ true → HoldsAt (λ n. length (Node.list n) < Node.room n) nodes.new.items place) }
+    ensures room { IfOk result (λ place. is_err aim.now.at ≡ true
+        → HoldsAt (λ n. length (Node.list n) < Node.room n) nodes.new.items place) }
     ensures refusal { IfErr result (λ e. e ≡ Refusal.Memory) }
-    ensures unchanged { OnErr result (map Node.list nodes.new.items ≡ map Node.list nodes.old.items) }
+    ensures unchanged { OnErr result (map Node.list nodes.new.items
+        ≡ map Node.list nodes.old.items) }
 {
     if aim.full {
         halve_at(nodes, aim.node)?;
@@ -131,13 +141,21 @@ pub(crate) fn take_and_join<T: Ord + Drop, Node: NodeLike<T>>(
     requires place { left + 1 < length nodes.old.items }
     requires node { (node ≡ left) ⊎ (node ≡ left + 1) }
     requires offset { offset < length (node_at (map Node.list nodes.old.items) node) }
-    requires most { length (node_at (map Node.list nodes.old.items) left) + length (node_at (map Node.list nodes.old.items) (left + 1)) ≤ Node.most }
-    requires order { IsAscending T.cmp (node_at (set (map Node.list nodes.old.items) node (remove (node_at (map Node.list nodes.old.items) node) offset)) left ++ node_at (set (map Node.list nodes.old.items) node (remove (node_at (map Node.list nodes.old.items) node) offset)) (left + 1)) }
-    ensures item { IfOk result (λ item. slice_get (node_at (map Node.list nodes.old.items) node) offset ≡ Some item) }
-    ensures nodes { OnOk result (map Node.list nodes.new.items ≡ with_joined (set (map Node.list nodes.old.items) node (remove (node_at (map Node.list nodes.old.items) node) offset)) left) }
+    requires most { length (node_at (map Node.list nodes.old.items) left) + length
+        (node_at (map Node.list nodes.old.items) (left + 1)) ≤ Node.most }
+    requires order { IsAscending T.cmp (node_at (set (map Node.list nodes.old.items) node
+        (remove (node_at (map Node.list nodes.old.items) node) offset)) left
+        ++ node_at (set (map Node.list nodes.old.items) node
+        (remove (node_at (map Node.list nodes.old.items) node) offset)) (left + 1)) }
+    ensures item { IfOk result (λ item. slice_get (node_at
+        (map Node.list nodes.old.items) node) offset ≡ Some item) }
+    ensures nodes { OnOk result (map Node.list nodes.new.items
+        ≡ with_joined (set (map Node.list nodes.old.items) node
+        (remove (node_at (map Node.list nodes.old.items) node) offset)) left) }
     ensures refusal { IfErr result (λ e. e ≡ Refusal.Memory) }
     ensures never { Node.allocates ≡ false → IsOk result }
-    ensures unchanged { OnErr result (map Node.list nodes.new.items ≡ map Node.list nodes.old.items) }
+    ensures unchanged { OnErr result (map Node.list nodes.new.items
+        ≡ map Node.list nodes.old.items) }
 {
     let more = nodes[left + 1].len();
     let first = &mut nodes[left];

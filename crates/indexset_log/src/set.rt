@@ -145,7 +145,8 @@ impl<T: Ord + Clone + Drop, Node: NodeLike<T>> BTreeSet<T, Node> {
         requires { IsParted (P.answer probe.old) (joined self.now.nodes) }
         ensures place { result ≡ located (P.answer probe.old) self.now.nodes }
         ensures fixed { P.answer probe.new ≡ P.answer probe.old }
-        ensures few { P.asked probe.new ≤ P.asked probe.old + (digits (length self.now.nodes) + digits self.now.size + 1) }
+        ensures few { P.asked probe.new ≤ P.asked probe.old +
+            (digits (length self.now.nodes) + digits self.now.size + 1) }
         ensures unasked { self.now.nodes ≡ [] → P.asked probe.new ≡ P.asked probe.old }
     {
         if self.nodes.is_empty() {
@@ -162,7 +163,8 @@ impl<T: Ord + Clone + Drop, Node: NodeLike<T>> BTreeSet<T, Node> {
 
     // Returns where the equal item is: its node, and the offset in it.
     fn place_of(&self, value: &T) -> Option<(usize, usize)>
-        ensures { MatchOption result (equal_element T.cmp (joined self.now.nodes) value.now ≡ None) (λ p. IsFoundIn T.cmp self.now.nodes value.now p.0 p.1) }
+        ensures { MatchOption result (equal_element T.cmp (joined self.now.nodes) value.now ≡ None)
+            (λ p. IsFoundIn T.cmp self.now.nodes value.now p.0 p.1) }
     {
         // The nodes are lawful, so a search by an item may go by them.
         let _nodes = &self.nodes;
@@ -189,9 +191,11 @@ impl<T: Ord + Clone + Drop, Node: NodeLike<T>> BTreeSet<T, Node> {
     /// compares as `locate_by` does. (Not in the Rust crate.)
     pub fn get_by<P: Probe<T>>(&self, probe: &mut P) -> Option<&T>
         requires { IsParted (P.answer probe.old) (joined self.now.nodes) }
-        ensures value { option_copied result ≡ find (λ x. is_eq (P.answer probe.old x)) (joined self.now.nodes) }
+        ensures value { option_copied result ≡ find (λ x. is_eq (P.answer probe.old x))
+            (joined self.now.nodes) }
         ensures fixed { P.answer probe.new ≡ P.answer probe.old }
-        ensures few { P.asked probe.new ≤ P.asked probe.old + (digits (length self.now.nodes) + digits self.now.size + 1) }
+        ensures few { P.asked probe.new ≤ P.asked probe.old +
+            (digits (length self.now.nodes) + digits self.now.size + 1) }
     {
         match self.locate_by(probe) {
             Ok((node, offset)) => self.nodes[node].get_ith(offset),

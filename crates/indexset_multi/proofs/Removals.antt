@@ -19,11 +19,12 @@ use Rattle.indexset_log.specs.Clones.{IsEventClone, IsTold}
 use Rattle.indexset_log.specs.Replay.{assigned, replay, numbered_from}
 use Rattle.indexset_log.specs.Tree.{IsTree}
 use Rattle.indexset_log.proofs.CallerLemmas.{clones_numbered, event_same, lawful_ascends, length-numbered, numbered_is, numbered-append, replay-append, zip_on}
+use Rattle.indexset_multi.specs.Changed.{AreRemoved, RemovalsTold}
 use Rattle.indexset_multi.specs.Keys.{first_pair, pairs_of, without_key}
 use Rattle.indexset_multi.specs.Told.{IsToldOn}
-use Rattle.indexset_multi.specs.Tree.{IsLedBy, IsLedTo, MultiTree, after_removal, after_removals, first_events, key_events, pair_removal_events, removals_events}
+use Rattle.indexset_multi.specs.Tree.{IsLedBy, IsLedTo, IsPairClone, MultiTree, after_removal, after_removals, first_events, key_events, pair_removal_events, removals_events}
 use Rattle.indexset_multi.proofs.Lists.{first_pair_gone, others_left_first, rest_left_first}
-use Rattle.indexset_multi.proofs.Takes.{pair_changed, pair_tree}
+use Rattle.indexset_multi.proofs.Takes.{pair_altered, pair_same, pair_tree}
 
 -- one call's events after those of others
 led_further : {K V : Type 0} (cmp : K → K → Ordering) (m n p : MultiTree K V) → IsLedTo cmp m n → IsLedTo cmp n p → IsLedTo cmp m p
@@ -127,7 +128,7 @@ module _ {K V : Type 0} {cmp : K → K → Ordering} (o : IsTotalOrder cmp) (old
       let g = many_gone n in
       let m = after_removals cmp old k n in
       let first = first_pair cmp (joined m.nodes) k in
-      let d = pair_changed o m g.rule first refl in
+      let d = pair_altered o m g.rule first refl in
       let up = lawful_ascends (by_number cmp) m.size m.nodes g.rule.lawful in
       record {
         rule = pair_tree o m g.rule first refl;
@@ -193,6 +194,18 @@ module _ {K V : Type 0} {cmp : K → K → Ordering} (o : IsTotalOrder cmp) (old
 
       pub left_is : pairs_of cmp (joined now.nodes) k ≡ drop (length (pairs_of cmp (joined old.nodes) k) - length (pairs_of cmp (joined now.nodes) k)) (pairs_of cmp (joined old.nodes) k)
       left_is = let g = now_gone in g.gone ∙ ap (λ i. drop i (pairs_of cmp (joined old.nodes) k)) (sym number)
+
+      pub are_removed : AreRemoved cmp old now k
+      are_removed =
+          let g = now_gone in
+          record { tree = tree_is; left = left_is; rest = g.rest; others = g.others; led = g.led; table = table_is; size = g.size; spaced = g.spaced; pair_next = g.pair_next }
+
+      pub removals_told : (C : K → K → Type 0) (D : V → V → Type 0) (fs : List (ChangeEvent (MultiPair K V))) → IsTold (IsPairClone C D) old.next (removals_events cmp old k n) fs → RemovalsTold cmp C D old now k fs
+      removals_told C D fs told = record {
+        clones = told_is (IsPairClone C D) fs told;
+        numbered = clones_numbered (IsPairClone C D) old.next (removals_events cmp old k n) fs told;
+        replay = λ h. led_by (IsPairClone C D) fs told (pair_same h.0 h.1);
+      }
 
       -- the one that found none changed nothing, and all are gone
       module _ (none : is_some (first_pair cmp (joined now.nodes) k) ≡ false) where

@@ -5,24 +5,23 @@ use Rattle.std.specs.Option.{unwrap_or}
 use Rattle.indexset_core.specs.declared.multipair.MultiPair.{MultiPair}
 use Rattle.indexset_core.specs.MultiPairs.{by_number}
 use Rattle.indexset_core.specs.Nodes.{joined, node_at, IsLawful}
+use Rattle.indexset_log.specs.declared.change.ChangeEvent.{ChangeEvent}
 use Rattle.indexset_log.specs.declared.change.ChangeEventUnassigned.{ChangeEventUnassigned}
+use Rattle.indexset_log.specs.Changed.{Changed}
+use Rattle.indexset_log.specs.Clones.{IsTold}
 use Rattle.indexset_log.specs.Edits.{after_taken}
 use Rattle.indexset_log.specs.Edits.{after_removal as after_item_removal}
-use Rattle.indexset_log.specs.Joining.{IsSpaced}
 use Rattle.indexset_log.specs.Replay.{replay, numbered_from}
 use Rattle.indexset_log.specs.Table.{taking_count, taking_events}
 use Rattle.indexset_log.specs.Tree.{IsTree, Tree}
-use Rattle.indexset_log.proofs.CallerLemmas.{Changed, Leads, nothing_leads, place_events, removal_changed, removal_few, removal_leads, taking_length, unchanged}
+use Rattle.indexset_log.proofs.CallerLemmas.{Altered, Leads, altered_nowhere, nothing_leads, on_ok_both, place_events, removal_altered, removal_few, removal_leads, taking_length, told_where}
+use Rattle.indexset_multi.specs.Changed.{Fits, MultiChange, MultiChanged, MultiTold, named_removal, set_change, set_tree}
 use Rattle.indexset_multi.specs.Keys.{AreNumberedBelow, without_named}
 use Rattle.indexset_multi.specs.Places.{IsItemPlace, placed_item}
-use Rattle.indexset_multi.specs.Tree.{MultiTree, after_removal, pair_removal_events}
+use Rattle.indexset_multi.specs.Tree.{IsPairClone, MultiTree, after_removal, pair_removal_events}
 use Rattle.indexset_multi.proofs.Below.{below_without}
 use Rattle.indexset_multi.proofs.Lists.{any_each}
 use Rattle.indexset_multi.proofs.Numbers.{numbers_total}
-
--- the tree of the set that a multimap is
-abbrev pub set_tree : {K V : Type 0} → MultiTree K V → Tree (MultiPair K V)
-set_tree m = record { nodes = m.nodes; size = m.size; next = m.next }
 
 pub pair_removal_few : {K V : Type 0} (cmp : K → K → Ordering) (size : ℕ) (ns : List (List (MultiPair K V))) (pair : Option (MultiPair K V)) → length (pair_removal_events cmp size ns pair) ≤ 3
 pair_removal_few cmp size ns None = omega arith
@@ -55,22 +54,22 @@ module _ {K V : Type 0} {cmp : K → K → Ordering} (o : IsTotalOrder cmp) (old
   pair_leads (Some p) = removal_leads (by_number cmp) (numbers_total cmp o) (λ p. Unit {0}) old.size old.next t.two old.nodes t.lawful (any_each (joined old.nodes)) p
 
   module _ (pair : Option (MultiPair K V)) {new : MultiTree K V} (e : new ≡ after_removal cmp old pair) where
-    pub pair_changed : Changed (by_number cmp) (set_tree old) (set_tree new) (without_named cmp (joined old.nodes) pair) (pair_removal_events cmp old.size old.nodes pair)
-    pair_changed = at pair e
+    pub pair_altered : Altered (by_number cmp) (set_tree old) (set_tree new) (without_named cmp (joined old.nodes) pair) (pair_removal_events cmp old.size old.nodes pair)
+    pair_altered = at pair e
       where
-        at : (pair : Option (MultiPair K V)) → new ≡ after_removal cmp old pair → Changed (by_number cmp) (set_tree old) (set_tree new) (without_named cmp (joined old.nodes) pair) (pair_removal_events cmp old.size old.nodes pair)
+        at : (pair : Option (MultiPair K V)) → new ≡ after_removal cmp old pair → Altered (by_number cmp) (set_tree old) (set_tree new) (without_named cmp (joined old.nodes) pair) (pair_removal_events cmp old.size old.nodes pair)
         at None e =
             let nodes : new.nodes ≡ old.nodes = ap (λ t. t.nodes) e in
             let size : new.size ≡ old.size = ap (λ t. t.size) e in
             let next : new.next ≡ old.next = omega (arith, ap (λ t. t.next) e) in
-            unchanged (by_number cmp) (set_tree old) (set_tree new) (λ i. record { nodes = nodes i; size = size i; next = next i })
+            altered_nowhere (by_number cmp) (set_tree old) (set_tree new) (λ i. record { nodes = nodes i; size = size i; next = next i })
         at (Some p) e =
             let after = after_item_removal (by_number cmp) (set_tree old) p in
-            let d = removal_changed {old = set_tree old} {new = after} (numbers_total cmp o) t p refl in
+            let d = removal_altered {old = set_tree old} {new = after} (numbers_total cmp o) t p refl in
             let nodes : new.nodes ≡ after.nodes = ap (λ t. t.nodes) e ∙ ap (λ r. unwrap_or r old.nodes) d.table in
             let size : new.size ≡ after.size = ap (λ t. t.size) e ∙ sym d.size in
             let next : new.next ≡ after.next = ap (λ t. t.next) e ∙ sym d.next in
-            removal_changed {old = set_tree old} {new = set_tree new} (numbers_total cmp o) t p (λ i. record { nodes = nodes i; size = size i; next = next i })
+            removal_altered {old = set_tree old} {new = set_tree new} (numbers_total cmp o) t p (λ i. record { nodes = nodes i; size = size i; next = next i })
 
     pub pair_tree : IsTree (by_number cmp) most new.nodes new.size (length (joined new.nodes))
     pair_tree =
@@ -80,22 +79,47 @@ module _ {K V : Type 0} {cmp : K → K → Ordering} (o : IsTotalOrder cmp) (old
         record { lawful = rw (nodes, size) leads.lawful; two = rw size t.two; within = rw size t.within; counted = refl }
 
     pub pair_below : (n : ℕ) → AreNumberedBelow n (joined old.nodes) → AreNumberedBelow n (joined new.nodes)
-    pair_below n below = let d = pair_changed in rw d.contents (at pair)
+    pair_below n below = let d = pair_altered in rw d.contents (at pair)
       where
         at : (pair : Option (MultiPair K V)) → AreNumberedBelow n (without_named cmp (joined old.nodes) pair)
         at None = below
         at (Some p) = below_without (by_number cmp) n (joined old.nodes) p below
 
--- what callers learn of a call that removes the pair, or is refused and changes nothing
-pub record Removed {K V A E : Type 0} (cmp : K → K → Ordering) (old new : MultiTree K V) (pair : Option (MultiPair K V)) (r : Result A E) : Type 0 where
-  pub changed : OnOk r (Changed (by_number cmp) (set_tree old) (set_tree new) (without_named cmp (joined old.nodes) pair) (pair_removal_events cmp old.size old.nodes pair))
-  pub size : new.size ≡ old.size
-  pub pair_next : new.pair_next ≡ old.pair_next
-  pub spaced : IsSpaced (old.size / 2) old.nodes → IsSpaced (new.size / 2) new.nodes
+-- a change, by what holds of its set
+module _ {K V : Type 0} {cmp : K → K → Ordering} {old new : MultiTree K V} {made : MultiChange K V} where
+  pub multi_changed : new ≡ made.tree → Fits old made → Altered (by_number cmp) (set_tree old) (set_tree new) made.items made.events → MultiChanged cmp old new made
+  multi_changed e fits a = record {
+    tree = e;
+    contents = a.contents;
+    nodes = ap (λ t. t.nodes) e;
+    size = a.size;
+    next = a.next;
+    pair_next = ap (λ t. t.pair_next) e;
+    fits = fits;
+    table = a.table;
+    few = a.few;
+    spaced = a.spaced;
+  }
 
-pub removed : {K V A E : Type 0} {cmp : K → K → Ordering} {most len : ℕ} {old new : MultiTree K V} → IsTotalOrder cmp → IsTree (by_number cmp) most old.nodes old.size len → (pair : Option (MultiPair K V)) (r : Result A E) → OnOk r (new ≡ after_removal cmp old pair) → OnErr r (new ≡ old) → Removed cmp old new pair r
-removed {old = old} o t pair (Ok x) e same = let d = pair_changed o old t pair e in record { changed = d; size = d.size; pair_next = ap (λ t. t.pair_next) e; spaced = d.spaced }
-removed o t pair (Err x) e same = record { changed = tt; size = ap (λ t. t.size) same; pair_next = ap (λ t. t.pair_next) same; spaced = subst (λ t. IsSpaced (t.size / 2) t.nodes) (sym same) }
+  set_changed : MultiChanged cmp old new made → Changed (by_number cmp) (set_tree old) (set_tree new) (set_change made)
+  set_changed d = record {
+    tree = ap set_tree d.tree;
+    contents = d.contents;
+    nodes = d.nodes;
+    size = d.size;
+    next = d.next;
+    fits = d.fits;
+    table = d.table;
+    few = d.few;
+    spaced = d.spaced;
+  }
+
+  pub multi_told : (C : K → K → Type 0) (D : V → V → Type 0) (fs : List (ChangeEvent (MultiPair K V))) → MultiChanged cmp old new made → IsTold (IsPairClone C D) old.next made.events fs → MultiTold cmp C D old new made fs
+  multi_told C D fs d clones = told_where (IsPairClone C D) (λ h. pair_same h.0 h.1) fs (set_changed d) clones
+
+-- a call that removes the pair, or is refused
+pub removed : {K V A E : Type 0} {cmp : K → K → Ordering} {most len : ℕ} (old new : MultiTree K V) → IsTotalOrder cmp → IsTree (by_number cmp) most old.nodes old.size len → (pair : Option (MultiPair K V)) (r : Result A E) → OnOk r (new ≡ after_removal cmp old pair) → OnOk r (Fits old (named_removal cmp old pair)) → OnOk r (MultiChanged cmp old new (named_removal cmp old pair))
+removed {cmp = cmp} old new o t pair r tree fits = on_ok_both r tree fits (λ e f. multi_changed {made = named_removal cmp old pair} e f (pair_altered o old t pair e))
 
 -- the removal of the pair at a place, as the set's contract says it
 module _ {K V : Type 0} (cmp : K → K → Ordering) where

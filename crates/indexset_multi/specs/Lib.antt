@@ -1,4 +1,5 @@
 pub mod Attach
+pub mod Changed
 pub mod Keys
 pub mod Places
 pub mod Told

@@ -156,7 +156,8 @@ impl<K: Ord + Clone + Drop, V: Eq + Clone + Drop, Node: NodeLike<MultiPair<K, V>
 
     // Says what holds of the nodes, and that the counter fits.
     fn rule(&self)
-        ensures tree { IsTree (by_number K.cmp) Node.most self.now.nodes self.now.size (length (joined self.now.nodes)) }
+        ensures tree { IsTree (by_number K.cmp) Node.most self.now.nodes self.now.size
+            (length (joined self.now.nodes)) }
         ensures number { self.now.next ≤ u64.MAX }
     {
         let _nodes = self.set.node_count();

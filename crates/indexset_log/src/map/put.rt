@@ -1,16 +1,10 @@
 //! Insertion of pairs.
-ghost use Rattle.std.specs.Prelude.{◌≡◌, ◌+◌, ◌/◌, ◌≤◌, length, true, Some, IfOk, OnOk, IfErr, OnErr, IsOk, IfSome, is_none};
+ghost use Rattle.std.specs.Prelude.{◌≡◌, true, Some, IfOk, OnOk, IfErr, OnErr, IsOk, IfSome, is_none};
 ghost use Rattle.std.specs.Option.{option_map};
 ghost use Rattle.indexset_core.specs.Nodes.{joined};
-ghost use Rattle.indexset_core.specs.Order.{put, keep};
 ghost use Rattle.indexset_core.specs.Pairs.{by_key, has_key, pair, value_of};
-ghost use Rattle.indexset_log.specs.Clones.{AreIdentical, IsTold};
-ghost use Rattle.indexset_log.specs.Edits.{after_put, after_checked_put, with_put, with_checked_put};
-ghost use Rattle.indexset_log.specs.Joining.{IsSpaced};
+ghost use Rattle.indexset_log.specs.Changed.{Changed, PairsTold, checked_put_change, put_change, refusal_of};
 ghost use Rattle.indexset_log.specs.Keys.{KeepsOthers};
-ghost use Rattle.indexset_log.specs.Replay.{replay, numbered_from, IsNumberedFrom};
-ghost use Rattle.indexset_log.specs.Table.{put_events, checked_put_events};
-ghost use Rattle.indexset_log.specs.Tree.{refusal_for};
 
 use super::BTreeMap;
 use crate::change::ChangeEvent;
@@ -37,27 +31,18 @@ impl<K: Ord + Clone + Drop, V: Clone + Drop, Node: NodeLike<Pair<K, V>>> BTreeMa
         key: K,
         value: V,
     ) -> Result<(Option<V>, Vec<ChangeEvent<Pair<K, V>>>), Refused<(K, V)>>
-        ensures tree { OnOk result (self.new ≡ after_put (by_key K.cmp) self.old (pair key value)) }
         ensures answer { IfOk result (λ r. r.0 ≡ value_of K.cmp (joined self.old.nodes) key) }
-        ensures clones { IfOk result (λ r. IsTold (λ p q. K.is_clone p.key q.key × V.is_clone p.value q.value) self.old.next (put_events (by_key K.cmp) self.old.size self.old.nodes (pair key value)) r.1.items) }
-        ensures refusal { IfErr result (λ e. e.cause ≡ refusal_for self.old.next (length (put_events (by_key K.cmp) self.old.size self.old.nodes (pair key value)))) }
+        ensures refusal { IfErr result (λ e.
+            e.cause ≡ refusal_of self.old (put_change (by_key K.cmp) self.old (pair key value))) }
         ensures given_back { IfErr result (λ e. e.value ≡ (key, value)) }
         ensures unchanged { OnErr result (self.new ≡ self.old) }
-        // What callers prove by.
-        ensures contents { OnOk result (joined self.new.nodes ≡ put (by_key K.cmp) (joined self.old.nodes) (pair key value)) }
         ensures there { OnOk result (has_key K.cmp (joined self.new.nodes) key ≡ true) }
         ensures written { OnOk result (value_of K.cmp (joined self.new.nodes) key ≡ Some value) }
         ensures others { OnOk result (KeepsOthers K.cmp self.old.nodes self.new.nodes key) }
-        ensures nodes { OnOk result (self.new.nodes ≡ with_put (by_key K.cmp) self.old.size self.old.nodes (pair key value)) }
-        ensures events { ((x y : K) → K.is_clone x y → y ≡ x) → ((x y : V) → V.is_clone x y → y ≡ x) → IfOk result (λ r. r.1.items ≡ numbered_from self.old.next (put_events (by_key K.cmp) self.old.size self.old.nodes (pair key value))) }
-        ensures numbered { IfOk result (λ r. IsNumberedFrom self.old.next r.1.items) }
-        ensures replay { ((x y : K) → K.is_clone x y → y ≡ x) → ((x y : V) → V.is_clone x y → y ≡ x) → IfOk result (λ r. replay (by_key K.cmp) self.old.nodes r.1.items ≡ Some self.new.nodes) }
-        ensures table { OnOk result (replay (by_key K.cmp) self.old.nodes (numbered_from self.old.next (put_events (by_key K.cmp) self.old.size self.old.nodes (pair key value))) ≡ Some self.new.nodes) }
-        ensures few { IfOk result (λ r. length r.1.items ≤ 3) }
-        ensures size { self.new.size ≡ self.old.size }
-        ensures spaced { IsSpaced (self.old.size / 2) self.old.nodes → IsSpaced (self.new.size / 2) self.new.nodes }
-        ensures next { OnOk result (self.new.next ≡ self.old.next + length (put_events (by_key K.cmp) self.old.size self.old.nodes (pair key value))) }
-        ensures fits { OnOk result (self.old.next + length (put_events (by_key K.cmp) self.old.size self.old.nodes (pair key value)) ≤ u64.MAX) }
+        ensures changed { OnOk result (Changed (by_key K.cmp) self.old self.new
+            (put_change (by_key K.cmp) self.old (pair key value))) }
+        ensures told { IfOk result (λ r. PairsTold K.cmp K.is_clone V.is_clone self.old self.new
+            (put_change (by_key K.cmp) self.old (pair key value)) r.1.items) }
     {
         let (old, events) = self.set.put_cdc(Pair { key, value })?;
         Ok((value_in(old), events))
@@ -70,30 +55,21 @@ impl<K: Ord + Clone + Drop, V: Clone + Drop, Node: NodeLike<Pair<K, V>>> BTreeMa
         key: K,
         value: V,
     ) -> Result<Option<Vec<ChangeEvent<Pair<K, V>>>>, Refused<(K, V)>>
-        ensures tree { OnOk result (self.new ≡ after_checked_put (by_key K.cmp) self.old (pair key value)) }
         ensures answer { IfOk result (λ r. is_none r ≡ has_key K.cmp (joined self.old.nodes) key) }
-        ensures clones { IfOk result (λ r. IfSome r (λ events. IsTold (λ p q. K.is_clone p.key q.key × V.is_clone p.value q.value) self.old.next (checked_put_events (by_key K.cmp) self.old.size self.old.nodes (pair key value)) events.items)) }
-        ensures refusal { IfErr result (λ e. e.cause ≡ refusal_for self.old.next (length (checked_put_events (by_key K.cmp) self.old.size self.old.nodes (pair key value)))) }
+        ensures refusal { IfErr result (λ e.
+            e.cause ≡ refusal_of self.old (checked_put_change (by_key K.cmp) self.old
+            (pair key value))) }
         ensures no_event { has_key K.cmp (joined self.old.nodes) key ≡ true → IsOk result }
         ensures given_back { IfErr result (λ e. e.value ≡ (key, value)) }
         ensures unchanged { OnErr result (self.new ≡ self.old) }
-        // What callers prove by.
-        ensures contents { OnOk result (joined self.new.nodes ≡ keep (by_key K.cmp) (joined self.old.nodes) (pair key value)) }
         ensures there { OnOk result (has_key K.cmp (joined self.new.nodes) key ≡ true) }
         ensures written { IfOk result (λ r. IfSome r (λ _.
             value_of K.cmp (joined self.new.nodes) key ≡ Some value)) }
-        ensures nodes { OnOk result (self.new.nodes ≡ with_checked_put (by_key K.cmp) self.old.size self.old.nodes (pair key value)) }
-        ensures events { ((x y : K) → K.is_clone x y → y ≡ x) → ((x y : V) → V.is_clone x y → y ≡ x) → IfOk result (λ r. IfSome r (λ events. events.items ≡ numbered_from self.old.next (checked_put_events (by_key K.cmp) self.old.size self.old.nodes (pair key value)))) }
-        ensures numbered { IfOk result (λ r. IfSome r (λ events. IsNumberedFrom self.old.next events.items)) }
-        ensures replay { AreIdentical K.is_clone → AreIdentical V.is_clone → IfOk result (λ r.
-            IfSome r (λ events.
-            replay (by_key K.cmp) self.old.nodes events.items ≡ Some self.new.nodes)) }
-        ensures table { OnOk result (replay (by_key K.cmp) self.old.nodes (numbered_from self.old.next (checked_put_events (by_key K.cmp) self.old.size self.old.nodes (pair key value))) ≡ Some self.new.nodes) }
-        ensures few { IfOk result (λ r. IfSome r (λ events. length events.items ≤ 3)) }
-        ensures size { self.new.size ≡ self.old.size }
-        ensures spaced { IsSpaced (self.old.size / 2) self.old.nodes → IsSpaced (self.new.size / 2) self.new.nodes }
-        ensures next { OnOk result (self.new.next ≡ self.old.next + length (checked_put_events (by_key K.cmp) self.old.size self.old.nodes (pair key value))) }
-        ensures fits { OnOk result (self.old.next + length (checked_put_events (by_key K.cmp) self.old.size self.old.nodes (pair key value)) ≤ u64.MAX) }
+        ensures changed { OnOk result (Changed (by_key K.cmp) self.old self.new
+            (checked_put_change (by_key K.cmp) self.old (pair key value))) }
+        ensures told { IfOk result (λ r. IfSome r (λ events.
+            PairsTold K.cmp K.is_clone V.is_clone self.old self.new
+            (checked_put_change (by_key K.cmp) self.old (pair key value)) events.items)) }
     {
         Ok(self.set.put_cdc_checked(Pair { key, value })?)
     }
@@ -101,23 +77,16 @@ impl<K: Ord + Clone + Drop, V: Clone + Drop, Node: NodeLike<Pair<K, V>>> BTreeMa
     /// Inserts a pair, or replaces that of an equal key and returns its value. It uses up as many
     /// numbers as `insert_cdc`. A failed call hands key and value back and changes nothing.
     pub fn insert(&mut self, key: K, value: V) -> Result<Option<V>, Refused<(K, V)>>
-        ensures tree { OnOk result (self.new ≡ after_put (by_key K.cmp) self.old (pair key value)) }
         ensures answer { IfOk result (λ old. old ≡ value_of K.cmp (joined self.old.nodes) key) }
-        ensures refusal { IfErr result (λ e. e.cause ≡ refusal_for self.old.next (length (put_events (by_key K.cmp) self.old.size self.old.nodes (pair key value)))) }
+        ensures refusal { IfErr result (λ e.
+            e.cause ≡ refusal_of self.old (put_change (by_key K.cmp) self.old (pair key value))) }
         ensures given_back { IfErr result (λ e. e.value ≡ (key, value)) }
         ensures unchanged { OnErr result (self.new ≡ self.old) }
-        // What callers prove by.
-        ensures contents { OnOk result (joined self.new.nodes ≡ put (by_key K.cmp) (joined self.old.nodes) (pair key value)) }
         ensures there { OnOk result (has_key K.cmp (joined self.new.nodes) key ≡ true) }
         ensures written { OnOk result (value_of K.cmp (joined self.new.nodes) key ≡ Some value) }
         ensures others { OnOk result (KeepsOthers K.cmp self.old.nodes self.new.nodes key) }
-        ensures nodes { OnOk result (self.new.nodes ≡ with_put (by_key K.cmp) self.old.size self.old.nodes (pair key value)) }
-        ensures table { OnOk result (replay (by_key K.cmp) self.old.nodes (numbered_from self.old.next (put_events (by_key K.cmp) self.old.size self.old.nodes (pair key value))) ≡ Some self.new.nodes) }
-        ensures few { length (put_events (by_key K.cmp) self.old.size self.old.nodes (pair key value)) ≤ 3 }
-        ensures size { self.new.size ≡ self.old.size }
-        ensures spaced { IsSpaced (self.old.size / 2) self.old.nodes → IsSpaced (self.new.size / 2) self.new.nodes }
-        ensures next { OnOk result (self.new.next ≡ self.old.next + length (put_events (by_key K.cmp) self.old.size self.old.nodes (pair key value))) }
-        ensures fits { OnOk result (self.old.next + length (put_events (by_key K.cmp) self.old.size self.old.nodes (pair key value)) ≤ u64.MAX) }
+        ensures changed { OnOk result (Changed (by_key K.cmp) self.old self.new
+            (put_change (by_key K.cmp) self.old (pair key value))) }
     {
         let old = self.set.put(Pair { key, value })?;
         Ok(old.map(|pair| pair.value))
@@ -126,24 +95,18 @@ impl<K: Ord + Clone + Drop, V: Clone + Drop, Node: NodeLike<Pair<K, V>>> BTreeMa
     /// Inserts a pair where the key is absent. If it is present, returns `None`, drops key and
     /// value, uses up no number, allocates nothing and changes nothing.
     pub fn checked_insert(&mut self, key: K, value: V) -> Result<Option<()>, Refused<(K, V)>>
-        ensures tree { OnOk result (self.new ≡ after_checked_put (by_key K.cmp) self.old (pair key value)) }
         ensures answer { IfOk result (λ r. is_none r ≡ has_key K.cmp (joined self.old.nodes) key) }
-        ensures refusal { IfErr result (λ e. e.cause ≡ refusal_for self.old.next (length (checked_put_events (by_key K.cmp) self.old.size self.old.nodes (pair key value)))) }
+        ensures refusal { IfErr result (λ e.
+            e.cause ≡ refusal_of self.old (checked_put_change (by_key K.cmp) self.old
+            (pair key value))) }
         ensures no_event { has_key K.cmp (joined self.old.nodes) key ≡ true → IsOk result }
         ensures given_back { IfErr result (λ e. e.value ≡ (key, value)) }
         ensures unchanged { OnErr result (self.new ≡ self.old) }
-        // What callers prove by.
-        ensures contents { OnOk result (joined self.new.nodes ≡ keep (by_key K.cmp) (joined self.old.nodes) (pair key value)) }
         ensures there { OnOk result (has_key K.cmp (joined self.new.nodes) key ≡ true) }
         ensures written { IfOk result (λ r. IfSome r (λ _.
             value_of K.cmp (joined self.new.nodes) key ≡ Some value)) }
-        ensures nodes { OnOk result (self.new.nodes ≡ with_checked_put (by_key K.cmp) self.old.size self.old.nodes (pair key value)) }
-        ensures table { OnOk result (replay (by_key K.cmp) self.old.nodes (numbered_from self.old.next (checked_put_events (by_key K.cmp) self.old.size self.old.nodes (pair key value))) ≡ Some self.new.nodes) }
-        ensures few { length (checked_put_events (by_key K.cmp) self.old.size self.old.nodes (pair key value)) ≤ 3 }
-        ensures size { self.new.size ≡ self.old.size }
-        ensures spaced { IsSpaced (self.old.size / 2) self.old.nodes → IsSpaced (self.new.size / 2) self.new.nodes }
-        ensures next { OnOk result (self.new.next ≡ self.old.next + length (checked_put_events (by_key K.cmp) self.old.size self.old.nodes (pair key value))) }
-        ensures fits { OnOk result (self.old.next + length (checked_put_events (by_key K.cmp) self.old.size self.old.nodes (pair key value)) ≤ u64.MAX) }
+        ensures changed { OnOk result (Changed (by_key K.cmp) self.old self.new
+            (checked_put_change (by_key K.cmp) self.old (pair key value))) }
     {
         let added = self.set.insert(Pair { key, value })?;
         Ok(added.then_some(()))

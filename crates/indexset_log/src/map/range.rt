@@ -31,8 +31,10 @@ impl<K: Ord + Clone + Drop, V: Clone + Drop, Node: NodeLike<Pair<K, V>>> BTreeMa
     /// assert!(rt; teens.map(|(key, _)| *key).eq([10, 15]));
     /// ```
     pub fn range(&self, range: (Bound<&K>, Bound<&K>)) -> Range<'_, K, V, Node>
-        requires { IsTrue (are_ordered K.cmp (bound_map (λ k. k.now) range.0) (bound_map (λ k. k.now) range.1)) }
-        ensures rest { result ≡ pairs_within K.cmp (joined self.now.nodes) (bound_map (λ k. k.now) range.entry.0) (bound_map (λ k. k.now) range.entry.1) }
+        requires { IsTrue (are_ordered K.cmp (bound_map (λ k. k.now) range.0)
+            (bound_map (λ k. k.now) range.1)) }
+        ensures rest { result ≡ pairs_within K.cmp (joined self.now.nodes)
+            (bound_map (λ k. k.now) range.entry.0) (bound_map (λ k. k.now) range.entry.1) }
         ensures runs { ShowsInOrder (pair_shown {K = K} {V = V}) }
         ensures runs_back { ShowsInReverse (pair_shown {K = K} {V = V}) }
     {

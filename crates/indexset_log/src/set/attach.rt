@@ -22,11 +22,15 @@ impl<T: Ord + Clone + Drop, Node: NodeLike<T>> BTreeSet<T, Node> {
     /// after or between two neighbouring nodes; then `Memory`. A failed call hands the node back
     /// and changes nothing.
     pub fn attach_node(&mut self, node: Node) -> Result<(), Refused<Node>>
-        ensures nodes { OnOk result (self.new.nodes ≡ attached T.cmp self.old.nodes (Node.list node)) }
+        ensures nodes { OnOk result (self.new.nodes ≡ attached T.cmp self.old.nodes
+            (Node.list node)) }
         ensures ascending { OnOk result (IsAscending T.cmp (joined self.new.nodes)) }
-        ensures count { OnOk result (length (joined self.new.nodes) ≡ length (joined self.old.nodes) + length (Node.list node)) }
-        ensures good { IsOk result → attach_refusal T.cmp self.old.size self.old.nodes (Node.list node) ≡ None }
-        ensures refusal { IfErr result (λ e. e.cause ≡ unwrap_or (attach_refusal T.cmp self.old.size self.old.nodes (Node.list node)) Refusal.Memory) }
+        ensures count { OnOk result (length (joined self.new.nodes)
+            ≡ length (joined self.old.nodes) + length (Node.list node)) }
+        ensures good { IsOk result → attach_refusal T.cmp self.old.size self.old.nodes
+            (Node.list node) ≡ None }
+        ensures refusal { IfErr result (λ e. e.cause ≡ unwrap_or
+            (attach_refusal T.cmp self.old.size self.old.nodes (Node.list node)) Refusal.Memory) }
         ensures given_back { IfErr result (λ e. e.value ≡ node) }
         ensures size { self.new.size ≡ self.old.size }
         ensures next { self.new.next ≡ self.old.next }
@@ -51,10 +55,15 @@ impl<T: Ord + Clone + Drop, Node: NodeLike<T>> BTreeSet<T, Node> {
 
     // Returns where a node goes among the others, if it may.
     fn attach_place(&self, node: &Node) -> Result<usize, Refusal>
-        ensures place { IfOk result (λ place. place ≡ attach_index T.cmp self.now.nodes (Node.list node.now)) }
-        ensures good { OnOk result (attach_refusal T.cmp self.now.size self.now.nodes (Node.list node.now) ≡ None) }
-        ensures fits { OnOk result (length (joined self.now.nodes) + length (Node.list node.now) ≤ usize.MAX) }
-        ensures refusal { IfErr result (λ e. e ≡ unwrap_or (attach_refusal T.cmp self.now.size self.now.nodes (Node.list node.now)) Refusal.Memory) }
+        ensures place { IfOk result (λ place. place ≡ attach_index T.cmp self.now.nodes
+            (Node.list node.now)) }
+        ensures good { OnOk result (attach_refusal T.cmp self.now.size self.now.nodes
+            (Node.list node.now) ≡ None) }
+        ensures fits { OnOk result (length (joined self.now.nodes) + length (Node.list node.now)
+            ≤ usize.MAX) }
+        ensures refusal { IfErr result (λ e. e ≡ unwrap_or
+            (attach_refusal T.cmp self.now.size self.now.nodes
+            (Node.list node.now)) Refusal.Memory) }
     {
         let items = node.iter().as_slice();
         let Some(first) = items.first() else {
@@ -78,7 +87,8 @@ impl<T: Ord + Clone + Drop, Node: NodeLike<T>> BTreeSet<T, Node> {
 
     // Returns whether the node at a place, if there is one, starts above an item.
     fn starts_above(&self, place: usize, value: &T) -> bool
-        ensures { result ≡ option_map_or (λ x. is_lt (T.cmp value.now x)) (slice_get (node_at self.now.nodes place) 0) true }
+        ensures { result ≡ option_map_or (λ x. is_lt (T.cmp value.now x))
+            (slice_get (node_at self.now.nodes place) 0) true }
     {
         if place >= self.nodes.len() {
             return true;

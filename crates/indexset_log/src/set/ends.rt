@@ -1,13 +1,10 @@
 //! The first and the last item, and calls that remove them.
-ghost use Rattle.std.specs.Prelude.{◌≡◌, ◌↔◌, ℕ, ◌+◌, ◌-◌, ◌/◌, ◌<◌, ◌≤◌, [], length, drop, remove, slice_get, take, Some, None, false, IfOk, OnOk, IfErr, OnErr, IsOk, IfSome, IsSome, MatchOption};
+ghost use Rattle.std.specs.Prelude.{◌≡◌, ◌↔◌, ◌-◌, ◌<◌, ◌≤◌, [], length, slice_get, false, IfOk, OnOk, IfErr, OnErr, IsOk, IfSome, IsSome, MatchOption};
 ghost use Rattle.std.specs.Option.{option_copied};
 ghost use Rattle.indexset_core.specs.Nodes.{joined};
 ghost use Rattle.indexset_core.specs.Order.{above, below};
-ghost use Rattle.indexset_log.specs.Clones.{IsTold};
-ghost use Rattle.indexset_log.specs.Ends.{IsItemAt, after_removal_at, removal_events_at};
-ghost use Rattle.indexset_log.specs.Joining.{IsSpaced};
-ghost use Rattle.indexset_log.specs.Replay.{replay, numbered_from, IsNumberedFrom};
-ghost use Rattle.indexset_log.specs.Tree.{refusal_for};
+ghost use Rattle.indexset_log.specs.Changed.{Changed, Fits, ItemsTold, first_removal, last_removal, refusal_of};
+ghost use Rattle.indexset_log.specs.Ends.{IsItemAt};
 
 use super::BTreeSet;
 use crate::change::ChangeEvent;
@@ -19,7 +16,8 @@ impl<T: Ord + Clone + Drop, Node: NodeLike<T>> BTreeSet<T, Node> {
     pub fn first(&self) -> Option<&T>
         ensures element { option_copied result ≡ slice_get (joined self.now.nodes) 0 }
         ensures variant { IsSome result ↔ (0 < length (joined self.now.nodes)) }
-        ensures least { IfSome result (λ least. below T.cmp (joined self.now.nodes) least.now ≡ []) }
+        ensures least { IfSome result (λ least. below T.cmp (joined self.now.nodes) least.now
+            ≡ []) }
     {
         // The nodes are lawful, so their items ascend.
         let _nodes = &self.nodes;
@@ -28,9 +26,11 @@ impl<T: Ord + Clone + Drop, Node: NodeLike<T>> BTreeSet<T, Node> {
 
     /// Returns the greatest item, or `None` where there is none, in constant time.
     pub fn last(&self) -> Option<&T>
-        ensures element { option_copied result ≡ slice_get (joined self.now.nodes) (length (joined self.now.nodes) - 1) }
+        ensures element { option_copied result ≡ slice_get (joined self.now.nodes)
+            (length (joined self.now.nodes) - 1) }
         ensures variant { IsSome result ↔ (0 < length (joined self.now.nodes)) }
-        ensures greatest { IfSome result (λ greatest. above T.cmp (joined self.now.nodes) greatest.now ≡ []) }
+        ensures greatest { IfSome result (λ greatest. above T.cmp
+            (joined self.now.nodes) greatest.now ≡ []) }
     {
         // The nodes are lawful, so their items ascend.
         let _nodes = &self.nodes;
@@ -42,23 +42,15 @@ impl<T: Ord + Clone + Drop, Node: NodeLike<T>> BTreeSet<T, Node> {
     /// with `Numbers` where the events do not fit the counter, else with `Memory`. A failed call
     /// changes nothing.
     pub fn pop_first_cdc(&mut self) -> Result<(Option<T>, Vec<ChangeEvent<T>>), Refusal>
-        ensures tree { OnOk result (self.new ≡ after_removal_at T.cmp self.old 0) }
         ensures answer { IfOk result (λ r. r.0 ≡ slice_get (joined self.old.nodes) 0) }
-        ensures clones { IfOk result (λ r. IsTold T.is_clone self.old.next (removal_events_at T.cmp self.old.size self.old.nodes 0) r.1.items) }
-        ensures refusal { IfErr result (λ e. e ≡ refusal_for self.old.next (length (removal_events_at T.cmp self.old.size self.old.nodes 0))) }
-        ensures no_event { removal_events_at T.cmp self.old.size self.old.nodes 0 ≡ [] → IsOk result }
+        ensures refusal { IfErr result (λ e. e ≡ refusal_of self.old
+            (first_removal T.cmp self.old)) }
+        ensures no_event { (first_removal T.cmp self.old).events ≡ [] → IsOk result }
         ensures unchanged { OnErr result (self.new ≡ self.old) }
-        // What callers prove by.
-        ensures contents { OnOk result (joined self.new.nodes ≡ drop 1 (joined self.old.nodes)) }
-        ensures events { ((x y : T) → T.is_clone x y → y ≡ x) → IfOk result (λ r. r.1.items ≡ numbered_from self.old.next (removal_events_at T.cmp self.old.size self.old.nodes 0)) }
-        ensures numbered { IfOk result (λ r. IsNumberedFrom self.old.next r.1.items) }
-        ensures replay { ((x y : T) → T.is_clone x y → y ≡ x) → IfOk result (λ r. replay T.cmp self.old.nodes r.1.items ≡ Some self.new.nodes) }
-        ensures table { OnOk result (replay T.cmp self.old.nodes (numbered_from self.old.next (removal_events_at T.cmp self.old.size self.old.nodes 0)) ≡ Some self.new.nodes) }
-        ensures few { IfOk result (λ r. length r.1.items ≤ 3) }
-        ensures size { self.new.size ≡ self.old.size }
-        ensures spaced { IsSpaced (self.old.size / 2) self.old.nodes → IsSpaced (self.new.size / 2) self.new.nodes }
-        ensures next { OnOk result (self.new.next ≡ self.old.next + length (removal_events_at T.cmp self.old.size self.old.nodes 0)) }
-        ensures fits { OnOk result (self.old.next + length (removal_events_at T.cmp self.old.size self.old.nodes 0) ≤ u64.MAX) }
+        ensures changed { OnOk result (Changed T.cmp self.old self.new
+            (first_removal T.cmp self.old)) }
+        ensures told { IfOk result (λ r. ItemsTold T.cmp T.is_clone self.old self.new
+            (first_removal T.cmp self.old) r.1.items) }
     {
         // The nodes are lawful.
         let _nodes = &self.nodes;
@@ -71,21 +63,17 @@ impl<T: Ord + Clone + Drop, Node: NodeLike<T>> BTreeSet<T, Node> {
     /// merges two nodes of a type that allocates, and else does not fail with `Memory`. A failed call
     /// changes nothing.
     pub fn pop_first(&mut self) -> Result<Option<T>, Refusal>
-        ensures tree { OnOk result (self.new ≡ after_removal_at T.cmp self.old 0) }
         ensures answer { IfOk result (λ item. item ≡ slice_get (joined self.old.nodes) 0) }
-        ensures refusal { IfErr result (λ e. e ≡ refusal_for self.old.next (length (removal_events_at T.cmp self.old.size self.old.nodes 0))) }
-        ensures no_event { removal_events_at T.cmp self.old.size self.old.nodes 0 ≡ [] → IsOk result }
-        ensures no_memory { length (removal_events_at T.cmp self.old.size self.old.nodes 0) ≤ 1 → self.old.next + length (removal_events_at T.cmp self.old.size self.old.nodes 0) ≤ u64.MAX → IsOk result }
-        ensures never { Node.allocates ≡ false → self.old.next + length (removal_events_at T.cmp self.old.size self.old.nodes 0) ≤ u64.MAX → IsOk result }
+        ensures refusal { IfErr result (λ e. e ≡ refusal_of self.old
+            (first_removal T.cmp self.old)) }
+        ensures no_event { (first_removal T.cmp self.old).events ≡ [] → IsOk result }
+        ensures no_memory { length (first_removal T.cmp self.old).events ≤ 1
+            → Fits self.old (first_removal T.cmp self.old) → IsOk result }
+        ensures never { Node.allocates ≡ false → Fits self.old (first_removal T.cmp self.old)
+            → IsOk result }
         ensures unchanged { OnErr result (self.new ≡ self.old) }
-        // What callers prove by.
-        ensures contents { OnOk result (joined self.new.nodes ≡ drop 1 (joined self.old.nodes)) }
-        ensures table { OnOk result (replay T.cmp self.old.nodes (numbered_from self.old.next (removal_events_at T.cmp self.old.size self.old.nodes 0)) ≡ Some self.new.nodes) }
-        ensures few { length (removal_events_at T.cmp self.old.size self.old.nodes 0) ≤ 3 }
-        ensures size { self.new.size ≡ self.old.size }
-        ensures spaced { IsSpaced (self.old.size / 2) self.old.nodes → IsSpaced (self.new.size / 2) self.new.nodes }
-        ensures next { OnOk result (self.new.next ≡ self.old.next + length (removal_events_at T.cmp self.old.size self.old.nodes 0)) }
-        ensures fits { OnOk result (self.old.next + length (removal_events_at T.cmp self.old.size self.old.nodes 0) ≤ u64.MAX) }
+        ensures changed { OnOk result (Changed T.cmp self.old self.new
+            (first_removal T.cmp self.old)) }
     {
         // The nodes are lawful.
         let _nodes = &self.nodes;
@@ -98,23 +86,16 @@ impl<T: Ord + Clone + Drop, Node: NodeLike<T>> BTreeSet<T, Node> {
     /// with `Numbers` where the events do not fit the counter, else with `Memory`. A failed call
     /// changes nothing.
     pub fn pop_last_cdc(&mut self) -> Result<(Option<T>, Vec<ChangeEvent<T>>), Refusal>
-        ensures tree { OnOk result (self.new ≡ after_removal_at T.cmp self.old (length (joined self.old.nodes) - 1)) }
-        ensures answer { IfOk result (λ r. r.0 ≡ slice_get (joined self.old.nodes) (length (joined self.old.nodes) - 1)) }
-        ensures clones { IfOk result (λ r. IsTold T.is_clone self.old.next (removal_events_at T.cmp self.old.size self.old.nodes (length (joined self.old.nodes) - 1)) r.1.items) }
-        ensures refusal { IfErr result (λ e. e ≡ refusal_for self.old.next (length (removal_events_at T.cmp self.old.size self.old.nodes (length (joined self.old.nodes) - 1)))) }
-        ensures no_event { removal_events_at T.cmp self.old.size self.old.nodes (length (joined self.old.nodes) - 1) ≡ [] → IsOk result }
+        ensures answer { IfOk result (λ r.
+            r.0 ≡ slice_get (joined self.old.nodes) (length (joined self.old.nodes) - 1)) }
+        ensures refusal { IfErr result (λ e. e ≡ refusal_of self.old
+            (last_removal T.cmp self.old)) }
+        ensures no_event { (last_removal T.cmp self.old).events ≡ [] → IsOk result }
         ensures unchanged { OnErr result (self.new ≡ self.old) }
-        // What callers prove by.
-        ensures contents { OnOk result (joined self.new.nodes ≡ take (length (joined self.old.nodes) - 1) (joined self.old.nodes)) }
-        ensures events { ((x y : T) → T.is_clone x y → y ≡ x) → IfOk result (λ r. r.1.items ≡ numbered_from self.old.next (removal_events_at T.cmp self.old.size self.old.nodes (length (joined self.old.nodes) - 1))) }
-        ensures numbered { IfOk result (λ r. IsNumberedFrom self.old.next r.1.items) }
-        ensures replay { ((x y : T) → T.is_clone x y → y ≡ x) → IfOk result (λ r. replay T.cmp self.old.nodes r.1.items ≡ Some self.new.nodes) }
-        ensures table { OnOk result (replay T.cmp self.old.nodes (numbered_from self.old.next (removal_events_at T.cmp self.old.size self.old.nodes (length (joined self.old.nodes) - 1))) ≡ Some self.new.nodes) }
-        ensures few { IfOk result (λ r. length r.1.items ≤ 3) }
-        ensures size { self.new.size ≡ self.old.size }
-        ensures spaced { IsSpaced (self.old.size / 2) self.old.nodes → IsSpaced (self.new.size / 2) self.new.nodes }
-        ensures next { OnOk result (self.new.next ≡ self.old.next + length (removal_events_at T.cmp self.old.size self.old.nodes (length (joined self.old.nodes) - 1))) }
-        ensures fits { OnOk result (self.old.next + length (removal_events_at T.cmp self.old.size self.old.nodes (length (joined self.old.nodes) - 1)) ≤ u64.MAX) }
+        ensures changed { OnOk result (Changed T.cmp self.old self.new
+            (last_removal T.cmp self.old)) }
+        ensures told { IfOk result (λ r. ItemsTold T.cmp T.is_clone self.old self.new
+            (last_removal T.cmp self.old) r.1.items) }
     {
         // The nodes are lawful.
         let _nodes = &self.nodes;
@@ -127,21 +108,18 @@ impl<T: Ord + Clone + Drop, Node: NodeLike<T>> BTreeSet<T, Node> {
     /// merges two nodes of a type that allocates, and else does not fail with `Memory`. A failed call
     /// changes nothing.
     pub fn pop_last(&mut self) -> Result<Option<T>, Refusal>
-        ensures tree { OnOk result (self.new ≡ after_removal_at T.cmp self.old (length (joined self.old.nodes) - 1)) }
-        ensures answer { IfOk result (λ item. item ≡ slice_get (joined self.old.nodes) (length (joined self.old.nodes) - 1)) }
-        ensures refusal { IfErr result (λ e. e ≡ refusal_for self.old.next (length (removal_events_at T.cmp self.old.size self.old.nodes (length (joined self.old.nodes) - 1)))) }
-        ensures no_event { removal_events_at T.cmp self.old.size self.old.nodes (length (joined self.old.nodes) - 1) ≡ [] → IsOk result }
-        ensures no_memory { length (removal_events_at T.cmp self.old.size self.old.nodes (length (joined self.old.nodes) - 1)) ≤ 1 → self.old.next + length (removal_events_at T.cmp self.old.size self.old.nodes (length (joined self.old.nodes) - 1)) ≤ u64.MAX → IsOk result }
-        ensures never { Node.allocates ≡ false → self.old.next + length (removal_events_at T.cmp self.old.size self.old.nodes (length (joined self.old.nodes) - 1)) ≤ u64.MAX → IsOk result }
+        ensures answer { IfOk result (λ item.
+            item ≡ slice_get (joined self.old.nodes) (length (joined self.old.nodes) - 1)) }
+        ensures refusal { IfErr result (λ e. e ≡ refusal_of self.old
+            (last_removal T.cmp self.old)) }
+        ensures no_event { (last_removal T.cmp self.old).events ≡ [] → IsOk result }
+        ensures no_memory { length (last_removal T.cmp self.old).events ≤ 1
+            → Fits self.old (last_removal T.cmp self.old) → IsOk result }
+        ensures never { Node.allocates ≡ false → Fits self.old (last_removal T.cmp self.old)
+            → IsOk result }
         ensures unchanged { OnErr result (self.new ≡ self.old) }
-        // What callers prove by.
-        ensures contents { OnOk result (joined self.new.nodes ≡ take (length (joined self.old.nodes) - 1) (joined self.old.nodes)) }
-        ensures table { OnOk result (replay T.cmp self.old.nodes (numbered_from self.old.next (removal_events_at T.cmp self.old.size self.old.nodes (length (joined self.old.nodes) - 1))) ≡ Some self.new.nodes) }
-        ensures few { length (removal_events_at T.cmp self.old.size self.old.nodes (length (joined self.old.nodes) - 1)) ≤ 3 }
-        ensures size { self.new.size ≡ self.old.size }
-        ensures spaced { IsSpaced (self.old.size / 2) self.old.nodes → IsSpaced (self.new.size / 2) self.new.nodes }
-        ensures next { OnOk result (self.new.next ≡ self.old.next + length (removal_events_at T.cmp self.old.size self.old.nodes (length (joined self.old.nodes) - 1))) }
-        ensures fits { OnOk result (self.old.next + length (removal_events_at T.cmp self.old.size self.old.nodes (length (joined self.old.nodes) - 1)) ≤ u64.MAX) }
+        ensures changed { OnOk result (Changed T.cmp self.old self.new
+            (last_removal T.cmp self.old)) }
     {
         // The nodes are lawful.
         let _nodes = &self.nodes;
@@ -151,7 +129,8 @@ impl<T: Ord + Clone + Drop, Node: NodeLike<T>> BTreeSet<T, Node> {
 
     // Returns the place of the first item, if any.
     fn first_item_place(&self) -> Option<(usize, usize)>
-        ensures { MatchOption result (joined self.now.nodes ≡ []) (λ p. IsItemAt self.now.nodes p 0) }
+        ensures { MatchOption result (joined self.now.nodes ≡ [])
+            (λ p. IsItemAt self.now.nodes p 0) }
     {
         if self.nodes.is_empty() {
             return None;
@@ -161,7 +140,8 @@ impl<T: Ord + Clone + Drop, Node: NodeLike<T>> BTreeSet<T, Node> {
 
     // Returns the place of the last item, if any.
     fn last_item_place(&self) -> Option<(usize, usize)>
-        ensures { MatchOption result (joined self.now.nodes ≡ []) (λ p. IsItemAt self.now.nodes p (length (joined self.now.nodes) - 1)) }
+        ensures { MatchOption result (joined self.now.nodes ≡ [])
+            (λ p. IsItemAt self.now.nodes p (length (joined self.now.nodes) - 1)) }
     {
         if self.nodes.is_empty() {
             return None;

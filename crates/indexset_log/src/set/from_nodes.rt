@@ -23,11 +23,15 @@ impl<T: Ord + Clone + Drop, Node: NodeLike<T>> BTreeSet<T, Node> {
     pub fn from_nodes(nodes: Vec<Node>, size: usize, next: u64) -> Result<Self, Refused<Vec<Node>>>
         requires two { 2 ≤ size }
         requires within { size ≤ Node.most }
-        ensures tree { IfOk result (λ t. t ≡ record { nodes = map Node.list nodes.items; size = size; next = next }) }
+        ensures tree { IfOk result (λ t.
+            t ≡ record { nodes = map Node.list nodes.items; size = size; next = next }) }
         ensures good { OnOk result (nodes_refusal T.cmp size (map Node.list nodes.items) ≡ None) }
-        ensures refusal { IfErr result (λ e. e.cause ≡ unwrap_or (nodes_refusal T.cmp size (map Node.list nodes.items)) Refusal.Memory) }
-        ensures memory { IfErr result (λ e. nodes_refusal T.cmp size (map Node.list nodes.items) ≡ None → usize.MAX < length (joined (map Node.list nodes.items))) }
-        ensures lawful { IsLawful T.cmp size (map Node.list nodes.items) → length (joined (map Node.list nodes.items)) ≤ usize.MAX → IsOk result }
+        ensures refusal { IfErr result (λ e. e.cause ≡ unwrap_or
+            (nodes_refusal T.cmp size (map Node.list nodes.items)) Refusal.Memory) }
+        ensures memory { IfErr result (λ e. nodes_refusal T.cmp size (map Node.list nodes.items)
+            ≡ None → usize.MAX < length (joined (map Node.list nodes.items))) }
+        ensures lawful { IsLawful T.cmp size (map Node.list nodes.items)
+            → length (joined (map Node.list nodes.items)) ≤ usize.MAX → IsOk result }
         ensures given_back { IfErr result (λ e. e.value ≡ nodes) }
     {
         let len = match test_and_count(nodes.as_slice(), size) {
@@ -54,8 +58,10 @@ fn test_and_count<T: Ord + Drop, Node: NodeLike<T>>(
 ) -> Result<usize, Refusal>
     ensures good { OnOk result (nodes_refusal T.cmp size (map Node.list nodes.now) ≡ None) }
     ensures len { IfOk result (λ len. len ≡ length (joined (map Node.list nodes.now))) }
-    ensures refusal { IfErr result (λ e. e ≡ unwrap_or (nodes_refusal T.cmp size (map Node.list nodes.now)) Refusal.Memory) }
-    ensures memory { IfErr result (λ e. nodes_refusal T.cmp size (map Node.list nodes.now) ≡ None → usize.MAX < length (joined (map Node.list nodes.now))) }
+    ensures refusal { IfErr result (λ e. e ≡ unwrap_or (nodes_refusal T.cmp size
+        (map Node.list nodes.now)) Refusal.Memory) }
+    ensures memory { IfErr result (λ e. nodes_refusal T.cmp size (map Node.list nodes.now) ≡ None
+        → usize.MAX < length (joined (map Node.list nodes.now))) }
 {
     test_nodes(nodes, size)?;
     match count(nodes) {
@@ -66,7 +72,8 @@ fn test_and_count<T: Ord + Drop, Node: NodeLike<T>>(
 
 // Returns how many items the nodes hold, if that is a usize.
 fn count<T: Ord + Drop, Node: NodeLike<T>>(nodes: &[Node]) -> Option<usize>
-    ensures { MatchOption result (usize.MAX < length (joined (map Node.list nodes.now))) (λ len. len ≡ length (joined (map Node.list nodes.now))) }
+    ensures { MatchOption result (usize.MAX < length (joined (map Node.list nodes.now)))
+        (λ len. len ≡ length (joined (map Node.list nodes.now))) }
 {
     let mut len: usize = 0;
     for node in nodes {
@@ -85,7 +92,8 @@ pub fn test_nodes<'a, T: Ord + Drop + 'a, Node: NodeLike<T>>(
     size: usize,
 ) -> Result<(), Refusal>
     ensures good { OnOk result (nodes_refusal T.cmp size (map Node.list nodes.now) ≡ None) }
-    ensures refusal { IfErr result (λ e. nodes_refusal T.cmp size (map Node.list nodes.now) ≡ Some e) }
+    ensures refusal { IfErr result (λ e. nodes_refusal T.cmp size (map Node.list nodes.now)
+        ≡ Some e) }
     ensures lawful { OnOk result (IsLawful T.cmp size (map Node.list nodes.now)) }
     ensures taken { IsLawful T.cmp size (map Node.list nodes.now) → IsOk result }
     ensures large { IfErr result (λ e. e ≡ Refusal.TooLarge → size < usize.MAX) }
@@ -124,7 +132,8 @@ fn test_node<T: Ord>(before: &[T], items: &[T], size: usize) -> Result<(), Refus
 
 // Returns whether the last item, if there is one, is below a value.
 fn ends_below<T: Ord>(items: &[T], value: &T) -> bool
-    ensures { result ≡ option_map_or (λ x. is_lt (T.cmp x value.now)) (slice_get items.now (length items.now - 1)) true }
+    ensures { result ≡ option_map_or (λ x. is_lt (T.cmp x value.now))
+        (slice_get items.now (length items.now - 1)) true }
 {
     match items.last() {
         Some(last) => last.cmp(value).is_lt(),

@@ -44,9 +44,11 @@ impl<'a, T: Ord + Clone + Drop, Node: NodeLike<T>> Iter<'a, T, Node> {
     pub(super) fn between(nodes: &'a [Node], from: (usize, usize), to: (usize, usize)) -> Self
         requires from { IsPlace (map Node.list nodes.now) from }
         requires to { IsPlace (map Node.list nodes.now) to }
-        requires order { items_before (map Node.list nodes.now) from ≤ items_before (map Node.list nodes.now) to }
+        requires order { items_before (map Node.list nodes.now) from
+            ≤ items_before (map Node.list nodes.now) to }
         requires fits { length (joined (map Node.list nodes.now)) ≤ usize.MAX }
-        ensures { result ≡ between (items_before (map Node.list nodes.now) from) (items_before (map Node.list nodes.now) to) (joined (map Node.list nodes.now)) }
+        ensures { result ≡ between (items_before (map Node.list nodes.now) from)
+            (items_before (map Node.list nodes.now) to) (joined (map Node.list nodes.now)) }
     {
         let walk = Walk::between(nodes, from, to);
         let left = walk.item_count();

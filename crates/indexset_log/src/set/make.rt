@@ -17,14 +17,19 @@ impl<T: Ord + Clone + Drop> BTreeSet<T, Vec<T>> {
     /// first stays. Fails with `Memory`, or with `Numbers` where the events of the items that came
     /// do not fit, and then all are dropped.
     pub fn from_iter<I: IntoIterator<Item = T>>(alloc: Global, iter: I) -> Result<Self, Refusal>
-        requires { IsFiniteIterable I.into_iter_gives I.IntoIter.can_next I.IntoIter.remaining iter }
+        requires { IsFiniteIterable I.into_iter_gives I.IntoIter.can_next
+            I.IntoIter.remaining iter }
         ensures contents { IfOk result (λ s. (it : I.IntoIter) × I.into_iter_gives iter it
-            × WholeRun I.IntoIter.next_gives it (λ run. joined s.nodes ≡ fold (keep T.cmp) [] run.items)) }
+            × WholeRun I.IntoIter.next_gives it (λ run.
+            joined s.nodes ≡ fold (keep T.cmp) [] run.items)) }
         ensures tree { IfOk result (λ s. (it : I.IntoIter) × I.into_iter_gives iter it
-            × WholeRun I.IntoIter.next_gives it (λ run. s ≡ fold (after_checked_put T.cmp) (fresh DEFAULT_INNER_SIZE) run.items)) }
+            × WholeRun I.IntoIter.next_gives it (λ run.
+            s ≡ fold (after_checked_put T.cmp) (fresh DEFAULT_INNER_SIZE) run.items)) }
         ensures refusal { IfErr result (λ e. (e ≡ Refusal.Memory) ⊎ (e ≡ Refusal.Numbers)) }
-        ensures numbers { result ≡ Err Refusal.Numbers → (it : I.IntoIter) × I.into_iter_gives iter it
-            × SomeRun I.IntoIter.next_gives it (λ run. u64.MAX < (fold (after_checked_put T.cmp) (fresh DEFAULT_INNER_SIZE) run.items).next) }
+        ensures numbers { result ≡ Err Refusal.Numbers → (it : I.IntoIter)
+            × I.into_iter_gives iter it
+            × SomeRun I.IntoIter.next_gives it (λ run. u64.MAX
+            < (fold (after_checked_put T.cmp) (fresh DEFAULT_INNER_SIZE) run.items).next) }
     {
         let rest = iter.into_iter();
         let mut set = Self::new(alloc);
@@ -37,9 +42,12 @@ impl<T: Ord + Clone + Drop> BTreeSet<T, Vec<T>> {
     /// Returns the tree of the values, as `from_iter` makes it.
     pub fn from(alloc: Global, values: Vec<T>) -> Result<Self, Refusal>
         ensures contents { IfOk result (λ s. joined s.nodes ≡ fold (keep T.cmp) [] values.items) }
-        ensures tree { IfOk result (λ s. s ≡ fold (after_checked_put T.cmp) (fresh DEFAULT_INNER_SIZE) values.items) }
+        ensures tree { IfOk result (λ s. s ≡ fold (after_checked_put T.cmp)
+            (fresh DEFAULT_INNER_SIZE) values.items) }
         ensures refusal { IfErr result (λ e. (e ≡ Refusal.Memory) ⊎ (e ≡ Refusal.Numbers)) }
-        ensures numbers { result ≡ Err Refusal.Numbers → (n : ℕ) × (u64.MAX < (fold (after_checked_put T.cmp) (fresh DEFAULT_INNER_SIZE) (take n values.items)).next) }
+        ensures numbers { result ≡ Err Refusal.Numbers → (n : ℕ)
+            × (u64.MAX < (fold (after_checked_put T.cmp) (fresh DEFAULT_INNER_SIZE)
+            (take n values.items)).next) }
     {
         Self::from_iter(alloc, values)
     }

@@ -1,13 +1,12 @@
 //! Insertion of items.
-ghost use Rattle.std.specs.Prelude.{◌≡◌, ◌+◌, ◌/◌, ◌≤◌, [], ◌++◌, length, Some, None, IfOk, OnOk, IfErr, OnErr, IsOk, IfSome, is_none, not, true};
+ghost use Rattle.std.specs.Prelude.{◌≡◌, ◌+◌, ◌/◌, ◌≤◌, [], length, Some, None, IfOk, OnOk, IfErr, OnErr, IsOk, IfSome, is_none, not, true};
 ghost use Rattle.indexset_core.specs.Nodes.{joined};
-ghost use Rattle.indexset_core.specs.Order.{put, keep, has_equal, equal_element};
+ghost use Rattle.indexset_core.specs.Order.{equal_element, has_equal};
 ghost use Rattle.indexset_log.specs.Aim.{IsAim, IsAimed, count_for, is_present};
-ghost use Rattle.indexset_log.specs.Clones.{AreIdentical, IsTold};
-ghost use Rattle.indexset_log.specs.Edits.{after_put, after_checked_put, with_put, with_checked_put};
-ghost use Rattle.indexset_log.specs.Joining.{IsSpaced};
-ghost use Rattle.indexset_log.specs.Replay.{replay, numbered_from, IsNumberedFrom};
-ghost use Rattle.indexset_log.specs.Table.{put_events, checked_put_events};
+ghost use Rattle.indexset_log.specs.Changed.{Changed, ItemsTold, checked_put_change, put_change, refusal_of};
+ghost use Rattle.indexset_log.specs.Clones.{IsTold};
+ghost use Rattle.indexset_log.specs.Edits.{after_put};
+ghost use Rattle.indexset_log.specs.Table.{put_events};
 ghost use Rattle.indexset_log.specs.Tree.{refusal_for};
 
 use super::BTreeSet;
@@ -32,25 +31,17 @@ impl<T: Ord + Clone + Drop, Node: NodeLike<T>> BTreeSet<T, Node> {
     /// assert!(rt; old.is_none() && events.as_slice() == [made].as_slice());
     /// ```
     pub fn put_cdc(&mut self, value: T) -> Result<(Option<T>, Vec<ChangeEvent<T>>), Refused<T>>
-        ensures tree { OnOk result (self.new ≡ after_put T.cmp self.old value) }
-        ensures answer { IfOk result (λ r. r.0 ≡ equal_element T.cmp (joined self.old.nodes) value) }
-        ensures clones { IfOk result (λ r. IsTold T.is_clone self.old.next (put_events T.cmp self.old.size self.old.nodes value) r.1.items) }
-        ensures refusal { IfErr result (λ e. e.cause ≡ refusal_for self.old.next (length (put_events T.cmp self.old.size self.old.nodes value))) }
+        ensures answer { IfOk result (λ r. r.0 ≡ equal_element T.cmp
+            (joined self.old.nodes) value) }
+        ensures refusal { IfErr result (λ e. e.cause ≡ refusal_of self.old
+            (put_change T.cmp self.old value)) }
         ensures given_back { IfErr result (λ e. e.value ≡ value) }
         ensures unchanged { OnErr result (self.new ≡ self.old) }
-        // What callers prove by.
-        ensures contents { OnOk result (joined self.new.nodes ≡ put T.cmp (joined self.old.nodes) value) }
         ensures there { OnOk result (has_equal T.cmp (joined self.new.nodes) value ≡ true) }
-        ensures nodes { OnOk result (self.new.nodes ≡ with_put T.cmp self.old.size self.old.nodes value) }
-        ensures size { self.new.size ≡ self.old.size }
-        ensures next { OnOk result (self.new.next ≡ self.old.next + length (put_events T.cmp self.old.size self.old.nodes value)) }
-        ensures fits { OnOk result (self.old.next + length (put_events T.cmp self.old.size self.old.nodes value) ≤ u64.MAX) }
-        ensures events { ((x y : T) → T.is_clone x y → y ≡ x) → IfOk result (λ r. r.1.items ≡ numbered_from self.old.next (put_events T.cmp self.old.size self.old.nodes value)) }
-        ensures numbered { IfOk result (λ r. IsNumberedFrom self.old.next r.1.items) }
-        ensures replay { ((x y : T) → T.is_clone x y → y ≡ x) → IfOk result (λ r. replay T.cmp self.old.nodes r.1.items ≡ Some self.new.nodes) }
-        ensures table { OnOk result (replay T.cmp self.old.nodes (numbered_from self.old.next (put_events T.cmp self.old.size self.old.nodes value)) ≡ Some self.new.nodes) }
-        ensures few { IfOk result (λ r. length r.1.items ≤ 3) }
-        ensures spaced { IsSpaced (self.old.size / 2) self.old.nodes → IsSpaced (self.new.size / 2) self.new.nodes }
+        ensures changed { OnOk result (Changed T.cmp self.old self.new
+            (put_change T.cmp self.old value)) }
+        ensures told { IfOk result (λ r. ItemsTold T.cmp T.is_clone self.old self.new
+            (put_change T.cmp self.old value) r.1.items) }
     {
         // The nodes are lawful.
         let _nodes = &self.nodes;
@@ -62,27 +53,19 @@ impl<T: Ord + Clone + Drop, Node: NodeLike<T>> BTreeSet<T, Node> {
     /// uses up no number, allocates nothing and changes nothing.
     #[tactic(auto, unfolding(indexset_core::specs::Order::keep, crate::specs::Edits::with_checked_put, crate::specs::Table::checked_put_events))]
     pub fn put_cdc_checked(&mut self, value: T) -> Result<Option<Vec<ChangeEvent<T>>>, Refused<T>>
-        ensures tree { OnOk result (self.new ≡ after_checked_put T.cmp self.old value) }
-        ensures answer { IfOk result (λ r. is_none r ≡ has_equal T.cmp (joined self.old.nodes) value) }
-        ensures clones { IfOk result (λ r. IfSome r (λ events. IsTold T.is_clone self.old.next (checked_put_events T.cmp self.old.size self.old.nodes value) events.items)) }
-        ensures refusal { IfErr result (λ e. e.cause ≡ refusal_for self.old.next (length (checked_put_events T.cmp self.old.size self.old.nodes value))) }
+        ensures answer { IfOk result (λ r. is_none r ≡ has_equal T.cmp
+            (joined self.old.nodes) value) }
+        ensures refusal { IfErr result (λ e.
+            e.cause ≡ refusal_of self.old (checked_put_change T.cmp self.old value)) }
         ensures no_event { has_equal T.cmp (joined self.old.nodes) value ≡ true → IsOk result }
         ensures given_back { IfErr result (λ e. e.value ≡ value) }
         ensures unchanged { OnErr result (self.new ≡ self.old) }
-        // What callers prove by.
-        ensures contents { OnOk result (joined self.new.nodes ≡ keep T.cmp (joined self.old.nodes) value) }
         ensures there { OnOk result (has_equal T.cmp (joined self.new.nodes) value ≡ true) }
-        ensures nodes { OnOk result (self.new.nodes ≡ with_checked_put T.cmp self.old.size self.old.nodes value) }
-        ensures size { self.new.size ≡ self.old.size }
-        ensures next { OnOk result (self.new.next ≡ self.old.next + length (checked_put_events T.cmp self.old.size self.old.nodes value)) }
-        ensures fits { OnOk result (self.old.next + length (checked_put_events T.cmp self.old.size self.old.nodes value) ≤ u64.MAX) }
-        ensures events { ((x y : T) → T.is_clone x y → y ≡ x) → IfOk result (λ r. IfSome r (λ events. events.items ≡ numbered_from self.old.next (checked_put_events T.cmp self.old.size self.old.nodes value))) }
-        ensures numbered { IfOk result (λ r. IfSome r (λ events. IsNumberedFrom self.old.next events.items)) }
-        ensures replay { AreIdentical T.is_clone → IfOk result (λ r. IfSome r (λ events.
-            replay T.cmp self.old.nodes events.items ≡ Some self.new.nodes)) }
-        ensures table { OnOk result (replay T.cmp self.old.nodes (numbered_from self.old.next (checked_put_events T.cmp self.old.size self.old.nodes value)) ≡ Some self.new.nodes) }
-        ensures few { IfOk result (λ r. IfSome r (λ events. length events.items ≤ 3)) }
-        ensures spaced { IsSpaced (self.old.size / 2) self.old.nodes → IsSpaced (self.new.size / 2) self.new.nodes }
+        ensures changed { OnOk result (Changed T.cmp self.old self.new
+            (checked_put_change T.cmp self.old value)) }
+        ensures told { IfOk result (λ r. IfSome r (λ events.
+            ItemsTold T.cmp T.is_clone self.old self.new
+            (checked_put_change T.cmp self.old value) events.items)) }
     {
         // The nodes are lawful, and the counter fits a u64, so a call without events lacks no number.
         let _nodes = &self.nodes;
@@ -100,21 +83,15 @@ impl<T: Ord + Clone + Drop, Node: NodeLike<T>> BTreeSet<T, Node> {
     /// Inserts an item, or replaces an equal one. It uses up as many numbers as `put_cdc`. A failed
     /// call hands the item back and changes nothing.
     pub fn put(&mut self, value: T) -> Result<Option<T>, Refused<T>>
-        ensures tree { OnOk result (self.new ≡ after_put T.cmp self.old value) }
-        ensures answer { IfOk result (λ old. old ≡ equal_element T.cmp (joined self.old.nodes) value) }
-        ensures refusal { IfErr result (λ e. e.cause ≡ refusal_for self.old.next (length (put_events T.cmp self.old.size self.old.nodes value))) }
+        ensures answer { IfOk result (λ old. old ≡ equal_element T.cmp
+            (joined self.old.nodes) value) }
+        ensures refusal { IfErr result (λ e. e.cause ≡ refusal_of self.old
+            (put_change T.cmp self.old value)) }
         ensures given_back { IfErr result (λ e. e.value ≡ value) }
         ensures unchanged { OnErr result (self.new ≡ self.old) }
-        // What callers prove by.
-        ensures contents { OnOk result (joined self.new.nodes ≡ put T.cmp (joined self.old.nodes) value) }
         ensures there { OnOk result (has_equal T.cmp (joined self.new.nodes) value ≡ true) }
-        ensures nodes { OnOk result (self.new.nodes ≡ with_put T.cmp self.old.size self.old.nodes value) }
-        ensures size { self.new.size ≡ self.old.size }
-        ensures next { OnOk result (self.new.next ≡ self.old.next + length (put_events T.cmp self.old.size self.old.nodes value)) }
-        ensures fits { OnOk result (self.old.next + length (put_events T.cmp self.old.size self.old.nodes value) ≤ u64.MAX) }
-        ensures table { OnOk result (replay T.cmp self.old.nodes (numbered_from self.old.next (put_events T.cmp self.old.size self.old.nodes value)) ≡ Some self.new.nodes) }
-        ensures few { length (put_events T.cmp self.old.size self.old.nodes value) ≤ 3 }
-        ensures spaced { IsSpaced (self.old.size / 2) self.old.nodes → IsSpaced (self.new.size / 2) self.new.nodes }
+        ensures changed { OnOk result (Changed T.cmp self.old self.new
+            (put_change T.cmp self.old value)) }
     {
         // The nodes are lawful.
         let _nodes = &self.nodes;
@@ -132,22 +109,16 @@ impl<T: Ord + Clone + Drop, Node: NodeLike<T>> BTreeSet<T, Node> {
     /// ```
     #[tactic(auto, unfolding(indexset_core::specs::Order::keep, crate::specs::Edits::with_checked_put, crate::specs::Table::checked_put_events))]
     pub fn insert(&mut self, value: T) -> Result<bool, Refused<T>>
-        ensures tree { OnOk result (self.new ≡ after_checked_put T.cmp self.old value) }
-        ensures answer { IfOk result (λ r. r ≡ not (has_equal T.cmp (joined self.old.nodes) value)) }
-        ensures refusal { IfErr result (λ e. e.cause ≡ refusal_for self.old.next (length (checked_put_events T.cmp self.old.size self.old.nodes value))) }
+        ensures answer { IfOk result (λ r. r ≡ not (has_equal T.cmp
+            (joined self.old.nodes) value)) }
+        ensures refusal { IfErr result (λ e.
+            e.cause ≡ refusal_of self.old (checked_put_change T.cmp self.old value)) }
         ensures no_event { has_equal T.cmp (joined self.old.nodes) value ≡ true → IsOk result }
         ensures given_back { IfErr result (λ e. e.value ≡ value) }
         ensures unchanged { OnErr result (self.new ≡ self.old) }
-        // What callers prove by.
-        ensures contents { OnOk result (joined self.new.nodes ≡ keep T.cmp (joined self.old.nodes) value) }
         ensures there { OnOk result (has_equal T.cmp (joined self.new.nodes) value ≡ true) }
-        ensures nodes { OnOk result (self.new.nodes ≡ with_checked_put T.cmp self.old.size self.old.nodes value) }
-        ensures size { self.new.size ≡ self.old.size }
-        ensures next { OnOk result (self.new.next ≡ self.old.next + length (checked_put_events T.cmp self.old.size self.old.nodes value)) }
-        ensures fits { OnOk result (self.old.next + length (checked_put_events T.cmp self.old.size self.old.nodes value) ≤ u64.MAX) }
-        ensures table { OnOk result (replay T.cmp self.old.nodes (numbered_from self.old.next (checked_put_events T.cmp self.old.size self.old.nodes value)) ≡ Some self.new.nodes) }
-        ensures few { length (checked_put_events T.cmp self.old.size self.old.nodes value) ≤ 3 }
-        ensures spaced { IsSpaced (self.old.size / 2) self.old.nodes → IsSpaced (self.new.size / 2) self.new.nodes }
+        ensures changed { OnOk result (Changed T.cmp self.old self.new
+            (checked_put_change T.cmp self.old value)) }
     {
         // The nodes are lawful, and the counter fits a u64, so a call without events lacks no number.
         let _nodes = &self.nodes;
@@ -181,10 +152,14 @@ impl<T: Ord + Clone + Drop, Node: NodeLike<T>> BTreeSet<T, Node> {
     ) -> Result<(Option<T>, Vec<ChangeEvent<T>>), Refused<T>>
         requires { IsAimed T.cmp self.old.size self.old.nodes value aim }
         ensures tree { OnOk result (self.new ≡ after_put T.cmp self.old value) }
-        ensures answer { IfOk result (λ r. r.0 ≡ equal_element T.cmp (joined self.old.nodes) value) }
-        ensures told { IfOk result (λ r. IsTold T.is_clone self.old.next (put_events T.cmp self.old.size self.old.nodes value) r.1.items) }
-        ensures fits { OnOk result (self.old.next + length (put_events T.cmp self.old.size self.old.nodes value) ≤ u64.MAX) }
-        ensures refusal { IfErr result (λ e. e.cause ≡ refusal_for self.old.next (length (put_events T.cmp self.old.size self.old.nodes value))) }
+        ensures answer { IfOk result (λ r. r.0 ≡ equal_element T.cmp
+            (joined self.old.nodes) value) }
+        ensures told { IfOk result (λ r. IsTold T.is_clone self.old.next
+            (put_events T.cmp self.old.size self.old.nodes value) r.1.items) }
+        ensures fits { OnOk result (self.old.next + length
+            (put_events T.cmp self.old.size self.old.nodes value) ≤ u64.MAX) }
+        ensures refusal { IfErr result (λ e. e.cause ≡ refusal_for self.old.next
+            (length (put_events T.cmp self.old.size self.old.nodes value))) }
         ensures given_back { IfErr result (λ e. e.value ≡ value) }
         ensures unchanged { OnErr result (self.new ≡ self.old) }
     {
@@ -207,9 +182,12 @@ impl<T: Ord + Clone + Drop, Node: NodeLike<T>> BTreeSet<T, Node> {
     fn put_at(&mut self, aim: Option<Aim>, value: T) -> Result<Option<T>, Refused<T>>
         requires { IsAimed T.cmp self.old.size self.old.nodes value aim }
         ensures tree { OnOk result (self.new ≡ after_put T.cmp self.old value) }
-        ensures answer { IfOk result (λ old. old ≡ equal_element T.cmp (joined self.old.nodes) value) }
-        ensures fits { OnOk result (self.old.next + length (put_events T.cmp self.old.size self.old.nodes value) ≤ u64.MAX) }
-        ensures refusal { IfErr result (λ e. e.cause ≡ refusal_for self.old.next (length (put_events T.cmp self.old.size self.old.nodes value))) }
+        ensures answer { IfOk result (λ old. old ≡ equal_element T.cmp
+            (joined self.old.nodes) value) }
+        ensures fits { OnOk result (self.old.next + length
+            (put_events T.cmp self.old.size self.old.nodes value) ≤ u64.MAX) }
+        ensures refusal { IfErr result (λ e. e.cause ≡ refusal_for self.old.next
+            (length (put_events T.cmp self.old.size self.old.nodes value))) }
         ensures given_back { IfErr result (λ e. e.value ≡ value) }
         ensures unchanged { OnErr result (self.new ≡ self.old) }
     {
@@ -225,7 +203,8 @@ impl<T: Ord + Clone + Drop, Node: NodeLike<T>> BTreeSet<T, Node> {
     fn next_after(&self, aim: &Option<Aim>) -> Result<u64, Refusal>
         ensures next { IfOk result (λ next. next ≡ self.now.next + count_for aim.now) }
         ensures fits { OnOk result (self.now.next + count_for aim.now ≤ u64.MAX) }
-        ensures memory { OnOk result (refusal_for self.now.next (count_for aim.now) ≡ Refusal.Memory) }
+        ensures memory { OnOk result (refusal_for self.now.next (count_for aim.now)
+            ≡ Refusal.Memory) }
         ensures refusal { IfErr result (λ e. e ≡ refusal_for self.now.next (count_for aim.now)) }
     {
         let count = event_count(aim);
@@ -239,7 +218,8 @@ impl<T: Ord + Clone + Drop, Node: NodeLike<T>> BTreeSet<T, Node> {
     fn put_log(&self, aim: &Option<Aim>, value: &T) -> Result<Vec<ChangeEvent<T>>, Refusal>
         requires aim { IsAimed T.cmp self.now.size self.now.nodes value.now aim.now }
         requires fits { self.now.next + count_for aim.now ≤ u64.MAX }
-        ensures told { IfOk result (λ events. IsTold T.is_clone self.now.next (put_events T.cmp self.now.size self.now.nodes value.now) events.items) }
+        ensures told { IfOk result (λ events. IsTold T.is_clone self.now.next
+            (put_events T.cmp self.now.size self.now.nodes value.now) events.items) }
         ensures refusal { IfErr result (λ e. e ≡ Refusal.Memory) }
     {
         match aim {
@@ -254,7 +234,8 @@ impl<T: Ord + Clone + Drop, Node: NodeLike<T>> BTreeSet<T, Node> {
         requires aim { IsAimed T.cmp self.old.size self.old.nodes value aim }
         requires next { next ≡ self.old.next + count_for aim }
         ensures tree { OnOk result (self.new ≡ after_put T.cmp self.old value) }
-        ensures answer { IfOk result (λ old. old ≡ equal_element T.cmp (joined self.old.nodes) value) }
+        ensures answer { IfOk result (λ old. old ≡ equal_element T.cmp
+            (joined self.old.nodes) value) }
         ensures refusal { IfErr result (λ e. e.cause ≡ Refusal.Memory) }
         ensures given_back { IfErr result (λ e. e.value ≡ value) }
         ensures unchanged { OnErr result (self.new ≡ self.old) }
@@ -286,7 +267,8 @@ impl<T: Ord + Clone + Drop, Node: NodeLike<T>> BTreeSet<T, Node> {
     fn target_log(&self, aim: &Aim, value: &T) -> Result<Vec<ChangeEvent<T>>, Refusal>
         requires aim { IsAim T.cmp self.now.size self.now.nodes value.now aim.now }
         requires fits { self.now.next + count_for (Some aim.now) ≤ u64.MAX }
-        ensures told { IfOk result (λ events. IsTold T.is_clone self.now.next (put_events T.cmp self.now.size self.now.nodes value.now) events.items) }
+        ensures told { IfOk result (λ events. IsTold T.is_clone self.now.next
+            (put_events T.cmp self.now.size self.now.nodes value.now) events.items) }
         ensures refusal { IfErr result (λ e. e ≡ Refusal.Memory) }
     {
         let mut log = Log::new(*self.nodes.allocator(), self.next);
@@ -306,7 +288,8 @@ impl<T: Ord + Clone + Drop, Node: NodeLike<T>> BTreeSet<T, Node> {
         requires aim { IsAim T.cmp self.old.size self.old.nodes value aim }
         requires next { next ≡ self.old.next + count_for (Some aim) }
         ensures tree { OnOk result (self.new ≡ after_put T.cmp self.old value) }
-        ensures answer { IfOk result (λ old. old ≡ equal_element T.cmp (joined self.old.nodes) value) }
+        ensures answer { IfOk result (λ old. old ≡ equal_element T.cmp
+            (joined self.old.nodes) value) }
         ensures refusal { IfErr result (λ e. e.cause ≡ Refusal.Memory) }
         ensures given_back { IfErr result (λ e. e.value ≡ value) }
         ensures unchanged { OnErr result (self.new ≡ self.old) }
@@ -333,7 +316,8 @@ impl<T: Ord + Clone + Drop, Node: NodeLike<T>> BTreeSet<T, Node> {
         requires none { self.old.nodes ≡ [] }
         requires next { next ≡ self.old.next + 1 }
         ensures tree { OnOk result (self.new ≡ after_put T.cmp self.old value) }
-        ensures answer { IfOk result (λ old. old ≡ equal_element T.cmp (joined self.old.nodes) value) }
+        ensures answer { IfOk result (λ old. old ≡ equal_element T.cmp
+            (joined self.old.nodes) value) }
         ensures refusal { IfErr result (λ e. e.cause ≡ Refusal.Memory) }
         ensures given_back { IfErr result (λ e. e.value ≡ value) }
         ensures unchanged { OnErr result (self.new ≡ self.old) }
@@ -355,7 +339,8 @@ impl<T: Ord + Clone + Drop, Node: NodeLike<T>> BTreeSet<T, Node> {
     fn first_log(&self, value: &T) -> Result<Vec<ChangeEvent<T>>, Refusal>
         requires none { self.now.nodes ≡ [] }
         requires fits { self.now.next + 1 ≤ u64.MAX }
-        ensures told { IfOk result (λ events. IsTold T.is_clone self.now.next (put_events T.cmp self.now.size self.now.nodes value.now) events.items) }
+        ensures told { IfOk result (λ events. IsTold T.is_clone self.now.next
+            (put_events T.cmp self.now.size self.now.nodes value.now) events.items) }
         ensures refusal { IfErr result (λ e. e ≡ Refusal.Memory) }
     {
         let mut log = Log::new(*self.nodes.allocator(), self.next);

@@ -38,8 +38,10 @@ impl<'a, T: Ord + Clone + Drop, Node: NodeLike<T>> Model for Range<'a, T, Node> 
 impl<'a, T: Ord + Clone + Drop, Node: NodeLike<T>> Range<'a, T, Node> {
     /// Returns the items of a set that satisfy both bounds, as the set's `range` has them.
     pub fn new(set: &'a BTreeSet<T, Node>, range: (Bound<&T>, Bound<&T>)) -> Self
-        requires { IsTrue (are_ordered T.cmp (bound_map (λ v. v.now) range.0) (bound_map (λ v. v.now) range.1)) }
-        ensures rest { result ≡ in_range T.cmp (joined set.now.nodes) (bound_map (λ v. v.now) range.entry.0) (bound_map (λ v. v.now) range.entry.1) }
+        requires { IsTrue (are_ordered T.cmp (bound_map (λ v. v.now) range.0)
+            (bound_map (λ v. v.now) range.1)) }
+        ensures rest { result ≡ in_range T.cmp (joined set.now.nodes)
+            (bound_map (λ v. v.now) range.entry.0) (bound_map (λ v. v.now) range.entry.1) }
         ensures runs { ShowsInOrder (deref {X = T}) }
         ensures runs_back { ShowsInReverse (deref {X = T}) }
     {
@@ -96,8 +98,10 @@ impl<T: Ord + Clone + Drop, Node: NodeLike<T>> BTreeSet<T, Node> {
     /// assert!(rt; upper.copied().eq([10, 15]));
     /// ```
     pub fn range(&self, range: (Bound<&T>, Bound<&T>)) -> Range<'_, T, Node>
-        requires { IsTrue (are_ordered T.cmp (bound_map (λ v. v.now) range.0) (bound_map (λ v. v.now) range.1)) }
-        ensures rest { result ≡ in_range T.cmp (joined self.now.nodes) (bound_map (λ v. v.now) range.entry.0) (bound_map (λ v. v.now) range.entry.1) }
+        requires { IsTrue (are_ordered T.cmp (bound_map (λ v. v.now) range.0)
+            (bound_map (λ v. v.now) range.1)) }
+        ensures rest { result ≡ in_range T.cmp (joined self.now.nodes)
+            (bound_map (λ v. v.now) range.entry.0) (bound_map (λ v. v.now) range.entry.1) }
         ensures runs { ShowsInOrder (deref {X = T}) }
         ensures runs_back { ShowsInReverse (deref {X = T}) }
     {
@@ -116,7 +120,8 @@ impl<T: Ord + Clone + Drop, Node: NodeLike<T>> BTreeSet<T, Node> {
         requires from { IsPlace self.now.nodes from }
         requires to { IsPlace self.now.nodes to }
         requires order { items_before self.now.nodes from ≤ items_before self.now.nodes to }
-        ensures rest { result ≡ between (items_before self.now.nodes from) (items_before self.now.nodes to) (joined self.now.nodes) }
+        ensures rest { result ≡ between (items_before self.now.nodes from)
+            (items_before self.now.nodes to) (joined self.now.nodes) }
         ensures runs { ShowsInOrder (deref {X = T}) }
         ensures runs_back { ShowsInReverse (deref {X = T}) }
     {
@@ -132,7 +137,8 @@ impl<T: Ord + Clone + Drop, Node: NodeLike<T>> BTreeSet<T, Node> {
     pub fn place_from<P: Probe<T> + Drop>(&self, start: Bound<P>) -> (usize, usize)
         requires { IfBounded (λ p. IsParted (P.answer p) (joined self.now.nodes)) start }
         ensures place { IsPlace self.now.nodes result }
-        ensures before { items_before self.now.nodes result ≡ count_by (is_before (λ x p. P.answer p x) start) (joined self.now.nodes) }
+        ensures before { items_before self.now.nodes result
+            ≡ count_by (is_before (λ x p. P.answer p x) start) (joined self.now.nodes) }
     {
         match start {
             Bound::Included(mut probe) => self.place_by(&mut probe),
@@ -146,7 +152,8 @@ impl<T: Ord + Clone + Drop, Node: NodeLike<T>> BTreeSet<T, Node> {
     pub fn place_to<P: Probe<T> + Drop>(&self, end: Bound<P>) -> (usize, usize)
         requires { IfBounded (λ p. IsParted (P.answer p) (joined self.now.nodes)) end }
         ensures place { IsPlace self.now.nodes result }
-        ensures before { items_before self.now.nodes result ≡ count_by (is_up_to_end (λ x p. P.answer p x) end) (joined self.now.nodes) }
+        ensures before { items_before self.now.nodes result
+            ≡ count_by (is_up_to_end (λ x p. P.answer p x) end) (joined self.now.nodes) }
     {
         match end {
             Bound::Included(probe) => self.place_by(&mut Past::new(probe)),
@@ -163,10 +170,14 @@ impl<T: Ord + Clone + Drop, Node: NodeLike<T>> BTreeSet<T, Node> {
         requires { IsParted (P.answer probe.old) (joined self.now.nodes) }
         ensures from { IsPlace self.now.nodes result.0 }
         ensures to { IsPlace self.now.nodes result.1 }
-        ensures before { items_before self.now.nodes result.0 ≡ less_count (P.answer probe.old) (joined self.now.nodes) }
-        ensures past { items_before self.now.nodes result.1 ≡ not_greater_count (P.answer probe.old) (joined self.now.nodes) }
+        ensures before { items_before self.now.nodes result.0
+            ≡ less_count (P.answer probe.old) (joined self.now.nodes) }
+        ensures past { items_before self.now.nodes result.1
+            ≡ not_greater_count (P.answer probe.old) (joined self.now.nodes) }
         ensures fixed { P.answer probe.new ≡ P.answer probe.old }
-        ensures few { P.asked probe.new ≤ P.asked probe.old + (digits (length self.now.nodes) + digits self.now.size + 1 + 8 * digits (items_before self.now.nodes result.1 - items_before self.now.nodes result.0 - 1)) }
+        ensures few { P.asked probe.new ≤ P.asked probe.old +
+            (digits (length self.now.nodes) + digits self.now.size + 1 + 8 * digits
+            (items_before self.now.nodes result.1 - items_before self.now.nodes result.0 - 1)) }
     {
         if self.nodes.is_empty() {
             return ((0, 0), (0, 0));
@@ -186,11 +197,15 @@ impl<T: Ord + Clone + Drop, Node: NodeLike<T>> BTreeSet<T, Node> {
         requires parted { IsParted (P.answer probe.old) (joined self.now.nodes) }
         requires node { node < length self.now.nodes }
         requires offset { offset < length (node_at self.now.nodes node) }
-        requires started { items_before self.now.nodes (node, offset) < not_greater_count (P.answer probe.old) (joined self.now.nodes) }
+        requires started { items_before self.now.nodes (node, offset)
+            < not_greater_count (P.answer probe.old) (joined self.now.nodes) }
         ensures place { IsPlace self.now.nodes result }
-        ensures before { items_before self.now.nodes result ≡ not_greater_count (P.answer probe.old) (joined self.now.nodes) }
+        ensures before { items_before self.now.nodes result
+            ≡ not_greater_count (P.answer probe.old) (joined self.now.nodes) }
         ensures fixed { P.answer probe.new ≡ P.answer probe.old }
-        ensures few { P.asked probe.new ≤ P.asked probe.old + (1 + 8 * digits (items_before self.now.nodes result - items_before self.now.nodes (node, offset) - 1)) }
+        ensures few { P.asked probe.new ≤ P.asked probe.old +
+            (1 + 8 * digits (items_before self.now.nodes result - items_before self.now.nodes
+            (node, offset) - 1)) }
     {
         let items = self.nodes[node].iter().as_slice();
         let end = run_end(items, offset + 1, probe);
@@ -208,10 +223,12 @@ impl<T: Ord + Clone + Drop, Node: NodeLike<T>> BTreeSet<T, Node> {
     /// nodes between: it makes no comparison. There must be such an item. (Not in the Rust crate.)
     pub fn place_ahead(&self, place: (usize, usize), count: usize) -> (usize, usize)
         requires place { IsPlace self.now.nodes place }
-        requires within { items_before self.now.nodes place + count < length (joined self.now.nodes) }
+        requires within { items_before self.now.nodes place + count
+            < length (joined self.now.nodes) }
         ensures node { result.0 < length self.now.nodes }
         ensures offset { result.1 < length (node_at self.now.nodes result.0) }
-        ensures before { items_before self.now.nodes result ≡ items_before self.now.nodes place + count }
+        ensures before { items_before self.now.nodes result
+            ≡ items_before self.now.nodes place + count }
     {
         let (mut node, mut offset) = place;
         let mut left = count;
@@ -227,7 +244,8 @@ impl<T: Ord + Clone + Drop, Node: NodeLike<T>> BTreeSet<T, Node> {
     fn place_by<P: Probe<T>>(&self, probe: &mut P) -> (usize, usize)
         requires { IsParted (P.answer probe.old) (joined self.now.nodes) }
         ensures place { IsPlace self.now.nodes result }
-        ensures before { items_before self.now.nodes result ≡ less_count (P.answer probe.old) (joined self.now.nodes) }
+        ensures before { items_before self.now.nodes result
+            ≡ less_count (P.answer probe.old) (joined self.now.nodes) }
     {
         // The nodes are lawful, so the search ends at a place.
         let _nodes = &self.nodes;

@@ -25,7 +25,10 @@ impl<T: Ord + Clone + Drop, Node: NodeLike<T>> BTreeSet<T, Node> {
         requires offset { offset < length (node_at self.now.nodes node) }
         requires join { join ≡ join_after self.now.size self.now.nodes node offset }
         requires numbers { self.now.next + count_with join ≤ u64.MAX }
-        ensures told { IfOk result (λ events. IfSome (slice_get (node_at self.now.nodes node) offset) (λ x. IsTold T.is_clone self.now.next (taking_events self.now.size self.now.nodes node offset x) events.items)) }
+        ensures told { IfOk result (λ events. IfSome (slice_get
+            (node_at self.now.nodes node) offset) (λ x.
+            IsTold T.is_clone self.now.next
+            (taking_events self.now.size self.now.nodes node offset x) events.items)) }
         ensures refusal { IfErr result (λ e. e ≡ Refusal.Memory) }
     {
         let mut log = Log::new(*self.nodes.allocator(), self.next);
@@ -43,7 +46,10 @@ impl<T: Ord + Clone + Drop, Node: NodeLike<T>> BTreeSet<T, Node> {
     fn taking_event(&self, node: usize, offset: usize) -> Result<ChangeEventUnassigned<T>, Refusal>
         requires node { node < length self.now.nodes }
         requires offset { offset < length (node_at self.now.nodes node) }
-        ensures clones { (s : ℕ) → IfOk result (λ event. IfSome (slice_get (node_at self.now.nodes node) offset) (λ x. IsEventClone T.is_clone (assigned s (taking_event (node_at self.now.nodes node) offset x)) (assigned s event))) }
+        ensures clones { (s : ℕ) → IfOk result (λ event.
+            IfSome (slice_get (node_at self.now.nodes node) offset)
+            (λ x. IsEventClone T.is_clone (assigned s (taking_event
+            (node_at self.now.nodes node) offset x)) (assigned s event))) }
         ensures refusal { IfErr result (λ e. e ≡ Refusal.Memory) }
     {
         let items = self.nodes[node].iter().as_slice();
@@ -69,7 +75,9 @@ impl<T: Ord + Clone + Drop, Node: NodeLike<T>> BTreeSet<T, Node> {
         requires node { node < length self.now.nodes }
         requires offset { offset < length (node_at self.now.nodes node) }
         requires join { join_after self.now.size self.now.nodes node offset ≡ Some left }
-        ensures clones { (s : ℕ) (d : T) → IfOk result (λ event. IsEventClone T.is_clone (assigned s (joining_event (item_removed self.now.nodes node offset) d left)) (assigned s event)) }
+        ensures clones { (s : ℕ) (d : T) → IfOk result (λ event.
+            IsEventClone T.is_clone (assigned s (joining_event
+            (item_removed self.now.nodes node offset) d left)) (assigned s event)) }
         ensures refusal { IfErr result (λ e. e ≡ Refusal.Memory) }
     {
         // A usize counts the nodes.
@@ -86,7 +94,8 @@ impl<T: Ord + Clone + Drop, Node: NodeLike<T>> BTreeSet<T, Node> {
         requires node { node < length self.now.nodes }
         requires offset { offset < length (node_at self.now.nodes node) }
         requires two { 2 ≤ length (node_at self.now.nodes node) }
-        ensures { (d : T) → last_of (node_at (item_removed self.now.nodes node offset) place) d ≡ result.now }
+        ensures { (d : T) → last_of (node_at (item_removed self.now.nodes node offset) place) d
+            ≡ result.now }
     {
         let items = self.nodes[place].iter().as_slice();
         if place == node {

@@ -1,12 +1,12 @@
 //! Calls that remove items.
 ghost use Rattle.std.specs.Prelude.{◌≡◌, ℕ, ◌+◌, ◌/◌, ◌<◌, ◌≤◌, [], length, set, remove, slice_get, Some, None, false, IfOk, OnOk, IfErr, OnErr, IsOk, IfSome};
 ghost use Rattle.indexset_core.specs.Nodes.{joined, node_at};
-ghost use Rattle.indexset_core.specs.Order.{equal_element, has_equal, without};
+ghost use Rattle.indexset_core.specs.Order.{equal_element, has_equal};
+ghost use Rattle.indexset_log.specs.Changed.{Changed, Fits, ItemsTold, refusal_of, removal_change, taken_change};
 ghost use Rattle.indexset_log.specs.Clones.{IsTold};
-ghost use Rattle.indexset_log.specs.Edits.{after_removal, after_taken, with_taken};
-ghost use Rattle.indexset_log.specs.Joining.{are_small, IsSpaced, join_after, with_joined, item_removed};
-ghost use Rattle.indexset_log.specs.Replay.{replay, numbered_from, IsNumberedFrom};
-ghost use Rattle.indexset_log.specs.Table.{count_with, taking_count, taking_events, removal_events};
+ghost use Rattle.indexset_log.specs.Edits.{after_taken};
+ghost use Rattle.indexset_log.specs.Joining.{are_small, join_after};
+ghost use Rattle.indexset_log.specs.Table.{count_with, taking_count};
 ghost use Rattle.indexset_log.specs.Taking.{after_taking, events_from, item_from};
 ghost use Rattle.indexset_log.specs.Tree.{refusal_for};
 
@@ -28,24 +28,17 @@ impl<T: Ord + Clone + Drop, Node: NodeLike<T>> BTreeSet<T, Node> {
     /// assert!(rt; removed == Some(5) && events.len() == 1);
     /// ```
     pub fn remove_cdc(&mut self, value: &T) -> Result<(Option<T>, Vec<ChangeEvent<T>>), Refusal>
-        ensures tree { OnOk result (self.new ≡ after_removal T.cmp self.old value.now) }
-        ensures answer { IfOk result (λ r. r.0 ≡ equal_element T.cmp (joined self.old.nodes) value.now) }
-        ensures clones { IfOk result (λ r. IsTold T.is_clone self.old.next (removal_events T.cmp self.old.size self.old.nodes value.now) r.1.items) }
-        ensures refusal { IfErr result (λ e. e ≡ refusal_for self.old.next (length (removal_events T.cmp self.old.size self.old.nodes value.now))) }
-        ensures no_event { removal_events T.cmp self.old.size self.old.nodes value.now ≡ [] → IsOk result }
+        ensures answer { IfOk result (λ r. r.0 ≡ equal_element T.cmp
+            (joined self.old.nodes) value.now) }
+        ensures refusal { IfErr result (λ e. e ≡ refusal_of self.old
+            (removal_change T.cmp self.old value.now)) }
+        ensures no_event { (removal_change T.cmp self.old value.now).events ≡ [] → IsOk result }
         ensures unchanged { OnErr result (self.new ≡ self.old) }
-        // What callers prove by.
-        ensures contents { OnOk result (joined self.new.nodes ≡ without T.cmp (joined self.old.nodes) value.now) }
         ensures gone { OnOk result (has_equal T.cmp (joined self.new.nodes) value.now ≡ false) }
-        ensures events { ((x y : T) → T.is_clone x y → y ≡ x) → IfOk result (λ r. r.1.items ≡ numbered_from self.old.next (removal_events T.cmp self.old.size self.old.nodes value.now)) }
-        ensures numbered { IfOk result (λ r. IsNumberedFrom self.old.next r.1.items) }
-        ensures replay { ((x y : T) → T.is_clone x y → y ≡ x) → IfOk result (λ r. replay T.cmp self.old.nodes r.1.items ≡ Some self.new.nodes) }
-        ensures table { OnOk result (replay T.cmp self.old.nodes (numbered_from self.old.next (removal_events T.cmp self.old.size self.old.nodes value.now)) ≡ Some self.new.nodes) }
-        ensures few { IfOk result (λ r. length r.1.items ≤ 3) }
-        ensures size { self.new.size ≡ self.old.size }
-        ensures spaced { IsSpaced (self.old.size / 2) self.old.nodes → IsSpaced (self.new.size / 2) self.new.nodes }
-        ensures next { OnOk result (self.new.next ≡ self.old.next + length (removal_events T.cmp self.old.size self.old.nodes value.now)) }
-        ensures fits { OnOk result (self.old.next + length (removal_events T.cmp self.old.size self.old.nodes value.now) ≤ u64.MAX) }
+        ensures changed { OnOk result (Changed T.cmp self.old self.new
+            (removal_change T.cmp self.old value.now)) }
+        ensures told { IfOk result (λ r. ItemsTold T.cmp T.is_clone self.old self.new
+            (removal_change T.cmp self.old value.now) r.1.items) }
     {
         // The nodes are lawful.
         let _nodes = &self.nodes;
@@ -62,22 +55,15 @@ impl<T: Ord + Clone + Drop, Node: NodeLike<T>> BTreeSet<T, Node> {
     ) -> Result<(T, Vec<ChangeEvent<T>>), Refusal>
         requires node { node < length self.old.nodes }
         requires offset { offset < length (node_at self.old.nodes node) }
-        ensures tree { OnOk result (self.new ≡ after_taken self.old node offset) }
-        ensures item { IfOk result (λ r. slice_get (node_at self.old.nodes node) offset ≡ Some r.0) }
-        ensures clones { IfOk result (λ r. IsTold T.is_clone self.old.next (taking_events self.old.size self.old.nodes node offset r.0) r.1.items) }
-        ensures refusal { IfErr result (λ e. e ≡ refusal_for self.old.next (taking_count self.old.size self.old.nodes node offset)) }
+        ensures item { IfOk result (λ r. slice_get (node_at self.old.nodes node) offset
+            ≡ Some r.0) }
+        ensures refusal { IfErr result (λ e. e ≡ refusal_for self.old.next
+            (taking_count self.old.size self.old.nodes node offset)) }
         ensures unchanged { OnErr result (self.new ≡ self.old) }
-        // What callers prove by.
-        ensures nodes { OnOk result (self.new.nodes ≡ with_taken self.old.size self.old.nodes node offset) }
-        ensures events { ((x y : T) → T.is_clone x y → y ≡ x) → IfOk result (λ r. r.1.items ≡ numbered_from self.old.next (taking_events self.old.size self.old.nodes node offset r.0)) }
-        ensures numbered { IfOk result (λ r. IsNumberedFrom self.old.next r.1.items) }
-        ensures replay { ((x y : T) → T.is_clone x y → y ≡ x) → IfOk result (λ r. replay T.cmp self.old.nodes r.1.items ≡ Some self.new.nodes) }
-        ensures table { IfOk result (λ r. replay T.cmp self.old.nodes (numbered_from self.old.next (taking_events self.old.size self.old.nodes node offset r.0)) ≡ Some self.new.nodes) }
-        ensures few { IfOk result (λ r. length r.1.items ≤ 3) }
-        ensures size { self.new.size ≡ self.old.size }
-        ensures spaced { IsSpaced (self.old.size / 2) self.old.nodes → IsSpaced (self.new.size / 2) self.new.nodes }
-        ensures next { OnOk result (self.new.next ≡ self.old.next + taking_count self.old.size self.old.nodes node offset) }
-        ensures fits { OnOk result (self.old.next + taking_count self.old.size self.old.nodes node offset ≤ u64.MAX) }
+        ensures changed { IfOk result (λ r. Changed T.cmp self.old self.new
+            (taken_change self.old node offset r.0)) }
+        ensures told { IfOk result (λ r. ItemsTold T.cmp T.is_clone self.old self.new
+            (taken_change self.old node offset r.0) r.1.items) }
     {
         // The nodes are lawful.
         let _nodes = &self.nodes;
@@ -92,22 +78,19 @@ impl<T: Ord + Clone + Drop, Node: NodeLike<T>> BTreeSet<T, Node> {
     /// fails with `Numbers` where they do not fit. It allocates only where it merges two nodes of a type
     /// that allocates, and else does not fail with `Memory`. A failed call changes nothing.
     pub fn remove(&mut self, value: &T) -> Result<Option<T>, Refusal>
-        ensures tree { OnOk result (self.new ≡ after_removal T.cmp self.old value.now) }
-        ensures answer { IfOk result (λ item. item ≡ equal_element T.cmp (joined self.old.nodes) value.now) }
-        ensures refusal { IfErr result (λ e. e ≡ refusal_for self.old.next (length (removal_events T.cmp self.old.size self.old.nodes value.now))) }
-        ensures no_event { removal_events T.cmp self.old.size self.old.nodes value.now ≡ [] → IsOk result }
-        ensures no_memory { length (removal_events T.cmp self.old.size self.old.nodes value.now) ≤ 1 → self.old.next + length (removal_events T.cmp self.old.size self.old.nodes value.now) ≤ u64.MAX → IsOk result }
-        ensures never { Node.allocates ≡ false → self.old.next + length (removal_events T.cmp self.old.size self.old.nodes value.now) ≤ u64.MAX → IsOk result }
+        ensures answer { IfOk result (λ item.
+            item ≡ equal_element T.cmp (joined self.old.nodes) value.now) }
+        ensures refusal { IfErr result (λ e. e ≡ refusal_of self.old
+            (removal_change T.cmp self.old value.now)) }
+        ensures no_event { (removal_change T.cmp self.old value.now).events ≡ [] → IsOk result }
+        ensures no_memory { length (removal_change T.cmp self.old value.now).events ≤ 1
+            → Fits self.old (removal_change T.cmp self.old value.now) → IsOk result }
+        ensures never { Node.allocates ≡ false
+            → Fits self.old (removal_change T.cmp self.old value.now) → IsOk result }
         ensures unchanged { OnErr result (self.new ≡ self.old) }
-        // What callers prove by.
-        ensures contents { OnOk result (joined self.new.nodes ≡ without T.cmp (joined self.old.nodes) value.now) }
         ensures gone { OnOk result (has_equal T.cmp (joined self.new.nodes) value.now ≡ false) }
-        ensures table { OnOk result (replay T.cmp self.old.nodes (numbered_from self.old.next (removal_events T.cmp self.old.size self.old.nodes value.now)) ≡ Some self.new.nodes) }
-        ensures few { length (removal_events T.cmp self.old.size self.old.nodes value.now) ≤ 3 }
-        ensures size { self.new.size ≡ self.old.size }
-        ensures spaced { IsSpaced (self.old.size / 2) self.old.nodes → IsSpaced (self.new.size / 2) self.new.nodes }
-        ensures next { OnOk result (self.new.next ≡ self.old.next + length (removal_events T.cmp self.old.size self.old.nodes value.now)) }
-        ensures fits { OnOk result (self.old.next + length (removal_events T.cmp self.old.size self.old.nodes value.now) ≤ u64.MAX) }
+        ensures changed { OnOk result (Changed T.cmp self.old self.new
+            (removal_change T.cmp self.old value.now)) }
     {
         // The nodes are lawful.
         let _nodes = &self.nodes;
@@ -121,20 +104,18 @@ impl<T: Ord + Clone + Drop, Node: NodeLike<T>> BTreeSet<T, Node> {
     pub fn remove_at(&mut self, node: usize, offset: usize) -> Result<T, Refusal>
         requires node { node < length self.old.nodes }
         requires offset { offset < length (node_at self.old.nodes node) }
-        ensures tree { OnOk result (self.new ≡ after_taken self.old node offset) }
-        ensures item { IfOk result (λ item. slice_get (node_at self.old.nodes node) offset ≡ Some item) }
-        ensures refusal { IfErr result (λ e. e ≡ refusal_for self.old.next (taking_count self.old.size self.old.nodes node offset)) }
-        ensures no_memory { taking_count self.old.size self.old.nodes node offset ≡ 1 → self.old.next + 1 ≤ u64.MAX → IsOk result }
-        ensures never { Node.allocates ≡ false → self.old.next + taking_count self.old.size self.old.nodes node offset ≤ u64.MAX → IsOk result }
+        ensures item { IfOk result (λ item. slice_get (node_at self.old.nodes node) offset
+            ≡ Some item) }
+        ensures refusal { IfErr result (λ e. e ≡ refusal_for self.old.next
+            (taking_count self.old.size self.old.nodes node offset)) }
+        ensures no_memory { taking_count self.old.size self.old.nodes node offset ≡ 1
+            → self.old.next + 1 ≤ u64.MAX → IsOk result }
+        ensures never { Node.allocates ≡ false
+            → self.old.next + taking_count self.old.size self.old.nodes node offset ≤ u64.MAX
+            → IsOk result }
         ensures unchanged { OnErr result (self.new ≡ self.old) }
-        // What callers prove by.
-        ensures nodes { OnOk result (self.new.nodes ≡ with_taken self.old.size self.old.nodes node offset) }
-        ensures table { IfOk result (λ item. replay T.cmp self.old.nodes (numbered_from self.old.next (taking_events self.old.size self.old.nodes node offset item)) ≡ Some self.new.nodes) }
-        ensures few { taking_count self.old.size self.old.nodes node offset ≤ 3 }
-        ensures size { self.new.size ≡ self.old.size }
-        ensures spaced { IsSpaced (self.old.size / 2) self.old.nodes → IsSpaced (self.new.size / 2) self.new.nodes }
-        ensures next { OnOk result (self.new.next ≡ self.old.next + taking_count self.old.size self.old.nodes node offset) }
-        ensures fits { OnOk result (self.old.next + taking_count self.old.size self.old.nodes node offset ≤ u64.MAX) }
+        ensures changed { IfOk result (λ item. Changed T.cmp self.old self.new
+            (taken_change self.old node offset item)) }
     {
         // The nodes are lawful.
         let _nodes = &self.nodes;
@@ -164,12 +145,15 @@ impl<T: Ord + Clone + Drop, Node: NodeLike<T>> BTreeSet<T, Node> {
         &mut self,
         place: Option<(usize, usize)>,
     ) -> Result<(Option<T>, Vec<ChangeEvent<T>>), Refusal>
-        requires { IfSome place (λ p. (p.0 < length self.old.nodes) × (p.1 < length (node_at self.old.nodes p.0))) }
+        requires { IfSome place (λ p. (p.0 < length self.old.nodes)
+            × (p.1 < length (node_at self.old.nodes p.0))) }
         ensures tree { OnOk result (self.new ≡ after_taking self.old place) }
         ensures answer { IfOk result (λ r. r.0 ≡ item_from self.old.nodes place) }
-        ensures told { IfOk result (λ r. IsTold T.is_clone self.old.next (events_from self.old place) r.1.items) }
+        ensures told { IfOk result (λ r. IsTold T.is_clone self.old.next
+            (events_from self.old place) r.1.items) }
         ensures fits { OnOk result (self.old.next + length (events_from self.old place) ≤ u64.MAX) }
-        ensures refusal { IfErr result (λ e. e ≡ refusal_for self.old.next (length (events_from self.old place))) }
+        ensures refusal { IfErr result (λ e. e ≡ refusal_for self.old.next
+            (length (events_from self.old place))) }
         ensures no_event { events_from self.old place ≡ [] → IsOk result }
         ensures unchanged { OnErr result (self.new ≡ self.old) }
     {
@@ -189,14 +173,18 @@ impl<T: Ord + Clone + Drop, Node: NodeLike<T>> BTreeSet<T, Node> {
         &mut self,
         place: Option<(usize, usize)>,
     ) -> Result<Option<T>, Refusal>
-        requires { IfSome place (λ p. (p.0 < length self.old.nodes) × (p.1 < length (node_at self.old.nodes p.0))) }
+        requires { IfSome place (λ p. (p.0 < length self.old.nodes)
+            × (p.1 < length (node_at self.old.nodes p.0))) }
         ensures tree { OnOk result (self.new ≡ after_taking self.old place) }
         ensures answer { IfOk result (λ item. item ≡ item_from self.old.nodes place) }
         ensures fits { OnOk result (self.old.next + length (events_from self.old place) ≤ u64.MAX) }
-        ensures refusal { IfErr result (λ e. e ≡ refusal_for self.old.next (length (events_from self.old place))) }
+        ensures refusal { IfErr result (λ e. e ≡ refusal_for self.old.next
+            (length (events_from self.old place))) }
         ensures no_event { events_from self.old place ≡ [] → IsOk result }
-        ensures no_memory { length (events_from self.old place) ≤ 1 → self.old.next + length (events_from self.old place) ≤ u64.MAX → IsOk result }
-        ensures never { Node.allocates ≡ false → self.old.next + length (events_from self.old place) ≤ u64.MAX → IsOk result }
+        ensures no_memory { length (events_from self.old place) ≤ 1
+            → self.old.next + length (events_from self.old place) ≤ u64.MAX → IsOk result }
+        ensures never { Node.allocates ≡ false → self.old.next + length (events_from self.old place)
+            ≤ u64.MAX → IsOk result }
         ensures unchanged { OnErr result (self.new ≡ self.old) }
     {
         // The counter fits a u64, so a call without events lacks no number.
@@ -211,7 +199,8 @@ impl<T: Ord + Clone + Drop, Node: NodeLike<T>> BTreeSet<T, Node> {
     // is.
     fn join_after(&self, node: usize) -> Option<usize>
         requires { node < length self.now.nodes }
-        ensures { (i : ℕ) → i < length (node_at self.now.nodes node) → result ≡ join_after self.now.size self.now.nodes node i }
+        ensures { (i : ℕ) → i < length (node_at self.now.nodes node)
+            → result ≡ join_after self.now.size self.now.nodes node i }
     {
         if self.nodes[node].len() == 1 {
             return None;
@@ -230,7 +219,9 @@ impl<T: Ord + Clone + Drop, Node: NodeLike<T>> BTreeSet<T, Node> {
     fn are_small(&self, left: usize, node: usize) -> bool
         requires left { left < length self.now.nodes }
         requires node { node < length self.now.nodes }
-        ensures { (i : ℕ) → i < length (node_at self.now.nodes node) → result ≡ are_small (self.now.size / 2) (set self.now.nodes node (remove (node_at self.now.nodes node) i)) left }
+        ensures { (i : ℕ) → i < length (node_at self.now.nodes node)
+            → result ≡ are_small (self.now.size / 2) (set self.now.nodes node
+            (remove (node_at self.now.nodes node) i)) left }
     {
         let count = self.nodes.len();
         left + 1 < count
@@ -245,7 +236,9 @@ impl<T: Ord + Clone + Drop, Node: NodeLike<T>> BTreeSet<T, Node> {
     fn length_without(&self, place: usize, node: usize) -> usize
         requires place { place < length self.now.nodes }
         requires node { node < length self.now.nodes }
-        ensures { (i : ℕ) → i < length (node_at self.now.nodes node) → result ≡ length (node_at (set self.now.nodes node (remove (node_at self.now.nodes node) i)) place) }
+        ensures { (i : ℕ) → i < length (node_at self.now.nodes node)
+            → result ≡ length (node_at (set self.now.nodes node
+            (remove (node_at self.now.nodes node) i)) place) }
     {
         let length = self.nodes[place].len();
         if place == node { length - 1 } else { length }
@@ -254,7 +247,8 @@ impl<T: Ord + Clone + Drop, Node: NodeLike<T>> BTreeSet<T, Node> {
     // Returns whether there are numbers for the events of a removal.
     fn check_removal(&self, join: Option<usize>) -> Result<(), Refusal>
         ensures fits { OnOk result (self.now.next + count_with join ≤ u64.MAX) }
-        ensures memory { OnOk result (refusal_for self.now.next (count_with join) ≡ Refusal.Memory) }
+        ensures memory { OnOk result (refusal_for self.now.next (count_with join)
+            ≡ Refusal.Memory) }
         ensures refusal { IfErr result (λ e. e ≡ refusal_for self.now.next (count_with join)) }
         ensures short { OnErr result (u64.MAX < self.now.next + count_with join) }
     {
@@ -271,7 +265,8 @@ impl<T: Ord + Clone + Drop, Node: NodeLike<T>> BTreeSet<T, Node> {
         requires join { join ≡ join_after self.old.size self.old.nodes node offset }
         requires numbers { self.old.next + count_with join ≤ u64.MAX }
         ensures tree { OnOk result (self.new ≡ after_taken self.old node offset) }
-        ensures item { IfOk result (λ item. slice_get (node_at self.old.nodes node) offset ≡ Some item) }
+        ensures item { IfOk result (λ item. slice_get (node_at self.old.nodes node) offset
+            ≡ Some item) }
         ensures refusal { IfErr result (λ e. e ≡ Refusal.Memory) }
         ensures no_memory { join ≡ None → IsOk result }
         ensures never { Node.allocates ≡ false → IsOk result }
@@ -291,7 +286,8 @@ impl<T: Ord + Clone + Drop, Node: NodeLike<T>> BTreeSet<T, Node> {
         requires join { join_after self.old.size self.old.nodes node offset ≡ Some left }
         requires numbers { self.old.next + 2 ≤ u64.MAX }
         ensures tree { OnOk result (self.new ≡ after_taken self.old node offset) }
-        ensures item { IfOk result (λ item. slice_get (node_at self.old.nodes node) offset ≡ Some item) }
+        ensures item { IfOk result (λ item. slice_get (node_at self.old.nodes node) offset
+            ≡ Some item) }
         ensures refusal { IfErr result (λ e. e ≡ Refusal.Memory) }
         ensures never { Node.allocates ≡ false → IsOk result }
         ensures unchanged { OnErr result (self.new ≡ self.old) }

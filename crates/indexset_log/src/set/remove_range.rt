@@ -13,8 +13,11 @@ impl<T: Ord + Clone + Drop> BTreeSet<T, Vec<T>> {
     /// empty is removed. No nodes are merged, no event is emitted, no number is used up and nothing is
     /// allocated. Bounds that are the wrong way round hold nothing. (The Rust crate panics there.)
     pub fn remove_range(&mut self, range: (Bound<&T>, Bound<&T>))
-        ensures nodes { self.new.nodes ≡ without_range T.cmp self.old.nodes (bound_map (λ v. v.now) range.entry.0) (bound_map (λ v. v.now) range.entry.1) }
-        ensures contents { joined self.new.nodes ≡ outside T.cmp (bound_map (λ v. v.now) range.entry.0) (bound_map (λ v. v.now) range.entry.1) (joined self.old.nodes) }
+        ensures nodes { self.new.nodes ≡ without_range T.cmp self.old.nodes
+            (bound_map (λ v. v.now) range.entry.0) (bound_map (λ v. v.now) range.entry.1) }
+        ensures contents { joined self.new.nodes ≡ outside T.cmp
+            (bound_map (λ v. v.now) range.entry.0) (bound_map (λ v. v.now) range.entry.1)
+            (joined self.old.nodes) }
         ensures size { self.new.size ≡ self.old.size }
         ensures next { self.new.next ≡ self.old.next }
     {
@@ -26,7 +29,9 @@ impl<T: Ord + Clone + Drop> BTreeSet<T, Vec<T>> {
 // Removes the items that satisfy both bounds from each node, and returns how many remain.
 fn remove_within<T: Ord + Drop>(nodes: &mut [Vec<T>], range: (Bound<&T>, Bound<&T>)) -> usize
     requires { length (joined (map (λ v. v.items) nodes.old)) < 2 ^ 64 }
-    ensures nodes { map (λ v. v.items) nodes.new ≡ map (outside T.cmp (bound_map (λ v. v.now) range.entry.0) (bound_map (λ v. v.now) range.entry.1)) (map (λ v. v.items) nodes.old) }
+    ensures nodes { map (λ v. v.items) nodes.new ≡ map (outside T.cmp
+        (bound_map (λ v. v.now) range.entry.0) (bound_map (λ v. v.now) range.entry.1))
+        (map (λ v. v.items) nodes.old) }
     ensures count { result ≡ length (joined (map (λ v. v.items) nodes.new)) }
 {
     let mut left = 0;
@@ -39,7 +44,8 @@ fn remove_within<T: Ord + Drop>(nodes: &mut [Vec<T>], range: (Bound<&T>, Bound<&
 
 // Returns whether an item satisfies both bounds.
 fn is_within<T: Ord>(item: &T, range: (Bound<&T>, Bound<&T>)) -> bool
-    ensures { result ≡ is_within T.cmp (bound_map (λ v. v.now) range.entry.0) (bound_map (λ v. v.now) range.entry.1) item.now }
+    ensures { result ≡ is_within T.cmp (bound_map (λ v. v.now) range.entry.0)
+        (bound_map (λ v. v.now) range.entry.1) item.now }
 {
     let is_from_start = match range.0 {
         Bound::Included(start) => item.cmp(start).is_ge(),

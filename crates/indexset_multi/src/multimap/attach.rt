@@ -23,15 +23,19 @@ impl<K: Ord + Clone + Drop, V: Eq + Clone + Drop, Node: NodeLike<MultiPair<K, V>
     /// number is refused with `PairNumber`, before all that `attach_node` of the set refuses. A
     /// failed call hands the node back and changes nothing.
     pub fn attach_multi_node(&mut self, node: Node) -> Result<(), Refused<Node>>
-        ensures nodes { OnOk result (self.new.nodes ≡ attached (by_number K.cmp) self.old.nodes (Node.list node)) }
+        ensures nodes { OnOk result (self.new.nodes ≡ attached (by_number K.cmp) self.old.nodes
+            (Node.list node)) }
         ensures ascending { OnOk result (IsAscending (by_number K.cmp) (joined self.new.nodes)) }
-        ensures count { OnOk result (length (joined self.new.nodes) ≡ length (joined self.old.nodes) + length (Node.list node)) }
+        ensures count { OnOk result (length (joined self.new.nodes)
+            ≡ length (joined self.old.nodes) + length (Node.list node)) }
         ensures good { IsOk result → pairs_refusal K.cmp self.old (Node.list node) ≡ None }
-        ensures refusal { IfErr result (λ e. e.cause ≡ unwrap_or (pairs_refusal K.cmp self.old (Node.list node)) Refusal.Memory) }
+        ensures refusal { IfErr result (λ e. e.cause ≡ unwrap_or
+            (pairs_refusal K.cmp self.old (Node.list node)) Refusal.Memory) }
         ensures given_back { IfErr result (λ e. e.value ≡ node) }
         ensures size { self.new.size ≡ self.old.size }
         ensures next { self.new.next ≡ self.old.next }
-        ensures pair_next { OnOk result (self.new.pair_next ≡ max self.old.pair_next (free_number (Node.list node))) }
+        ensures pair_next { OnOk result (self.new.pair_next
+            ≡ max self.old.pair_next (free_number (Node.list node))) }
         ensures unchanged { OnErr result (self.new ≡ self.old) }
     {
         let Some(free) = free_number(node.iter().as_slice()) else {
@@ -48,7 +52,8 @@ impl<K: Ord + Clone + Drop, V: Eq + Clone + Drop, Node: NodeLike<MultiPair<K, V>
 
 // Returns the least number above those of all pairs, if there is one.
 pub(super) fn free_number<K, V>(pairs: &[MultiPair<K, V>]) -> Option<u64>
-    ensures { MatchOption result (has_greatest pairs.now ≡ true) (λ free. (has_greatest pairs.now ≡ false) × (free ≡ free_number pairs.now)) }
+    ensures { MatchOption result (has_greatest pairs.now ≡ true)
+        (λ free. (has_greatest pairs.now ≡ false) × (free ≡ free_number pairs.now)) }
 {
     let mut free: u64 = 0;
     for pair in pairs {

@@ -1,17 +1,11 @@
 //! The first and the last pair, and calls that remove them.
-ghost use Rattle.std.specs.Prelude.{◌≡◌, ◌↔◌, ◌+◌, ◌-◌, ◌/◌, ◌<◌, ◌≤◌, [], length, drop, slice_get, take, Some, false, IfOk, OnOk, IfErr, OnErr, IsOk, IfSome, IsSome};
-ghost use Rattle.std.specs.List.{AllZip};
+ghost use Rattle.std.specs.Prelude.{◌≡◌, ◌↔◌, ◌-◌, ◌<◌, ◌≤◌, [], length, slice_get, false, IfOk, OnOk, IfErr, OnErr, IsOk, IfSome, IsSome};
 ghost use Rattle.std.specs.Option.{option_map};
-ghost use Rattle.indexset_core.specs.MultiPairs.{by_number};
 ghost use Rattle.indexset_core.specs.Nodes.{joined};
 ghost use Rattle.indexset_core.specs.Order.{above, below};
 ghost use Rattle.indexset_core.specs.Pairs.{pair_keys};
-ghost use Rattle.indexset_log.specs.Clones.{IsEventClone};
-ghost use Rattle.indexset_log.specs.Joining.{IsSpaced};
-ghost use Rattle.indexset_log.specs.Replay.{replay, numbered_from, IsNumberedFrom};
-ghost use Rattle.indexset_log.specs.Tree.{refusal_for};
+ghost use Rattle.indexset_multi.specs.Changed.{Fits, MultiChanged, MultiTold, first_removal, last_removal, refusal_of};
 ghost use Rattle.indexset_multi.specs.Keys.{entries, key_and_value};
-ghost use Rattle.indexset_multi.specs.Tree.{after_removal, pair_removal_events};
 
 use super::BTreeMultiMap;
 use indexset_core::multipair::MultiPair;
@@ -27,9 +21,11 @@ impl<K: Ord + Clone + Drop, V: Eq + Clone + Drop, Node: NodeLike<MultiPair<K, V>
     /// Returns the least key and the value of its first pair, or `None` where there is no pair, in constant
     /// time.
     pub fn first_key_value(&self) -> Option<(&K, &V)>
-        ensures pair { option_map (λ p. (p.0.now, p.1.now)) result ≡ option_map key_and_value (slice_get (joined self.now.nodes) 0) }
+        ensures pair { option_map (λ p. (p.0.now, p.1.now)) result
+            ≡ option_map key_and_value (slice_get (joined self.now.nodes) 0) }
         ensures variant { IsSome result ↔ (0 < length (joined self.now.nodes)) }
-        ensures least { IfSome result (λ p. below K.cmp (pair_keys (entries (joined self.now.nodes))) p.0.now ≡ []) }
+        ensures least { IfSome result (λ p. below K.cmp
+            (pair_keys (entries (joined self.now.nodes))) p.0.now ≡ []) }
     {
         let pair = self.set.first()?;
         Some((&pair.key, &pair.value))
@@ -47,9 +43,12 @@ impl<K: Ord + Clone + Drop, V: Eq + Clone + Drop, Node: NodeLike<MultiPair<K, V>
     /// assert!(rt; tags.last_key_value() == Some((&2, &101)));
     /// ```
     pub fn last_key_value(&self) -> Option<(&K, &V)>
-        ensures pair { option_map (λ p. (p.0.now, p.1.now)) result ≡ option_map key_and_value (slice_get (joined self.now.nodes) (length (joined self.now.nodes) - 1)) }
+        ensures pair { option_map (λ p. (p.0.now, p.1.now)) result
+            ≡ option_map key_and_value (slice_get (joined self.now.nodes)
+            (length (joined self.now.nodes) - 1)) }
         ensures variant { IsSome result ↔ (0 < length (joined self.now.nodes)) }
-        ensures greatest { IfSome result (λ p. above K.cmp (pair_keys (entries (joined self.now.nodes))) p.0.now ≡ []) }
+        ensures greatest { IfSome result (λ p. above K.cmp
+            (pair_keys (entries (joined self.now.nodes))) p.0.now ≡ []) }
     {
         let pair = self.set.last()?;
         Some((&pair.key, &pair.value))
@@ -71,24 +70,16 @@ impl<K: Ord + Clone + Drop, V: Eq + Clone + Drop, Node: NodeLike<MultiPair<K, V>
     pub fn pop_first_cdc(
         &mut self,
     ) -> Result<(Option<(K, V)>, Vec<ChangeEvent<MultiPair<K, V>>>), Refusal>
-        ensures tree { OnOk result (self.new ≡ after_removal K.cmp self.old (slice_get (joined self.old.nodes) 0)) }
-        ensures answer { IfOk result (λ r. r.0 ≡ option_map key_and_value (slice_get (joined self.old.nodes) 0)) }
-        ensures clones { IfOk result (λ r. AllZip (IsEventClone (λ p q. K.is_clone p.key q.key × (V.is_clone p.value q.value × (q.discriminator ≡ p.discriminator)))) (numbered_from self.old.next (pair_removal_events K.cmp self.old.size self.old.nodes (slice_get (joined self.old.nodes) 0))) r.1.items) }
-        ensures refusal { IfErr result (λ e. e ≡ refusal_for self.old.next (length (pair_removal_events K.cmp self.old.size self.old.nodes (slice_get (joined self.old.nodes) 0)))) }
-        ensures no_event { pair_removal_events K.cmp self.old.size self.old.nodes (slice_get (joined self.old.nodes) 0) ≡ [] → IsOk result }
+        ensures answer { IfOk result (λ r.
+            r.0 ≡ option_map key_and_value (slice_get (joined self.old.nodes) 0)) }
+        ensures refusal { IfErr result (λ e. e ≡ refusal_of self.old
+            (first_removal K.cmp self.old)) }
+        ensures no_event { (first_removal K.cmp self.old).events ≡ [] → IsOk result }
         ensures unchanged { OnErr result (self.new ≡ self.old) }
-        // What callers prove by.
-        ensures contents { OnOk result (joined self.new.nodes ≡ drop 1 (joined self.old.nodes)) }
-        ensures size { self.new.size ≡ self.old.size }
-        ensures next { OnOk result (self.new.next ≡ self.old.next + length (pair_removal_events K.cmp self.old.size self.old.nodes (slice_get (joined self.old.nodes) 0))) }
-        ensures pair_next { self.new.pair_next ≡ self.old.pair_next }
-        ensures fits { OnOk result (self.old.next + length (pair_removal_events K.cmp self.old.size self.old.nodes (slice_get (joined self.old.nodes) 0)) ≤ u64.MAX) }
-        ensures events { ((x y : K) → K.is_clone x y → y ≡ x) → ((x y : V) → V.is_clone x y → y ≡ x) → IfOk result (λ r. r.1.items ≡ numbered_from self.old.next (pair_removal_events K.cmp self.old.size self.old.nodes (slice_get (joined self.old.nodes) 0))) }
-        ensures numbered { IfOk result (λ r. IsNumberedFrom self.old.next r.1.items) }
-        ensures replay { ((x y : K) → K.is_clone x y → y ≡ x) → ((x y : V) → V.is_clone x y → y ≡ x) → IfOk result (λ r. replay (by_number K.cmp) self.old.nodes r.1.items ≡ Some self.new.nodes) }
-        ensures table { OnOk result (replay (by_number K.cmp) self.old.nodes (numbered_from self.old.next (pair_removal_events K.cmp self.old.size self.old.nodes (slice_get (joined self.old.nodes) 0))) ≡ Some self.new.nodes) }
-        ensures few { IfOk result (λ r. length r.1.items ≤ 3) }
-        ensures spaced { IsSpaced (self.old.size / 2) self.old.nodes → IsSpaced (self.new.size / 2) self.new.nodes }
+        ensures changed { OnOk result (MultiChanged K.cmp self.old self.new
+            (first_removal K.cmp self.old)) }
+        ensures told { IfOk result (λ r. MultiTold K.cmp K.is_clone V.is_clone self.old self.new
+            (first_removal K.cmp self.old) r.1.items) }
     {
         let (pair, events) = self.set.pop_first_cdc()?;
         Ok((entry_of(pair), events))
@@ -99,22 +90,18 @@ impl<K: Ord + Clone + Drop, V: Eq + Clone + Drop, Node: NodeLike<MultiPair<K, V>
     /// where it merges two nodes of a type that allocates, and else does not fail with `Memory`. A failed call
     /// changes nothing.
     pub fn pop_first(&mut self) -> Result<Option<(K, V)>, Refusal>
-        ensures tree { OnOk result (self.new ≡ after_removal K.cmp self.old (slice_get (joined self.old.nodes) 0)) }
-        ensures answer { IfOk result (λ entry. entry ≡ option_map key_and_value (slice_get (joined self.old.nodes) 0)) }
-        ensures refusal { IfErr result (λ e. e ≡ refusal_for self.old.next (length (pair_removal_events K.cmp self.old.size self.old.nodes (slice_get (joined self.old.nodes) 0)))) }
-        ensures no_event { pair_removal_events K.cmp self.old.size self.old.nodes (slice_get (joined self.old.nodes) 0) ≡ [] → IsOk result }
+        ensures answer { IfOk result (λ entry.
+            entry ≡ option_map key_and_value (slice_get (joined self.old.nodes) 0)) }
+        ensures refusal { IfErr result (λ e. e ≡ refusal_of self.old
+            (first_removal K.cmp self.old)) }
+        ensures no_event { (first_removal K.cmp self.old).events ≡ [] → IsOk result }
+        ensures no_memory { length (first_removal K.cmp self.old).events ≤ 1
+            → Fits self.old (first_removal K.cmp self.old) → IsOk result }
+        ensures never { Node.allocates ≡ false
+            → Fits self.old (first_removal K.cmp self.old) → IsOk result }
         ensures unchanged { OnErr result (self.new ≡ self.old) }
-        // What callers prove by.
-        ensures contents { OnOk result (joined self.new.nodes ≡ drop 1 (joined self.old.nodes)) }
-        ensures size { self.new.size ≡ self.old.size }
-        ensures next { OnOk result (self.new.next ≡ self.old.next + length (pair_removal_events K.cmp self.old.size self.old.nodes (slice_get (joined self.old.nodes) 0))) }
-        ensures pair_next { self.new.pair_next ≡ self.old.pair_next }
-        ensures fits { OnOk result (self.old.next + length (pair_removal_events K.cmp self.old.size self.old.nodes (slice_get (joined self.old.nodes) 0)) ≤ u64.MAX) }
-        ensures no_memory { length (pair_removal_events K.cmp self.old.size self.old.nodes (slice_get (joined self.old.nodes) 0)) ≤ 1 → self.old.next + length (pair_removal_events K.cmp self.old.size self.old.nodes (slice_get (joined self.old.nodes) 0)) ≤ u64.MAX → IsOk result }
-        ensures never { Node.allocates ≡ false → self.old.next + length (pair_removal_events K.cmp self.old.size self.old.nodes (slice_get (joined self.old.nodes) 0)) ≤ u64.MAX → IsOk result }
-        ensures table { OnOk result (replay (by_number K.cmp) self.old.nodes (numbered_from self.old.next (pair_removal_events K.cmp self.old.size self.old.nodes (slice_get (joined self.old.nodes) 0))) ≡ Some self.new.nodes) }
-        ensures few { length (pair_removal_events K.cmp self.old.size self.old.nodes (slice_get (joined self.old.nodes) 0)) ≤ 3 }
-        ensures spaced { IsSpaced (self.old.size / 2) self.old.nodes → IsSpaced (self.new.size / 2) self.new.nodes }
+        ensures changed { OnOk result (MultiChanged K.cmp self.old self.new
+            (first_removal K.cmp self.old)) }
     {
         let pair = self.set.pop_first()?;
         Ok(entry_of(pair))
@@ -126,24 +113,16 @@ impl<K: Ord + Clone + Drop, V: Eq + Clone + Drop, Node: NodeLike<MultiPair<K, V>
     pub fn pop_last_cdc(
         &mut self,
     ) -> Result<(Option<(K, V)>, Vec<ChangeEvent<MultiPair<K, V>>>), Refusal>
-        ensures tree { OnOk result (self.new ≡ after_removal K.cmp self.old (slice_get (joined self.old.nodes) (length (joined self.old.nodes) - 1))) }
-        ensures answer { IfOk result (λ r. r.0 ≡ option_map key_and_value (slice_get (joined self.old.nodes) (length (joined self.old.nodes) - 1))) }
-        ensures clones { IfOk result (λ r. AllZip (IsEventClone (λ p q. K.is_clone p.key q.key × (V.is_clone p.value q.value × (q.discriminator ≡ p.discriminator)))) (numbered_from self.old.next (pair_removal_events K.cmp self.old.size self.old.nodes (slice_get (joined self.old.nodes) (length (joined self.old.nodes) - 1)))) r.1.items) }
-        ensures refusal { IfErr result (λ e. e ≡ refusal_for self.old.next (length (pair_removal_events K.cmp self.old.size self.old.nodes (slice_get (joined self.old.nodes) (length (joined self.old.nodes) - 1))))) }
-        ensures no_event { pair_removal_events K.cmp self.old.size self.old.nodes (slice_get (joined self.old.nodes) (length (joined self.old.nodes) - 1)) ≡ [] → IsOk result }
+        ensures answer { IfOk result (λ r. r.0 ≡ option_map key_and_value
+            (slice_get (joined self.old.nodes) (length (joined self.old.nodes) - 1))) }
+        ensures refusal { IfErr result (λ e. e ≡ refusal_of self.old
+            (last_removal K.cmp self.old)) }
+        ensures no_event { (last_removal K.cmp self.old).events ≡ [] → IsOk result }
         ensures unchanged { OnErr result (self.new ≡ self.old) }
-        // What callers prove by.
-        ensures contents { OnOk result (joined self.new.nodes ≡ take (length (joined self.old.nodes) - 1) (joined self.old.nodes)) }
-        ensures size { self.new.size ≡ self.old.size }
-        ensures next { OnOk result (self.new.next ≡ self.old.next + length (pair_removal_events K.cmp self.old.size self.old.nodes (slice_get (joined self.old.nodes) (length (joined self.old.nodes) - 1)))) }
-        ensures pair_next { self.new.pair_next ≡ self.old.pair_next }
-        ensures fits { OnOk result (self.old.next + length (pair_removal_events K.cmp self.old.size self.old.nodes (slice_get (joined self.old.nodes) (length (joined self.old.nodes) - 1))) ≤ u64.MAX) }
-        ensures events { ((x y : K) → K.is_clone x y → y ≡ x) → ((x y : V) → V.is_clone x y → y ≡ x) → IfOk result (λ r. r.1.items ≡ numbered_from self.old.next (pair_removal_events K.cmp self.old.size self.old.nodes (slice_get (joined self.old.nodes) (length (joined self.old.nodes) - 1)))) }
-        ensures numbered { IfOk result (λ r. IsNumberedFrom self.old.next r.1.items) }
-        ensures replay { ((x y : K) → K.is_clone x y → y ≡ x) → ((x y : V) → V.is_clone x y → y ≡ x) → IfOk result (λ r. replay (by_number K.cmp) self.old.nodes r.1.items ≡ Some self.new.nodes) }
-        ensures table { OnOk result (replay (by_number K.cmp) self.old.nodes (numbered_from self.old.next (pair_removal_events K.cmp self.old.size self.old.nodes (slice_get (joined self.old.nodes) (length (joined self.old.nodes) - 1)))) ≡ Some self.new.nodes) }
-        ensures few { IfOk result (λ r. length r.1.items ≤ 3) }
-        ensures spaced { IsSpaced (self.old.size / 2) self.old.nodes → IsSpaced (self.new.size / 2) self.new.nodes }
+        ensures changed { OnOk result (MultiChanged K.cmp self.old self.new
+            (last_removal K.cmp self.old)) }
+        ensures told { IfOk result (λ r. MultiTold K.cmp K.is_clone V.is_clone self.old self.new
+            (last_removal K.cmp self.old) r.1.items) }
     {
         let (pair, events) = self.set.pop_last_cdc()?;
         Ok((entry_of(pair), events))
@@ -162,22 +141,18 @@ impl<K: Ord + Clone + Drop, V: Eq + Clone + Drop, Node: NodeLike<MultiPair<K, V>
     /// assert!(rt; tags.pop_last()? == Some((2, 101)) && tags.pop_last()? == Some((2, 100)));
     /// ```
     pub fn pop_last(&mut self) -> Result<Option<(K, V)>, Refusal>
-        ensures tree { OnOk result (self.new ≡ after_removal K.cmp self.old (slice_get (joined self.old.nodes) (length (joined self.old.nodes) - 1))) }
-        ensures answer { IfOk result (λ entry. entry ≡ option_map key_and_value (slice_get (joined self.old.nodes) (length (joined self.old.nodes) - 1))) }
-        ensures refusal { IfErr result (λ e. e ≡ refusal_for self.old.next (length (pair_removal_events K.cmp self.old.size self.old.nodes (slice_get (joined self.old.nodes) (length (joined self.old.nodes) - 1))))) }
-        ensures no_event { pair_removal_events K.cmp self.old.size self.old.nodes (slice_get (joined self.old.nodes) (length (joined self.old.nodes) - 1)) ≡ [] → IsOk result }
+        ensures answer { IfOk result (λ entry. entry ≡ option_map key_and_value
+            (slice_get (joined self.old.nodes) (length (joined self.old.nodes) - 1))) }
+        ensures refusal { IfErr result (λ e. e ≡ refusal_of self.old
+            (last_removal K.cmp self.old)) }
+        ensures no_event { (last_removal K.cmp self.old).events ≡ [] → IsOk result }
+        ensures no_memory { length (last_removal K.cmp self.old).events ≤ 1
+            → Fits self.old (last_removal K.cmp self.old) → IsOk result }
+        ensures never { Node.allocates ≡ false
+            → Fits self.old (last_removal K.cmp self.old) → IsOk result }
         ensures unchanged { OnErr result (self.new ≡ self.old) }
-        // What callers prove by.
-        ensures contents { OnOk result (joined self.new.nodes ≡ take (length (joined self.old.nodes) - 1) (joined self.old.nodes)) }
-        ensures size { self.new.size ≡ self.old.size }
-        ensures next { OnOk result (self.new.next ≡ self.old.next + length (pair_removal_events K.cmp self.old.size self.old.nodes (slice_get (joined self.old.nodes) (length (joined self.old.nodes) - 1)))) }
-        ensures pair_next { self.new.pair_next ≡ self.old.pair_next }
-        ensures fits { OnOk result (self.old.next + length (pair_removal_events K.cmp self.old.size self.old.nodes (slice_get (joined self.old.nodes) (length (joined self.old.nodes) - 1))) ≤ u64.MAX) }
-        ensures no_memory { length (pair_removal_events K.cmp self.old.size self.old.nodes (slice_get (joined self.old.nodes) (length (joined self.old.nodes) - 1))) ≤ 1 → self.old.next + length (pair_removal_events K.cmp self.old.size self.old.nodes (slice_get (joined self.old.nodes) (length (joined self.old.nodes) - 1))) ≤ u64.MAX → IsOk result }
-        ensures never { Node.allocates ≡ false → self.old.next + length (pair_removal_events K.cmp self.old.size self.old.nodes (slice_get (joined self.old.nodes) (length (joined self.old.nodes) - 1))) ≤ u64.MAX → IsOk result }
-        ensures table { OnOk result (replay (by_number K.cmp) self.old.nodes (numbered_from self.old.next (pair_removal_events K.cmp self.old.size self.old.nodes (slice_get (joined self.old.nodes) (length (joined self.old.nodes) - 1)))) ≡ Some self.new.nodes) }
-        ensures few { length (pair_removal_events K.cmp self.old.size self.old.nodes (slice_get (joined self.old.nodes) (length (joined self.old.nodes) - 1))) ≤ 3 }
-        ensures spaced { IsSpaced (self.old.size / 2) self.old.nodes → IsSpaced (self.new.size / 2) self.new.nodes }
+        ensures changed { OnOk result (MultiChanged K.cmp self.old self.new
+            (last_removal K.cmp self.old)) }
     {
         let pair = self.set.pop_last()?;
         Ok(entry_of(pair))

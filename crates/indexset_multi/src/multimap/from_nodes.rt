@@ -28,11 +28,24 @@ impl<K: Ord + Clone + Drop, V: Eq + Clone + Drop, Node: NodeLike<MultiPair<K, V>
     pub fn from_nodes(nodes: Vec<Node>, size: usize, next: u64) -> Result<Self, Refused<Vec<Node>>>
         requires two { 2 ≤ size }
         requires within { size ≤ Node.most }
-        ensures tree { IfOk result (λ m. m ≡ record { nodes = map Node.list nodes.items; size = size; next = next; pair_next = free_number (joined (map Node.list nodes.items)) }) }
-        ensures good { OnOk result (pair_nodes_refusal K.cmp size (map Node.list nodes.items) ≡ None) }
-        ensures refusal { IfErr result (λ e. e.cause ≡ unwrap_or (pair_nodes_refusal K.cmp size (map Node.list nodes.items)) Refusal.Memory) }
-        ensures memory { IfErr result (λ e. pair_nodes_refusal K.cmp size (map Node.list nodes.items) ≡ None → usize.MAX < length (joined (map Node.list nodes.items))) }
-        ensures lawful { IsLawful (by_number K.cmp) size (map Node.list nodes.items) → has_greatest (joined (map Node.list nodes.items)) ≡ false → length (joined (map Node.list nodes.items)) ≤ usize.MAX → IsOk result }
+        ensures tree { IfOk result (λ m.
+            m ≡ record {
+              nodes = map Node.list nodes.items;
+              size = size;
+              next = next;
+              pair_next = free_number
+                  (joined (map Node.list nodes.items));
+            }) }
+        ensures good { OnOk result (pair_nodes_refusal K.cmp size (map Node.list nodes.items)
+            ≡ None) }
+        ensures refusal { IfErr result (λ e. e.cause ≡ unwrap_or
+            (pair_nodes_refusal K.cmp size (map Node.list nodes.items)) Refusal.Memory) }
+        ensures memory { IfErr result (λ e. pair_nodes_refusal K.cmp size
+            (map Node.list nodes.items) ≡ None → usize.MAX
+            < length (joined (map Node.list nodes.items))) }
+        ensures lawful { IsLawful (by_number K.cmp) size (map Node.list nodes.items)
+            → has_greatest (joined (map Node.list nodes.items)) ≡ false
+            → length (joined (map Node.list nodes.items)) ≤ usize.MAX → IsOk result }
         ensures given_back { IfErr result (λ e. e.value ≡ nodes) }
     {
         let Some(pair_next) = free_number_of_nodes(nodes.as_slice()) else {
@@ -50,7 +63,9 @@ impl<K: Ord + Clone + Drop, V: Eq + Clone + Drop, Node: NodeLike<MultiPair<K, V>
 fn free_number_of_nodes<K: Ord + Drop, V: Drop, Node: NodeLike<MultiPair<K, V>>>(
     nodes: &[Node],
 ) -> Option<u64>
-    ensures { MatchOption result (has_greatest (joined (map Node.list nodes.now)) ≡ true) (λ free. (has_greatest (joined (map Node.list nodes.now)) ≡ false) × (free ≡ free_number (joined (map Node.list nodes.now)))) }
+    ensures { MatchOption result (has_greatest (joined (map Node.list nodes.now)) ≡ true)
+        (λ free. (has_greatest (joined (map Node.list nodes.now)) ≡ false)
+        × (free ≡ free_number (joined (map Node.list nodes.now)))) }
 {
     let mut free: u64 = 0;
     for node in nodes {

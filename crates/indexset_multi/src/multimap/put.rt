@@ -1,17 +1,10 @@
 //! Insertion of pairs.
-ghost use Rattle.std.specs.Prelude.{◌≡◌, ◌+◌, ◌/◌, ◌≤◌, [], ◌∷◌, ◌++◌, true, false, is_err, length, Some, IfOk, OnOk, IfErr, OnErr};
-ghost use Rattle.std.specs.List.{AllZip};
+ghost use Rattle.std.specs.Prelude.{◌≡◌, false, is_err, IfOk, OnOk, IfErr, OnErr};
 ghost use Rattle.std.specs.Option.{option_map};
-ghost use Rattle.std.specs.Ordering.{is_eq};
-ghost use Rattle.indexset_core.specs.MultiPairs.{by_number};
 ghost use Rattle.indexset_core.specs.Nodes.{joined};
-ghost use Rattle.indexset_core.specs.Order.{put};
-ghost use Rattle.indexset_log.specs.Clones.{IsEventClone};
-ghost use Rattle.indexset_log.specs.Edits.{with_put};
-ghost use Rattle.indexset_log.specs.Joining.{IsSpaced};
-ghost use Rattle.indexset_log.specs.Replay.{replay, numbered_from, IsNumberedFrom};
-ghost use Rattle.indexset_multi.specs.Keys.{equal_pair, kept_number, pairs_of};
-ghost use Rattle.indexset_multi.specs.Tree.{after_insertion, insertion_events, insertion_refusal, inserted_pair, lacks_number, pair_next_after, takes_number};
+ghost use Rattle.indexset_multi.specs.Changed.{IsInserted, MultiChanged, MultiTold, insertion};
+ghost use Rattle.indexset_multi.specs.Keys.{equal_pair, kept_number};
+ghost use Rattle.indexset_multi.specs.Tree.{insertion_refusal, inserted_pair, lacks_number, pair_next_after};
 
 use super::BTreeMultiMap;
 use indexset_core::multipair::MultiPair;
@@ -35,29 +28,19 @@ impl<K: Ord + Clone + Drop, V: Eq + Clone + Drop, Node: NodeLike<MultiPair<K, V>
         key: K,
         value: V,
     ) -> Result<(Option<V>, Vec<ChangeEvent<MultiPair<K, V>>>), Refused<(K, V)>>
-        ensures tree { OnOk result (self.new ≡ after_insertion K.cmp V.eq self.old key value) }
-        ensures answer { IfOk result (λ r. r.0 ≡ option_map (λ p. p.value) (equal_pair K.cmp V.eq (joined self.old.nodes) key value)) }
-        ensures clones { IfOk result (λ r. AllZip (IsEventClone (λ p q. K.is_clone p.key q.key × (V.is_clone p.value q.value × (q.discriminator ≡ p.discriminator)))) (numbered_from self.old.next (insertion_events K.cmp V.eq self.old key value)) r.1.items) }
-        ensures refusal { IfErr result (λ e. e.cause ≡ insertion_refusal K.cmp V.eq self.old key value) }
+        ensures answer { IfOk result (λ r.
+            r.0 ≡ option_map (λ p. p.value) (equal_pair K.cmp V.eq
+            (joined self.old.nodes) key value)) }
+        ensures refusal { IfErr result (λ e.
+            e.cause ≡ insertion_refusal K.cmp V.eq self.old key value) }
         ensures given_back { IfErr result (λ e. e.value ≡ (key, value)) }
         ensures unchanged { OnErr result (self.new ≡ self.old) }
-        // What callers prove by.
-        ensures contents { OnOk result (joined self.new.nodes ≡ put (by_number K.cmp) (joined self.old.nodes) (inserted_pair K.cmp V.eq self.old key value)) }
-        ensures there { OnOk result (equal_pair K.cmp V.eq (joined self.new.nodes) key value ≡ Some (inserted_pair K.cmp V.eq self.old key value)) }
-        ensures last { OnOk result (takes_number K.cmp V.eq self.old key value ≡ true → pairs_of K.cmp (joined self.new.nodes) key ≡ pairs_of K.cmp (joined self.old.nodes) key ++ inserted_pair K.cmp V.eq self.old key value ∷ []) }
-        ensures others { OnOk result ((other : K) → is_eq (K.cmp other key) ≡ false → pairs_of K.cmp (joined self.new.nodes) other ≡ pairs_of K.cmp (joined self.old.nodes) other) }
-        ensures nodes { OnOk result (self.new.nodes ≡ with_put (by_number K.cmp) self.old.size self.old.nodes (inserted_pair K.cmp V.eq self.old key value)) }
-        ensures size { self.new.size ≡ self.old.size }
-        ensures next { OnOk result (self.new.next ≡ self.old.next + length (insertion_events K.cmp V.eq self.old key value)) }
-        ensures pair_next { OnOk result (self.new.pair_next ≡ pair_next_after K.cmp V.eq self.old key value) }
-        ensures fits { OnOk result (self.old.next + length (insertion_events K.cmp V.eq self.old key value) ≤ u64.MAX) }
         ensures number_left { OnOk result (lacks_number K.cmp V.eq self.old key value ≡ false) }
-        ensures events { ((x y : K) → K.is_clone x y → y ≡ x) → ((x y : V) → V.is_clone x y → y ≡ x) → IfOk result (λ r. r.1.items ≡ numbered_from self.old.next (insertion_events K.cmp V.eq self.old key value)) }
-        ensures numbered { IfOk result (λ r. IsNumberedFrom self.old.next r.1.items) }
-        ensures replay { ((x y : K) → K.is_clone x y → y ≡ x) → ((x y : V) → V.is_clone x y → y ≡ x) → IfOk result (λ r. replay (by_number K.cmp) self.old.nodes r.1.items ≡ Some self.new.nodes) }
-        ensures table { OnOk result (replay (by_number K.cmp) self.old.nodes (numbered_from self.old.next (insertion_events K.cmp V.eq self.old key value)) ≡ Some self.new.nodes) }
-        ensures few { IfOk result (λ r. length r.1.items ≤ 3) }
-        ensures spaced { IsSpaced (self.old.size / 2) self.old.nodes → IsSpaced (self.new.size / 2) self.new.nodes }
+        ensures inserted { OnOk result (IsInserted K.cmp V.eq self.old self.new key value) }
+        ensures changed { OnOk result (MultiChanged K.cmp self.old self.new
+            (insertion K.cmp V.eq self.old key value)) }
+        ensures told { IfOk result (λ r. MultiTold K.cmp K.is_clone V.is_clone self.old self.new
+            (insertion K.cmp V.eq self.old key value) r.1.items) }
     {
         // The contract of `node_count` says that the pairs ascend, with numbers below the next.
         let _nodes = self.node_count();
@@ -78,25 +61,17 @@ impl<K: Ord + Clone + Drop, V: Eq + Clone + Drop, Node: NodeLike<MultiPair<K, V>
     /// assert!(rt; tags.get(&1).map(|(_, document)| *document).eq([100, 101]));
     /// ```
     pub fn insert(&mut self, key: K, value: V) -> Result<Option<V>, Refused<(K, V)>>
-        ensures tree { OnOk result (self.new ≡ after_insertion K.cmp V.eq self.old key value) }
-        ensures answer { IfOk result (λ old. old ≡ option_map (λ p. p.value) (equal_pair K.cmp V.eq (joined self.old.nodes) key value)) }
-        ensures refusal { IfErr result (λ e. e.cause ≡ insertion_refusal K.cmp V.eq self.old key value) }
+        ensures answer { IfOk result (λ old.
+            old ≡ option_map (λ p. p.value) (equal_pair K.cmp V.eq
+            (joined self.old.nodes) key value)) }
+        ensures refusal { IfErr result (λ e.
+            e.cause ≡ insertion_refusal K.cmp V.eq self.old key value) }
         ensures given_back { IfErr result (λ e. e.value ≡ (key, value)) }
         ensures unchanged { OnErr result (self.new ≡ self.old) }
-        // What callers prove by.
-        ensures contents { OnOk result (joined self.new.nodes ≡ put (by_number K.cmp) (joined self.old.nodes) (inserted_pair K.cmp V.eq self.old key value)) }
-        ensures there { OnOk result (equal_pair K.cmp V.eq (joined self.new.nodes) key value ≡ Some (inserted_pair K.cmp V.eq self.old key value)) }
-        ensures last { OnOk result (takes_number K.cmp V.eq self.old key value ≡ true → pairs_of K.cmp (joined self.new.nodes) key ≡ pairs_of K.cmp (joined self.old.nodes) key ++ inserted_pair K.cmp V.eq self.old key value ∷ []) }
-        ensures others { OnOk result ((other : K) → is_eq (K.cmp other key) ≡ false → pairs_of K.cmp (joined self.new.nodes) other ≡ pairs_of K.cmp (joined self.old.nodes) other) }
-        ensures nodes { OnOk result (self.new.nodes ≡ with_put (by_number K.cmp) self.old.size self.old.nodes (inserted_pair K.cmp V.eq self.old key value)) }
-        ensures size { self.new.size ≡ self.old.size }
-        ensures next { OnOk result (self.new.next ≡ self.old.next + length (insertion_events K.cmp V.eq self.old key value)) }
-        ensures pair_next { OnOk result (self.new.pair_next ≡ pair_next_after K.cmp V.eq self.old key value) }
-        ensures fits { OnOk result (self.old.next + length (insertion_events K.cmp V.eq self.old key value) ≤ u64.MAX) }
         ensures number_left { OnOk result (lacks_number K.cmp V.eq self.old key value ≡ false) }
-        ensures table { OnOk result (replay (by_number K.cmp) self.old.nodes (numbered_from self.old.next (insertion_events K.cmp V.eq self.old key value)) ≡ Some self.new.nodes) }
-        ensures few { length (insertion_events K.cmp V.eq self.old key value) ≤ 3 }
-        ensures spaced { IsSpaced (self.old.size / 2) self.old.nodes → IsSpaced (self.new.size / 2) self.new.nodes }
+        ensures inserted { OnOk result (IsInserted K.cmp V.eq self.old self.new key value) }
+        ensures changed { OnOk result (MultiChanged K.cmp self.old self.new
+            (insertion K.cmp V.eq self.old key value)) }
     {
         // The contract of `node_count` says that the pairs ascend, with numbers below the next.
         let _nodes = self.node_count();
@@ -108,7 +83,8 @@ impl<K: Ord + Clone + Drop, V: Eq + Clone + Drop, Node: NodeLike<MultiPair<K, V>
 
     // Returns the pair that an insertion puts, and the number of the next new pair after it.
     fn pair_for(&self, key: K, value: V) -> Result<(MultiPair<K, V>, u64), Refused<(K, V)>>
-        ensures answer { IfOk result (λ r. r ≡ (inserted_pair K.cmp V.eq self.now key value, pair_next_after K.cmp V.eq self.now key value)) }
+        ensures answer { IfOk result (λ r.
+            r ≡ (inserted_pair K.cmp V.eq self.now key value, pair_next_after K.cmp V.eq self.now key value)) }
         ensures refusal { is_err result ≡ lacks_number K.cmp V.eq self.now key value }
         ensures cause { IfErr result (λ e. e.cause ≡ Refusal.Numbers) }
         ensures given_back { IfErr result (λ e. e.value ≡ (key, value)) }

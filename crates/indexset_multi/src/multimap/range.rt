@@ -207,8 +207,10 @@ impl<K: Ord + Clone + Drop, V: Eq + Clone + Drop, Node: NodeLike<MultiPair<K, V>
     /// assert!(rt; teens.eq([(&10, &1), (&10, &2)]));
     /// ```
     pub fn range(&self, range: (Bound<&K>, Bound<&K>)) -> Range<'_, K, V, Node>
-        requires { IsTrue (are_ordered K.cmp (bound_map (λ k. k.now) range.0) (bound_map (λ k. k.now) range.1)) }
-        ensures rest { result ≡ entries (pairs_between K.cmp (joined self.now.nodes) (bound_map (λ k. k.now) range.entry.0) (bound_map (λ k. k.now) range.entry.1)) }
+        requires { IsTrue (are_ordered K.cmp (bound_map (λ k. k.now) range.0)
+            (bound_map (λ k. k.now) range.1)) }
+        ensures rest { result ≡ entries (pairs_between K.cmp (joined self.now.nodes)
+            (bound_map (λ k. k.now) range.entry.0) (bound_map (λ k. k.now) range.entry.1)) }
         ensures runs { ShowsInOrder (pair_shown {K = K} {V = V}) }
         ensures runs_back { ShowsInReverse (pair_shown {K = K} {V = V}) }
     {
@@ -230,8 +232,11 @@ impl<K: Ord + Clone + Drop, V: Eq + Clone + Drop, Node: NodeLike<MultiPair<K, V>
     pub(super) fn places_of(&self, key: &K) -> ((usize, usize), (usize, usize))
         ensures from { IsPlace self.now.nodes result.0 }
         ensures to { IsPlace self.now.nodes result.1 }
-        ensures order { items_before self.now.nodes result.0 ≤ items_before self.now.nodes result.1 }
-        ensures pairs { between (items_before self.now.nodes result.0) (items_before self.now.nodes result.1) (joined self.now.nodes) ≡ pairs_of K.cmp (joined self.now.nodes) key.now }
+        ensures order { items_before self.now.nodes result.0
+            ≤ items_before self.now.nodes result.1 }
+        ensures pairs { between (items_before self.now.nodes result.0)
+            (items_before self.now.nodes result.1) (joined self.now.nodes)
+            ≡ pairs_of K.cmp (joined self.now.nodes) key.now }
     {
         // The contract of `node_count` says that the pairs ascend, as a search by key requires.
         let _nodes = self.set.node_count();
@@ -243,8 +248,10 @@ impl<K: Ord + Clone + Drop, V: Eq + Clone + Drop, Node: NodeLike<MultiPair<K, V>
         &self,
         range: (Bound<&K>, Bound<&K>),
     ) -> range::Range<'_, MultiPair<K, V>, Node>
-        requires { IsTrue (are_ordered K.cmp (bound_map (λ k. k.now) range.0) (bound_map (λ k. k.now) range.1)) }
-        ensures rest { result ≡ pairs_between K.cmp (joined self.now.nodes) (bound_map (λ k. k.now) range.entry.0) (bound_map (λ k. k.now) range.entry.1) }
+        requires { IsTrue (are_ordered K.cmp (bound_map (λ k. k.now) range.0)
+            (bound_map (λ k. k.now) range.1)) }
+        ensures rest { result ≡ pairs_between K.cmp (joined self.now.nodes)
+            (bound_map (λ k. k.now) range.entry.0) (bound_map (λ k. k.now) range.entry.1) }
         ensures runs { ShowsInOrder (deref {X = MultiPair K V}) }
     {
         // The contract of `node_count` says that the pairs ascend, so the range is what lies between the

@@ -1,17 +1,14 @@
 //! Calls that remove pairs.
-ghost use Rattle.std.specs.Prelude.{◌≡◌, ◌+◌, ◌/◌, ◌<◌, ◌≤◌, [], drop, length, false, find, slice_get, None, Some, MatchOption, IfOk, OnOk, IfErr, OnErr, IsOk};
-ghost use Rattle.std.specs.List.{AllZip};
+ghost use Rattle.std.specs.Prelude.{◌≡◌, ◌+◌, ◌<◌, ◌≤◌, [], drop, length, false, find, slice_get, None, Some, MatchOption, IfOk, OnOk, IfErr, OnErr, IsOk};
 ghost use Rattle.std.specs.Option.{option_map};
-ghost use Rattle.std.specs.Ordering.{is_eq};
 ghost use Rattle.indexset_core.specs.MultiPairs.{by_number};
 ghost use Rattle.indexset_core.specs.Nodes.{joined};
-ghost use Rattle.indexset_log.specs.Clones.{IsEventClone, IsTold};
-ghost use Rattle.indexset_log.specs.Joining.{IsSpaced};
-ghost use Rattle.indexset_log.specs.Replay.{replay, numbered_from, IsNumberedFrom};
+ghost use Rattle.indexset_log.specs.Clones.{IsTold};
 ghost use Rattle.indexset_log.specs.Tree.{IsTree, refusal_for};
-ghost use Rattle.indexset_multi.specs.Keys.{equal_pair, first_pair, key_and_value, pairs_of, without_first, without_named};
+ghost use Rattle.indexset_multi.specs.Changed.{Fits, KeepsOthers, MultiChanged, MultiTold, equal_removal, refusal_of, some_removal};
+ghost use Rattle.indexset_multi.specs.Keys.{equal_pair, first_pair, key_and_value, pairs_of, without_first};
 ghost use Rattle.indexset_multi.specs.Places.{IsItemPlace, placed_item};
-ghost use Rattle.indexset_multi.specs.Tree.{after_removal, pair_removal_events};
+ghost use Rattle.indexset_multi.specs.Tree.{IsPairClone, after_removal, pair_removal_events};
 
 use super::BTreeMultiMap;
 use indexset_core::multipair::MultiPair;
@@ -32,26 +29,19 @@ impl<K: Ord + Clone + Drop, V: Eq + Clone + Drop, Node: NodeLike<MultiPair<K, V>
         &mut self,
         key: &K,
     ) -> Result<(Option<(K, V)>, Vec<ChangeEvent<MultiPair<K, V>>>), Refusal>
-        ensures tree { OnOk result (self.new ≡ after_removal K.cmp self.old (first_pair K.cmp (joined self.old.nodes) key.now)) }
-        ensures answer { IfOk result (λ r. r.0 ≡ option_map key_and_value (first_pair K.cmp (joined self.old.nodes) key.now)) }
-        ensures clones { IfOk result (λ r. AllZip (IsEventClone (λ p q. K.is_clone p.key q.key × (V.is_clone p.value q.value × (q.discriminator ≡ p.discriminator)))) (numbered_from self.old.next (pair_removal_events K.cmp self.old.size self.old.nodes (first_pair K.cmp (joined self.old.nodes) key.now))) r.1.items) }
-        ensures refusal { IfErr result (λ e. e ≡ refusal_for self.old.next (length (pair_removal_events K.cmp self.old.size self.old.nodes (first_pair K.cmp (joined self.old.nodes) key.now)))) }
-        ensures no_event { pair_removal_events K.cmp self.old.size self.old.nodes (first_pair K.cmp (joined self.old.nodes) key.now) ≡ [] → IsOk result }
+        ensures answer { IfOk result (λ r.
+            r.0 ≡ option_map key_and_value (first_pair K.cmp (joined self.old.nodes) key.now)) }
+        ensures refusal { IfErr result (λ e. e ≡ refusal_of self.old
+            (some_removal K.cmp self.old key.now)) }
+        ensures no_event { (some_removal K.cmp self.old key.now).events ≡ [] → IsOk result }
         ensures unchanged { OnErr result (self.new ≡ self.old) }
-        // What callers prove by.
-        ensures contents { OnOk result (joined self.new.nodes ≡ without_named K.cmp (joined self.old.nodes) (first_pair K.cmp (joined self.old.nodes) key.now)) }
-        ensures gone { OnOk result (pairs_of K.cmp (joined self.new.nodes) key.now ≡ drop 1 (pairs_of K.cmp (joined self.old.nodes) key.now)) }
-        ensures others { OnOk result ((other : K) → is_eq (K.cmp other key.now) ≡ false → pairs_of K.cmp (joined self.new.nodes) other ≡ pairs_of K.cmp (joined self.old.nodes) other) }
-        ensures size { self.new.size ≡ self.old.size }
-        ensures next { OnOk result (self.new.next ≡ self.old.next + length (pair_removal_events K.cmp self.old.size self.old.nodes (first_pair K.cmp (joined self.old.nodes) key.now))) }
-        ensures pair_next { self.new.pair_next ≡ self.old.pair_next }
-        ensures fits { OnOk result (self.old.next + length (pair_removal_events K.cmp self.old.size self.old.nodes (first_pair K.cmp (joined self.old.nodes) key.now)) ≤ u64.MAX) }
-        ensures events { ((x y : K) → K.is_clone x y → y ≡ x) → ((x y : V) → V.is_clone x y → y ≡ x) → IfOk result (λ r. r.1.items ≡ numbered_from self.old.next (pair_removal_events K.cmp self.old.size self.old.nodes (first_pair K.cmp (joined self.old.nodes) key.now))) }
-        ensures numbered { IfOk result (λ r. IsNumberedFrom self.old.next r.1.items) }
-        ensures replay { ((x y : K) → K.is_clone x y → y ≡ x) → ((x y : V) → V.is_clone x y → y ≡ x) → IfOk result (λ r. replay (by_number K.cmp) self.old.nodes r.1.items ≡ Some self.new.nodes) }
-        ensures table { OnOk result (replay (by_number K.cmp) self.old.nodes (numbered_from self.old.next (pair_removal_events K.cmp self.old.size self.old.nodes (first_pair K.cmp (joined self.old.nodes) key.now))) ≡ Some self.new.nodes) }
-        ensures few { IfOk result (λ r. length r.1.items ≤ 3) }
-        ensures spaced { IsSpaced (self.old.size / 2) self.old.nodes → IsSpaced (self.new.size / 2) self.new.nodes }
+        ensures gone { OnOk result (pairs_of K.cmp (joined self.new.nodes) key.now
+            ≡ drop 1 (pairs_of K.cmp (joined self.old.nodes) key.now)) }
+        ensures others { OnOk result (KeepsOthers K.cmp self.old self.new key.now) }
+        ensures changed { OnOk result (MultiChanged K.cmp self.old self.new
+            (some_removal K.cmp self.old key.now)) }
+        ensures told { IfOk result (λ r. MultiTold K.cmp K.is_clone V.is_clone self.old self.new
+            (some_removal K.cmp self.old key.now) r.1.items) }
     {
         let place = self.first_place(key);
         self.take_cdc(place)
@@ -62,24 +52,21 @@ impl<K: Ord + Clone + Drop, V: Eq + Clone + Drop, Node: NodeLike<MultiPair<K, V>
     /// two nodes of a type that allocates, and else does not fail with `Memory`. A failed call changes
     /// nothing.
     pub fn remove_some(&mut self, key: &K) -> Result<Option<(K, V)>, Refusal>
-        ensures tree { OnOk result (self.new ≡ after_removal K.cmp self.old (first_pair K.cmp (joined self.old.nodes) key.now)) }
-        ensures answer { IfOk result (λ entry. entry ≡ option_map key_and_value (first_pair K.cmp (joined self.old.nodes) key.now)) }
-        ensures refusal { IfErr result (λ e. e ≡ refusal_for self.old.next (length (pair_removal_events K.cmp self.old.size self.old.nodes (first_pair K.cmp (joined self.old.nodes) key.now)))) }
-        ensures no_event { pair_removal_events K.cmp self.old.size self.old.nodes (first_pair K.cmp (joined self.old.nodes) key.now) ≡ [] → IsOk result }
+        ensures answer { IfOk result (λ entry.
+            entry ≡ option_map key_and_value (first_pair K.cmp (joined self.old.nodes) key.now)) }
+        ensures refusal { IfErr result (λ e. e ≡ refusal_of self.old
+            (some_removal K.cmp self.old key.now)) }
+        ensures no_event { (some_removal K.cmp self.old key.now).events ≡ [] → IsOk result }
+        ensures no_memory { length (some_removal K.cmp self.old key.now).events ≤ 1
+            → Fits self.old (some_removal K.cmp self.old key.now) → IsOk result }
+        ensures never { Node.allocates ≡ false
+            → Fits self.old (some_removal K.cmp self.old key.now) → IsOk result }
         ensures unchanged { OnErr result (self.new ≡ self.old) }
-        // What callers prove by.
-        ensures contents { OnOk result (joined self.new.nodes ≡ without_named K.cmp (joined self.old.nodes) (first_pair K.cmp (joined self.old.nodes) key.now)) }
-        ensures gone { OnOk result (pairs_of K.cmp (joined self.new.nodes) key.now ≡ drop 1 (pairs_of K.cmp (joined self.old.nodes) key.now)) }
-        ensures others { OnOk result ((other : K) → is_eq (K.cmp other key.now) ≡ false → pairs_of K.cmp (joined self.new.nodes) other ≡ pairs_of K.cmp (joined self.old.nodes) other) }
-        ensures size { self.new.size ≡ self.old.size }
-        ensures next { OnOk result (self.new.next ≡ self.old.next + length (pair_removal_events K.cmp self.old.size self.old.nodes (first_pair K.cmp (joined self.old.nodes) key.now))) }
-        ensures pair_next { self.new.pair_next ≡ self.old.pair_next }
-        ensures fits { OnOk result (self.old.next + length (pair_removal_events K.cmp self.old.size self.old.nodes (first_pair K.cmp (joined self.old.nodes) key.now)) ≤ u64.MAX) }
-        ensures no_memory { length (pair_removal_events K.cmp self.old.size self.old.nodes (first_pair K.cmp (joined self.old.nodes) key.now)) ≤ 1 → self.old.next + length (pair_removal_events K.cmp self.old.size self.old.nodes (first_pair K.cmp (joined self.old.nodes) key.now)) ≤ u64.MAX → IsOk result }
-        ensures never { Node.allocates ≡ false → self.old.next + length (pair_removal_events K.cmp self.old.size self.old.nodes (first_pair K.cmp (joined self.old.nodes) key.now)) ≤ u64.MAX → IsOk result }
-        ensures table { OnOk result (replay (by_number K.cmp) self.old.nodes (numbered_from self.old.next (pair_removal_events K.cmp self.old.size self.old.nodes (first_pair K.cmp (joined self.old.nodes) key.now))) ≡ Some self.new.nodes) }
-        ensures few { length (pair_removal_events K.cmp self.old.size self.old.nodes (first_pair K.cmp (joined self.old.nodes) key.now)) ≤ 3 }
-        ensures spaced { IsSpaced (self.old.size / 2) self.old.nodes → IsSpaced (self.new.size / 2) self.new.nodes }
+        ensures gone { OnOk result (pairs_of K.cmp (joined self.new.nodes) key.now
+            ≡ drop 1 (pairs_of K.cmp (joined self.old.nodes) key.now)) }
+        ensures others { OnOk result (KeepsOthers K.cmp self.old self.new key.now) }
+        ensures changed { OnOk result (MultiChanged K.cmp self.old self.new
+            (some_removal K.cmp self.old key.now)) }
     {
         let place = self.first_place(key);
         self.take(place)
@@ -94,26 +81,21 @@ impl<K: Ord + Clone + Drop, V: Eq + Clone + Drop, Node: NodeLike<MultiPair<K, V>
         key: &K,
         value: &V,
     ) -> Result<(Option<(K, V)>, Vec<ChangeEvent<MultiPair<K, V>>>), Refusal>
-        ensures tree { OnOk result (self.new ≡ after_removal K.cmp self.old (equal_pair K.cmp V.eq (joined self.old.nodes) key.now value.now)) }
-        ensures answer { IfOk result (λ r. r.0 ≡ option_map key_and_value (equal_pair K.cmp V.eq (joined self.old.nodes) key.now value.now)) }
-        ensures clones { IfOk result (λ r. AllZip (IsEventClone (λ p q. K.is_clone p.key q.key × (V.is_clone p.value q.value × (q.discriminator ≡ p.discriminator)))) (numbered_from self.old.next (pair_removal_events K.cmp self.old.size self.old.nodes (equal_pair K.cmp V.eq (joined self.old.nodes) key.now value.now))) r.1.items) }
-        ensures refusal { IfErr result (λ e. e ≡ refusal_for self.old.next (length (pair_removal_events K.cmp self.old.size self.old.nodes (equal_pair K.cmp V.eq (joined self.old.nodes) key.now value.now)))) }
-        ensures no_event { pair_removal_events K.cmp self.old.size self.old.nodes (equal_pair K.cmp V.eq (joined self.old.nodes) key.now value.now) ≡ [] → IsOk result }
+        ensures answer { IfOk result (λ r. r.0 ≡ option_map key_and_value
+            (equal_pair K.cmp V.eq (joined self.old.nodes) key.now value.now)) }
+        ensures refusal { IfErr result (λ e. e ≡ refusal_of self.old
+            (equal_removal K.cmp V.eq self.old key.now value.now)) }
+        ensures no_event { (equal_removal K.cmp V.eq self.old key.now value.now).events ≡ []
+            → IsOk result }
         ensures unchanged { OnErr result (self.new ≡ self.old) }
-        // What callers prove by.
-        ensures contents { OnOk result (joined self.new.nodes ≡ without_named K.cmp (joined self.old.nodes) (equal_pair K.cmp V.eq (joined self.old.nodes) key.now value.now)) }
-        ensures gone { OnOk result (pairs_of K.cmp (joined self.new.nodes) key.now ≡ without_first (λ p. V.eq p.value value.now) (pairs_of K.cmp (joined self.old.nodes) key.now)) }
-        ensures others { OnOk result ((other : K) → is_eq (K.cmp other key.now) ≡ false → pairs_of K.cmp (joined self.new.nodes) other ≡ pairs_of K.cmp (joined self.old.nodes) other) }
-        ensures size { self.new.size ≡ self.old.size }
-        ensures next { OnOk result (self.new.next ≡ self.old.next + length (pair_removal_events K.cmp self.old.size self.old.nodes (equal_pair K.cmp V.eq (joined self.old.nodes) key.now value.now))) }
-        ensures pair_next { self.new.pair_next ≡ self.old.pair_next }
-        ensures fits { OnOk result (self.old.next + length (pair_removal_events K.cmp self.old.size self.old.nodes (equal_pair K.cmp V.eq (joined self.old.nodes) key.now value.now)) ≤ u64.MAX) }
-        ensures events { ((x y : K) → K.is_clone x y → y ≡ x) → ((x y : V) → V.is_clone x y → y ≡ x) → IfOk result (λ r. r.1.items ≡ numbered_from self.old.next (pair_removal_events K.cmp self.old.size self.old.nodes (equal_pair K.cmp V.eq (joined self.old.nodes) key.now value.now))) }
-        ensures numbered { IfOk result (λ r. IsNumberedFrom self.old.next r.1.items) }
-        ensures replay { ((x y : K) → K.is_clone x y → y ≡ x) → ((x y : V) → V.is_clone x y → y ≡ x) → IfOk result (λ r. replay (by_number K.cmp) self.old.nodes r.1.items ≡ Some self.new.nodes) }
-        ensures table { OnOk result (replay (by_number K.cmp) self.old.nodes (numbered_from self.old.next (pair_removal_events K.cmp self.old.size self.old.nodes (equal_pair K.cmp V.eq (joined self.old.nodes) key.now value.now))) ≡ Some self.new.nodes) }
-        ensures few { IfOk result (λ r. length r.1.items ≤ 3) }
-        ensures spaced { IsSpaced (self.old.size / 2) self.old.nodes → IsSpaced (self.new.size / 2) self.new.nodes }
+        ensures gone { OnOk result (pairs_of K.cmp (joined self.new.nodes) key.now
+            ≡ without_first (λ p. V.eq p.value value.now)
+            (pairs_of K.cmp (joined self.old.nodes) key.now)) }
+        ensures others { OnOk result (KeepsOthers K.cmp self.old self.new key.now) }
+        ensures changed { OnOk result (MultiChanged K.cmp self.old self.new
+            (equal_removal K.cmp V.eq self.old key.now value.now)) }
+        ensures told { IfOk result (λ r. MultiTold K.cmp K.is_clone V.is_clone self.old self.new
+            (equal_removal K.cmp V.eq self.old key.now value.now) r.1.items) }
     {
         let place = self.equal_place(key, value);
         self.take_cdc(place)
@@ -131,24 +113,23 @@ impl<K: Ord + Clone + Drop, V: Eq + Clone + Drop, Node: NodeLike<MultiPair<K, V>
     /// assert!(rt; removed == Some((1, 100)) && !tags.contains_key(&1));
     /// ```
     pub fn remove(&mut self, key: &K, value: &V) -> Result<Option<(K, V)>, Refusal>
-        ensures tree { OnOk result (self.new ≡ after_removal K.cmp self.old (equal_pair K.cmp V.eq (joined self.old.nodes) key.now value.now)) }
-        ensures answer { IfOk result (λ entry. entry ≡ option_map key_and_value (equal_pair K.cmp V.eq (joined self.old.nodes) key.now value.now)) }
-        ensures refusal { IfErr result (λ e. e ≡ refusal_for self.old.next (length (pair_removal_events K.cmp self.old.size self.old.nodes (equal_pair K.cmp V.eq (joined self.old.nodes) key.now value.now)))) }
-        ensures no_event { pair_removal_events K.cmp self.old.size self.old.nodes (equal_pair K.cmp V.eq (joined self.old.nodes) key.now value.now) ≡ [] → IsOk result }
+        ensures answer { IfOk result (λ entry. entry ≡ option_map key_and_value
+            (equal_pair K.cmp V.eq (joined self.old.nodes) key.now value.now)) }
+        ensures refusal { IfErr result (λ e. e ≡ refusal_of self.old
+            (equal_removal K.cmp V.eq self.old key.now value.now)) }
+        ensures no_event { (equal_removal K.cmp V.eq self.old key.now value.now).events ≡ []
+            → IsOk result }
+        ensures no_memory { length (equal_removal K.cmp V.eq self.old key.now value.now).events ≤ 1
+            → Fits self.old (equal_removal K.cmp V.eq self.old key.now value.now) → IsOk result }
+        ensures never { Node.allocates ≡ false
+            → Fits self.old (equal_removal K.cmp V.eq self.old key.now value.now) → IsOk result }
         ensures unchanged { OnErr result (self.new ≡ self.old) }
-        // What callers prove by.
-        ensures contents { OnOk result (joined self.new.nodes ≡ without_named K.cmp (joined self.old.nodes) (equal_pair K.cmp V.eq (joined self.old.nodes) key.now value.now)) }
-        ensures gone { OnOk result (pairs_of K.cmp (joined self.new.nodes) key.now ≡ without_first (λ p. V.eq p.value value.now) (pairs_of K.cmp (joined self.old.nodes) key.now)) }
-        ensures others { OnOk result ((other : K) → is_eq (K.cmp other key.now) ≡ false → pairs_of K.cmp (joined self.new.nodes) other ≡ pairs_of K.cmp (joined self.old.nodes) other) }
-        ensures size { self.new.size ≡ self.old.size }
-        ensures next { OnOk result (self.new.next ≡ self.old.next + length (pair_removal_events K.cmp self.old.size self.old.nodes (equal_pair K.cmp V.eq (joined self.old.nodes) key.now value.now))) }
-        ensures pair_next { self.new.pair_next ≡ self.old.pair_next }
-        ensures fits { OnOk result (self.old.next + length (pair_removal_events K.cmp self.old.size self.old.nodes (equal_pair K.cmp V.eq (joined self.old.nodes) key.now value.now)) ≤ u64.MAX) }
-        ensures no_memory { length (pair_removal_events K.cmp self.old.size self.old.nodes (equal_pair K.cmp V.eq (joined self.old.nodes) key.now value.now)) ≤ 1 → self.old.next + length (pair_removal_events K.cmp self.old.size self.old.nodes (equal_pair K.cmp V.eq (joined self.old.nodes) key.now value.now)) ≤ u64.MAX → IsOk result }
-        ensures never { Node.allocates ≡ false → self.old.next + length (pair_removal_events K.cmp self.old.size self.old.nodes (equal_pair K.cmp V.eq (joined self.old.nodes) key.now value.now)) ≤ u64.MAX → IsOk result }
-        ensures table { OnOk result (replay (by_number K.cmp) self.old.nodes (numbered_from self.old.next (pair_removal_events K.cmp self.old.size self.old.nodes (equal_pair K.cmp V.eq (joined self.old.nodes) key.now value.now))) ≡ Some self.new.nodes) }
-        ensures few { length (pair_removal_events K.cmp self.old.size self.old.nodes (equal_pair K.cmp V.eq (joined self.old.nodes) key.now value.now)) ≤ 3 }
-        ensures spaced { IsSpaced (self.old.size / 2) self.old.nodes → IsSpaced (self.new.size / 2) self.new.nodes }
+        ensures gone { OnOk result (pairs_of K.cmp (joined self.new.nodes) key.now
+            ≡ without_first (λ p. V.eq p.value value.now)
+            (pairs_of K.cmp (joined self.old.nodes) key.now)) }
+        ensures others { OnOk result (KeepsOthers K.cmp self.old self.new key.now) }
+        ensures changed { OnOk result (MultiChanged K.cmp self.old self.new
+            (equal_removal K.cmp V.eq self.old key.now value.now)) }
     {
         let place = self.equal_place(key, value);
         self.take(place)
@@ -157,7 +138,8 @@ impl<K: Ord + Clone + Drop, V: Eq + Clone + Drop, Node: NodeLike<MultiPair<K, V>
     // Returns where the first pair of a key stands.
     pub(super) fn first_place(&self, key: &K) -> Option<(usize, usize)>
         ensures place { IsItemPlace self.now.nodes result }
-        ensures pair { placed_item self.now.nodes result ≡ first_pair K.cmp (joined self.now.nodes) key.now }
+        ensures pair { placed_item self.now.nodes result
+            ≡ first_pair K.cmp (joined self.now.nodes) key.now }
     {
         self.locate(key).ok()
     }
@@ -165,7 +147,8 @@ impl<K: Ord + Clone + Drop, V: Eq + Clone + Drop, Node: NodeLike<MultiPair<K, V>
     // Returns where the first pair of a key with an equal value stands.
     fn equal_place(&self, key: &K, value: &V) -> Option<(usize, usize)>
         ensures place { IsItemPlace self.now.nodes result }
-        ensures pair { placed_item self.now.nodes result ≡ equal_pair K.cmp V.eq (joined self.now.nodes) key.now value.now }
+        ensures pair { placed_item self.now.nodes result
+            ≡ equal_pair K.cmp V.eq (joined self.now.nodes) key.now value.now }
     {
         let (from, to) = self.places_of(key);
         let index = index_of(self.set.range_between(from, to), value)?;
@@ -178,14 +161,24 @@ impl<K: Ord + Clone + Drop, V: Eq + Clone + Drop, Node: NodeLike<MultiPair<K, V>
         place: Option<(usize, usize)>,
     ) -> Result<(Option<(K, V)>, Vec<ChangeEvent<MultiPair<K, V>>>), Refusal>
         requires { IsItemPlace self.old.nodes place }
-        ensures tree { OnOk result (self.new ≡ after_removal K.cmp self.old (placed_item self.old.nodes place)) }
-        ensures answer { IfOk result (λ r. r.0 ≡ option_map key_and_value (placed_item self.old.nodes place)) }
-        ensures told { IfOk result (λ r. IsTold (λ p q. K.is_clone p.key q.key × (V.is_clone p.value q.value × (q.discriminator ≡ p.discriminator))) self.old.next (pair_removal_events K.cmp self.old.size self.old.nodes (placed_item self.old.nodes place)) r.1.items) }
-        ensures fits { OnOk result (self.old.next + length (pair_removal_events K.cmp self.old.size self.old.nodes (placed_item self.old.nodes place)) ≤ u64.MAX) }
-        ensures refusal { IfErr result (λ e. e ≡ refusal_for self.old.next (length (pair_removal_events K.cmp self.old.size self.old.nodes (placed_item self.old.nodes place)))) }
-        ensures no_event { pair_removal_events K.cmp self.old.size self.old.nodes (placed_item self.old.nodes place) ≡ [] → IsOk result }
+        ensures tree { OnOk result (self.new ≡ after_removal K.cmp self.old
+            (placed_item self.old.nodes place)) }
+        ensures answer { IfOk result (λ r. r.0 ≡ option_map key_and_value
+            (placed_item self.old.nodes place)) }
+        ensures told { IfOk result (λ r. IsTold (IsPairClone K.is_clone V.is_clone) self.old.next
+            (pair_removal_events K.cmp self.old.size self.old.nodes
+            (placed_item self.old.nodes place)) r.1.items) }
+        ensures fits { OnOk result (self.old.next + length
+            (pair_removal_events K.cmp self.old.size self.old.nodes
+            (placed_item self.old.nodes place)) ≤ u64.MAX) }
+        ensures refusal { IfErr result (λ e. e ≡ refusal_for self.old.next
+            (length (pair_removal_events K.cmp self.old.size self.old.nodes
+            (placed_item self.old.nodes place)))) }
+        ensures no_event { pair_removal_events K.cmp self.old.size self.old.nodes
+            (placed_item self.old.nodes place) ≡ [] → IsOk result }
         ensures unchanged { OnErr result (self.new ≡ self.old) }
-        ensures rule { IsTree (by_number K.cmp) Node.most self.old.nodes self.old.size (length (joined self.old.nodes)) }
+        ensures rule { IsTree (by_number K.cmp) Node.most self.old.nodes self.old.size
+            (length (joined self.old.nodes)) }
     {
         self.rule();
         match place {
@@ -200,15 +193,28 @@ impl<K: Ord + Clone + Drop, V: Eq + Clone + Drop, Node: NodeLike<MultiPair<K, V>
     // Removes the pair at a place, where one is given.
     fn take(&mut self, place: Option<(usize, usize)>) -> Result<Option<(K, V)>, Refusal>
         requires { IsItemPlace self.old.nodes place }
-        ensures tree { OnOk result (self.new ≡ after_removal K.cmp self.old (placed_item self.old.nodes place)) }
-        ensures answer { IfOk result (λ entry. entry ≡ option_map key_and_value (placed_item self.old.nodes place)) }
-        ensures fits { OnOk result (self.old.next + length (pair_removal_events K.cmp self.old.size self.old.nodes (placed_item self.old.nodes place)) ≤ u64.MAX) }
-        ensures refusal { IfErr result (λ e. e ≡ refusal_for self.old.next (length (pair_removal_events K.cmp self.old.size self.old.nodes (placed_item self.old.nodes place)))) }
-        ensures no_event { pair_removal_events K.cmp self.old.size self.old.nodes (placed_item self.old.nodes place) ≡ [] → IsOk result }
-        ensures no_memory { length (pair_removal_events K.cmp self.old.size self.old.nodes (placed_item self.old.nodes place)) ≤ 1 → self.old.next + length (pair_removal_events K.cmp self.old.size self.old.nodes (placed_item self.old.nodes place)) ≤ u64.MAX → IsOk result }
-        ensures never { Node.allocates ≡ false → self.old.next + length (pair_removal_events K.cmp self.old.size self.old.nodes (placed_item self.old.nodes place)) ≤ u64.MAX → IsOk result }
+        ensures tree { OnOk result (self.new ≡ after_removal K.cmp self.old
+            (placed_item self.old.nodes place)) }
+        ensures answer { IfOk result (λ entry. entry ≡ option_map key_and_value
+            (placed_item self.old.nodes place)) }
+        ensures fits { OnOk result (self.old.next + length
+            (pair_removal_events K.cmp self.old.size self.old.nodes
+            (placed_item self.old.nodes place)) ≤ u64.MAX) }
+        ensures refusal { IfErr result (λ e. e ≡ refusal_for self.old.next
+            (length (pair_removal_events K.cmp self.old.size self.old.nodes
+            (placed_item self.old.nodes place)))) }
+        ensures no_event { pair_removal_events K.cmp self.old.size self.old.nodes
+            (placed_item self.old.nodes place) ≡ [] → IsOk result }
+        ensures no_memory { length (pair_removal_events K.cmp self.old.size self.old.nodes
+            (placed_item self.old.nodes place)) ≤ 1 → self.old.next + length
+            (pair_removal_events K.cmp self.old.size self.old.nodes
+            (placed_item self.old.nodes place)) ≤ u64.MAX → IsOk result }
+        ensures never { Node.allocates ≡ false → self.old.next + length
+            (pair_removal_events K.cmp self.old.size self.old.nodes
+            (placed_item self.old.nodes place)) ≤ u64.MAX → IsOk result }
         ensures unchanged { OnErr result (self.new ≡ self.old) }
-        ensures rule { IsTree (by_number K.cmp) Node.most self.old.nodes self.old.size (length (joined self.old.nodes)) }
+        ensures rule { IsTree (by_number K.cmp) Node.most self.old.nodes self.old.size
+            (length (joined self.old.nodes)) }
     {
         self.rule();
         match place {
@@ -226,7 +232,9 @@ fn index_of<K: Ord + Clone + Drop, V: Eq + Clone + Drop, Node: NodeLike<MultiPai
     pairs: Range<'_, MultiPair<K, V>, Node>,
     value: &V,
 ) -> Option<usize>
-    ensures { MatchOption result (find (λ p. V.eq p.value value.now) pairs.entry ≡ None) (λ i. (i < length pairs.entry) × (slice_get pairs.entry i ≡ find (λ p. V.eq p.value value.now) pairs.entry)) }
+    ensures { MatchOption result (find (λ p. V.eq p.value value.now) pairs.entry ≡ None)
+        (λ i. (i < length pairs.entry) × (slice_get pairs.entry i
+        ≡ find (λ p. V.eq p.value value.now) pairs.entry)) }
 {
     // The number of pairs fits.
     let _len = pairs.len();

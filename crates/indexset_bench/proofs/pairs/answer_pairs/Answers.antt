@@ -39,9 +39,9 @@ returns-in_ok-write_line-in-Put g c =
     let done = rw (mapped_ok c.insert_cdc-done.result c.map_err.result _ _ c.map_err.ensures.cases c.in_ok-old-in-Put.was) at c.insert_cdc-done.ensures in
     let last = c.write_events in
     let replied : c.reply_to_put.result ≡ change_reply old (Put c.in-Put.key c.in-Put.value) = c.reply_to_put.ensures ∙ ap (λ o. option_map_or OldValue o New) done.answer in
-    let events : c.deref.result.now ≡ told_events old (Put c.in-Put.key c.in-Put.value) = c.deref.ensures.value ∙ done.events (λ x y e. e) (λ x y e. e) in
+    let events : c.deref.result.now ≡ told_events old (Put c.in-Put.key c.in-Put.value) = c.deref.ensures.value ∙ done.told.events ((λ x y e. e), (λ x y e. e)) in
     rw c.in-Put.is (record {
-      pairs = on_ok_any last.result (tree_led (by_key nat_cmp) old c.insert_cdc-done.new.self (pair_events old (Put c.in-Put.key c.in-Put.value)) done.table done.size done.next);
+      pairs = on_ok_any last.result (tree_led (by_key nat_cmp) old c.insert_cdc-done.new.self (pair_events old (Put c.in-Put.key c.in-Put.value)) done.changed.table done.changed.size done.changed.next);
       told = on_ok_weaker last.result (λ lines. subst (Appends _ _) (λ i. reply_ended (replied i) ++ lines_for event_text (events i)) (Appends-trans _ _ _ _ _ c.in_ok-write_line-in-Put.ensures.told lines)) last.ensures.told;
       memory_refused = λ e. write_not_memory (sym (rw e at last.ensures.fault));
       numbers_refused = λ e. write_not_numbers (sym (rw e at last.ensures.fault));
@@ -69,7 +69,7 @@ pub returns-in_ok-write_line-in-Cut-clause-pairs : goal.returns-in_ok-write_line
 returns-in_ok-write_line-in-Cut-clause-pairs g c =
     let old = c.args.pairs.now in
     let done = c.in_ok-out-in-Cut.ensures in
-    rw c.in-Cut.is (on_ok_any c.write_events-in-Cut.result (tree_led (by_key nat_cmp) old c.remove_cdc.new.self (pair_events old (Cut c.in-Cut.key)) done.table done.size done.next))
+    rw c.in-Cut.is (on_ok_any c.write_events-in-Cut.result (tree_led (by_key nat_cmp) old c.remove_cdc.new.self (pair_events old (Cut c.in-Cut.key)) done.changed.table done.changed.size done.changed.next))
 
 pub returns-in_ok-write_line-in-Cut-clause-memory_refused : goal.returns-in_ok-write_line-in-Cut-clause-memory_refused
 returns-in_ok-write_line-in-Cut-clause-memory_refused g c e = write_not_memory (sym (rw e at c.write_events-in-Cut.ensures.fault))

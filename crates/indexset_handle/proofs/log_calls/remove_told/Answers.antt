@@ -16,14 +16,14 @@ use Rattle.indexset_handle.proofs.log_calls.remove_told.Goals as goal
 pub returns-clause-told : goal.returns-clause-told
 returns-clause-told c =
     let log = c.args.log.now in let es = key_removal_events nat_cmp log.size log.nodes c.args.key in
-    let all : c.in_ok-found.changes.items ≡ numbered_from log.next es = c.in_ok-found.ensures.events (λ x y h. h) (λ x y h. h) in
+    let all : c.in_ok-found.changes.items ≡ numbered_from log.next es = c.in_ok-found.ensures.told.events ((λ x y h. h), (λ x y h. h)) in
     c.len.ensures ∙ c.in_ok-found.changes.ok.0 ∙ ap (λ l. length l) all ∙ length-numbered log.next es
 
 -- src/log_edits.rt:50:1
 pub returns-clause-events : goal.returns-clause-events
 returns-clause-events c =
     let log = c.args.log.now in let es = key_removal_events nat_cmp log.size log.nodes c.args.key in
-    let all : c.as_slice.result.now ≡ numbered_from log.next es = c.as_slice.ensures.value ∙ c.in_ok-found.ensures.events (λ x y h. h) (λ x y h. h) in
+    let all : c.as_slice.result.now ≡ numbered_from log.next es = c.as_slice.ensures.value ∙ c.in_ok-found.ensures.told.events ((λ x y h. h), (λ x y h. h)) in
     c.write_events.ensures ∙ ap (λ l. written (length l) (map record_of l) c.args.events.now) all ∙ ap (λ n. written n (map record_of (numbered_from log.next es)) c.args.events.now) (length-numbered log.next es)
 
 -- src/log_edits.rt:50:1
@@ -36,6 +36,6 @@ returns-clause-absent c none =
       | in-None w ↦ mapped_none entry_of (pair_of nat_cmp (joined log.nodes) k) (sym e.answer ∙ w.in-None.is)
     ] in
     let empty : es ≡ [] = none_told log.size log.nodes k gone in let zero : length es ≡ 0 = ap (λ l. length l) empty in
-    let count = returns-clause-told c in let next = e.next in
-    let nodes : Some log.nodes ≡ Some new.nodes = sym (ap (λ l. replay (by_key nat_cmp) log.nodes (numbered_from log.next l)) empty) ∙ e.table in
-    (count ∙ zero, same_tree new log (sym (same_Some log.nodes new.nodes nodes)) e.size (omega (arith, next, zero)))
+    let count = returns-clause-told c in let next = e.changed.next in
+    let nodes : Some log.nodes ≡ Some new.nodes = sym (ap (λ l. replay (by_key nat_cmp) log.nodes (numbered_from log.next l)) empty) ∙ e.changed.table in
+    (count ∙ zero, same_tree new log (sym (same_Some log.nodes new.nodes nodes)) e.changed.size (omega (arith, next, zero)))

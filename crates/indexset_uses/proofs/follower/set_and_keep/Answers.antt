@@ -10,7 +10,7 @@ returns-clause-replayed c =
     let kept = c.args.events.now.items in
     let added = c.in_ok-added.added.items in
     let whole : c.append-appended.new.self.items ≡ kept ++ added = grind (arith, common_steps) in
-    let led = c.in_ok-added.ensures.replay (λ x y same. same) (λ x y same. same) in
+    let led = c.in_ok-added.ensures.told.replay ((λ x y same. same), (λ x y same. same)) in
     ap (λ events. replay (by_key nat_cmp) [] events) whole ∙ (c.replay_in_parts.ensures [] kept added ∙ (ap (option_and_then (λ nodes. replay (by_key nat_cmp) nodes added)) c.requires.replayed ∙ led))
 
 pub returns-clause-numbered : goal.returns-clause-numbered
@@ -18,5 +18,5 @@ returns-clause-numbered c =
     let kept = c.args.events.now.items in
     let added = c.in_ok-added.added.items in
     let whole : c.append-appended.new.self.items ≡ kept ++ added = grind (arith, common_steps) in
-    let after : IsNumberedFrom (0 + length kept) added = λ i inside d. grind (arith, c.in_ok-added.ensures.numbered i inside d, c.requires.counted) in
+    let after : IsNumberedFrom (0 + length kept) added = λ i inside d. grind (arith, c.in_ok-added.ensures.told.numbered i inside d, c.requires.counted) in
     subst (λ events. IsNumberedFrom 0 events) (sym whole) (c.numbered_in_parts.ensures 0 kept added c.requires.numbered after)

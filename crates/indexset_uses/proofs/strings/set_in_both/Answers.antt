@@ -8,8 +8,8 @@ on_ok (Err e) f h = tt
 -- the events are clones of the map's, and lead to its nodes
 pub returns-clause-copies : goal.returns-clause-copies
 returns-clause-copies c =
-    let told = c.in_ok-events.ensures in
-    c.apply_all.ensures.copies (c.pairs.ensures.pair c.texts.ensures.string) c.args.counts.now.nodes c.insert_cdc.new.self.nodes _ c.requires (rw c.as_slice.ensures.value told.clones) told.table
+    let done = c.in_ok-events.ensures in
+    c.apply_all.ensures.copies (c.pairs.ensures.pair c.texts.ensures.string) c.args.counts.now.nodes c.insert_cdc.new.self.nodes _ c.requires (rw c.as_slice.ensures.value done.told.clones) done.changed.table
 
 -- a clone has the text and the count of its source
 pub returns-clause-same : goal.returns-clause-same

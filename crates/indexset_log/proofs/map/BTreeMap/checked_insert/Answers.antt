@@ -9,42 +9,26 @@ returns-in_err-added g c =
     let e = err_from_is_err_and c.from_residual.result c.from_residual.ensures.1 in
     rw e.1
     (record {
-      tree = tt;
       answer = tt;
       refusal = e.2.1 ∙ done.refusal;
       no_event = done.no_event;
       given_back = e.2.0 ∙ ap (λ p. (p.key, p.value)) done.given_back;
       unchanged = done.unchanged;
-      contents = tt;
       there = tt;
       written = tt;
-      nodes = tt;
-      table = tt;
-      few = done.few;
-      size = done.size;
-      spaced = done.spaced;
-      next = tt;
-      fits = tt;
+      changed = tt;
     })
 
 pub returns : goal.returns
 returns g c =
     let done = rw c.self.view_is at c.in_ok-added.ensures in
     record {
-      tree = done.tree;
       answer = search rules;
       refusal = tt;
       no_event = done.no_event;
       given_back = tt;
       unchanged = tt;
-      contents = done.contents;
       there = done.there;
-      written = added_written g.met.K.Ord.total _ _ c.args.key c.args.value c.then_some.result (search rules) done.contents;
-      nodes = done.nodes;
-      table = done.table;
-      few = done.few;
-      size = done.size;
-      spaced = done.spaced;
-      next = done.next;
-      fits = done.fits;
+      written = added_written g.met.K.Ord.total _ _ c.args.key c.args.value c.then_some.result (search rules) done.changed.contents;
+      changed = done.changed;
     }

@@ -5,48 +5,33 @@ use Rattle.indexset_core.specs.Pairs.{value_of}
 use Rattle.indexset_log.proofs.Beside.{others_put}
 use Rattle.indexset_log.proofs.map.BTreeMap.insert.Goals as goal
 
-pub returns-in_err-old : goal.returns-in_err-old
-returns-in_err-old g c =
-    let done = rw c.self.view_is at c.in_err-old.ensures in
-    let e = err_from_is_err_and c.from_residual.result c.from_residual.ensures.1 in
-    rw e.1
-    (record {
-      tree = tt;
-      answer = tt;
-      refusal = e.2.1 ∙ done.refusal;
-      given_back = e.2.0 ∙ ap (λ p. (p.key, p.value)) done.given_back;
-      unchanged = done.unchanged;
-      contents = tt;
-      there = tt;
-      written = tt;
-      others = tt;
-      nodes = tt;
-      table = tt;
-      few = done.few;
-      size = done.size;
-      spaced = done.spaced;
-      next = tt;
-      fits = tt;
-    })
-
 pub returns : goal.returns
 returns g c =
     let done = rw c.self.view_is at c.in_ok-old.ensures in
+    let contents = done.changed.contents in
     record {
-      tree = done.tree;
       answer = search rules;
       refusal = tt;
       given_back = tt;
       unchanged = tt;
-      contents = done.contents;
       there = done.there;
-      written = ap (λ l. value_of g.K.Ord.cmp l c.args.key) done.contents ∙ value_put g.K.Ord.cmp g.met.K.Ord.total _ c.args.key c.args.value;
-      others = others_put g.met.K.Ord.total c.args.self.now.nodes c.put.new.self.nodes c.args.key c.args.value done.contents;
-      nodes = done.nodes;
-      table = done.table;
-      few = done.few;
-      size = done.size;
-      spaced = done.spaced;
-      next = done.next;
-      fits = done.fits;
+      written = ap (λ l. value_of g.K.Ord.cmp l c.args.key) contents ∙ value_put g.K.Ord.cmp g.met.K.Ord.total _ c.args.key c.args.value;
+      others = others_put g.met.K.Ord.total c.args.self.now.nodes c.put.new.self.nodes c.args.key c.args.value contents;
+      changed = done.changed;
     }
+
+pub returns-in_err-old : goal.returns-in_err-old
+returns-in_err-old g c =
+    let done = rw c.self.view_is at c.in_err-old.ensures in
+    let why = err_from_is_err_and c.from_residual.result c.from_residual.ensures.1 in
+    rw why.1
+    (record {
+      answer = tt;
+      refusal = why.2.1 ∙ done.refusal;
+      given_back = why.2.0 ∙ ap (λ p. (p.key, p.value)) done.given_back;
+      unchanged = done.unchanged;
+      there = tt;
+      written = tt;
+      others = tt;
+      changed = tt;
+    })

@@ -1,61 +1,41 @@
 use Rattle.std.proofs.Common.{ap, ◌∙◌}
 use Rattle.std.proofs.lemmas.Result.{err_from_is_err_and}
+use Rattle.std.specs.Option.{option_map}
 use Rattle.indexset_core.proofs.CallerLemmas.{value_put}
 use Rattle.indexset_core.specs.Pairs.{value_of}
 use Rattle.indexset_log.proofs.Beside.{others_put}
-use Rattle.std.specs.Option.{option_map}
-use Rattle.indexset_log.proofs.Clones.{pair_same}
+use Rattle.indexset_log.proofs.Changed.{pairs_told}
 use Rattle.indexset_log.proofs.map.BTreeMap.insert_cdc.Goals as goal
 
 pub returns : goal.returns
 returns g c =
     let done = rw c.self.view_is at c.in_ok-old.ensures in
+    let contents = done.changed.contents in
     record {
-      tree = done.tree;
       answer = c.value_in.ensures ∙ ap (λ o. option_map (λ p. p.value) o) done.answer;
-      clones = done.clones;
       refusal = tt;
       given_back = tt;
       unchanged = tt;
-      contents = done.contents;
       there = done.there;
-      written = ap (λ l. value_of g.K.Ord.cmp l c.args.key) done.contents ∙ value_put g.K.Ord.cmp g.met.K.Ord.total _ c.args.key c.args.value;
-      others = others_put g.met.K.Ord.total c.args.self.now.nodes c.put_cdc.new.self.nodes c.args.key c.args.value done.contents;
-      nodes = done.nodes;
-      events = λ hk hv. done.events (pair_same hk hv);
-      numbered = done.numbered;
-      replay = λ hk hv. done.replay (pair_same hk hv);
-      table = done.table;
-      few = done.few;
-      size = done.size;
-      spaced = done.spaced;
-      next = done.next;
-      fits = done.fits;
+      written = ap (λ l. value_of g.K.Ord.cmp l c.args.key) contents ∙ value_put g.K.Ord.cmp g.met.K.Ord.total _ c.args.key c.args.value;
+      others = others_put g.met.K.Ord.total c.args.self.now.nodes c.put_cdc.new.self.nodes c.args.key c.args.value contents;
+      changed = done.changed;
+      told = pairs_told g.K.Ord.cmp g.K.Clone.is_clone g.V.Clone.is_clone done.told;
     }
 
 pub returns-in_err-old : goal.returns-in_err-old
 returns-in_err-old g c =
     let done = rw c.self.view_is at c.in_err-old.ensures in
     let why = err_from_is_err_and c.from_residual.result c.from_residual.ensures.1 in
-    rw why.1 (record {
-      tree = tt;
+    rw why.1
+    (record {
       answer = tt;
-      clones = tt;
       refusal = why.2.1 ∙ done.refusal;
       given_back = why.2.0 ∙ ap (λ p. (p.key, p.value)) done.given_back;
       unchanged = done.unchanged;
-      contents = tt;
       there = tt;
       written = tt;
       others = tt;
-      nodes = tt;
-      events = λ _ _. tt;
-      numbered = tt;
-      replay = λ _ _. tt;
-      table = tt;
-      few = tt;
-      size = done.size;
-      spaced = done.spaced;
-      next = tt;
-      fits = tt;
+      changed = tt;
+      told = tt;
     })

@@ -14,20 +14,13 @@ returns-in_err-pair-clause-no_memory g c few fits = absurd (false≢true ((rw c.
 
 pub returns : goal.returns
 returns g c =
-    let done = c.in_ok-pair.ensures in
+    let done = rw c.self.view_is at c.in_ok-pair.ensures in
     record {
-      tree = rw c.self.view_is at done.tree;
-      answer = c.entry_of.ensures ∙ ap (option_map entry_of) (rw c.self.view_is at done.answer);
-      contents = rw c.self.view_is at done.contents;
-      table = rw c.self.view_is at done.table;
-      few = rw c.self.view_is at done.few;
-      size = rw c.self.view_is at done.size;
-      spaced = rw c.self.view_is at done.spaced;
-      next = rw c.self.view_is at done.next;
-      fits = rw c.self.view_is at done.fits;
+      answer = c.entry_of.ensures ∙ ap (option_map entry_of) done.answer;
       refusal = tt;
       no_event = λ _. refl;
       no_memory = λ _ _. refl;
       never = λ _ _. refl;
       unchanged = tt;
+      changed = done.changed;
     }

@@ -1,7 +1,7 @@
 use Rattle.std.proofs.Common.{rules, ◌≡◌, IfErr, ap, refl, subst, ◌∙◌}
 use Rattle.std.specs.Option.{option_map}
 use Rattle.indexset_core.specs.Pairs.{entry_of}
-use Rattle.indexset_log.proofs.Clones.{pair_same}
+use Rattle.indexset_log.proofs.Changed.{pairs_told}
 use Rattle.indexset_log.proofs.map.BTreeMap.pop_last_cdc.Goals as goal
 
 pub returns-in_err-pair-clause-refusal : goal.returns-in_err-pair-clause-refusal
@@ -11,22 +11,12 @@ returns-in_err-pair-clause-refusal g c =
 
 pub returns : goal.returns
 returns g c =
-    let done = c.in_ok-pair.ensures in
+    let done = rw c.self.view_is at c.in_ok-pair.ensures in
     record {
-      tree = rw c.self.view_is at done.tree;
-      answer = c.entry_of.ensures ∙ ap (option_map entry_of) (rw c.self.view_is at done.answer);
-      contents = rw c.self.view_is at done.contents;
-      clones = rw c.self.view_is at done.clones;
-      events = λ hk hv. rw c.self.view_is at (done.events (pair_same hk hv));
-      numbered = rw c.self.view_is at done.numbered;
-      replay = λ hk hv. rw c.self.view_is at (done.replay (pair_same hk hv));
-      table = rw c.self.view_is at done.table;
-      few = done.few;
-      size = rw c.self.view_is at done.size;
-      spaced = rw c.self.view_is at done.spaced;
-      next = rw c.self.view_is at done.next;
-      fits = rw c.self.view_is at done.fits;
+      answer = c.entry_of.ensures ∙ ap (option_map entry_of) done.answer;
       refusal = tt;
       no_event = λ _. refl;
       unchanged = tt;
+      changed = done.changed;
+      told = pairs_told g.K.Ord.cmp g.K.Clone.is_clone g.V.Clone.is_clone done.told;
     }

@@ -1,7 +1,7 @@
-use Rattle.std.proofs.Common.{◌-◌, length, ap, refl, ◌∙◌}
+use Rattle.std.proofs.Common.{◌-◌, length, ◌∙◌}
 use Rattle.indexset_core.specs.Nodes.{joined}
-use Rattle.indexset_log.proofs.Changed.{either_way, if_ok_map, same_spaced, told}
-use Rattle.indexset_log.proofs.Ends.{popped_changed, position_goes, remove_last}
+use Rattle.indexset_log.proofs.Changed.{if_ok_map, on_ok_both, told}
+use Rattle.indexset_log.proofs.Ends.{last_changed, position_goes}
 use Rattle.indexset_log.proofs.Theorem.{on_ok_map}
 use Rattle.indexset_log.proofs.Trees.{held}
 use Rattle.indexset_log.proofs.set.BTreeSet.pop_last_cdc.Goals as goal
@@ -19,24 +19,12 @@ returns g c =
     let r = c.remove_from_cdc.result in
     let done = c.remove_from_cdc.ensures in
     let tree = on_ok_map r done.tree (λ e. e ∙ w.after) in
-    let d = on_ok_map r tree (popped_changed g.met.T.Ord.total t.rule (length (joined c.args.self.now.nodes) - 1)) in
-    let clones = rw w.events at done.told in
-    let s = if_ok_map r clones d (λ x clones d. told g.T.Clone.is_clone x.1.items d clones) in
+    let d = on_ok_both r tree (rw w.events at done.fits) (last_changed g.met.T.Ord.total t.rule) in
     record {
-      tree = tree;
       answer = rw w.item at done.answer;
-      clones = clones;
       refusal = rw w.events at done.refusal;
       no_event = rw w.events at done.no_event;
       unchanged = done.unchanged;
-      contents = on_ok_map r d (λ d. d.contents ∙ remove_last (joined c.args.self.now.nodes) _ refl);
-      events = λ h. if_ok_map r s d (λ x s d. s.events h);
-      numbered = if_ok_map r s d (λ x s d. s.numbered);
-      replay = λ h. if_ok_map r s d (λ x s d. s.replay h);
-      table = on_ok_map r d (λ d. d.table);
-      few = if_ok_map r s d (λ x s d. s.few);
-      size = either_way r d (λ d. d.size) done.unchanged (ap (λ t. t.size));
-      spaced = either_way r d (λ d. d.spaced) done.unchanged same_spaced;
-      next = on_ok_map r d (λ d. d.next);
-      fits = rw w.events at done.fits;
+      changed = d;
+      told = if_ok_map r (rw w.events at done.told) d (λ x clones d. told g.T.Clone.is_clone x.1.items d clones);
     }

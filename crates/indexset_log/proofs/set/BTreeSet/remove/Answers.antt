@@ -2,8 +2,7 @@ use Rattle.std.proofs.Common.{ap, ◌∙◌}
 use Rattle.indexset_core.specs.Nodes.{joined}
 use Rattle.indexset_core.specs.Order.{has_equal}
 use Rattle.indexset_core.proofs.CallerLemmas.{has_none}
-use Rattle.indexset_log.proofs.Changed.{either_way, removal_changed, same_spaced, value_goes}
-use Rattle.indexset_log.proofs.Takes.{removal_few}
+use Rattle.indexset_log.proofs.Changed.{on_ok_both, removal_changed, value_goes}
 use Rattle.indexset_log.proofs.Theorem.{on_ok_map}
 use Rattle.indexset_log.proofs.Trees.{held}
 use Rattle.indexset_log.proofs.set.BTreeSet.remove.Goals as goal
@@ -21,21 +20,14 @@ returns g c =
     let r = c.remove_from.result in
     let done = c.remove_from.ensures in
     let tree = on_ok_map r done.tree (λ e. e ∙ w.after) in
-    let d = on_ok_map r tree (removal_changed g.met.T.Ord.total t.rule c.args.value.now) in
+    let d = on_ok_both r tree (rw w.events at done.fits) (removal_changed g.met.T.Ord.total t.rule c.args.value.now) in
     record {
-      tree = tree;
       answer = rw w.item at done.answer;
       refusal = rw w.events at done.refusal;
       no_event = rw w.events at done.no_event;
       no_memory = rw w.events at done.no_memory;
       never = rw w.events at done.never;
       unchanged = done.unchanged;
-      contents = on_ok_map r d (λ d. d.contents);
       gone = on_ok_map r d (λ d. ap (λ l. has_equal g.T.Ord.cmp l c.args.value.now) d.contents ∙ has_none g.T.Ord.cmp (joined c.args.self.now.nodes) c.args.value.now);
-      table = on_ok_map r d (λ d. d.table);
-      few = removal_few g.T.Ord.cmp c.args.self.now.size c.args.self.now.nodes c.args.value.now;
-      size = either_way r d (λ d. d.size) done.unchanged (ap (λ t. t.size));
-      spaced = either_way r d (λ d. d.spaced) done.unchanged same_spaced;
-      next = on_ok_map r d (λ d. d.next);
-      fits = rw w.events at done.fits;
+      changed = d;
     }

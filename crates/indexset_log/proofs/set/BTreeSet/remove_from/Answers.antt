@@ -37,9 +37,9 @@ returns-in_ok-remove_at-in-Some g c =
     let count = events_counted c.args.self.now c.in-Some.node c.in-Some.offset here.1 in
     let done = c.in_ok-remove_at-in-Some.ensures in
     record {
-      tree = rw c.in-Some.is done.tree;
+      tree = rw c.in-Some.is done.changed.tree;
       answer = rw c.in-Some.is (sym done.item);
-      fits = rw (c.in-Some.is, count) done.fits;
+      fits = rw (c.in-Some.is, count) (omega (arith, ap (λ t. t.next) done.changed.tree, done.changed.next, done.changed.fits));
       refusal = tt;
       no_event = λ _. refl;
       no_memory = λ _ _. refl;

@@ -23,10 +23,10 @@ returns-in_ok-item-in-Some g c =
     let count = events_counted c.args.self.now c.in-Some.node c.in-Some.offset here.1 in
     let done = c.in_ok-item-in-Some.ensures in
     record {
-      tree = rw c.in-Some.is done.tree;
+      tree = rw c.in-Some.is done.changed.tree;
       answer = rw c.in-Some.is (sym done.item);
-      told = rw (c.in-Some.is, done.item) done.clones;
-      fits = rw (c.in-Some.is, count) done.fits;
+      told = rw (c.in-Some.is, done.item) done.told.clones;
+      fits = rw (c.in-Some.is, count) (omega (arith, ap (λ t. t.next) done.changed.tree, done.changed.next, done.changed.fits));
       refusal = tt;
       no_event = λ _. refl;
       unchanged = tt;

@@ -1,7 +1,7 @@
 use Rattle.std.proofs.Common.{rules, ◌≡◌, ◌+◌, ◌-◌, ◌<◌, true, false, is_some, length, refl, ap, sym, subst, ◌∙◌, arith}
 use Rattle.indexset_core.specs.Nodes.{joined}
 use Rattle.indexset_multi.specs.Keys.{first_pair, key_and_value, pairs_of}
-use Rattle.indexset_multi.proofs.Removals.{all_kept, all_removed, left_is, more_left, none_left, now_gone, one_more, removed_fit, some_mapped, stays, tree_is}
+use Rattle.indexset_multi.proofs.Removals.{all_kept, all_removed, are_removed, more_left, none_left, one_more, removed_fit, some_mapped, stays}
 use Rattle.indexset_multi.proofs.multimap.BTreeMultiMap.remove_all.Goals as goal
 
 pub loop-count-init : goal.loop-count-init
@@ -37,7 +37,7 @@ loop-count-preserved-in-Some g c =
     let at = c.loop-count in
     let found : is_some (first_pair cmp (joined at.self.nodes) k) ≡ true = sym (ap is_some (rw c.in-Some.is at c.in_ok-remove_some.ensures.answer) ∙ some_mapped key_and_value (first_pair cmp (joined at.self.nodes) k)) in
     record {
-      tree = one_more g.met.K.Ord.total old c.rule.ensures.tree k at.count at.invariant.tree c.in_ok-remove_some.ensures.tree;
+      tree = one_more g.met.K.Ord.total old c.rule.ensures.tree k at.count at.invariant.tree c.in_ok-remove_some.ensures.changed.tree;
       within = more_left g.met.K.Ord.total old c.rule.ensures.tree k at.count at.invariant.tree found;
     }
 
@@ -48,43 +48,25 @@ returns g c =
     let old = c.args.self.now in
     let at = c.loop-count in
     let none : is_some (first_pair cmp (joined at.self.nodes) k) ≡ false = sym (ap is_some (rw c.in_default.is at c.in_ok-remove_some.ensures.answer) ∙ some_mapped key_and_value (first_pair cmp (joined at.self.nodes) k)) in
-    let same = stays g.met.K.Ord.total old c.rule.ensures.tree k at.count at.invariant.tree at.invariant.within none c.in_ok-remove_some.ensures.tree in
+    let same = stays g.met.K.Ord.total old c.rule.ensures.tree k at.count at.invariant.tree at.invariant.within none c.in_ok-remove_some.ensures.changed.tree in
     let is = same ∙ at.invariant.tree in
     let gone = subst (λ m. is_some (first_pair cmp (joined m.nodes) k) ≡ false) (sym same) none in
-    let d = now_gone g.met.K.Ord.total old c.rule.ensures.tree k at.count is in
     record {
-      tree = tree_is g.met.K.Ord.total old c.rule.ensures.tree k at.count is at.invariant.within;
       count = all_removed g.met.K.Ord.total old c.rule.ensures.tree k at.count is at.invariant.within gone;
       contents = all_kept g.met.K.Ord.total old c.rule.ensures.tree k at.count is at.invariant.within gone;
       gone = none_left g.met.K.Ord.total old c.rule.ensures.tree k at.count is at.invariant.within gone;
-      left = left_is g.met.K.Ord.total old c.rule.ensures.tree k at.count is at.invariant.within;
-      rest = d.rest;
-      others = d.others;
-      led = d.led;
-      size = d.size;
-      spaced = d.spaced;
-      pair_next = d.pair_next;
       refusal = tt;
+      removed = are_removed g.met.K.Ord.total old c.rule.ensures.tree k at.count is at.invariant.within;
     }
 
 pub returns-in_err-remove_some : goal.returns-in_err-remove_some
 returns-in_err-remove_some g c =
-    let old = c.args.self.now in
-    let k = c.args.key.now in
     let at = c.loop-count in
     let is = c.in_err-remove_some.ensures.unchanged ∙ at.invariant.tree in
-    let d = now_gone g.met.K.Ord.total old c.rule.ensures.tree k at.count is in
     record {
-      tree = tree_is g.met.K.Ord.total old c.rule.ensures.tree k at.count is at.invariant.within;
       count = search rules;
       contents = search rules;
       gone = search rules;
-      left = left_is g.met.K.Ord.total old c.rule.ensures.tree k at.count is at.invariant.within;
-      rest = d.rest;
-      others = d.others;
-      led = d.led;
-      size = d.size;
-      spaced = d.spaced;
-      pair_next = d.pair_next;
       refusal = search rules;
+      removed = are_removed g.met.K.Ord.total c.args.self.now c.rule.ensures.tree c.args.key.now at.count is at.invariant.within;
     }

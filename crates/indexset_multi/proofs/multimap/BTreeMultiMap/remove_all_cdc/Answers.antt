@@ -1,11 +1,9 @@
 use Rattle.std.proofs.Common.{◌≡◌, ◌+◌, ◌-◌, ◌<◌, true, false, is_some, length, refl, ap, sym, subst, ◌∙◌, arith}
 use Rattle.indexset_core.specs.Nodes.{joined}
 use Rattle.indexset_log.specs.Clones.{IsTold}
-use Rattle.indexset_log.proofs.CallerLemmas.{clones_numbered}
 use Rattle.indexset_multi.specs.Keys.{first_pair, pairs_of}
 use Rattle.indexset_multi.specs.Tree.{IsPairClone, removals_events}
-use Rattle.indexset_multi.proofs.Removals.{all_kept, all_removed, led_by, left_is, more_left, none_left, now_gone, one_more, removed_fit, stays, table_is, told_is, told_more, tree_is}
-use Rattle.indexset_multi.proofs.Takes.{pair_same}
+use Rattle.indexset_multi.proofs.Removals.{all_kept, all_removed, are_removed, more_left, none_left, one_more, removals_told, removed_fit, stays, told_more}
 use Rattle.indexset_multi.proofs.multimap.BTreeMultiMap.remove_all_cdc.Goals as goal
 
 pub overflow_add-count : goal.overflow_add-count
@@ -53,28 +51,18 @@ returns-in-Ok-false g c =
     let same = stays g.met.K.Ord.total old c.rule.ensures.tree k at.count at.invariant.tree at.invariant.within none c.in-Ok-false.ensures.tree in
     let is = same ∙ at.invariant.tree in
     let gone = subst (λ m. is_some (first_pair cmp (joined m.nodes) k) ≡ false) (sym same) none in
-    let d = now_gone g.met.K.Ord.total old c.rule.ensures.tree k at.count is in
-    let C = IsPairClone g.K.Clone.is_clone g.V.Clone.is_clone in
-    let told = subst (λ l. IsTold C old.next (removals_events cmp old k at.count) l) (sym (c.in-Ok-false.ensures.untold c.in-Ok-false.field-0-test)) at.invariant.told in
+    let C = g.K.Clone.is_clone in
+    let D = g.V.Clone.is_clone in
+    let told = subst (λ l. IsTold (IsPairClone C D) old.next (removals_events cmp old k at.count) l) (sym (c.in-Ok-false.ensures.untold c.in-Ok-false.field-0-test)) at.invariant.told in
     record {
-      tree = tree_is g.met.K.Ord.total old c.rule.ensures.tree k at.count is at.invariant.within;
       count = all_removed g.met.K.Ord.total old c.rule.ensures.tree k at.count is at.invariant.within gone;
       contents = all_kept g.met.K.Ord.total old c.rule.ensures.tree k at.count is at.invariant.within gone;
       gone = none_left g.met.K.Ord.total old c.rule.ensures.tree k at.count is at.invariant.within gone;
-      left = left_is g.met.K.Ord.total old c.rule.ensures.tree k at.count is at.invariant.within;
-      rest = d.rest;
-      others = d.others;
-      clones = told_is g.met.K.Ord.total old c.rule.ensures.tree k at.count is at.invariant.within C _ told;
-      clones_before = tt;
       refusal = tt;
       no_event = λ _. refl;
-      numbered = clones_numbered C old.next (removals_events cmp old k at.count) _ told;
-      table = table_is g.met.K.Ord.total old c.rule.ensures.tree k at.count is at.invariant.within;
-      replay = λ hk hv. led_by g.met.K.Ord.total old c.rule.ensures.tree k at.count is at.invariant.within C _ told (pair_same hk hv);
-      replay_before = λ hk hv. tt;
-      size = d.size;
-      spaced = d.spaced;
-      pair_next = d.pair_next;
+      removed = are_removed g.met.K.Ord.total old c.rule.ensures.tree k at.count is at.invariant.within;
+      told = removals_told g.met.K.Ord.total old c.rule.ensures.tree k at.count is at.invariant.within C D _ told;
+      told_before = tt;
     }
 
 pub returns-in-Err : goal.returns-in-Err
@@ -83,26 +71,16 @@ returns-in-Err g c =
     let k = c.args.key.now in
     let at = c.loop-count in
     let is = c.in-Err.ensures.unchanged ∙ at.invariant.tree in
-    let d = now_gone g.met.K.Ord.total old c.rule.ensures.tree k at.count is in
-    let C = IsPairClone g.K.Clone.is_clone g.V.Clone.is_clone in
-    let told = subst (λ l. IsTold C old.next (removals_events g.K.Ord.cmp old k at.count) l) (sym c.in-Err.ensures.kept) at.invariant.told in
+    let C = g.K.Clone.is_clone in
+    let D = g.V.Clone.is_clone in
+    let told = subst (λ l. IsTold (IsPairClone C D) old.next (removals_events g.K.Ord.cmp old k at.count) l) (sym c.in-Err.ensures.kept) at.invariant.told in
     record {
-      tree = tree_is g.met.K.Ord.total old c.rule.ensures.tree k at.count is at.invariant.within;
       count = tt;
       contents = tt;
       gone = tt;
-      left = left_is g.met.K.Ord.total old c.rule.ensures.tree k at.count is at.invariant.within;
-      rest = d.rest;
-      others = d.others;
-      clones = tt;
-      clones_before = told_is g.met.K.Ord.total old c.rule.ensures.tree k at.count is at.invariant.within C _ told;
       refusal = rw c.in-Err.ensures.unchanged c.in-Err.ensures.refusal;
       no_event = λ none. absurd (omega (arith, more_left g.met.K.Ord.total old c.rule.ensures.tree k at.count at.invariant.tree c.in-Err.ensures.there, ap (λ l. length l) none));
-      numbered = tt;
-      table = table_is g.met.K.Ord.total old c.rule.ensures.tree k at.count is at.invariant.within;
-      replay = λ hk hv. tt;
-      replay_before = λ hk hv. led_by g.met.K.Ord.total old c.rule.ensures.tree k at.count is at.invariant.within C _ told (pair_same hk hv);
-      size = d.size;
-      spaced = d.spaced;
-      pair_next = d.pair_next;
+      removed = are_removed g.met.K.Ord.total old c.rule.ensures.tree k at.count is at.invariant.within;
+      told = tt;
+      told_before = removals_told g.met.K.Ord.total old c.rule.ensures.tree k at.count is at.invariant.within C D _ told;
     }

@@ -1,10 +1,10 @@
 use Rattle.std.proofs.Common.{ap, ◌∙◌}
 use Rattle.indexset_core.specs.MultiPairs.{by_number}
 use Rattle.indexset_core.specs.Nodes.{joined}
-use Rattle.indexset_log.proofs.CallerLemmas.{if_ok_map, lawful_ascends, on_ok_map, told}
+use Rattle.indexset_log.proofs.CallerLemmas.{if_ok_map, lawful_ascends, on_ok_map}
 use Rattle.indexset_multi.specs.Keys.{equal_pair, pairs_of}
 use Rattle.indexset_multi.proofs.Lists.{others_left, pair_gone}
-use Rattle.indexset_multi.proofs.Takes.{pair_same, removed}
+use Rattle.indexset_multi.proofs.Takes.{multi_told, removed}
 use Rattle.indexset_multi.proofs.multimap.BTreeMultiMap.remove_cdc.Goals as goal
 
 pub returns : goal.returns
@@ -17,29 +17,15 @@ returns g c =
     let is = c.equal_place-place.ensures.pair in
     let r = c.take_cdc.result in
     let done = c.take_cdc.ensures in
-    let tree = rw is at done.tree in
-    let d = removed o done.rule (equal_pair cmp g.V.PartialEq.eq l k c.args.value.now) r tree done.unchanged in
-    let clones = rw is at done.told in
-    let s = if_ok_map r clones d.changed (λ x clones d. told _ x.1.items d clones) in
+    let d = removed m c.take_cdc.new.self o done.rule (equal_pair cmp g.V.PartialEq.eq l k c.args.value.now) r (rw is at done.tree) (rw is at done.fits) in
     let up = lawful_ascends (by_number cmp) m.size m.nodes done.rule.lawful in
     record {
-      tree = tree;
       answer = rw is at done.answer;
-      clones = clones;
       refusal = rw is at done.refusal;
       no_event = rw is at done.no_event;
       unchanged = done.unchanged;
-      contents = on_ok_map r d.changed (λ d. d.contents);
-      gone = on_ok_map r d.changed (λ d. ap (λ l. pairs_of cmp l k) d.contents ∙ pair_gone cmp o k (λ p. g.V.PartialEq.eq p.value c.args.value.now) l up);
-      others = on_ok_map r d.changed (λ d other ne. ap (λ l. pairs_of cmp l other) d.contents ∙ others_left cmp o k (λ p. g.V.PartialEq.eq p.value c.args.value.now) l other ne);
-      size = d.size;
-      next = on_ok_map r d.changed (λ d. d.next);
-      pair_next = d.pair_next;
-      fits = rw is at done.fits;
-      events = λ hk hv. if_ok_map r s d.changed (λ x s d. s.events (pair_same hk hv));
-      numbered = if_ok_map r s d.changed (λ x s d. s.numbered);
-      replay = λ hk hv. if_ok_map r s d.changed (λ x s d. s.replay (pair_same hk hv));
-      table = on_ok_map r d.changed (λ d. d.table);
-      few = if_ok_map r s d.changed (λ x s d. s.few);
-      spaced = d.spaced;
+      gone = on_ok_map r d (λ d. ap (λ l. pairs_of cmp l k) d.contents ∙ pair_gone cmp o k (λ p. g.V.PartialEq.eq p.value c.args.value.now) l up);
+      others = on_ok_map r d (λ d other ne. ap (λ l. pairs_of cmp l other) d.contents ∙ others_left cmp o k (λ p. g.V.PartialEq.eq p.value c.args.value.now) l other ne);
+      changed = d;
+      told = if_ok_map r (rw is at done.told) d (λ x clones d. multi_told g.K.Clone.is_clone g.V.Clone.is_clone x.1.items d clones);
     }

@@ -1,10 +1,10 @@
 use Rattle.std.proofs.Common.{ap, ◌∙◌}
 use Rattle.indexset_core.specs.MultiPairs.{by_number}
 use Rattle.indexset_core.specs.Nodes.{joined}
-use Rattle.indexset_log.proofs.CallerLemmas.{if_ok_map, lawful_ascends, on_ok_map, told}
+use Rattle.indexset_log.proofs.CallerLemmas.{if_ok_map, lawful_ascends, on_ok_map}
 use Rattle.indexset_multi.specs.Keys.{first_pair, pairs_of}
 use Rattle.indexset_multi.proofs.Lists.{first_pair_gone, others_left_first}
-use Rattle.indexset_multi.proofs.Takes.{pair_same, removed}
+use Rattle.indexset_multi.proofs.Takes.{multi_told, removed}
 use Rattle.indexset_multi.proofs.multimap.BTreeMultiMap.remove_some_cdc.Goals as goal
 
 pub returns : goal.returns
@@ -17,29 +17,15 @@ returns g c =
     let is = c.first_place-place.ensures.pair in
     let r = c.take_cdc.result in
     let done = c.take_cdc.ensures in
-    let tree = rw is at done.tree in
-    let d = removed o done.rule (first_pair cmp l k) r tree done.unchanged in
-    let clones = rw is at done.told in
-    let s = if_ok_map r clones d.changed (λ x clones d. told _ x.1.items d clones) in
+    let d = removed m c.take_cdc.new.self o done.rule (first_pair cmp l k) r (rw is at done.tree) (rw is at done.fits) in
     let up = lawful_ascends (by_number cmp) m.size m.nodes done.rule.lawful in
     record {
-      tree = tree;
       answer = rw is at done.answer;
-      clones = clones;
       refusal = rw is at done.refusal;
       no_event = rw is at done.no_event;
       unchanged = done.unchanged;
-      contents = on_ok_map r d.changed (λ d. d.contents);
-      gone = on_ok_map r d.changed (λ d. ap (λ l. pairs_of cmp l k) d.contents ∙ first_pair_gone cmp o k l up);
-      others = on_ok_map r d.changed (λ d other ne. ap (λ l. pairs_of cmp l other) d.contents ∙ others_left_first cmp o k l other ne);
-      size = d.size;
-      next = on_ok_map r d.changed (λ d. d.next);
-      pair_next = d.pair_next;
-      fits = rw is at done.fits;
-      events = λ hk hv. if_ok_map r s d.changed (λ x s d. s.events (pair_same hk hv));
-      numbered = if_ok_map r s d.changed (λ x s d. s.numbered);
-      replay = λ hk hv. if_ok_map r s d.changed (λ x s d. s.replay (pair_same hk hv));
-      table = on_ok_map r d.changed (λ d. d.table);
-      few = if_ok_map r s d.changed (λ x s d. s.few);
-      spaced = d.spaced;
+      gone = on_ok_map r d (λ d. ap (λ l. pairs_of cmp l k) d.contents ∙ first_pair_gone cmp o k l up);
+      others = on_ok_map r d (λ d other ne. ap (λ l. pairs_of cmp l other) d.contents ∙ others_left_first cmp o k l other ne);
+      changed = d;
+      told = if_ok_map r (rw is at done.told) d (λ x clones d. multi_told g.K.Clone.is_clone g.V.Clone.is_clone x.1.items d clones);
     }

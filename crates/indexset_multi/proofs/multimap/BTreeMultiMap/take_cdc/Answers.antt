@@ -30,7 +30,7 @@ returns-in_err-pair-in-Some-clause-no_event g c =
 pub invariant_of-self-in-Some : goal.invariant_of-self-in-Some
 invariant_of-self-in-Some g c =
     let done = c.in_ok-pair-in-Some.ensures in
-    let taken = taken g.K.Ord.cmp g.met.K.Ord.total c.self.view_is c.rule.ensures.tree c.in-Some.is c.requires done.item done.tree done.table in
+    let taken = taken g.K.Ord.cmp g.met.K.Ord.total c.self.view_is c.rule.ensures.tree c.in-Some.is c.requires done.item done.changed.tree done.changed.table in
     let below = subst (λ m. AreNumberedBelow c.self.inside.pair_next (joined m.nodes)) c.self.view_is c.self.invariant in
     pair_below g.met.K.Ord.total c.args.self.now c.rule.ensures.tree (placed_item c.args.self.now.nodes c.args.place) taken.tree c.self.inside.pair_next below
 
@@ -45,15 +45,15 @@ returns-in_ok-pair-in-Some g c =
     let cmp = g.K.Ord.cmp in
     let rule = c.rule.ensures.tree in
     let done = c.in_ok-pair-in-Some.ensures in
-    let taken = taken cmp g.met.K.Ord.total c.self.view_is rule c.in-Some.is c.requires done.item done.tree done.table in
+    let taken = taken cmp g.met.K.Ord.total c.self.view_is rule c.in-Some.is c.requires done.item done.changed.tree done.changed.table in
     let count = taken_count cmp g.met.K.Ord.total c.self.view_is rule c.in-Some.is c.requires in
     let same : c.self.inside.set.nodes ≡ c.args.self.now.nodes = ap (λ t. t.nodes) c.self.view_is in
     let next : c.self.inside.set.next ≡ c.args.self.now.next = ap (λ t. t.next) c.self.view_is in
     record {
       tree = taken.tree;
       answer = rw (c.in-Some.is, ← same, done.item) refl;
-      told = rw (← taken.told) done.clones;
-      fits = rw (count, ← next) done.fits;
+      told = rw (← taken.told) done.told.clones;
+      fits = rw (count, ← next) (omega (arith, ap (λ t. t.next) done.changed.tree, done.changed.next, done.changed.fits));
       refusal = tt;
       no_event = λ _. refl;
       unchanged = tt;

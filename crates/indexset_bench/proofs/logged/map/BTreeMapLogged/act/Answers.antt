@@ -5,6 +5,7 @@ use Rattle.indexset_core.specs.Nodes.{joined}
 use Rattle.indexset_core.specs.Pairs.{by_key, has_key, pair}
 use Rattle.indexset_log.specs.Keys.{key_removal_events}
 use Rattle.indexset_log.specs.Table.{checked_put_events, put_events}
+use Rattle.indexset_log.proofs.CallerLemmas.{same_spaced}
 use Rattle.indexset_bench.specs.declared.logged.map.LoggedMapReply.TheVariants.{OldValue, Added, Out}
 use Rattle.indexset_bench.proofs.Acts.{tree_led}
 use Rattle.indexset_lines.proofs.CallerLemmas.{failed}
@@ -24,8 +25,8 @@ returns-in_err-old-in-Insert g c =
       few = tt;
       tree = tt;
       next = tt;
-      size = done.size;
-      spaced = done.spaced;
+      size = ap (λ t. t.size) done.unchanged;
+      spaced = same_spaced done.unchanged;
       fits = tt;
       refusal = done.refusal;
       unchanged = done.unchanged;
@@ -37,17 +38,17 @@ returns-in_ok-old-in-Insert g c =
     let old = c.args.self.now in
     rw c.in-Insert.is (record {
       reply = ap OldValue done.answer;
-      state = done.contents;
-      clones = done.clones;
-      events = λ same. done.events same.0 same.1;
-      replay = λ same. done.replay same.0 same.1;
-      table = done.table;
-      few = done.few;
-      tree = tree_led (by_key g.K.Ord.cmp) old c.insert_cdc.new.self (put_events (by_key g.K.Ord.cmp) old.size old.nodes (pair c.in-Insert.key c.in-Insert.value)) done.table done.size done.next;
-      next = done.next;
-      size = done.size;
-      spaced = done.spaced;
-      fits = le-ltb MAX _ done.fits;
+      state = done.changed.contents;
+      clones = done.told.clones;
+      events = done.told.events;
+      replay = done.told.replay;
+      table = done.changed.table;
+      few = done.told.few;
+      tree = tree_led (by_key g.K.Ord.cmp) old c.insert_cdc.new.self (put_events (by_key g.K.Ord.cmp) old.size old.nodes (pair c.in-Insert.key c.in-Insert.value)) done.changed.table done.changed.size done.changed.next;
+      next = done.changed.next;
+      size = done.changed.size;
+      spaced = done.changed.spaced;
+      fits = le-ltb MAX _ done.changed.fits;
       refusal = tt;
       unchanged = tt;
     })
@@ -65,8 +66,8 @@ returns-in_err-events-in-CheckedInsert g c =
       few = tt;
       tree = tt;
       next = tt;
-      size = done.size;
-      spaced = done.spaced;
+      size = ap (λ t. t.size) done.unchanged;
+      spaced = same_spaced done.unchanged;
       fits = tt;
       refusal = done.refusal;
       unchanged = done.unchanged;
@@ -78,17 +79,17 @@ returns-in-Some g c =
     let old = c.args.self.now in
     rw c.in-CheckedInsert.is (record {
       reply = ap (λ b. Added (not b)) done.answer;
-      state = done.contents;
-      clones = done.clones;
-      events = λ same. done.events same.0 same.1;
-      replay = λ same. rw (done.events same.0 same.1) done.table;
-      table = done.table;
-      few = done.few;
-      tree = tree_led (by_key g.K.Ord.cmp) old c.checked_insert_cdc.new.self (checked_put_events (by_key g.K.Ord.cmp) old.size old.nodes (pair c.in-CheckedInsert.key c.in-CheckedInsert.value)) done.table done.size done.next;
-      next = done.next;
-      size = done.size;
-      spaced = done.spaced;
-      fits = le-ltb MAX _ done.fits;
+      state = done.changed.contents;
+      clones = done.told.clones;
+      events = done.told.events;
+      replay = λ same. rw (done.told.events same) done.changed.table;
+      table = done.changed.table;
+      few = done.told.few;
+      tree = tree_led (by_key g.K.Ord.cmp) old c.checked_insert_cdc.new.self (checked_put_events (by_key g.K.Ord.cmp) old.size old.nodes (pair c.in-CheckedInsert.key c.in-CheckedInsert.value)) done.changed.table done.changed.size done.changed.next;
+      next = done.changed.next;
+      size = done.changed.size;
+      spaced = done.changed.spaced;
+      fits = le-ltb MAX _ done.changed.fits;
       refusal = tt;
       unchanged = tt;
     })
@@ -99,20 +100,20 @@ returns-in-None g c =
     let old = c.args.self.now in
     let there : has_key g.K.Ord.cmp (joined old.nodes) c.in-CheckedInsert.key ≡ true = sym done.answer in
     let silent = checked_there (by_key g.K.Ord.cmp) old.size old.nodes (pair c.in-CheckedInsert.key c.in-CheckedInsert.value) there in
-    let led = rw silent at done.table in
+    let led = rw silent at done.changed.table in
     rw (c.in-CheckedInsert.is, c.new.ensures.items) (record {
       reply = ap (λ b. Added (not b)) done.answer;
-      state = done.contents;
+      state = done.changed.contents;
       clones = rw silent tt;
       events = λ _. rw silent refl;
       replay = λ _. led;
-      table = done.table;
+      table = done.changed.table;
       few = omega arith;
-      tree = tree_led (by_key g.K.Ord.cmp) old c.checked_insert_cdc.new.self (checked_put_events (by_key g.K.Ord.cmp) old.size old.nodes (pair c.in-CheckedInsert.key c.in-CheckedInsert.value)) done.table done.size done.next;
-      next = done.next;
-      size = done.size;
-      spaced = done.spaced;
-      fits = le-ltb MAX _ done.fits;
+      tree = tree_led (by_key g.K.Ord.cmp) old c.checked_insert_cdc.new.self (checked_put_events (by_key g.K.Ord.cmp) old.size old.nodes (pair c.in-CheckedInsert.key c.in-CheckedInsert.value)) done.changed.table done.changed.size done.changed.next;
+      next = done.changed.next;
+      size = done.changed.size;
+      spaced = done.changed.spaced;
+      fits = le-ltb MAX _ done.changed.fits;
       refusal = tt;
       unchanged = tt;
     })
@@ -130,8 +131,8 @@ returns-in_err-out-in-Remove g c =
       few = tt;
       tree = tt;
       next = tt;
-      size = done.size;
-      spaced = done.spaced;
+      size = ap (λ t. t.size) done.unchanged;
+      spaced = same_spaced done.unchanged;
       fits = tt;
       refusal = done.refusal;
       unchanged = done.unchanged;
@@ -143,17 +144,17 @@ returns-in_ok-out-in-Remove g c =
     let old = c.args.self.now in
     rw c.in-Remove.is (record {
       reply = ap Out done.answer;
-      state = done.contents;
-      clones = done.clones;
-      events = λ same. done.events same.0 same.1;
-      replay = λ same. done.replay same.0 same.1;
-      table = done.table;
-      few = done.few;
-      tree = tree_led (by_key g.K.Ord.cmp) old c.remove_cdc.new.self (key_removal_events g.K.Ord.cmp old.size old.nodes c.in-Remove.key) done.table done.size done.next;
-      next = done.next;
-      size = done.size;
-      spaced = done.spaced;
-      fits = le-ltb MAX _ done.fits;
+      state = done.changed.contents;
+      clones = done.told.clones;
+      events = done.told.events;
+      replay = done.told.replay;
+      table = done.changed.table;
+      few = done.told.few;
+      tree = tree_led (by_key g.K.Ord.cmp) old c.remove_cdc.new.self (key_removal_events g.K.Ord.cmp old.size old.nodes c.in-Remove.key) done.changed.table done.changed.size done.changed.next;
+      next = done.changed.next;
+      size = done.changed.size;
+      spaced = done.changed.spaced;
+      fits = le-ltb MAX _ done.changed.fits;
       refusal = tt;
       unchanged = tt;
     })

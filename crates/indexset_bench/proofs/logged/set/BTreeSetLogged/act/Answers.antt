@@ -4,6 +4,7 @@ use Rattle.std.proofs.lemmas.Bool.{le-ltb}
 use Rattle.indexset_core.specs.Nodes.{joined}
 use Rattle.indexset_core.specs.Order.{has_equal}
 use Rattle.indexset_log.specs.Table.{checked_put_events, put_events, removal_events}
+use Rattle.indexset_log.proofs.CallerLemmas.{same_spaced}
 use Rattle.indexset_bench.specs.declared.logged.set.LoggedSetReply.TheVariants.{Old, Added}
 use Rattle.indexset_bench.proofs.Acts.{tree_led}
 use Rattle.indexset_lines.proofs.CallerLemmas.{failed}
@@ -23,8 +24,8 @@ returns-in_err-old-in-Put g c =
       few = tt;
       tree = tt;
       next = tt;
-      size = done.size;
-      spaced = done.spaced;
+      size = ap (λ t. t.size) done.unchanged;
+      spaced = same_spaced done.unchanged;
       fits = tt;
       refusal = done.refusal;
       unchanged = done.unchanged;
@@ -36,17 +37,17 @@ returns-in_ok-old-in-Put g c =
     let old = c.args.self.now in
     rw c.in-Put.is (record {
       reply = ap Old done.answer;
-      state = done.contents;
-      clones = done.clones;
-      events = done.events;
-      replay = done.replay;
-      table = done.table;
-      few = done.few;
-      tree = tree_led g.T.Ord.cmp old c.put_cdc.new.self (put_events g.T.Ord.cmp old.size old.nodes c.in-Put.value) done.table done.size done.next;
-      next = done.next;
-      size = done.size;
-      spaced = done.spaced;
-      fits = le-ltb MAX _ done.fits;
+      state = done.changed.contents;
+      clones = done.told.clones;
+      events = done.told.events;
+      replay = done.told.replay;
+      table = done.changed.table;
+      few = done.told.few;
+      tree = tree_led g.T.Ord.cmp old c.put_cdc.new.self (put_events g.T.Ord.cmp old.size old.nodes c.in-Put.value) done.changed.table done.changed.size done.changed.next;
+      next = done.changed.next;
+      size = done.changed.size;
+      spaced = done.changed.spaced;
+      fits = le-ltb MAX _ done.changed.fits;
       refusal = tt;
       unchanged = tt;
     })
@@ -64,8 +65,8 @@ returns-in_err-events-in-PutChecked g c =
       few = tt;
       tree = tt;
       next = tt;
-      size = done.size;
-      spaced = done.spaced;
+      size = ap (λ t. t.size) done.unchanged;
+      spaced = same_spaced done.unchanged;
       fits = tt;
       refusal = done.refusal;
       unchanged = done.unchanged;
@@ -77,17 +78,17 @@ returns-in-Some g c =
     let old = c.args.self.now in
     rw c.in-PutChecked.is (record {
       reply = ap (λ b. Added (not b)) done.answer;
-      state = done.contents;
-      clones = done.clones;
-      events = done.events;
-      replay = λ same. rw (done.events same) done.table;
-      table = done.table;
-      few = done.few;
-      tree = tree_led g.T.Ord.cmp old c.put_cdc_checked.new.self (checked_put_events g.T.Ord.cmp old.size old.nodes c.in-PutChecked.value) done.table done.size done.next;
-      next = done.next;
-      size = done.size;
-      spaced = done.spaced;
-      fits = le-ltb MAX _ done.fits;
+      state = done.changed.contents;
+      clones = done.told.clones;
+      events = done.told.events;
+      replay = λ same. rw (done.told.events same) done.changed.table;
+      table = done.changed.table;
+      few = done.told.few;
+      tree = tree_led g.T.Ord.cmp old c.put_cdc_checked.new.self (checked_put_events g.T.Ord.cmp old.size old.nodes c.in-PutChecked.value) done.changed.table done.changed.size done.changed.next;
+      next = done.changed.next;
+      size = done.changed.size;
+      spaced = done.changed.spaced;
+      fits = le-ltb MAX _ done.changed.fits;
       refusal = tt;
       unchanged = tt;
     })
@@ -98,20 +99,20 @@ returns-in-None g c =
     let old = c.args.self.now in
     let there : has_equal g.T.Ord.cmp (joined old.nodes) c.in-PutChecked.value ≡ true = sym done.answer in
     let silent = checked_there g.T.Ord.cmp old.size old.nodes c.in-PutChecked.value there in
-    let led = rw silent at done.table in
+    let led = rw silent at done.changed.table in
     rw (c.in-PutChecked.is, c.new.ensures.items) (record {
       reply = ap (λ b. Added (not b)) done.answer;
-      state = done.contents;
+      state = done.changed.contents;
       clones = rw silent tt;
       events = λ _. rw silent refl;
       replay = λ _. led;
-      table = done.table;
+      table = done.changed.table;
       few = omega arith;
-      tree = tree_led g.T.Ord.cmp old c.put_cdc_checked.new.self (checked_put_events g.T.Ord.cmp old.size old.nodes c.in-PutChecked.value) done.table done.size done.next;
-      next = done.next;
-      size = done.size;
-      spaced = done.spaced;
-      fits = le-ltb MAX _ done.fits;
+      tree = tree_led g.T.Ord.cmp old c.put_cdc_checked.new.self (checked_put_events g.T.Ord.cmp old.size old.nodes c.in-PutChecked.value) done.changed.table done.changed.size done.changed.next;
+      next = done.changed.next;
+      size = done.changed.size;
+      spaced = done.changed.spaced;
+      fits = le-ltb MAX _ done.changed.fits;
       refusal = tt;
       unchanged = tt;
     })
@@ -129,8 +130,8 @@ returns-in_err-old-in-Remove g c =
       few = tt;
       tree = tt;
       next = tt;
-      size = done.size;
-      spaced = done.spaced;
+      size = ap (λ t. t.size) done.unchanged;
+      spaced = same_spaced done.unchanged;
       fits = tt;
       refusal = done.refusal;
       unchanged = done.unchanged;
@@ -142,17 +143,17 @@ returns-in_ok-old-in-Remove g c =
     let old = c.args.self.now in
     rw c.in-Remove.is (record {
       reply = ap Old done.answer;
-      state = done.contents;
-      clones = done.clones;
-      events = done.events;
-      replay = done.replay;
-      table = done.table;
-      few = done.few;
-      tree = tree_led g.T.Ord.cmp old c.remove_cdc.new.self (removal_events g.T.Ord.cmp old.size old.nodes c.in-Remove.value) done.table done.size done.next;
-      next = done.next;
-      size = done.size;
-      spaced = done.spaced;
-      fits = le-ltb MAX _ done.fits;
+      state = done.changed.contents;
+      clones = done.told.clones;
+      events = done.told.events;
+      replay = done.told.replay;
+      table = done.changed.table;
+      few = done.told.few;
+      tree = tree_led g.T.Ord.cmp old c.remove_cdc.new.self (removal_events g.T.Ord.cmp old.size old.nodes c.in-Remove.value) done.changed.table done.changed.size done.changed.next;
+      next = done.changed.next;
+      size = done.changed.size;
+      spaced = done.changed.spaced;
+      fits = le-ltb MAX _ done.changed.fits;
       refusal = tt;
       unchanged = tt;
     })

@@ -44,7 +44,7 @@ loop-value-preserved g c =
     let came = c.loop-value.yielded in
     let v = c.in-Some.value in
     let before = c.loop-value.invariant in
-    let done = c.in_ok-insert.ensures in
+    let done = c.in_ok-insert.ensures.changed in
     record {
       contents = done.contents ∙ sym (fold-append (keep cmp) [] came (v ∷ []) ∙ ap (λ l. keep cmp l v) (sym before.contents));
       tree = done.tree ∙ sym (fold-append (after_checked_put cmp) (fresh DEFAULT_INNER_SIZE) came (v ∷ []) ∙ ap (λ t. after_checked_put cmp t v) (sym before.tree));

@@ -1,0 +1,92 @@
+-- What a call makes of a tree, and what it tells of that.
+use Rattle.std.specs.Prelude.{◌≡◌, ℕ, ◌+◌, ◌-◌, ◌/◌, ◌≤◌, length, List, Some, drop, take}
+use Rattle.std.below.core.specs.declared.int.u64.TheConstants.{MAX}
+use Rattle.std.specs.declared.cmp.Ordering.{Ordering}
+use Rattle.indexset_core.specs.declared.pair.Pair.{Pair}
+use Rattle.indexset_core.specs.declared.refusal.Refusal.{Refusal}
+use Rattle.indexset_core.specs.Nodes.{joined}
+use Rattle.indexset_core.specs.Order.{keep, put, without}
+use Rattle.indexset_core.specs.Pairs.{by_key, without_key}
+use Rattle.indexset_log.specs.Clones.{AreIdentical, IsTold}
+use Rattle.indexset_log.specs.Edits.{after_checked_put, after_put, after_removal, after_taken, with_taken}
+use Rattle.indexset_log.specs.Ends.{after_removal_at, removal_events_at}
+use Rattle.indexset_log.specs.Joining.{IsSpaced}
+use Rattle.indexset_log.specs.Keys.{IsPairClone, after_key_removal, key_removal_events}
+use Rattle.indexset_log.specs.Replay.{IsNumberedFrom, numbered_from, replay}
+use Rattle.indexset_log.specs.Table.{checked_put_events, put_events, removal_events, taking_events}
+use Rattle.indexset_log.specs.Tree.{Tree, refusal_for}
+use Rattle.indexset_log.specs.declared.change.ChangeEvent.{ChangeEvent}
+use Rattle.indexset_log.specs.declared.change.ChangeEventUnassigned.{ChangeEventUnassigned}
+
+-- a change of a tree: the tree afterwards, its items, and the events that lead to it
+pub record Change (T : Type 0) : Type 0 where
+  pub tree : Tree T
+  pub items : List T
+  pub events : List (ChangeEventUnassigned T)
+
+module _ {T : Type 0} (cmp : T → T → Ordering) (t : Tree T) where
+  -- a put
+  abbrev pub put_change : T → Change T
+  put_change v = record { tree = after_put cmp t v; items = put cmp (joined t.nodes) v; events = put_events cmp t.size t.nodes v }
+
+  -- a checked put
+  abbrev pub checked_put_change : T → Change T
+  checked_put_change v = record { tree = after_checked_put cmp t v; items = keep cmp (joined t.nodes) v; events = checked_put_events cmp t.size t.nodes v }
+
+  -- the removal of the item that equals v, where there is one
+  abbrev pub removal_change : T → Change T
+  removal_change v = record { tree = after_removal cmp t v; items = without cmp (joined t.nodes) v; events = removal_events cmp t.size t.nodes v }
+
+  -- the removal of the first item, where there is one
+  abbrev pub first_removal : Change T
+  first_removal = record { tree = after_removal_at cmp t 0; items = drop 1 (joined t.nodes); events = removal_events_at cmp t.size t.nodes 0 }
+
+  -- the removal of the last item, where there is one
+  abbrev pub last_removal : Change T
+  last_removal =
+      let last = length (joined t.nodes) - 1 in
+      record { tree = after_removal_at cmp t last; items = take last (joined t.nodes); events = removal_events_at cmp t.size t.nodes last }
+
+-- the removal of the item x at place i of the node at place k
+abbrev pub taken_change : {T : Type 0} → Tree T → ℕ → ℕ → T → Change T
+taken_change t k i x = record { tree = after_taken t k i; items = joined (with_taken t.size t.nodes k i); events = taking_events t.size t.nodes k i x }
+
+-- the removal of the pair of the key k, where there is one
+abbrev pub key_removal : {K V : Type 0} → (K → K → Ordering) → Tree (Pair K V) → K → Change (Pair K V)
+key_removal cmp t k = record { tree = after_key_removal cmp t k; items = without_key cmp (joined t.nodes) k; events = key_removal_events cmp t.size t.nodes k }
+
+-- there are numbers for its events
+abbrev pub Fits : {T : Type 0} → Tree T → Change T → Type 0
+Fits t made = t.next + length made.events ≤ MAX
+
+-- why a call that makes it is refused, if it is
+abbrev pub refusal_of : {T : Type 0} → Tree T → Change T → Refusal
+refusal_of t made = refusal_for t.next (length made.events)
+
+-- the change was made of the old tree
+pub record Changed {T : Type 0} (cmp : T → T → Ordering) (old new : Tree T) (made : Change T) : Type 0 where
+  pub tree : new ≡ made.tree
+  pub contents : joined new.nodes ≡ made.items
+  pub nodes : new.nodes ≡ made.tree.nodes
+  pub size : new.size ≡ old.size
+  pub next : new.next ≡ old.next + length made.events
+  pub fits : old.next + length made.events ≤ MAX
+  pub table : replay cmp old.nodes (numbered_from old.next made.events) ≡ Some new.nodes
+  pub few : length made.events ≤ 3
+  pub spaced : IsSpaced (old.size / 2) old.nodes → IsSpaced (new.size / 2) new.nodes
+
+-- the events are told, with clones in the place of their items; where H, the clones are identical
+pub record Told {T : Type 0} (H : Type 0) (cmp : T → T → Ordering) (C : T → T → Type 0) (old new : Tree T) (made : Change T) (told : List (ChangeEvent T)) : Type 0 where
+  pub clones : IsTold C old.next made.events told
+  pub events : H → told ≡ numbered_from old.next made.events
+  pub numbered : IsNumberedFrom old.next told
+  pub replay : H → replay cmp old.nodes told ≡ Some new.nodes
+  pub few : length told ≤ 3
+
+-- what a set tells
+abbrev pub ItemsTold : {T : Type 0} → (T → T → Ordering) → (T → T → Type 0) → Tree T → Tree T → Change T → List (ChangeEvent T) → Type 0
+ItemsTold cmp C old new made told = Told (AreIdentical C) cmp C old new made told
+
+-- what a map tells
+abbrev pub PairsTold : {K V : Type 0} → (K → K → Ordering) → (K → K → Type 0) → (V → V → Type 0) → Tree (Pair K V) → Tree (Pair K V) → Change (Pair K V) → List (ChangeEvent (Pair K V)) → Type 0
+PairsTold cmp C D old new made told = Told (AreIdentical C × AreIdentical D) (by_key cmp) (IsPairClone C D) old new made told
