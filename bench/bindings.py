@@ -1,7 +1,7 @@
 """CPU nanoseconds an operation of the Python package beside `sortedcontainers`, in random order: the least of
 some runs, with the loop over the operations, and without the end of what they made.
 
-After `bindings/test.sh`:  PYTHONPATH=bindings/python/out python3 bench/bindings.py 1000 100000
+After `bindings/test.sh`:  PYTHONPATH=bindings/python/out python3 bench/bindings.py 1000 100000 1000000
 INDEXSET_BACKEND=ctypes has it go by ctypes.
 """
 import argparse
@@ -52,14 +52,19 @@ def slices(held, items):
         held[item : item + SLICE]
 
 
+# These two ask for the order at last, so that no change is left to make.
+
+
 def set_at(held, items):
     for item in items:
         held[item] = item
+    next(iter(held))
 
 
 def delete(held, items):
     for item in items:
         del held[item]
+    next(iter(held), None)
 
 
 def first(held, items):

@@ -9,6 +9,11 @@ import sys
 import threading
 import unittest
 
+try:
+    import _testcapi
+except ImportError:
+    _testcapi = None
+
 import indexset
 from indexset import LoggedDict, Replica, SortedDict, SortedKeyList, SortedList, SortedMultiDict, SortedSet
 
@@ -282,6 +287,19 @@ class Changed(unittest.TestCase):
         self.assertEqual(list(ours), [])
 
 
+def changed(ours, items):
+    """Changes a set, list or dictionary by calls of one item that the module makes by itself."""
+    for item in items:
+        if isinstance(ours, dict):
+            ours[item] = None
+        else:
+            ours.add(item)
+    ours.bisect_left(items[3])
+    for item in items[::2] if isinstance(ours, dict) else ():
+        del ours[item]
+    list(ours), ours.copy(), ours[items[1] if isinstance(ours, dict) else slice(2, 9)]
+
+
 class Refused(unittest.TestCase):
     """What does not fit leaves all as it was."""
 
@@ -304,6 +322,24 @@ class Refused(unittest.TestCase):
         self.assertRaises(TypeError, ours.add, "a")
         self.assertRaises(TypeError, ours.update, [3, "a"])
         self.assertEqual((list(ours), ours.kind), ([1, 2], "int64"))
+
+    @unittest.skipUnless(_testcapi and indexset.BACKEND == "extension", "the interpreter cannot refuse memory")
+    def test_memory(self):
+        """Each request for memory of Python fails in turn: the order and what finds its items agree."""
+        texts = [f"{at}" for at in range(40)]
+        for make, items in ((SortedDict, texts), (SortedSet, texts), (SortedSet, range(10**12, 10**12 + 40)), (SortedList, range(40))):
+            for start in range(1, 200):
+                ours = make()
+                _testcapi.set_nomemory(start, start + 1)
+                try:
+                    changed(ours, items)
+                except MemoryError:
+                    pass
+                finally:
+                    _testcapi.remove_mem_hooks()
+                held = list(ours)
+                self.assertEqual((len(ours), held), (len(held), sorted(held)))
+                self.assertEqual([item in ours for item in items], [item in held for item in items])
 
     def test_logged(self):
         told = []

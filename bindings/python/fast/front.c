@@ -85,9 +85,8 @@ static int add_number(Numbers *order, PyObject *members, PyObject *value) {
     int is_there = members ? PySet_Contains(members, value) : 0;
     if (is_there != 0)
         return is_there < 0 ? -1 : 0;
-    if (members != NULL && PySet_Add(members, value) < 0)
-        return -1;
-    int state = numbers_add(order, value);
+    /* A set that cannot grow has the item already. */
+    int state = members != NULL && PySet_Add(members, value) < 0 ? -1 : numbers_add(order, value);
     if (state < 0 && members != NULL)
         discard_quietly(members, value);
     return state;

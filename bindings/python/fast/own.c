@@ -222,8 +222,10 @@ static int add_code(Coded *self, PyObject *item, PyObject *members, Code *code) 
         int is_there = PySet_Contains(members, item);
         if (is_there != 0)
             return is_there < 0 ? -1 : 0;
-        if (PySet_Add(members, item) < 0)
-            return -1;
+    }
+    if (members != NULL && PySet_Add(members, item) < 0) {
+        discard_quietly(members, item); /* a set that cannot grow has it already */
+        return -1;
     }
     if (self->repeats) {
         put_number(code->data + code->size, self->added++);

@@ -15,7 +15,7 @@ T = TypeVar("T")
 
 class SortedList(Sorted[T], MutableSequence[T], Generic[T]):
     """A list that is kept in order, with the calls of `sortedcontainers.SortedList`. Items may repeat; equal
-    ones stand in the order in which they came. Numbers are kept in the library alone until the first repeats.
+    ones stand in the order in which they came. Numbers are kept as such until the first repeats.
 
     `keys` names the kind of the items and `key` is a function whose results order them, as for `SortedSet`;
     with `key` the list is a `SortedKeyList`.

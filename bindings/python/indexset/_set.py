@@ -82,8 +82,8 @@ class SortedSet(Sorted[T], MutableSet[T], Generic[T]):
             return
         order = self._fitting([value])
         (value,) = order.own([value])
-        members.add(value)
         try:
+            members.add(value)
             order.add(value)
         except BaseException:
             members.discard(value)
