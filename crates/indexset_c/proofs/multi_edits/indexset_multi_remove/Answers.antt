@@ -37,13 +37,13 @@ returns c =
           let e = w.in-Ok-Some.ensures in let answer = sym w.in-Ok-Some.field-0-is ∙ e.answer in
           record {
             absent = (λ h. not_at s YES NO w.status-is refl h, λ h. pair_there p _ answer h);
-            ok = λ h. ap numbered_pairs new ∙ e.contents;
+            ok = λ h. ap numbered_pairs new ∙ e.changed.contents;
             gone = λ h. ap (λ (o : Option (MultiTree ℕ ℕ)). pairs_of nat_cmp (numbered_pairs o) c.args.key) new ∙ e.gone;
             others = λ h other apart. ap (λ (o : Option (MultiTree ℕ ℕ)). pairs_of nat_cmp (numbered_pairs o) other) new ∙ e.others other apart;
             same = λ h. absurd (h w.status-is);
             memory = λ h. not_at s YES MEMORY w.status-is refl h;
             numbers = λ h. not_at s YES NUMBERS w.status-is refl h;
-            tree = λ h. new ∙ ap Some e.tree;
+            tree = λ h. new ∙ ap Some e.changed.tree;
             status = (rw w.status-is (leb-true YES NUMBERS refl), (λ h. not_at s YES NONE w.status-is refl h), (λ h. not_at s YES HELD w.status-is refl h));
           }
       | in-Ok-None w ↦
@@ -53,7 +53,7 @@ returns c =
             ok = λ h. not_at s NO YES w.status-is refl h;
             gone = λ h. not_at s NO YES w.status-is refl h;
             others = λ h. not_at s NO YES w.status-is refl h;
-            same = λ h. new ∙ ap Some (e.tree ∙ none_removed m p (no_pair p answer));
+            same = λ h. new ∙ ap Some (e.changed.tree ∙ none_removed m p (no_pair p answer));
             memory = λ h. not_at s NO MEMORY w.status-is refl h;
             numbers = λ h. not_at s NO NUMBERS w.status-is refl h;
             tree = λ h. not_at s NO YES w.status-is refl h;
