@@ -231,7 +231,7 @@ class Calls(unittest.TestCase):
 
     def test_version(self):
         """One number stands in the library, the package and the list of changes."""
-        top = pathlib.Path(__file__).resolve().parent.parent.parent
+        top = next(it for it in pathlib.Path(__file__).resolve().parents if (it / "CHANGELOG.md").exists())
         number = ".".join(map(str, indexset.version()))
         self.assertIn(f'version = "{number}"\n', (top / "bindings/python/pyproject.toml").read_text())
         self.assertIn(f"\n## {number}", (top / "CHANGELOG.md").read_text())
