@@ -18,7 +18,7 @@ from concurrent.futures import ThreadPoolExecutor
 
 HERE = pathlib.Path(__file__).resolve().parent
 SCRIPTS = HERE / "scripts"
-SECONDS = 300  # for one script, on a busy machine
+SECONDS = 1200  # for one script, on a busy machine
 sys.dont_write_bytecode = True
 sys.path.insert(0, str(HERE.parent / "tools"))
 from programs import built  # noqa: E402

@@ -16,7 +16,7 @@ HERE = pathlib.Path(__file__).resolve().parent
 MEMORY, READ, WRITE = "REFUSE_MEMORY", "REFUSE_READ", "REFUSE_WRITE"
 TOLD = {MEMORY: (1, b"memory\n"), READ: (3, b"read\n"), WRITE: (4, b"write\n")}
 CONDITIONS: tuple[dict[str, int], ...] = ({}, {"REFUSE_ON": 1}, {"SHORT_READ": 5})
-SECONDS = 300  # for one run, on a busy machine
+SECONDS = 1200  # for one run, on a busy machine
 
 
 @dataclass

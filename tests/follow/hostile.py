@@ -28,6 +28,7 @@ from answers import MOST, Model, shown  # noqa: E402
 from programs import built  # noqa: E402
 
 LINES = 100_000
+SECONDS = 1200  # for one run, on a busy machine
 Run = Callable[[pathlib.Path, bytes, int], subprocess.CompletedProcess[bytes]]
 
 
@@ -147,13 +148,13 @@ sys.exit(subprocess.run([sys.argv[1]], stdin=sys.stdin).returncode)
 
 def limited(program: pathlib.Path, given: bytes, memory: int) -> subprocess.CompletedProcess[bytes]:
     """What the follower answers to these bytes, within that much memory."""
-    return subprocess.run([sys.executable, "-c", LIMITED, program, str(memory)], input=given, capture_output=True, timeout=300)
+    return subprocess.run([sys.executable, "-c", LIMITED, program, str(memory)], input=given, capture_output=True, timeout=SECONDS)
 
 
 def sanitized(program: pathlib.Path, given: bytes, memory: int) -> subprocess.CompletedProcess[bytes]:
     """The same, of a program that the sanitizer checks."""
     options = f"hard_rss_limit_mb={memory // 1_000_000}:quarantine_size_mb=1:allocator_release_to_os_interval_ms=0"
-    return subprocess.run([program], input=given, capture_output=True, timeout=300, env={**os.environ, "ASAN_OPTIONS": options})
+    return subprocess.run([program], input=given, capture_output=True, timeout=SECONDS, env={**os.environ, "ASAN_OPTIONS": options})
 
 
 def joined(lines: list[bytes]) -> bytes:
@@ -186,7 +187,7 @@ def compare(program: pathlib.Path, seed: int) -> Counts:
     for _ in range(LINES):
         lines.append(hostile.line())
         answers.append(model.answer(lines[-1]))
-    done = subprocess.run([program], input=joined(lines), capture_output=True, timeout=300)
+    done = subprocess.run([program], input=joined(lines), capture_output=True, timeout=SECONDS)
     kinds = collections.Counter(map(kind, answers))
     print(", ".join(f"{word} {count}" for word, count in sorted(kinds.items())))
     if (done.returncode, done.stdout, done.stderr) == (0, joined(answers), b""):
