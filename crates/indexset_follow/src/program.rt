@@ -101,5 +101,14 @@ fn answer_all<R: BufRead, W: Write>(
 {
     let nodes = Nodes::new(alloc, 0);
     let mut line = Vec::new(alloc);
-    answer_lines(&mut Following { alloc, others, nodes }, reader, writer, &mut line)
+    answer_lines(
+        &mut Following {
+            alloc,
+            others,
+            nodes,
+        },
+        reader,
+        writer,
+        &mut line,
+    )
 }

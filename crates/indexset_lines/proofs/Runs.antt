@@ -18,7 +18,6 @@ whole_not_end is_used_up e = cc
 pub last_not_end : Last ≢ End
 last_not_end e = cc
 
-
 module _ {S : Type 0} (reply : S → List ℕ → List ℕ) (after : S → List ℕ → S) (begun : S) where
   -- whole lines were read and answered, and what is held is what they leave
   pub record SoFar (reader reader' writer writer' : Option (List ℕ)) (held : S) : Type 0 where

@@ -53,7 +53,7 @@ returns g c =
     let seen : c.self.inside.set ≡ set_tree m = λ i. record { nodes = same i; size = size i; next = next i } in
     -- what the set's contract says of the pair, and of the nodes before
     let made = subst (λ p. Changed (by_number cmp) (set_tree m) after (put_change (by_number cmp) (set_tree m) p)) pair
-        (subst (λ t. Changed (by_number cmp) t after (put_change (by_number cmp) t c.in_ok-pair.pair)) seen done.changed) in
+    (subst (λ t. Changed (by_number cmp) t after (put_change (by_number cmp) t c.in_ok-pair.pair)) seen done.changed) in
     let pair_next = ap (λ q. q.1) c.in_ok-pair.ensures.answer in
     let d = inserted cmp g.met.K.Ord.total eq m k w g.met.V.Eq.laws.refl now.lawful now.numbers refl refl made.contents in
     let tree = insertion_tree cmp eq m k w refl refl made.nodes made.size made.next pair_next in
@@ -67,7 +67,7 @@ returns g c =
     }) in
     let answer = done.answer ∙ (λ i. equal_element (by_number cmp) (joined (same i)) (pair i)) in
     let told = subst (λ p. IsTold (IsPairClone g.K.Clone.is_clone g.V.Clone.is_clone) m.next (put_events (by_number cmp) m.size m.nodes p) c.in_ok-old.events.items) pair
-        (subst (λ t. IsTold (IsPairClone g.K.Clone.is_clone g.V.Clone.is_clone) t.next (put_events (by_number cmp) t.size t.nodes c.in_ok-pair.pair) c.in_ok-old.events.items) seen done.told.clones) in
+    (subst (λ t. IsTold (IsPairClone g.K.Clone.is_clone g.V.Clone.is_clone) t.next (put_events (by_number cmp) t.size t.nodes c.in_ok-pair.pair) c.in_ok-old.events.items) seen done.told.clones) in
     record {
       answer = c.value_in.ensures ∙ ap (λ o. option_map (λ p. p.value) o) (answer ∙ replaced_pair cmp eq m k w g.met.K.Ord.total now.lawful now.numbers);
       refusal = tt;

@@ -61,7 +61,7 @@ returns g c =
       spaced = made.spaced;
     }) in
     let all = subst (λ es. IsTold (IsPairClone g.K.Clone.is_clone g.V.Clone.is_clone) m.next es c.in_ok-pair.events.items) told
-        (subst (λ t. IsTold (IsPairClone g.K.Clone.is_clone g.V.Clone.is_clone) t.next (removal_events_at (by_number g.K.Ord.cmp) t.size t.nodes (length (joined t.nodes) - 1)) c.in_ok-pair.events.items) seen done.told.clones) in
+    (subst (λ t. IsTold (IsPairClone g.K.Clone.is_clone g.V.Clone.is_clone) t.next (removal_events_at (by_number g.K.Ord.cmp) t.size t.nodes (length (joined t.nodes) - 1)) c.in_ok-pair.events.items) seen done.told.clones) in
     record {
       answer = c.entry_of.ensures ∙ ap (option_map key_and_value) (done.answer ∙ (λ i. slice_get (joined (same i)) (length (joined (same i)) - 1)));
       refusal = tt;
