@@ -30,18 +30,23 @@ pub struct LogRun<L: Logged> {
 /// Room for a reply and for three events is reserved before a command acts.
 pub fn run_logged<L: Logged>(alloc: Global, tree: &mut L, commands: Vec<L::Command>) -> LogRun<L>
     // The events are those of the table, with clones of its items, and are numbered in turn.
-    ensures clones { AllZip (IsEventClone L.cloned) (numbered_from (L.next tree.old) (events_in_turn L.left L.events tree.old
+    ensures clones { AllZip (IsEventClone L.cloned)
+        (numbered_from (L.next tree.old) (events_in_turn L.left L.events tree.old
         (take (length result.replies.items) commands.items))) result.events.items }
-    ensures table { replay L.Item.Ord.cmp (L.nodes tree.old) (numbered_from (L.next tree.old) (events_in_turn L.left L.events tree.old
+    ensures table { replay L.Item.Ord.cmp (L.nodes tree.old)
+        (numbered_from (L.next tree.old) (events_in_turn L.left L.events tree.old
         (take (length result.replies.items) commands.items))) ≡ Some (L.nodes tree.new) }
 
     // Where clones are identical, they lead from the nodes before the run to those after it.
-    ensures replay { L.clones → replay L.Item.Ord.cmp (L.nodes tree.old) result.events.items ≡ Some (L.nodes tree.new) }
+    ensures replay { L.clones → replay L.Item.Ord.cmp (L.nodes tree.old) result.events.items
+        ≡ Some (L.nodes tree.new) }
     // Where clones equal their sources, they lead to copies of the nodes after it.
     ensures replay_of_clones { AreClonesEqual L.Item.Ord.cmp L.cloned
-        → LeadsToCopies L.Item.Ord.cmp L.cloned (L.nodes tree.old) result.events.items (L.nodes tree.new) }
+        → LeadsToCopies L.Item.Ord.cmp L.cloned (L.nodes tree.old) result.events.items
+        (L.nodes tree.new) }
     ensures numbered { IsNumberedFrom (L.next tree.old) result.events.items }
-    ensures events { L.clones → result.events.items ≡ numbered_from (L.next tree.old) (events_in_turn L.left L.events tree.old
+    ensures events { L.clones → result.events.items
+        ≡ numbered_from (L.next tree.old) (events_in_turn L.left L.events tree.old
         (take (length result.replies.items) commands.items)) }
     ensures next { L.next tree.new ≡ L.next tree.old + length result.events.items }
     ensures few { length result.events.items ≤ 3 * length result.replies.items }
@@ -58,7 +63,8 @@ pub fn run_logged<L: Logged>(alloc: Global, tree: &mut L, commands: Vec<L::Comma
     ensures fewer { OnSome result.refused
         (length result.replies.items < length commands.items) }
     ensures refused { IfSome result.refused (λ e. e ≢ Refusal.Memory → (e ≡ Refusal.Numbers)
-        × IsSomeAnd (slice_get commands.items (length result.replies.items)) (λ command. L.lacks_numbers tree.new command ≡ true)) }
+        × IsSomeAnd (slice_get commands.items (length result.replies.items))
+        (λ command. L.lacks_numbers tree.new command ≡ true)) }
     ensures size { L.size tree.new ≡ L.size tree.old }
 
     // Few nodes: neighbours that held more than half the node size together still do, whether it
@@ -66,9 +72,11 @@ pub fn run_logged<L: Logged>(alloc: Global, tree: &mut L, commands: Vec<L::Comma
     ensures spaced { IsSpaced (L.size tree.old / 2) (L.nodes tree.old)
         → IsSpaced (L.size tree.new / 2) (L.nodes tree.new) }
     ensures few_nodes { IsSpaced (L.size tree.old / 2) (L.nodes tree.old)
-        → (length (L.nodes tree.new) - 1) * (L.size tree.new / 2 + 1) ≤ 2 * length (joined (L.nodes tree.new)) }
+        → (length (L.nodes tree.new) - 1) * (L.size tree.new / 2 + 1)
+        ≤ 2 * length (joined (L.nodes tree.new)) }
     ensures few_from_empty { L.nodes tree.old ≡ []
-        → (length (L.nodes tree.new) - 1) * (L.size tree.new / 2 + 1) ≤ 2 * length (joined (L.nodes tree.new)) }
+        → (length (L.nodes tree.new) - 1) * (L.size tree.new / 2 + 1)
+        ≤ 2 * length (joined (L.nodes tree.new)) }
 {
     let mut replies = Vec::new(alloc);
     let mut events = Vec::new(alloc);
@@ -96,17 +104,25 @@ fn answer<L: Logged>(
     events: &mut Vec<ChangeEvent<L::Item>>,
     command: L::Command,
 ) -> Result<(), Refusal>
-    ensures told { OnOk result (replies.new.items ≡ replies.old.items ++ L.reply (L.state tree.old) command ∷ []) }
+    ensures told { OnOk result (replies.new.items
+        ≡ replies.old.items ++ L.reply (L.state tree.old) command ∷ []) }
     ensures state { OnOk result (L.state tree.new ≡ L.after (L.state tree.old) command) }
     ensures tree { OnOk result (tree.new ≡ L.left tree.old command) }
-    ensures clones { OnOk result (AppendsClones (IsEventClone L.cloned) events.old.items events.new.items (numbered_from (L.next tree.old) (L.events tree.old command))) }
-    ensures events { L.clones → OnOk result (events.new.items ≡ events.old.items ++ numbered_from (L.next tree.old) (L.events tree.old command)) }
-    ensures table { OnOk result (replay L.Item.Ord.cmp (L.nodes tree.old) (numbered_from (L.next tree.old) (L.events tree.old command)) ≡ Some (L.nodes tree.new)) }
+    ensures clones { OnOk result (AppendsClones (IsEventClone L.cloned) events.old.items
+        events.new.items (numbered_from (L.next tree.old) (L.events tree.old command))) }
+    ensures events { L.clones → OnOk result
+        (events.new.items ≡ events.old.items
+        ++ numbered_from (L.next tree.old) (L.events tree.old command)) }
+    ensures table { OnOk result (replay L.Item.Ord.cmp (L.nodes tree.old)
+        (numbered_from (L.next tree.old) (L.events tree.old command)) ≡ Some (L.nodes tree.new)) }
     ensures few { OnOk result (length events.new.items ≤ length events.old.items + 3) }
-    ensures next { OnOk result (L.next tree.new ≡ L.next tree.old + length (L.events tree.old command)) }
+    ensures next { OnOk result (L.next tree.new
+        ≡ L.next tree.old + length (L.events tree.old command)) }
     ensures size { L.size tree.new ≡ L.size tree.old }
-    ensures spaced { IsSpaced (L.size tree.old / 2) (L.nodes tree.old) → IsSpaced (L.size tree.new / 2) (L.nodes tree.new) }
-    ensures refusal { IfErr result (λ e. e ≢ Refusal.Memory → (e ≡ Refusal.Numbers) × (L.lacks_numbers tree.old command ≡ true)) }
+    ensures spaced { IsSpaced (L.size tree.old / 2) (L.nodes tree.old)
+        → IsSpaced (L.size tree.new / 2) (L.nodes tree.new) }
+    ensures refusal { IfErr result (λ e. e ≢ Refusal.Memory
+        → (e ≡ Refusal.Numbers) × (L.lacks_numbers tree.old command ≡ true)) }
     ensures untold { OnErr result (replies.new.items ≡ replies.old.items) }
     ensures no_event { OnErr result (events.new.items ≡ events.old.items) }
     ensures unchanged { OnErr result (tree.new ≡ tree.old) }

@@ -63,9 +63,11 @@ pub fn run_map<K: Ord + Clone + Drop, V: Clone + Drop>(
     commands: Vec<MapCommand<K, V>>,
 ) -> Run<MapReply<K, V>>
     // The commands with a reply are the first ones, as many as there are replies.
-    ensures cloned { AreReplies (map_after K.cmp) (IsMapReply K.cmp K.is_clone V.is_clone) map.old.pairs
+    ensures cloned { AreReplies (map_after K.cmp) (IsMapReply K.cmp K.is_clone V.is_clone)
+        map.old.pairs
         (take (length result.replies.items) commands.items) result.replies.items }
-    ensures replies { ((x y : K) → K.is_clone x y → y ≡ x) → ((x y : V) → V.is_clone x y → y ≡ x) → result.replies.items ≡ map_replies K.cmp map.old.pairs
+    ensures replies { ((x y : K) → K.is_clone x y → y ≡ x) → ((x y : V) → V.is_clone x y → y ≡ x)
+        → result.replies.items ≡ map_replies K.cmp map.old.pairs
         (take (length result.replies.items) commands.items) }
     ensures contents { map.new.pairs ≡ map_after_all K.cmp map.old.pairs
         (take (length result.replies.items) commands.items) }
@@ -97,8 +99,11 @@ fn answer<K: Ord + Clone + Drop, V: Clone + Drop>(
     replies: &mut Vec<MapReply<K, V>>,
     command: MapCommand<K, V>,
 ) -> Result<(), Refusal>
-    ensures cloned { OnOk result (AppendsReply (IsMapReply K.cmp K.is_clone V.is_clone map.old.pairs command) replies.old.items replies.new.items) }
-    ensures told { ((x y : K) → K.is_clone x y → y ≡ x) → ((x y : V) → V.is_clone x y → y ≡ x) → OnOk result (replies.new.items
+    ensures cloned { OnOk result (AppendsReply
+        (IsMapReply K.cmp K.is_clone V.is_clone map.old.pairs command) replies.old.items
+        replies.new.items) }
+    ensures told { ((x y : K) → K.is_clone x y → y ≡ x) → ((x y : V) → V.is_clone x y → y ≡ x)
+        → OnOk result (replies.new.items
         ≡ replies.old.items ++ map_reply K.cmp map.old.pairs command ∷ []) }
     ensures ok { OnOk result (map.new.pairs ≡ map_after K.cmp map.old.pairs command) }
     ensures size { map.new.size ≡ map.old.size }
@@ -117,8 +122,10 @@ fn act<K: Ord + Clone + Drop, V: Clone + Drop>(
     map: &mut BTreeMap<K, V>,
     command: MapCommand<K, V>,
 ) -> Result<MapReply<K, V>, Refusal>
-    ensures cloned { IfOk result (λ reply. IsMapReply K.cmp K.is_clone V.is_clone map.old.pairs command reply) }
-    ensures reply { ((x y : K) → K.is_clone x y → y ≡ x) → ((x y : V) → V.is_clone x y → y ≡ x) → IfOk result (λ reply. reply ≡ map_reply K.cmp map.old.pairs command) }
+    ensures cloned { IfOk result (λ reply. IsMapReply K.cmp K.is_clone V.is_clone map.old.pairs
+        command reply) }
+    ensures reply { ((x y : K) → K.is_clone x y → y ≡ x) → ((x y : V) → V.is_clone x y → y ≡ x)
+        → IfOk result (λ reply. reply ≡ map_reply K.cmp map.old.pairs command) }
     ensures ok { OnOk result (map.new.pairs ≡ map_after K.cmp map.old.pairs command) }
     ensures size { map.new.size ≡ map.old.size }
     ensures refusal { IfErr result (λ e. e ≡ Refusal.Memory) }

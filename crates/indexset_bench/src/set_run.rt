@@ -71,7 +71,8 @@ pub fn run_set<T: Ord + Clone + Drop>(
     // The commands with a reply are the first ones, as many as there are replies.
     ensures cloned { AreReplies (set_after T.cmp) (IsSetReply T.cmp T.is_clone) (items set.old)
         (take (length result.replies.items) commands.items) result.replies.items }
-    ensures replies { ((x y : T) → T.is_clone x y → y ≡ x) → result.replies.items ≡ set_replies T.cmp (items set.old)
+    ensures replies { ((x y : T) → T.is_clone x y → y ≡ x)
+        → result.replies.items ≡ set_replies T.cmp (items set.old)
         (take (length result.replies.items) commands.items) }
     ensures contents { items set.new ≡ set_after_all T.cmp (items set.old)
         (take (length result.replies.items) commands.items) }
@@ -103,7 +104,8 @@ fn answer<T: Ord + Clone + Drop>(
     replies: &mut Vec<SetReply<T>>,
     command: SetCommand<T>,
 ) -> Result<(), Refusal>
-    ensures cloned { OnOk result (AppendsReply (IsSetReply T.cmp T.is_clone (items set.old) command) replies.old.items replies.new.items) }
+    ensures cloned { OnOk result (AppendsReply (IsSetReply T.cmp T.is_clone (items set.old) command)
+        replies.old.items replies.new.items) }
     ensures told { ((x y : T) → T.is_clone x y → y ≡ x) → OnOk result (replies.new.items
         ≡ replies.old.items ++ set_reply T.cmp (items set.old) command ∷ []) }
     ensures ok { OnOk result (items set.new ≡ set_after T.cmp (items set.old) command) }
@@ -123,8 +125,10 @@ fn act<T: Ord + Clone + Drop>(
     set: &mut BTreeSet<T>,
     command: SetCommand<T>,
 ) -> Result<SetReply<T>, Refusal>
-    ensures cloned { IfOk result (λ reply. IsSetReply T.cmp T.is_clone (items set.old) command reply) }
-    ensures reply { ((x y : T) → T.is_clone x y → y ≡ x) → IfOk result (λ reply. reply ≡ set_reply T.cmp (items set.old) command) }
+    ensures cloned { IfOk result (λ reply. IsSetReply T.cmp T.is_clone (items set.old) command
+        reply) }
+    ensures reply { ((x y : T) → T.is_clone x y → y ≡ x)
+        → IfOk result (λ reply. reply ≡ set_reply T.cmp (items set.old) command) }
     ensures ok { OnOk result (items set.new ≡ set_after T.cmp (items set.old) command) }
     ensures size { set.new.size ≡ set.old.size }
     ensures refusal { IfErr result (λ e. e ≡ Refusal.Memory) }

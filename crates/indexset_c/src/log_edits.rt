@@ -31,10 +31,20 @@ pub extern "C" fn indexset_log_insert(
     told: &mut usize,
 ) -> u32
     ensures added { result ≡ YES → value_of nat_cmp (logged_pairs log.old.slot.value) key ≡ None }
-    ensures replaced { result ≡ NO → value_of nat_cmp (logged_pairs log.old.slot.value) key ≡ Some before.new }
-    ensures ok { result ≤ YES → IfSome log.old.slot.value (λ m. log.new.slot.value ≡ Some (record { nodes = with_put (by_key nat_cmp) m.size m.nodes (pair key value); size = m.size; next = m.next + told.new })) }
-    ensures told { result ≤ YES → IfSome log.old.slot.value (λ m. told.new ≡ length (put_events (by_key nat_cmp) m.size m.nodes (pair key value))) }
-    ensures events { result ≤ YES → IfSome log.old.slot.value (λ m. events.new ≡ written told.new (map record_of (numbered_from m.next (put_events (by_key nat_cmp) m.size m.nodes (pair key value)))) events.old) }
+    ensures replaced { result ≡ NO → value_of nat_cmp (logged_pairs log.old.slot.value) key
+        ≡ Some before.new }
+    ensures ok { result ≤ YES → IfSome log.old.slot.value
+        (λ m. log.new.slot.value ≡ Some (record {
+          nodes = with_put (by_key nat_cmp) m.size m.nodes (pair key value);
+          size = m.size;
+          next = m.next + told.new;
+        })) }
+    ensures told { result ≤ YES → IfSome log.old.slot.value
+        (λ m. told.new ≡ length (put_events (by_key nat_cmp) m.size m.nodes (pair key value))) }
+    ensures events { result ≤ YES → IfSome log.old.slot.value
+        (λ m. events.new ≡ written told.new
+        (map record_of (numbered_from m.next
+        (put_events (by_key nat_cmp) m.size m.nodes (pair key value)))) events.old) }
     ensures led { result ≤ YES → IfSome log.old.slot.value (λ m. IfSome log.new.slot.value (λ n.
         replay (by_key nat_cmp) m.nodes (numbered_from m.next
         (put_events (by_key nat_cmp) m.size m.nodes (pair key value))) ≡ Some n.nodes)) }
@@ -45,8 +55,12 @@ pub extern "C" fn indexset_log_insert(
     ensures same { MEMORY ≤ result → log.new.slot.value ≡ log.old.slot.value }
     ensures none { result ≡ NONE ↔ (log.old.slot.value ≡ None) }
     ensures unfit { result ≡ UNFIT ↔ ((log.old.slot.value ≢ None) × (length events.old < 3)) }
-    ensures memory { result ≡ MEMORY → IfSome log.old.slot.value (λ m. refusal_for m.next (length (put_events (by_key nat_cmp) m.size m.nodes (pair key value))) ≡ refusals.Memory) }
-    ensures numbers { result ≡ NUMBERS → IfSome log.old.slot.value (λ m. refusal_for m.next (length (put_events (by_key nat_cmp) m.size m.nodes (pair key value))) ≡ refusals.Numbers) }
+    ensures memory { result ≡ MEMORY → IfSome log.old.slot.value
+        (λ m. refusal_for m.next (length (put_events (by_key nat_cmp) m.size m.nodes
+        (pair key value))) ≡ refusals.Memory) }
+    ensures numbers { result ≡ NUMBERS → IfSome log.old.slot.value
+        (λ m. refusal_for m.next (length (put_events (by_key nat_cmp) m.size m.nodes
+        (pair key value))) ≡ refusals.Numbers) }
     ensures status { (result ≤ UNFIT) × (result ≢ HELD) }
 {
     *told = 0;
@@ -80,22 +94,35 @@ pub extern "C" fn indexset_log_remove(
     events: &mut [Event],
     told: &mut usize,
 ) -> u32
-    ensures found { result ≡ YES → value_of nat_cmp (logged_pairs log.old.slot.value) key ≡ Some out.new }
+    ensures found { result ≡ YES → value_of nat_cmp (logged_pairs log.old.slot.value) key
+        ≡ Some out.new }
     ensures absent { result ≡ NO → value_of nat_cmp (logged_pairs log.old.slot.value) key ≡ None }
-    ensures rest { result ≤ YES → logged_pairs log.new.slot.value ≡ without_key nat_cmp (logged_pairs log.old.slot.value) key }
-    ensures nodes { result ≡ YES → IfSome log.old.slot.value (λ m. IfSome log.new.slot.value (λ n. replay (by_key nat_cmp) m.nodes (numbered_from m.next (key_removal_events nat_cmp m.size m.nodes key)) ≡ Some n.nodes)) }
-    ensures next { result ≡ YES → IfSome log.old.slot.value (λ m. IfSome log.new.slot.value (λ n. (n.size ≡ m.size) × (n.next ≡ m.next + told.new))) }
+    ensures rest { result ≤ YES → logged_pairs log.new.slot.value
+        ≡ without_key nat_cmp (logged_pairs log.old.slot.value) key }
+    ensures nodes { result ≡ YES → IfSome log.old.slot.value
+        (λ m. IfSome log.new.slot.value (λ n. replay (by_key nat_cmp) m.nodes
+        (numbered_from m.next (key_removal_events nat_cmp m.size m.nodes key)) ≡ Some n.nodes)) }
+    ensures next { result ≡ YES → IfSome log.old.slot.value
+        (λ m. IfSome log.new.slot.value (λ n. (n.size ≡ m.size) × (n.next ≡ m.next + told.new))) }
     ensures there { (log.new.slot.value ≡ None) ↔ (log.old.slot.value ≡ None) }
-    ensures told { result ≤ YES → IfSome log.old.slot.value (λ m. told.new ≡ length (key_removal_events nat_cmp m.size m.nodes key)) }
-    ensures events { result ≤ YES → IfSome log.old.slot.value (λ m. events.new ≡ written told.new (map record_of (numbered_from m.next (key_removal_events nat_cmp m.size m.nodes key))) events.old) }
+    ensures told { result ≤ YES → IfSome log.old.slot.value
+        (λ m. told.new ≡ length (key_removal_events nat_cmp m.size m.nodes key)) }
+    ensures events { result ≤ YES → IfSome log.old.slot.value
+        (λ m. events.new ≡ written told.new
+        (map record_of (numbered_from m.next (key_removal_events nat_cmp m.size m.nodes key)))
+        events.old) }
     ensures few { told.new ≤ 3 }
     ensures unwritten { result ≢ YES → out.new ≡ out.old }
     ensures untold { result ≢ YES → told.new ≡ 0 }
     ensures no_events { result ≢ YES → events.new ≡ events.old }
     ensures same { result ≢ YES → log.new.slot.value ≡ log.old.slot.value }
     ensures unfit { result ≡ UNFIT ↔ ((log.old.slot.value ≢ None) × (length events.old < 3)) }
-    ensures memory { result ≡ MEMORY → IfSome log.old.slot.value (λ m. refusal_for m.next (length (key_removal_events nat_cmp m.size m.nodes key)) ≡ refusals.Memory) }
-    ensures numbers { result ≡ NUMBERS → IfSome log.old.slot.value (λ m. refusal_for m.next (length (key_removal_events nat_cmp m.size m.nodes key)) ≡ refusals.Numbers) }
+    ensures memory { result ≡ MEMORY → IfSome log.old.slot.value
+        (λ m. refusal_for m.next (length (key_removal_events nat_cmp m.size m.nodes key))
+        ≡ refusals.Memory) }
+    ensures numbers { result ≡ NUMBERS → IfSome log.old.slot.value
+        (λ m. refusal_for m.next (length (key_removal_events nat_cmp m.size m.nodes key))
+        ≡ refusals.Numbers) }
     ensures status { (result ≤ UNFIT) × (result ≢ NONE) × (result ≢ HELD) }
 {
     *told = 0;

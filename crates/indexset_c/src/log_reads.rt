@@ -20,8 +20,10 @@ pub extern "C" fn indexset_log_get(
     key: u64,
     out: &mut u64,
 ) -> bool
-    ensures found { result ≡ true → value_of nat_cmp (logged_pairs log.old.slot.value) key ≡ Some out.new }
-    ensures absent { result ≡ false → value_of nat_cmp (logged_pairs log.old.slot.value) key ≡ None }
+    ensures found { result ≡ true → value_of nat_cmp (logged_pairs log.old.slot.value) key
+        ≡ Some out.new }
+    ensures absent { result ≡ false → value_of nat_cmp (logged_pairs log.old.slot.value) key
+        ≡ None }
     ensures unwritten { result ≡ false → out.new ≡ out.old }
     ensures same { log.new.slot.value ≡ log.old.slot.value }
 {
@@ -72,7 +74,8 @@ pub extern "C" fn indexset_log_node_lengths(
     out: &mut [usize],
 ) -> usize
     ensures count { result ≡ min (length (logged_nodes log.old.slot.value)) (length out.old) }
-    ensures written { out.new ≡ written result (node_lengths (logged_nodes log.old.slot.value)) out.old }
+    ensures written { out.new ≡ written result (node_lengths (logged_nodes log.old.slot.value))
+        out.old }
     ensures same { log.new.slot.value ≡ log.old.slot.value }
 {
     let Some(held) = log.take(alloc) else {
@@ -94,9 +97,15 @@ pub extern "C" fn indexset_log_range(
     keys: &mut [u64],
     values: &mut [u64],
 ) -> usize
-    ensures count { low ≤ high → result ≡ min (length (pairs_within nat_cmp (logged_pairs log.old.slot.value) (Included low) (Included high))) (min (length keys.old) (length values.old)) }
-    ensures keys { low ≤ high → keys.new ≡ written result (pair_keys (pairs_within nat_cmp (logged_pairs log.old.slot.value) (Included low) (Included high))) keys.old }
-    ensures values { low ≤ high → values.new ≡ written result (pair_values (pairs_within nat_cmp (logged_pairs log.old.slot.value) (Included low) (Included high))) values.old }
+    ensures count { low ≤ high → result ≡ min
+        (length (pairs_within nat_cmp (logged_pairs log.old.slot.value) (Included low)
+        (Included high))) (min (length keys.old) (length values.old)) }
+    ensures keys { low ≤ high → keys.new ≡ written result
+        (pair_keys (pairs_within nat_cmp (logged_pairs log.old.slot.value) (Included low)
+        (Included high))) keys.old }
+    ensures values { low ≤ high → values.new
+        ≡ written result (pair_values (pairs_within nat_cmp (logged_pairs log.old.slot.value)
+        (Included low) (Included high))) values.old }
     ensures none { high < low → result ≡ 0 }
     ensures no_keys { high < low → keys.new ≡ keys.old }
     ensures no_values { high < low → values.new ≡ values.old }

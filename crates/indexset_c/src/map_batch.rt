@@ -18,7 +18,8 @@ pub extern "C" fn indexset_map_insert_all(
     values: &[u64],
     taken: &mut usize,
 ) -> u32
-    ensures put { pairs map.new.slot.value ≡ put_all (pairs map.old.slot.value) (take taken.new keys.now) (take taken.new values.now) }
+    ensures put { pairs map.new.slot.value
+        ≡ put_all (pairs map.old.slot.value) (take taken.new keys.now) (take taken.new values.now) }
     ensures all { result ≡ YES → taken.new ≡ min (length keys.now) (length values.now) }
     ensures some { result ≡ MEMORY → taken.new < min (length keys.now) (length values.now) }
     ensures none { result ≡ NONE ↔ (map.old.slot.value ≡ None) }
@@ -50,7 +51,8 @@ pub extern "C" fn indexset_map_gets(
     out: &mut [u64],
 ) -> usize
     ensures count { handle.old.slot.value ≢ None → result ≡ min (length keys.now) (length out.old) }
-    ensures written { out.new ≡ written result (map (value_or (pairs handle.old.slot.value) absent) keys.now) out.old }
+    ensures written { out.new ≡ written result
+        (map (value_or (pairs handle.old.slot.value) absent) keys.now) out.old }
     ensures none { handle.old.slot.value ≡ None → result ≡ 0 }
     ensures same { handle.new.slot.value ≡ handle.old.slot.value }
 {

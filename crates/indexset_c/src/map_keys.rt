@@ -20,8 +20,10 @@ pub extern "C" fn indexset_map_insert(
     before: &mut u64,
 ) -> u32
     ensures added { result ≡ YES → value_of nat_cmp (pairs map.old.slot.value) key ≡ None }
-    ensures replaced { result ≡ NO → value_of nat_cmp (pairs map.old.slot.value) key ≡ Some before.new }
-    ensures ok { result ≤ YES → pairs map.new.slot.value ≡ put_value nat_cmp (pairs map.old.slot.value) key value }
+    ensures replaced { result ≡ NO → value_of nat_cmp (pairs map.old.slot.value) key
+        ≡ Some before.new }
+    ensures ok { result ≤ YES → pairs map.new.slot.value
+        ≡ put_value nat_cmp (pairs map.old.slot.value) key value }
     ensures unwritten { result ≢ NO → before.new ≡ before.old }
     ensures same { MEMORY ≤ result → map.new.slot.value ≡ map.old.slot.value }
     ensures none { result ≡ NONE ↔ (map.old.slot.value ≡ None) }

@@ -40,7 +40,8 @@ pub extern "C" fn indexset_map_clone(alloc: Global, map: &mut MapHandle, to: &mu
     ensures ok { result ≡ YES → to.new.slot.value ≡ map.old.slot.value }
     ensures refused { result ≢ YES → to.new.slot.value ≡ to.old.slot.value }
     ensures none { result ≡ NONE ↔ (map.old.slot.value ≡ None) }
-    ensures held { map.old.slot.value ≢ None → (result ≡ HELD ↔ (is_some to.old.slot.value ≡ true)) }
+    ensures held { map.old.slot.value ≢ None
+        → (result ≡ HELD ↔ (is_some to.old.slot.value ≡ true)) }
     ensures same { map.new.slot.value ≡ map.old.slot.value }
     ensures status { result ≢ YES → result ≢ NONE → result ≢ HELD → result ≡ MEMORY }
 {

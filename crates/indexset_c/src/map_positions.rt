@@ -15,7 +15,8 @@ pub extern "C" fn indexset_map_at(
     key: &mut u64,
     value: &mut u64,
 ) -> bool
-    ensures found { result ≡ true → entry_at (pairs map.old.slot.value) position ≡ Some (key.new, value.new) }
+    ensures found { result ≡ true → entry_at (pairs map.old.slot.value) position
+        ≡ Some (key.new, value.new) }
     ensures absent { result ≡ false → entry_at (pairs map.old.slot.value) position ≡ None }
     ensures no_key { result ≡ false → key.new ≡ key.old }
     ensures no_value { result ≡ false → value.new ≡ value.old }
@@ -40,7 +41,8 @@ pub extern "C" fn indexset_map_first(
     key: &mut u64,
     value: &mut u64,
 ) -> bool
-    ensures found { result ≡ true → entry_at (pairs map.old.slot.value) 0 ≡ Some (key.new, value.new) }
+    ensures found { result ≡ true → entry_at (pairs map.old.slot.value) 0
+        ≡ Some (key.new, value.new) }
     ensures absent { result ≡ false → entry_at (pairs map.old.slot.value) 0 ≡ None }
     ensures no_key { result ≡ false → key.new ≡ key.old }
     ensures no_value { result ≡ false → value.new ≡ value.old }
@@ -57,8 +59,10 @@ pub extern "C" fn indexset_map_last(
     key: &mut u64,
     value: &mut u64,
 ) -> bool
-    ensures found { result ≡ true → entry_at (pairs map.old.slot.value) (length (pairs map.old.slot.value) - 1) ≡ Some (key.new, value.new) }
-    ensures absent { result ≡ false → entry_at (pairs map.old.slot.value) (length (pairs map.old.slot.value) - 1) ≡ None }
+    ensures found { result ≡ true → entry_at (pairs map.old.slot.value)
+        (length (pairs map.old.slot.value) - 1) ≡ Some (key.new, value.new) }
+    ensures absent { result ≡ false → entry_at (pairs map.old.slot.value)
+        (length (pairs map.old.slot.value) - 1) ≡ None }
     ensures no_key { result ≡ false → key.new ≡ key.old }
     ensures no_value { result ≡ false → value.new ≡ value.old }
     ensures same { map.new.slot.value ≡ map.old.slot.value }
@@ -82,7 +86,8 @@ pub extern "C" fn indexset_map_pop_first(
     key: &mut u64,
     value: &mut u64,
 ) -> bool
-    ensures found { result ≡ true → entry_at (pairs map.old.slot.value) 0 ≡ Some (key.new, value.new) }
+    ensures found { result ≡ true → entry_at (pairs map.old.slot.value) 0
+        ≡ Some (key.new, value.new) }
     ensures absent { result ≡ false → entry_at (pairs map.old.slot.value) 0 ≡ None }
     ensures rest { pairs map.new.slot.value ≡ drop 1 (pairs map.old.slot.value) }
     ensures there { is_some map.new.slot.value ≡ is_some map.old.slot.value }
@@ -106,9 +111,12 @@ pub extern "C" fn indexset_map_pop_last(
     key: &mut u64,
     value: &mut u64,
 ) -> bool
-    ensures found { result ≡ true → entry_at (pairs map.old.slot.value) (length (pairs map.old.slot.value) - 1) ≡ Some (key.new, value.new) }
-    ensures absent { result ≡ false → entry_at (pairs map.old.slot.value) (length (pairs map.old.slot.value) - 1) ≡ None }
-    ensures rest { pairs map.new.slot.value ≡ take (length (pairs map.old.slot.value) - 1) (pairs map.old.slot.value) }
+    ensures found { result ≡ true → entry_at (pairs map.old.slot.value)
+        (length (pairs map.old.slot.value) - 1) ≡ Some (key.new, value.new) }
+    ensures absent { result ≡ false → entry_at (pairs map.old.slot.value)
+        (length (pairs map.old.slot.value) - 1) ≡ None }
+    ensures rest { pairs map.new.slot.value
+        ≡ take (length (pairs map.old.slot.value) - 1) (pairs map.old.slot.value) }
     ensures there { is_some map.new.slot.value ≡ is_some map.old.slot.value }
     ensures no_key { result ≡ false → key.new ≡ key.old }
     ensures no_value { result ≡ false → value.new ≡ value.old }

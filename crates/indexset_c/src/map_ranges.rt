@@ -21,9 +21,15 @@ pub extern "C" fn indexset_map_range_by_key(
     keys: &mut [u64],
     values: &mut [u64],
 ) -> usize
-    ensures count { low ≤ high → result ≡ min (length (pairs_within nat_cmp (pairs map.old.slot.value) (Included low) (Included high))) (min (length keys.old) (length values.old)) }
-    ensures keys { low ≤ high → keys.new ≡ written result (pair_keys (pairs_within nat_cmp (pairs map.old.slot.value) (Included low) (Included high))) keys.old }
-    ensures values { low ≤ high → values.new ≡ written result (pair_values (pairs_within nat_cmp (pairs map.old.slot.value) (Included low) (Included high))) values.old }
+    ensures count { low ≤ high → result ≡ min
+        (length (pairs_within nat_cmp (pairs map.old.slot.value) (Included low) (Included high)))
+        (min (length keys.old) (length values.old)) }
+    ensures keys { low ≤ high → keys.new ≡ written result
+        (pair_keys (pairs_within nat_cmp (pairs map.old.slot.value) (Included low) (Included high)))
+        keys.old }
+    ensures values { low ≤ high → values.new
+        ≡ written result (pair_values (pairs_within nat_cmp (pairs map.old.slot.value)
+        (Included low) (Included high))) values.old }
     ensures none { high < low → result ≡ 0 }
     ensures no_keys { high < low → keys.new ≡ keys.old }
     ensures no_values { high < low → values.new ≡ values.old }
@@ -50,9 +56,12 @@ pub extern "C" fn indexset_map_range_by_position(
     keys: &mut [u64],
     values: &mut [u64],
 ) -> usize
-    ensures count { result ≡ min (length (drop from (pairs map.old.slot.value))) (min (length keys.old) (length values.old)) }
-    ensures keys { keys.new ≡ written result (pair_keys (drop from (pairs map.old.slot.value))) keys.old }
-    ensures values { values.new ≡ written result (pair_values (drop from (pairs map.old.slot.value))) values.old }
+    ensures count { result ≡ min (length (drop from (pairs map.old.slot.value)))
+        (min (length keys.old) (length values.old)) }
+    ensures keys { keys.new ≡ written result (pair_keys (drop from (pairs map.old.slot.value)))
+        keys.old }
+    ensures values { values.new ≡ written result
+        (pair_values (drop from (pairs map.old.slot.value))) values.old }
     ensures same { map.new.slot.value ≡ map.old.slot.value }
 {
     let Some(held) = map.take(alloc) else {

@@ -24,14 +24,22 @@ pub extern "C" fn indexset_multi_insert(
     key: u64,
     value: u64,
 ) -> u32
-    ensures there { result ≡ NO ↔ (is_some (equal_pair nat_cmp nat_eq (numbered_pairs multi.old.slot.value) key value) ≡ true) }
-    ensures ok { result ≡ YES → IfSome multi.old.slot.value (λ m. numbered_pairs multi.new.slot.value ≡ put (by_number nat_cmp) (joined m.nodes) (numbered_pair key value m.pair_next)) }
-    ensures last { result ≡ YES → values_of (numbered_pairs multi.new.slot.value) key ≡ values_of (numbered_pairs multi.old.slot.value) key ++ value ∷ [] }
-    ensures others { result ≡ YES → (other : ℕ) → is_eq (nat_cmp other key) ≡ false → pairs_of nat_cmp (numbered_pairs multi.new.slot.value) other ≡ pairs_of nat_cmp (numbered_pairs multi.old.slot.value) other }
+    ensures there { result ≡ NO ↔ (is_some
+        (equal_pair nat_cmp nat_eq (numbered_pairs multi.old.slot.value) key value) ≡ true) }
+    ensures ok { result ≡ YES → IfSome multi.old.slot.value
+        (λ m. numbered_pairs multi.new.slot.value
+        ≡ put (by_number nat_cmp) (joined m.nodes) (numbered_pair key value m.pair_next)) }
+    ensures last { result ≡ YES → values_of (numbered_pairs multi.new.slot.value) key
+        ≡ values_of (numbered_pairs multi.old.slot.value) key ++ value ∷ [] }
+    ensures others { result ≡ YES → (other : ℕ) → is_eq (nat_cmp other key) ≡ false
+        → pairs_of nat_cmp (numbered_pairs multi.new.slot.value) other
+        ≡ pairs_of nat_cmp (numbered_pairs multi.old.slot.value) other }
     ensures same { result ≢ YES → multi.new.slot.value ≡ multi.old.slot.value }
     ensures none { result ≡ NONE ↔ (multi.old.slot.value ≡ None) }
-    ensures memory { result ≡ MEMORY → IfSome multi.old.slot.value (λ m. insertion_refusal nat_cmp nat_eq m key value ≡ refusals.Memory) }
-    ensures numbers { result ≡ NUMBERS → IfSome multi.old.slot.value (λ m. insertion_refusal nat_cmp nat_eq m key value ≡ refusals.Numbers) }
+    ensures memory { result ≡ MEMORY → IfSome multi.old.slot.value
+        (λ m. insertion_refusal nat_cmp nat_eq m key value ≡ refusals.Memory) }
+    ensures numbers { result ≡ NUMBERS → IfSome multi.old.slot.value
+        (λ m. insertion_refusal nat_cmp nat_eq m key value ≡ refusals.Numbers) }
     ensures tree { result ≡ YES → IfSome multi.old.slot.value (λ m. multi.new.slot.value
         ≡ Some (after_insertion nat_cmp nat_eq m key value)) }
     ensures status { (result ≤ NUMBERS) × (result ≢ HELD) }
@@ -59,13 +67,24 @@ pub extern "C" fn indexset_multi_remove(
     key: u64,
     value: u64,
 ) -> u32
-    ensures absent { result ≡ NO ↔ (equal_pair nat_cmp nat_eq (numbered_pairs multi.old.slot.value) key value ≡ None) }
-    ensures ok { result ≡ YES → numbered_pairs multi.new.slot.value ≡ without_named nat_cmp (numbered_pairs multi.old.slot.value) (equal_pair nat_cmp nat_eq (numbered_pairs multi.old.slot.value) key value) }
-    ensures gone { result ≡ YES → pairs_of nat_cmp (numbered_pairs multi.new.slot.value) key ≡ without_first (λ p. nat_eq p.value value) (pairs_of nat_cmp (numbered_pairs multi.old.slot.value) key) }
-    ensures others { result ≡ YES → (other : ℕ) → is_eq (nat_cmp other key) ≡ false → pairs_of nat_cmp (numbered_pairs multi.new.slot.value) other ≡ pairs_of nat_cmp (numbered_pairs multi.old.slot.value) other }
+    ensures absent { result ≡ NO ↔ (equal_pair nat_cmp nat_eq (numbered_pairs multi.old.slot.value)
+        key value ≡ None) }
+    ensures ok { result ≡ YES → numbered_pairs multi.new.slot.value
+        ≡ without_named nat_cmp (numbered_pairs multi.old.slot.value)
+        (equal_pair nat_cmp nat_eq (numbered_pairs multi.old.slot.value) key value) }
+    ensures gone { result ≡ YES → pairs_of nat_cmp (numbered_pairs multi.new.slot.value) key
+        ≡ without_first (λ p. nat_eq p.value value)
+        (pairs_of nat_cmp (numbered_pairs multi.old.slot.value) key) }
+    ensures others { result ≡ YES → (other : ℕ) → is_eq (nat_cmp other key) ≡ false
+        → pairs_of nat_cmp (numbered_pairs multi.new.slot.value) other
+        ≡ pairs_of nat_cmp (numbered_pairs multi.old.slot.value) other }
     ensures same { result ≢ YES → multi.new.slot.value ≡ multi.old.slot.value }
-    ensures memory { result ≡ MEMORY → IfSome multi.old.slot.value (λ m. refusal_for m.next (length (pair_removal_events nat_cmp m.size m.nodes (equal_pair nat_cmp nat_eq (joined m.nodes) key value))) ≡ refusals.Memory) }
-    ensures numbers { result ≡ NUMBERS → IfSome multi.old.slot.value (λ m. refusal_for m.next (length (pair_removal_events nat_cmp m.size m.nodes (equal_pair nat_cmp nat_eq (joined m.nodes) key value))) ≡ refusals.Numbers) }
+    ensures memory { result ≡ MEMORY → IfSome multi.old.slot.value
+        (λ m. refusal_for m.next (length (pair_removal_events nat_cmp m.size m.nodes
+        (equal_pair nat_cmp nat_eq (joined m.nodes) key value))) ≡ refusals.Memory) }
+    ensures numbers { result ≡ NUMBERS → IfSome multi.old.slot.value
+        (λ m. refusal_for m.next (length (pair_removal_events nat_cmp m.size m.nodes
+        (equal_pair nat_cmp nat_eq (joined m.nodes) key value))) ≡ refusals.Numbers) }
     ensures tree { result ≡ YES → IfSome multi.old.slot.value (λ m. multi.new.slot.value
         ≡ Some (after_removal nat_cmp m (equal_pair nat_cmp nat_eq (joined m.nodes) key value))) }
     ensures status { (result ≤ NUMBERS) × (result ≢ NONE) × (result ≢ HELD) }
@@ -90,15 +109,26 @@ pub extern "C" fn indexset_multi_remove_first(
     key: u64,
     out: &mut u64,
 ) -> u32
-    ensures found { result ≡ YES → option_map (λ p. p.value) (first_pair nat_cmp (numbered_pairs multi.old.slot.value) key) ≡ Some out.new }
-    ensures absent { result ≡ NO ↔ (first_pair nat_cmp (numbered_pairs multi.old.slot.value) key ≡ None) }
-    ensures ok { result ≡ YES → numbered_pairs multi.new.slot.value ≡ without_named nat_cmp (numbered_pairs multi.old.slot.value) (first_pair nat_cmp (numbered_pairs multi.old.slot.value) key) }
-    ensures gone { result ≡ YES → pairs_of nat_cmp (numbered_pairs multi.new.slot.value) key ≡ drop 1 (pairs_of nat_cmp (numbered_pairs multi.old.slot.value) key) }
-    ensures others { result ≡ YES → (other : ℕ) → is_eq (nat_cmp other key) ≡ false → pairs_of nat_cmp (numbered_pairs multi.new.slot.value) other ≡ pairs_of nat_cmp (numbered_pairs multi.old.slot.value) other }
+    ensures found { result ≡ YES → option_map (λ p. p.value)
+        (first_pair nat_cmp (numbered_pairs multi.old.slot.value) key) ≡ Some out.new }
+    ensures absent { result ≡ NO ↔ (first_pair nat_cmp (numbered_pairs multi.old.slot.value) key
+        ≡ None) }
+    ensures ok { result ≡ YES → numbered_pairs multi.new.slot.value
+        ≡ without_named nat_cmp (numbered_pairs multi.old.slot.value)
+        (first_pair nat_cmp (numbered_pairs multi.old.slot.value) key) }
+    ensures gone { result ≡ YES → pairs_of nat_cmp (numbered_pairs multi.new.slot.value) key
+        ≡ drop 1 (pairs_of nat_cmp (numbered_pairs multi.old.slot.value) key) }
+    ensures others { result ≡ YES → (other : ℕ) → is_eq (nat_cmp other key) ≡ false
+        → pairs_of nat_cmp (numbered_pairs multi.new.slot.value) other
+        ≡ pairs_of nat_cmp (numbered_pairs multi.old.slot.value) other }
     ensures unwritten { result ≢ YES → out.new ≡ out.old }
     ensures same { result ≢ YES → multi.new.slot.value ≡ multi.old.slot.value }
-    ensures memory { result ≡ MEMORY → IfSome multi.old.slot.value (λ m. refusal_for m.next (length (pair_removal_events nat_cmp m.size m.nodes (first_pair nat_cmp (joined m.nodes) key))) ≡ refusals.Memory) }
-    ensures numbers { result ≡ NUMBERS → IfSome multi.old.slot.value (λ m. refusal_for m.next (length (pair_removal_events nat_cmp m.size m.nodes (first_pair nat_cmp (joined m.nodes) key))) ≡ refusals.Numbers) }
+    ensures memory { result ≡ MEMORY → IfSome multi.old.slot.value
+        (λ m. refusal_for m.next (length (pair_removal_events nat_cmp m.size m.nodes
+        (first_pair nat_cmp (joined m.nodes) key))) ≡ refusals.Memory) }
+    ensures numbers { result ≡ NUMBERS → IfSome multi.old.slot.value
+        (λ m. refusal_for m.next (length (pair_removal_events nat_cmp m.size m.nodes
+        (first_pair nat_cmp (joined m.nodes) key))) ≡ refusals.Numbers) }
     ensures tree { result ≡ YES → IfSome multi.old.slot.value (λ m. multi.new.slot.value
         ≡ Some (after_removal nat_cmp m (first_pair nat_cmp (joined m.nodes) key))) }
     ensures status { (result ≤ NUMBERS) × (result ≢ NONE) × (result ≢ HELD) }

@@ -16,7 +16,8 @@ pub extern "C" fn indexset_multi_contains(
     key: u64,
     value: u64,
 ) -> bool
-    ensures value { result ≡ is_some (equal_pair nat_cmp nat_eq (numbered_pairs multi.old.slot.value) key value) }
+    ensures value { result ≡ is_some (equal_pair nat_cmp nat_eq
+        (numbered_pairs multi.old.slot.value) key value) }
     ensures same { multi.new.slot.value ≡ multi.old.slot.value }
 {
     let Some(held) = multi.take(alloc) else {
@@ -68,8 +69,10 @@ pub extern "C" fn indexset_multi_get(
     key: u64,
     out: &mut [u64],
 ) -> usize
-    ensures count { result ≡ min (length (values_of (numbered_pairs multi.old.slot.value) key)) (length out.old) }
-    ensures written { out.new ≡ written result (values_of (numbered_pairs multi.old.slot.value) key) out.old }
+    ensures count { result ≡ min (length (values_of (numbered_pairs multi.old.slot.value) key))
+        (length out.old) }
+    ensures written { out.new ≡ written result (values_of (numbered_pairs multi.old.slot.value) key)
+        out.old }
     ensures same { multi.new.slot.value ≡ multi.old.slot.value }
 {
     let Some(held) = multi.take(alloc) else {

@@ -20,8 +20,10 @@ pub extern "C" fn indexset_multi_first(
     key: &mut u64,
     value: &mut u64,
 ) -> bool
-    ensures found { result ≡ true → entry_at (entries (numbered_pairs multi.old.slot.value)) 0 ≡ Some (key.new, value.new) }
-    ensures absent { result ≡ false → entry_at (entries (numbered_pairs multi.old.slot.value)) 0 ≡ None }
+    ensures found { result ≡ true → entry_at (entries (numbered_pairs multi.old.slot.value)) 0
+        ≡ Some (key.new, value.new) }
+    ensures absent { result ≡ false → entry_at (entries (numbered_pairs multi.old.slot.value)) 0
+        ≡ None }
     ensures no_key { result ≡ false → key.new ≡ key.old }
     ensures no_value { result ≡ false → value.new ≡ value.old }
     ensures same { multi.new.slot.value ≡ multi.old.slot.value }
@@ -45,7 +47,8 @@ pub extern "C" fn indexset_multi_last(
     key: &mut u64,
     value: &mut u64,
 ) -> bool
-    ensures found { result ≡ true → entry_at (entries (numbered_pairs multi.old.slot.value)) (length (numbered_pairs multi.old.slot.value) - 1) ≡ Some (key.new, value.new) }
+    ensures found { result ≡ true → entry_at (entries (numbered_pairs multi.old.slot.value))
+        (length (numbered_pairs multi.old.slot.value) - 1) ≡ Some (key.new, value.new) }
     ensures absent { result ≡ false → numbered_pairs multi.old.slot.value ≡ [] }
     ensures no_key { result ≡ false → key.new ≡ key.old }
     ensures no_value { result ≡ false → value.new ≡ value.old }
@@ -73,9 +76,16 @@ pub extern "C" fn indexset_multi_range(
     keys: &mut [u64],
     values: &mut [u64],
 ) -> usize
-    ensures count { low ≤ high → result ≡ min (length (pairs_between nat_cmp (numbered_pairs multi.old.slot.value) (Included low) (Included high))) (min (length keys.old) (length values.old)) }
-    ensures keys { low ≤ high → keys.new ≡ written result (pair_keys (entries (pairs_between nat_cmp (numbered_pairs multi.old.slot.value) (Included low) (Included high)))) keys.old }
-    ensures values { low ≤ high → values.new ≡ written result (pair_values (entries (pairs_between nat_cmp (numbered_pairs multi.old.slot.value) (Included low) (Included high)))) values.old }
+    ensures count { low ≤ high → result ≡ min
+        (length (pairs_between nat_cmp (numbered_pairs multi.old.slot.value) (Included low)
+        (Included high))) (min (length keys.old) (length values.old)) }
+    ensures keys { low ≤ high → keys.new ≡ written result
+        (pair_keys (entries (pairs_between nat_cmp (numbered_pairs multi.old.slot.value)
+        (Included low) (Included high)))) keys.old }
+    ensures values { low ≤ high → values.new
+        ≡ written result (pair_values (entries
+        (pairs_between nat_cmp (numbered_pairs multi.old.slot.value) (Included low)
+        (Included high)))) values.old }
     ensures none { high < low → result ≡ 0 }
     ensures no_keys { high < low → keys.new ≡ keys.old }
     ensures no_values { high < low → values.new ≡ values.old }

@@ -15,9 +15,11 @@ pub extern "C" fn indexset_replica_apply(
     replica: &mut ReplicaHandle,
     event: &Event,
 ) -> u32
-    ensures ok { result ≤ YES → IfSome replica.old.slot.value (λ r. replica.new.slot.value ≡ applied r event.now) }
+    ensures ok { result ≤ YES → IfSome replica.old.slot.value
+        (λ r. replica.new.slot.value ≡ applied r event.now) }
     ensures fits { result ≡ YES → IfSome replica.old.slot.value (λ r. refused r event.now ≡ None) }
-    ensures refusal { result ≢ YES → IfSome replica.old.slot.value (λ r. result ≡ unwrap_or (refused r event.now) MEMORY) }
+    ensures refusal { result ≢ YES → IfSome replica.old.slot.value
+        (λ r. result ≡ unwrap_or (refused r event.now) MEMORY) }
     ensures none { result ≡ NONE ↔ (replica.old.slot.value ≡ None) }
     ensures there { (replica.new.slot.value ≡ None) ↔ (replica.old.slot.value ≡ None) }
     ensures same { result ≢ YES → replica.new.slot.value ≡ replica.old.slot.value }
@@ -39,10 +41,13 @@ pub extern "C" fn indexset_replica_apply_all(
     events: &[Event],
     taken: &mut usize,
 ) -> u32
-    ensures applied { IfSome replica.old.slot.value (λ r. replica.new.slot.value ≡ applied_all r (take taken.new events.now)) }
+    ensures applied { IfSome replica.old.slot.value
+        (λ r. replica.new.slot.value ≡ applied_all r (take taken.new events.now)) }
     ensures all { result ≡ YES → taken.new ≡ length events.now }
     ensures some { result ≢ YES → result ≢ NONE → taken.new < length events.now }
-    ensures refusal { result ≢ YES → IfSome replica.new.slot.value (λ r. IfSome (slice_get events.now taken.new) (λ e. result ≡ unwrap_or (refused r e) MEMORY)) }
+    ensures refusal { result ≢ YES → IfSome replica.new.slot.value
+        (λ r. IfSome (slice_get events.now taken.new)
+        (λ e. result ≡ unwrap_or (refused r e) MEMORY)) }
     ensures none { result ≡ NONE ↔ (replica.old.slot.value ≡ None) }
     ensures there { (replica.new.slot.value ≡ None) ↔ (replica.old.slot.value ≡ None) }
     ensures same { result ≡ NONE → (taken.new ≡ 0) × (replica.new.slot.value ≡ None) }

@@ -15,7 +15,8 @@ use std::alloc::Global;
 /// leads to a replica.
 #[unsafe(no_mangle)]
 pub extern "C" fn indexset_replica_new(alloc: Global, replica: &mut ReplicaHandle, next: u64) -> u32
-    ensures made { result ≡ YES → replica.new.slot.value ≡ Some (record { nodes = []; next = next }) }
+    ensures made { result ≡ YES → replica.new.slot.value
+        ≡ Some (record { nodes = []; next = next }) }
     ensures refused { result ≢ YES → replica.new.slot.value ≡ replica.old.slot.value }
     ensures held { result ≡ HELD ↔ (is_some replica.old.slot.value ≡ true) }
     ensures status { result ≢ YES → result ≢ HELD → result ≡ MEMORY }
@@ -41,10 +42,12 @@ pub extern "C" fn indexset_replica_from_log(
     replica: &mut ReplicaHandle,
     log: &mut LogHandle,
 ) -> u32
-    ensures made { result ≡ YES → replica.new.slot.value ≡ option_map replica_of log.old.slot.value }
+    ensures made { result ≡ YES → replica.new.slot.value
+        ≡ option_map replica_of log.old.slot.value }
     ensures refused { result ≢ YES → replica.new.slot.value ≡ replica.old.slot.value }
     ensures none { result ≡ NONE ↔ (log.old.slot.value ≡ None) }
-    ensures held { log.old.slot.value ≢ None → (result ≡ HELD ↔ (is_some replica.old.slot.value ≡ true)) }
+    ensures held { log.old.slot.value ≢ None
+        → (result ≡ HELD ↔ (is_some replica.old.slot.value ≡ true)) }
     ensures same { log.new.slot.value ≡ log.old.slot.value }
     ensures status { result ≢ YES → result ≢ NONE → result ≢ HELD → result ≡ MEMORY }
 {

@@ -21,8 +21,10 @@ pub extern "C" fn indexset_replica_get(
     key: u64,
     out: &mut u64,
 ) -> bool
-    ensures found { result ≡ true → value_of nat_cmp (copied_pairs replica.old.slot.value) key ≡ Some out.new }
-    ensures absent { result ≡ false → value_of nat_cmp (copied_pairs replica.old.slot.value) key ≡ None }
+    ensures found { result ≡ true → value_of nat_cmp (copied_pairs replica.old.slot.value) key
+        ≡ Some out.new }
+    ensures absent { result ≡ false → value_of nat_cmp (copied_pairs replica.old.slot.value) key
+        ≡ None }
     ensures unwritten { result ≡ false → out.new ≡ out.old }
     ensures same { replica.new.slot.value ≡ replica.old.slot.value }
 {
@@ -63,7 +65,8 @@ pub extern "C" fn indexset_replica_first(
     key: &mut u64,
     value: &mut u64,
 ) -> bool
-    ensures found { result ≡ true → entry_at (copied_pairs replica.old.slot.value) 0 ≡ Some (key.new, value.new) }
+    ensures found { result ≡ true → entry_at (copied_pairs replica.old.slot.value) 0
+        ≡ Some (key.new, value.new) }
     ensures absent { result ≡ false → entry_at (copied_pairs replica.old.slot.value) 0 ≡ None }
     ensures no_key { result ≡ false → key.new ≡ key.old }
     ensures no_value { result ≡ false → value.new ≡ value.old }
@@ -88,8 +91,10 @@ pub extern "C" fn indexset_replica_last(
     key: &mut u64,
     value: &mut u64,
 ) -> bool
-    ensures found { result ≡ true → entry_at (copied_pairs replica.old.slot.value) (length (copied_pairs replica.old.slot.value) - 1) ≡ Some (key.new, value.new) }
-    ensures absent { result ≡ false → entry_at (copied_pairs replica.old.slot.value) (length (copied_pairs replica.old.slot.value) - 1) ≡ None }
+    ensures found { result ≡ true → entry_at (copied_pairs replica.old.slot.value)
+        (length (copied_pairs replica.old.slot.value) - 1) ≡ Some (key.new, value.new) }
+    ensures absent { result ≡ false → entry_at (copied_pairs replica.old.slot.value)
+        (length (copied_pairs replica.old.slot.value) - 1) ≡ None }
     ensures no_key { result ≡ false → key.new ≡ key.old }
     ensures no_value { result ≡ false → value.new ≡ value.old }
     ensures same { replica.new.slot.value ≡ replica.old.slot.value }
@@ -113,7 +118,8 @@ pub extern "C" fn indexset_replica_node_lengths(
     out: &mut [usize],
 ) -> usize
     ensures count { result ≡ min (length (copied_nodes replica.old.slot.value)) (length out.old) }
-    ensures written { out.new ≡ written result (node_lengths (copied_nodes replica.old.slot.value)) out.old }
+    ensures written { out.new ≡ written result (node_lengths (copied_nodes replica.old.slot.value))
+        out.old }
     ensures same { replica.new.slot.value ≡ replica.old.slot.value }
 {
     let Some(held) = replica.take(alloc) else {
@@ -135,9 +141,15 @@ pub extern "C" fn indexset_replica_range(
     keys: &mut [u64],
     values: &mut [u64],
 ) -> usize
-    ensures count { low ≤ high → result ≡ min (length (pairs_within nat_cmp (copied_pairs replica.old.slot.value) (Included low) (Included high))) (min (length keys.old) (length values.old)) }
-    ensures keys { low ≤ high → keys.new ≡ written result (pair_keys (pairs_within nat_cmp (copied_pairs replica.old.slot.value) (Included low) (Included high))) keys.old }
-    ensures values { low ≤ high → values.new ≡ written result (pair_values (pairs_within nat_cmp (copied_pairs replica.old.slot.value) (Included low) (Included high))) values.old }
+    ensures count { low ≤ high → result ≡ min
+        (length (pairs_within nat_cmp (copied_pairs replica.old.slot.value) (Included low)
+        (Included high))) (min (length keys.old) (length values.old)) }
+    ensures keys { low ≤ high → keys.new ≡ written result
+        (pair_keys (pairs_within nat_cmp (copied_pairs replica.old.slot.value) (Included low)
+        (Included high))) keys.old }
+    ensures values { low ≤ high → values.new
+        ≡ written result (pair_values (pairs_within nat_cmp (copied_pairs replica.old.slot.value)
+        (Included low) (Included high))) values.old }
     ensures none { high < low → result ≡ 0 }
     ensures no_keys { high < low → keys.new ≡ keys.old }
     ensures no_values { high < low → values.new ≡ values.old }

@@ -19,7 +19,8 @@ pub extern "C" fn indexset_set_insert_all(
     keys: &[u64],
     taken: &mut usize,
 ) -> u32
-    ensures kept { elements set.new.slot.value ≡ fold (keep nat_cmp) (elements set.old.slot.value) (take taken.new keys.now) }
+    ensures kept { elements set.new.slot.value
+        ≡ fold (keep nat_cmp) (elements set.old.slot.value) (take taken.new keys.now) }
     ensures all { result ≡ YES → taken.new ≡ length keys.now }
     ensures some { result ≡ MEMORY → taken.new < length keys.now }
     ensures stop { result ≡ MEMORY → has_equal nat_cmp (elements set.new.slot.value)
@@ -47,7 +48,8 @@ pub extern "C" fn indexset_set_ranks(
     out: &mut [usize],
 ) -> usize
     ensures count { set.old.slot.value ≢ None → result ≡ min (length keys.now) (length out.old) }
-    ensures written { out.new ≡ written result (map (rank nat_cmp (elements set.old.slot.value)) keys.now) out.old }
+    ensures written { out.new ≡ written result
+        (map (rank nat_cmp (elements set.old.slot.value)) keys.now) out.old }
     ensures none { set.old.slot.value ≡ None → result ≡ 0 }
     ensures same { set.new.slot.value ≡ set.old.slot.value }
 {
@@ -69,9 +71,12 @@ pub extern "C" fn indexset_set_at_all(
     out: &mut [u64],
 ) -> usize
     ensures room { result ≤ min (length positions.now) (length out.old) }
-    ensures there { AllWithin (λ i. i < length (elements set.old.slot.value)) positions.now 0 result }
-    ensures stop { result < min (length positions.now) (length out.old) → length (elements set.old.slot.value) ≤ slice_index_or positions.now result 0 }
-    ensures written { out.new ≡ written result (map (element_at (elements set.old.slot.value)) positions.now) out.old }
+    ensures there { AllWithin (λ i. i < length (elements set.old.slot.value)) positions.now 0
+        result }
+    ensures stop { result < min (length positions.now) (length out.old)
+        → length (elements set.old.slot.value) ≤ slice_index_or positions.now result 0 }
+    ensures written { out.new ≡ written result
+        (map (element_at (elements set.old.slot.value)) positions.now) out.old }
     ensures same { set.new.slot.value ≡ set.old.slot.value }
 {
     let Some(held) = set.take(alloc) else {

@@ -14,7 +14,8 @@ use std::alloc::Global;
 pub extern "C" fn indexset_set_insert(alloc: Global, set: &mut SetHandle, key: u64) -> u32
     ensures added { result ≡ YES → has_equal nat_cmp (elements set.old.slot.value) key ≡ false }
     ensures there { result ≡ NO → has_equal nat_cmp (elements set.old.slot.value) key ≡ true }
-    ensures ok { result ≡ YES → elements set.new.slot.value ≡ keep nat_cmp (elements set.old.slot.value) key }
+    ensures ok { result ≡ YES → elements set.new.slot.value
+        ≡ keep nat_cmp (elements set.old.slot.value) key }
     ensures same { result ≢ YES → set.new.slot.value ≡ set.old.slot.value }
     ensures none { result ≡ NONE ↔ (set.old.slot.value ≡ None) }
     ensures no_memory { has_equal nat_cmp (elements set.old.slot.value) key ≡ true → result ≡ NO }
@@ -85,8 +86,10 @@ pub extern "C" fn indexset_set_lower_bound(
     key: u64,
     out: &mut u64,
 ) -> bool
-    ensures found { result ≡ true → lower_element nat_cmp (elements set.old.slot.value) key ≡ Some out.new }
-    ensures absent { result ≡ false → lower_element nat_cmp (elements set.old.slot.value) key ≡ None }
+    ensures found { result ≡ true → lower_element nat_cmp (elements set.old.slot.value) key
+        ≡ Some out.new }
+    ensures absent { result ≡ false → lower_element nat_cmp (elements set.old.slot.value) key
+        ≡ None }
     ensures unwritten { result ≡ false → out.new ≡ out.old }
     ensures same { set.new.slot.value ≡ set.old.slot.value }
 {

@@ -40,7 +40,8 @@ pub extern "C" fn indexset_set_clone(alloc: Global, set: &mut SetHandle, to: &mu
     ensures ok { result ≡ YES → to.new.slot.value ≡ set.old.slot.value }
     ensures refused { result ≢ YES → to.new.slot.value ≡ to.old.slot.value }
     ensures none { result ≡ NONE ↔ (set.old.slot.value ≡ None) }
-    ensures held { set.old.slot.value ≢ None → (result ≡ HELD ↔ (is_some to.old.slot.value ≡ true)) }
+    ensures held { set.old.slot.value ≢ None
+        → (result ≡ HELD ↔ (is_some to.old.slot.value ≡ true)) }
     ensures same { set.new.slot.value ≡ set.old.slot.value }
     ensures status { result ≢ YES → result ≢ NONE → result ≢ HELD → result ≡ MEMORY }
 {

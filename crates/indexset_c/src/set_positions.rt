@@ -14,7 +14,8 @@ pub extern "C" fn indexset_set_at(
     position: usize,
     out: &mut u64,
 ) -> bool
-    ensures found { result ≡ true → slice_get (elements set.old.slot.value) position ≡ Some out.new }
+    ensures found { result ≡ true → slice_get (elements set.old.slot.value) position
+        ≡ Some out.new }
     ensures absent { result ≡ false → slice_get (elements set.old.slot.value) position ≡ None }
     ensures unwritten { result ≡ false → out.new ≡ out.old }
     ensures same { set.new.slot.value ≡ set.old.slot.value }
@@ -46,7 +47,8 @@ pub extern "C" fn indexset_set_first(alloc: Global, set: &mut SetHandle, out: &m
 /// Writes the greatest element, where there is one.
 #[unsafe(no_mangle)]
 pub extern "C" fn indexset_set_last(alloc: Global, set: &mut SetHandle, out: &mut u64) -> bool
-    ensures found { result ≡ true → slice_get (elements set.old.slot.value) (length (elements set.old.slot.value) - 1) ≡ Some out.new }
+    ensures found { result ≡ true → slice_get (elements set.old.slot.value)
+        (length (elements set.old.slot.value) - 1) ≡ Some out.new }
     ensures absent { result ≡ false → length (elements set.old.slot.value) ≡ 0 }
     ensures unwritten { result ≡ false → out.new ≡ out.old }
     ensures same { set.new.slot.value ≡ set.old.slot.value }
@@ -80,8 +82,10 @@ pub extern "C" fn indexset_set_pop_first(alloc: Global, set: &mut SetHandle, out
 /// Removes the greatest element and writes it, where there is one.
 #[unsafe(no_mangle)]
 pub extern "C" fn indexset_set_pop_last(alloc: Global, set: &mut SetHandle, out: &mut u64) -> bool
-    ensures found { result ≡ true → slice_get (elements set.old.slot.value) (length (elements set.old.slot.value) - 1) ≡ Some out.new }
-    ensures rest { elements set.new.slot.value ≡ take (length (elements set.old.slot.value) - 1) (elements set.old.slot.value) }
+    ensures found { result ≡ true → slice_get (elements set.old.slot.value)
+        (length (elements set.old.slot.value) - 1) ≡ Some out.new }
+    ensures rest { elements set.new.slot.value
+        ≡ take (length (elements set.old.slot.value) - 1) (elements set.old.slot.value) }
     ensures there { is_some set.new.slot.value ≡ is_some set.old.slot.value }
     ensures absent { result ≡ false → length (elements set.old.slot.value) ≡ 0 }
     ensures unwritten { result ≡ false → out.new ≡ out.old }

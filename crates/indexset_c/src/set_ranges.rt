@@ -20,8 +20,12 @@ pub extern "C" fn indexset_set_range_by_key(
     high: u64,
     out: &mut [u64],
 ) -> usize
-    ensures count { low ≤ high → result ≡ min (length (in_range nat_cmp (elements set.old.slot.value) (Included low) (Included high))) (length out.old) }
-    ensures written { low ≤ high → out.new ≡ written result (in_range nat_cmp (elements set.old.slot.value) (Included low) (Included high)) out.old }
+    ensures count { low ≤ high → result ≡ min
+        (length (in_range nat_cmp (elements set.old.slot.value) (Included low) (Included high)))
+        (length out.old) }
+    ensures written { low ≤ high → out.new
+        ≡ written result (in_range nat_cmp (elements set.old.slot.value) (Included low)
+        (Included high)) out.old }
     ensures none { high < low → result ≡ 0 }
     ensures unwritten { high < low → out.new ≡ out.old }
     ensures same { set.new.slot.value ≡ set.old.slot.value }
@@ -49,7 +53,8 @@ pub extern "C" fn indexset_set_range_by_position(
     from: usize,
     out: &mut [u64],
 ) -> usize
-    ensures count { result ≡ min (length (drop from (elements set.old.slot.value))) (length out.old) }
+    ensures count { result ≡ min (length (drop from (elements set.old.slot.value)))
+        (length out.old) }
     ensures written { out.new ≡ written result (drop from (elements set.old.slot.value)) out.old }
     ensures same { set.new.slot.value ≡ set.old.slot.value }
 {

@@ -23,13 +23,17 @@ pub extern "C" fn indexset_text_map_insert(
     value: u64,
     before: &mut u64,
 ) -> u32
-    ensures added { result ≡ YES → value_of (slice_cmp nat_cmp) (text_pairs map.old.slot.value) key.now ≡ None }
-    ensures replaced { result ≡ NO → value_of (slice_cmp nat_cmp) (text_pairs map.old.slot.value) key.now ≡ Some before.new }
-    ensures ok { result ≤ YES → text_pairs map.new.slot.value ≡ put_value (slice_cmp nat_cmp) (text_pairs map.old.slot.value) key.now value }
+    ensures added { result ≡ YES → value_of (slice_cmp nat_cmp) (text_pairs map.old.slot.value)
+        key.now ≡ None }
+    ensures replaced { result ≡ NO → value_of (slice_cmp nat_cmp) (text_pairs map.old.slot.value)
+        key.now ≡ Some before.new }
+    ensures ok { result ≤ YES → text_pairs map.new.slot.value
+        ≡ put_value (slice_cmp nat_cmp) (text_pairs map.old.slot.value) key.now value }
     ensures unwritten { result ≢ NO → before.new ≡ before.old }
     ensures same { MEMORY ≤ result → map.new.slot.value ≡ map.old.slot.value }
     ensures none { result ≡ NONE ↔ (map.old.slot.value ≡ None) }
-    ensures no_memory { has_key (slice_cmp nat_cmp) (text_pairs map.old.slot.value) key.now ≡ true → result ≡ NO }
+    ensures no_memory { has_key (slice_cmp nat_cmp) (text_pairs map.old.slot.value) key.now ≡ true
+        → result ≡ NO }
     ensures status { result ≤ NONE }
 {
     let Some(mut held) = map.take(alloc) else {
@@ -55,8 +59,10 @@ pub extern "C" fn indexset_text_map_get(
     key: &[u8],
     out: &mut u64,
 ) -> bool
-    ensures found { result ≡ true → value_of (slice_cmp nat_cmp) (text_pairs map.old.slot.value) key.now ≡ Some out.new }
-    ensures absent { result ≡ false → value_of (slice_cmp nat_cmp) (text_pairs map.old.slot.value) key.now ≡ None }
+    ensures found { result ≡ true → value_of (slice_cmp nat_cmp) (text_pairs map.old.slot.value)
+        key.now ≡ Some out.new }
+    ensures absent { result ≡ false → value_of (slice_cmp nat_cmp) (text_pairs map.old.slot.value)
+        key.now ≡ None }
     ensures unwritten { result ≡ false → out.new ≡ out.old }
     ensures same { map.new.slot.value ≡ map.old.slot.value }
 {
@@ -77,9 +83,12 @@ pub extern "C" fn indexset_text_map_remove(
     key: &[u8],
     out: &mut u64,
 ) -> bool
-    ensures found { result ≡ true → value_of (slice_cmp nat_cmp) (text_pairs map.old.slot.value) key.now ≡ Some out.new }
-    ensures absent { result ≡ false → value_of (slice_cmp nat_cmp) (text_pairs map.old.slot.value) key.now ≡ None }
-    ensures rest { text_pairs map.new.slot.value ≡ without_key (slice_cmp nat_cmp) (text_pairs map.old.slot.value) key.now }
+    ensures found { result ≡ true → value_of (slice_cmp nat_cmp) (text_pairs map.old.slot.value)
+        key.now ≡ Some out.new }
+    ensures absent { result ≡ false → value_of (slice_cmp nat_cmp) (text_pairs map.old.slot.value)
+        key.now ≡ None }
+    ensures rest { text_pairs map.new.slot.value
+        ≡ without_key (slice_cmp nat_cmp) (text_pairs map.old.slot.value) key.now }
     ensures there { is_some map.new.slot.value ≡ is_some map.old.slot.value }
     ensures unwritten { result ≡ false → out.new ≡ out.old }
     ensures same { result ≡ false → map.new.slot.value ≡ map.old.slot.value }

@@ -22,9 +22,12 @@ pub extern "C" fn indexset_text_map_at(
     len: &mut usize,
     value: &mut u64,
 ) -> bool
-    ensures found { result ≡ true → value_at (text_pairs map.old.slot.value) position ≡ Some value.new }
-    ensures long { result ≡ true → len.new ≡ length (key_at (text_pairs map.old.slot.value) position) }
-    ensures bytes { key.new ≡ written_over (key_at (text_pairs map.old.slot.value) position) key.old }
+    ensures found { result ≡ true → value_at (text_pairs map.old.slot.value) position
+        ≡ Some value.new }
+    ensures long { result ≡ true → len.new
+        ≡ length (key_at (text_pairs map.old.slot.value) position) }
+    ensures bytes { key.new ≡ written_over (key_at (text_pairs map.old.slot.value) position)
+        key.old }
     ensures absent { result ≡ false → value_at (text_pairs map.old.slot.value) position ≡ None }
     ensures no_len { result ≡ false → len.new ≡ len.old }
     ensures no_value { result ≡ false → value.new ≡ value.old }
@@ -57,10 +60,16 @@ pub extern "C" fn indexset_text_map_lower_bound(
     len: &mut usize,
     value: &mut u64,
 ) -> bool
-    ensures found { result ≡ true → value_at (text_pairs map.old.slot.value) (key_rank (slice_cmp nat_cmp) (text_pairs map.old.slot.value) from.now) ≡ Some value.new }
-    ensures long { result ≡ true → len.new ≡ length (key_at (text_pairs map.old.slot.value) (key_rank (slice_cmp nat_cmp) (text_pairs map.old.slot.value) from.now)) }
-    ensures bytes { key.new ≡ written_over (key_at (text_pairs map.old.slot.value) (key_rank (slice_cmp nat_cmp) (text_pairs map.old.slot.value) from.now)) key.old }
-    ensures absent { result ≡ false → value_at (text_pairs map.old.slot.value) (key_rank (slice_cmp nat_cmp) (text_pairs map.old.slot.value) from.now) ≡ None }
+    ensures found { result ≡ true → value_at (text_pairs map.old.slot.value)
+        (key_rank (slice_cmp nat_cmp) (text_pairs map.old.slot.value) from.now) ≡ Some value.new }
+    ensures long { result ≡ true → len.new
+        ≡ length (key_at (text_pairs map.old.slot.value)
+        (key_rank (slice_cmp nat_cmp) (text_pairs map.old.slot.value) from.now)) }
+    ensures bytes { key.new ≡ written_over
+        (key_at (text_pairs map.old.slot.value)
+        (key_rank (slice_cmp nat_cmp) (text_pairs map.old.slot.value) from.now)) key.old }
+    ensures absent { result ≡ false → value_at (text_pairs map.old.slot.value)
+        (key_rank (slice_cmp nat_cmp) (text_pairs map.old.slot.value) from.now) ≡ None }
     ensures no_len { result ≡ false → len.new ≡ len.old }
     ensures no_value { result ≡ false → value.new ≡ value.old }
     ensures same { map.new.slot.value ≡ map.old.slot.value }
@@ -98,10 +107,16 @@ pub extern "C" fn indexset_text_map_last(
     len: &mut usize,
     value: &mut u64,
 ) -> bool
-    ensures found { result ≡ true → value_at (text_pairs map.old.slot.value) (length (text_pairs map.old.slot.value) - 1) ≡ Some value.new }
-    ensures long { result ≡ true → len.new ≡ length (key_at (text_pairs map.old.slot.value) (length (text_pairs map.old.slot.value) - 1)) }
-    ensures bytes { key.new ≡ written_over (key_at (text_pairs map.old.slot.value) (length (text_pairs map.old.slot.value) - 1)) key.old }
-    ensures absent { result ≡ false → value_at (text_pairs map.old.slot.value) (length (text_pairs map.old.slot.value) - 1) ≡ None }
+    ensures found { result ≡ true → value_at (text_pairs map.old.slot.value)
+        (length (text_pairs map.old.slot.value) - 1) ≡ Some value.new }
+    ensures long { result ≡ true → len.new
+        ≡ length (key_at (text_pairs map.old.slot.value)
+        (length (text_pairs map.old.slot.value) - 1)) }
+    ensures bytes { key.new ≡ written_over
+        (key_at (text_pairs map.old.slot.value) (length (text_pairs map.old.slot.value) - 1))
+        key.old }
+    ensures absent { result ≡ false → value_at (text_pairs map.old.slot.value)
+        (length (text_pairs map.old.slot.value) - 1) ≡ None }
     ensures no_len { result ≡ false → len.new ≡ len.old }
     ensures no_value { result ≡ false → value.new ≡ value.old }
     ensures same { map.new.slot.value ≡ map.old.slot.value }

@@ -19,8 +19,10 @@ pub extern "C" fn indexset_text_map_range_by_position(
     from: usize,
     values: &mut [u64],
 ) -> usize
-    ensures count { result ≡ min (length (drop from (text_pairs map.old.slot.value))) (length values.old) }
-    ensures values { values.new ≡ written result (pair_values (drop from (text_pairs map.old.slot.value))) values.old }
+    ensures count { result ≡ min (length (drop from (text_pairs map.old.slot.value)))
+        (length values.old) }
+    ensures values { values.new ≡ written result
+        (pair_values (drop from (text_pairs map.old.slot.value))) values.old }
     ensures same { map.new.slot.value ≡ map.old.slot.value }
 {
     let Some(held) = map.take(alloc) else {
@@ -42,9 +44,12 @@ pub extern "C" fn indexset_text_map_keys_by_position(
     bytes: &mut [u8],
     lengths: &mut [usize],
 ) -> usize
-    ensures count { result ≡ min (length (drop from (text_pairs map.old.slot.value))) (length lengths.old) }
-    ensures lengths { lengths.new ≡ written result (key_lengths (drop from (text_pairs map.old.slot.value))) lengths.old }
-    ensures bytes { bytes.new ≡ written_over (joined (take result (pair_keys (drop from (text_pairs map.old.slot.value))))) bytes.old }
+    ensures count { result ≡ min (length (drop from (text_pairs map.old.slot.value)))
+        (length lengths.old) }
+    ensures lengths { lengths.new ≡ written result
+        (key_lengths (drop from (text_pairs map.old.slot.value))) lengths.old }
+    ensures bytes { bytes.new ≡ written_over
+        (joined (take result (pair_keys (drop from (text_pairs map.old.slot.value))))) bytes.old }
     ensures same { map.new.slot.value ≡ map.old.slot.value }
 {
     let Some(held) = map.take(alloc) else {

@@ -7,7 +7,8 @@ use std::ops::Bound;
 
 /// Returns whether the start is not above the end, nor equal to it where both are excluded.
 pub fn bounds_are_ordered<T: Ord>(start: Bound<&T>, end: Bound<&T>) -> bool
-    ensures { result ≡ are_ordered T.cmp (bound_map (λ x. x.now) start.entry) (bound_map (λ x. x.now) end.entry) }
+    ensures { result ≡ are_ordered T.cmp (bound_map (λ x. x.now) start.entry)
+        (bound_map (λ x. x.now) end.entry) }
 {
     match (start, end) {
         (Bound::Excluded(first), Bound::Excluded(last)) => first.cmp(last).is_lt(),

@@ -8,7 +8,8 @@ use crate::refusal::Refusal;
 pub fn halve_node<T>(node: &mut Vec<T>) -> Result<Vec<T>, Refusal>
     ensures left { OnOk result (node.new.items ≡ take (length node.old.items / 2) node.old.items) }
     ensures left_room { OnOk result (length node.old.items ≤ vec_capacity node.new) }
-    ensures right { IfOk result (λ rest. rest.items ≡ drop (length node.old.items / 2) node.old.items) }
+    ensures right { IfOk result (λ rest. rest.items
+        ≡ drop (length node.old.items / 2) node.old.items) }
     ensures right_room { IfOk result (λ rest. length node.old.items ≤ vec_capacity rest) }
     ensures refusal { IfErr result (λ e. e ≡ Refusal.Memory) }
     ensures unchanged { OnErr result (node.new.items ≡ node.old.items) }

@@ -42,7 +42,11 @@ impl<K, V> Pair<K, V> {
     /// Returns the same key and value with a number. (It stands for the Rust crate's conversion
     /// that draws a number.)
     pub fn numbered(self, discriminator: u64) -> MultiPair<K, V>
-        ensures { result ≡ record { key = self.key; value = self.value; discriminator = discriminator } }
+        ensures { result ≡ record {
+          key = self.key;
+          value = self.value;
+          discriminator = discriminator;
+        } }
     {
         let Pair { key, value } = self;
         MultiPair::new(key, value, discriminator)
@@ -65,7 +69,8 @@ impl<K, V> From<MultiPair<K, V>> for Pair<K, V> {
 impl<K: PartialEq, V> PartialEq for MultiPair<K, V> {
     ghost eq = { λ p q. K.eq p.key q.key && nat_eq p.discriminator q.discriminator };
 
-    ghost laws = { and_per (on_per (λ p. p.key) K.PartialEq.laws) (on_per (λ p. p.discriminator) (partial_equiv_from_equiv nat_eq_equiv)) };
+    ghost laws = { and_per (on_per (λ p. p.key) K.PartialEq.laws)
+        (on_per (λ p. p.discriminator) (partial_equiv_from_equiv nat_eq_equiv)) };
 
     fn eq(&self, other: &MultiPair<K, V>) -> bool {
         if self.key.eq(&other.key) {
@@ -77,13 +82,16 @@ impl<K: PartialEq, V> PartialEq for MultiPair<K, V> {
 }
 
 impl<K: Eq, V> Eq for MultiPair<K, V> {
-    ghost laws = { and_equiv (on_equiv (λ p. p.key) K.Eq.laws) (on_equiv (λ p. p.discriminator) nat_eq_equiv) };
+    ghost laws = { and_equiv (on_equiv (λ p. p.key) K.Eq.laws)
+        (on_equiv (λ p. p.discriminator) nat_eq_equiv) };
 }
 
 impl<K: PartialOrd, V> PartialOrd for MultiPair<K, V> {
-    ghost partial_cmp = { λ p q. partial_ordering_then (K.partial_cmp p.key q.key) (Some (nat_cmp p.discriminator q.discriminator)) };
+    ghost partial_cmp = { λ p q. partial_ordering_then (K.partial_cmp p.key q.key)
+        (Some (nat_cmp p.discriminator q.discriminator)) };
 
-    ghost laws = { then_po (on_po (λ p. p.key) K.PartialOrd.laws) (on_po (λ p. p.discriminator) (Prim.search (comparing, rules))) };
+    ghost laws = { then_po (on_po (λ p. p.key) K.PartialOrd.laws)
+        (on_po (λ p. p.discriminator) (Prim.search (comparing, rules))) };
 
     fn partial_cmp(&self, other: &MultiPair<K, V>) -> Option<Ordering> {
         match self.key.partial_cmp(&other.key) {
@@ -94,13 +102,18 @@ impl<K: PartialOrd, V> PartialOrd for MultiPair<K, V> {
 }
 
 impl<K: Ord, V> Ord for MultiPair<K, V> {
-    ghost cmp = { λ p q. ordering_then (K.cmp p.key q.key) (nat_cmp p.discriminator q.discriminator) };
+    ghost cmp = { λ p q. ordering_then (K.cmp p.key q.key)
+        (nat_cmp p.discriminator q.discriminator) };
 
-    ghost total = { then_total (on_total (λ p. p.key) K.total) (on_total (λ p. p.discriminator) nat_cmp_total) };
+    ghost total = { then_total (on_total (λ p. p.key) K.total)
+        (on_total (λ p. p.discriminator) nat_cmp_total) };
 
-    ghost matches_partial_cmp = { then_agrees (λ p q. K.matches_partial_cmp p.key q.key) (λ p q. refl) };
+    ghost matches_partial_cmp = { then_agrees (λ p q. K.matches_partial_cmp p.key q.key)
+        (λ p q. refl) };
 
-    ghost matches_eq = { λ p q. both_tied _ _ (K.cmp p.key q.key) (nat_cmp p.discriminator q.discriminator) (K.matches_eq p.key q.key) (Prim.search (comparing, rules)) };
+    ghost matches_eq = { λ p q. both_tied _ _ (K.cmp p.key q.key)
+        (nat_cmp p.discriminator q.discriminator) (K.matches_eq p.key q.key)
+        (Prim.search (comparing, rules)) };
 
     fn cmp(&self, other: &MultiPair<K, V>) -> Ordering {
         match self.key.cmp(&other.key) {

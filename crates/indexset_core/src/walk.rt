@@ -81,8 +81,10 @@ impl<'a, T, Node, R: ReadNode<T, Node>> Walk<'a, T, Node, R> {
     pub fn between(nodes: &'a [Node], from: (usize, usize), to: (usize, usize)) -> Self
         requires from { IsPlace (map R.list nodes.now) from }
         requires to { IsPlace (map R.list nodes.now) to }
-        requires order { items_before (map R.list nodes.now) from ≤ items_before (map R.list nodes.now) to }
-        ensures { result ≡ between (items_before (map R.list nodes.now) from) (items_before (map R.list nodes.now) to) (joined (map R.list nodes.now)) }
+        requires order { items_before (map R.list nodes.now) from
+            ≤ items_before (map R.list nodes.now) to }
+        ensures { result ≡ between (items_before (map R.list nodes.now) from)
+            (items_before (map R.list nodes.now) to) (joined (map R.list nodes.now)) }
     {
         if nodes.is_empty() || from.0 > to.0 {
             return Walk::over(&[]);

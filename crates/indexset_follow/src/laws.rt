@@ -48,14 +48,17 @@ pub fn request_meaning_is_spelling()
 /// and in any order, it holds what the first k lead to, for some k. Where the texts of the events from j
 /// on are among the lines in their order, k is all of them.
 pub fn deliveries_lead_to_a_beginning()
-    ensures beginning { (s j : ℕ) (ns : List (List (Pair ℕ ℕ))) (es : List Event) (r : State) (lines : List (List ℕ))
+    ensures beginning { (s j : ℕ) (ns : List (List (Pair ℕ ℕ))) (es : List Event) (r : State)
+        (lines : List (List ℕ))
         → IsFeedOfPairs s ns es → All EventFits es → HoldsFirst s ns es j r → All (IsDrawn es) lines
         → (k : ℕ) × HoldsFirst s ns es k (state_after r lines) }
-    ensures whole { (s j : ℕ) (ns : List (List (Pair ℕ ℕ))) (es : List Event) (r : State) (lines : List (List ℕ))
+    ensures whole { (s j : ℕ) (ns : List (List (Pair ℕ ℕ))) (es : List Event) (r : State)
+        (lines : List (List ℕ))
         → IsFeedOfPairs s ns es → All EventFits es → HoldsFirst s ns es j r → All (IsDrawn es) lines
         → IsSubsequence (map event_text (drop j es)) lines
         → HoldsFirst s ns es (length es) (state_after r lines) }
-    ensures none { (s : ℕ) (ns : List (List (Pair ℕ ℕ))) (es : List Event) → HoldsFirst s ns es 0 (state ns s) }
+    ensures none { (s : ℕ) (ns : List (List (Pair ℕ ℕ))) (es : List Event)
+        → HoldsFirst s ns es 0 (state ns s) }
 {}
 
 /// The lines of a snapshot, sent to any follower, make it what the giver is: the nodes, and the awaited
@@ -79,18 +82,22 @@ pub fn replies_are_passed_over()
 pub fn told_events_lead_to_the_nodes()
     ensures numbered { (lines : List (List ℕ)) → IsNumberedFrom 0 (events_of_lines lines) }
     ensures replayed { (lines : List (List ℕ))
-        → replay (by_key nat_cmp) [] (events_of_lines lines) ≡ Some (stores_of no_stores lines).pairs.nodes }
-    ensures count { (lines : List (List ℕ)) → (stores_of no_stores lines).pairs.next ≡ length (events_of_lines lines) }
+        → replay (by_key nat_cmp) [] (events_of_lines lines)
+        ≡ Some (stores_of no_stores lines).pairs.nodes }
+    ensures count { (lines : List (List ℕ))
+        → (stores_of no_stores lines).pairs.next ≡ length (events_of_lines lines) }
     ensures fits { (lines : List (List ℕ)) → (stores_of no_stores lines).pairs.next < 2 ^ 64
         → All EventFits (events_of_lines lines) }
     ensures first { (lines : List (List ℕ)) (n : ℕ)
-        → take (length (events_of_lines (take n lines))) (events_of_lines lines) ≡ events_of_lines (take n lines) }
+        → take (length (events_of_lines (take n lines))) (events_of_lines lines)
+        ≡ events_of_lines (take n lines) }
 {}
 
 /// The lines of the first program's output that spell events are the texts of these, all of them in
 /// their order, while the lines that it reads are fewer than 2^64, and so are the events.
 pub fn output_tells_the_events()
-    ensures { (lines : List (List ℕ)) → length lines < 2 ^ 64 → (stores_of no_stores lines).pairs.next < 2 ^ 64
+    ensures { (lines : List (List ℕ)) → length lines < 2 ^ 64
+        → (stores_of no_stores lines).pairs.next < 2 ^ 64
         → event_lines (output_lines lines) ≡ map event_text (events_of_lines lines) }
 {}
 
@@ -102,19 +109,25 @@ pub fn output_tells_the_events()
 /// events came in their order, and so where all that the first wrote came as it was written, it
 /// holds the nodes of the first, and awaits its next number.
 pub fn programs_agree()
-    ensures beginning { (lines delivered : List (List ℕ)) → length lines < 2 ^ 64 → (stores_of no_stores lines).pairs.next < 2 ^ 64
+    ensures beginning { (lines delivered : List (List ℕ)) → length lines < 2 ^ 64
+        → (stores_of no_stores lines).pairs.next < 2 ^ 64
         → All (IsAmong (output_lines lines)) delivered
         → (k : ℕ) × HoldsFirst 0 [] (events_of_lines lines) k (state_after start_state delivered) }
-    ensures same { (lines delivered : List (List ℕ)) → length lines < 2 ^ 64 → (stores_of no_stores lines).pairs.next < 2 ^ 64
+    ensures same { (lines delivered : List (List ℕ)) → length lines < 2 ^ 64
+        → (stores_of no_stores lines).pairs.next < 2 ^ 64
         → All (IsAmong (output_lines lines)) delivered
-        → (n : ℕ) → (state_after start_state delivered).next ≡ (stores_of no_stores (take n lines)).pairs.next
-        → (state_after start_state delivered).nodes ≡ (stores_of no_stores (take n lines)).pairs.nodes }
-    ensures whole { (lines delivered : List (List ℕ)) → length lines < 2 ^ 64 → (stores_of no_stores lines).pairs.next < 2 ^ 64
+        → (n : ℕ) → (state_after start_state delivered).next
+        ≡ (stores_of no_stores (take n lines)).pairs.next
+        → (state_after start_state delivered).nodes
+        ≡ (stores_of no_stores (take n lines)).pairs.nodes }
+    ensures whole { (lines delivered : List (List ℕ)) → length lines < 2 ^ 64
+        → (stores_of no_stores lines).pairs.next < 2 ^ 64
         → All (IsAmong (output_lines lines)) delivered
         → IsSubsequence (event_lines (output_lines lines)) (event_lines delivered)
         → state_after start_state delivered
         ≡ state (stores_of no_stores lines).pairs.nodes (stores_of no_stores lines).pairs.next }
-    ensures piped { (lines : List (List ℕ)) → length lines < 2 ^ 64 → (stores_of no_stores lines).pairs.next < 2 ^ 64
+    ensures piped { (lines : List (List ℕ)) → length lines < 2 ^ 64
+        → (stores_of no_stores lines).pairs.next < 2 ^ 64
         → state_after start_state (output_lines lines)
         ≡ state (stores_of no_stores lines).pairs.nodes (stores_of no_stores lines).pairs.next }
 {}

@@ -31,7 +31,8 @@ pub fn read_node(alloc: Global, line: &[u8]) -> Result<Option<Node>, RunFault>
 
 /// Returns the pairs of a text, where each of its words is one.
 fn read_pairs(alloc: Global, text: &[u8]) -> Result<Option<Node>, RunFault>
-    ensures pairs { IfOk result (λ node. option_map (λ n. n.items) node ≡ pairs_of (words text.now)) }
+    ensures pairs { IfOk result (λ node. option_map (λ n. n.items) node
+        ≡ pairs_of (words text.now)) }
     ensures fault { IfErr result (λ fault. fault ≡ RunFault.Memory) }
 {
     let mut items = Vec::new(alloc);

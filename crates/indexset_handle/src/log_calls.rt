@@ -24,11 +24,23 @@ pub fn insert_told(
 ) -> Result<(Option<u64>, usize), Refusal>
     requires { 3 ≤ length events.old }
     ensures before { IfOk result (λ r. r.0 ≡ value_of nat_cmp (joined log.old.nodes) key) }
-    ensures told { IfOk result (λ r. r.1 ≡ length (put_events (by_key nat_cmp) log.old.size log.old.nodes (pair key value))) }
+    ensures told { IfOk result (λ r. r.1 ≡ length
+        (put_events (by_key nat_cmp) log.old.size log.old.nodes (pair key value))) }
     ensures few { IfOk result (λ r. r.1 ≤ 3) }
-    ensures ok { OnOk result (log.new ≡ record { nodes = with_put (by_key nat_cmp) log.old.size log.old.nodes (pair key value); size = log.old.size; next = log.old.next + length (put_events (by_key nat_cmp) log.old.size log.old.nodes (pair key value)) }) }
-    ensures events { OnOk result (events.new ≡ written (length (put_events (by_key nat_cmp) log.old.size log.old.nodes (pair key value))) (map record_of (numbered_from log.old.next (put_events (by_key nat_cmp) log.old.size log.old.nodes (pair key value)))) events.old) }
-    ensures refusal { IfErr result (λ e. e ≡ refusal_for log.old.next (length (put_events (by_key nat_cmp) log.old.size log.old.nodes (pair key value)))) }
+    ensures ok { OnOk result (log.new ≡ record {
+      nodes = with_put (by_key nat_cmp) log.old.size
+          log.old.nodes (pair key value);
+      size = log.old.size;
+      next = log.old.next
+          + length (put_events (by_key nat_cmp) log.old.size log.old.nodes (pair key value));
+    }) }
+    ensures events { OnOk result (events.new
+        ≡ written (length (put_events (by_key nat_cmp) log.old.size log.old.nodes (pair key value)))
+        (map record_of (numbered_from log.old.next
+        (put_events (by_key nat_cmp) log.old.size log.old.nodes (pair key value)))) events.old) }
+    ensures refusal { IfErr result (λ e. e
+        ≡ refusal_for log.old.next (length
+        (put_events (by_key nat_cmp) log.old.size log.old.nodes (pair key value)))) }
     ensures led { OnOk result (replay (by_key nat_cmp) log.old.nodes (numbered_from log.old.next
         (put_events (by_key nat_cmp) log.old.size log.old.nodes (pair key value)))
         ≡ Some log.new.nodes) }
@@ -52,14 +64,24 @@ pub fn remove_told(
 ) -> Result<(Option<u64>, usize), Refusal>
     requires { 3 ≤ length events.old }
     ensures found { IfOk result (λ r. r.0 ≡ value_of nat_cmp (joined log.old.nodes) key) }
-    ensures told { IfOk result (λ r. r.1 ≡ length (key_removal_events nat_cmp log.old.size log.old.nodes key)) }
+    ensures told { IfOk result (λ r. r.1 ≡ length
+        (key_removal_events nat_cmp log.old.size log.old.nodes key)) }
     ensures few { IfOk result (λ r. r.1 ≤ 3) }
-    ensures rest { OnOk result (joined log.new.nodes ≡ without_key nat_cmp (joined log.old.nodes) key) }
-    ensures nodes { OnOk result (replay (by_key nat_cmp) log.old.nodes (numbered_from log.old.next (key_removal_events nat_cmp log.old.size log.old.nodes key)) ≡ Some log.new.nodes) }
+    ensures rest { OnOk result (joined log.new.nodes
+        ≡ without_key nat_cmp (joined log.old.nodes) key) }
+    ensures nodes { OnOk result (replay (by_key nat_cmp) log.old.nodes
+        (numbered_from log.old.next (key_removal_events nat_cmp log.old.size log.old.nodes key))
+        ≡ Some log.new.nodes) }
     ensures size { OnOk result (log.new.size ≡ log.old.size) }
-    ensures next { OnOk result (log.new.next ≡ log.old.next + length (key_removal_events nat_cmp log.old.size log.old.nodes key)) }
-    ensures events { OnOk result (events.new ≡ written (length (key_removal_events nat_cmp log.old.size log.old.nodes key)) (map record_of (numbered_from log.old.next (key_removal_events nat_cmp log.old.size log.old.nodes key))) events.old) }
-    ensures refusal { IfErr result (λ e. e ≡ refusal_for log.old.next (length (key_removal_events nat_cmp log.old.size log.old.nodes key))) }
+    ensures next { OnOk result (log.new.next
+        ≡ log.old.next + length (key_removal_events nat_cmp log.old.size log.old.nodes key)) }
+    ensures events { OnOk result (events.new
+        ≡ written (length (key_removal_events nat_cmp log.old.size log.old.nodes key))
+        (map record_of (numbered_from log.old.next
+        (key_removal_events nat_cmp log.old.size log.old.nodes key))) events.old) }
+    ensures refusal { IfErr result (λ e. e
+        ≡ refusal_for log.old.next (length
+        (key_removal_events nat_cmp log.old.size log.old.nodes key))) }
     ensures absent { IfOk result (λ r. r.0 ≡ None → (r.1 ≡ 0) × (log.new ≡ log.old)) }
     ensures unchanged { OnErr result (log.new ≡ log.old) }
     ensures unwritten { OnErr result (events.new ≡ events.old) }

@@ -9,7 +9,8 @@ use indexset_map::{BTreeMap, RangeMap};
 #[tactic(auto, unfolding(crate::specs::Elements::put_all))]
 pub fn put_each(map: &mut BTreeMap<u64, u64>, keys: &[u64], values: &[u64]) -> usize
     ensures count { result ≤ min (length keys.now) (length values.now) }
-    ensures put { map.new.pairs ≡ put_all map.old.pairs (take result keys.now) (take result values.now) }
+    ensures put { map.new.pairs ≡ put_all map.old.pairs (take result keys.now)
+        (take result values.now) }
 {
     let room = keys.len().min(values.len());
     let mut count = 0;
@@ -25,7 +26,8 @@ pub fn put_each(map: &mut BTreeMap<u64, u64>, keys: &[u64], values: &[u64]) -> u
 /// Writes the value of each key or `absent`, as far as there is room, and returns how many those are.
 pub fn value_each(held: &BTreeMap<u64, u64>, keys: &[u64], absent: u64, out: &mut [u64]) -> usize
     ensures count { result ≡ min (length keys.now) (length out.old) }
-    ensures written { out.new ≡ written result (map (value_or held.now.pairs absent) keys.now) out.old }
+    ensures written { out.new ≡ written result (map (value_or held.now.pairs absent) keys.now)
+        out.old }
 {
     let count = keys.len().min(out.len());
     for i in 0..count {

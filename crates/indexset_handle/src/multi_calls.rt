@@ -36,9 +36,14 @@ pub fn has_pair(multi: &MultiMap, key: u64, value: u64) -> bool
 pub fn insert_new(multi: &mut MultiMap, key: u64, value: u64) -> Result<(), Refusal>
     requires { equal_pair nat_cmp nat_eq (joined multi.old.nodes) key value ≡ None }
     ensures tree { OnOk result (multi.new ≡ after_insertion nat_cmp nat_eq multi.old key value) }
-    ensures ok { OnOk result (joined multi.new.nodes ≡ put (by_number nat_cmp) (joined multi.old.nodes) (numbered_pair key value multi.old.pair_next)) }
-    ensures last { OnOk result (values_of (joined multi.new.nodes) key ≡ values_of (joined multi.old.nodes) key ++ value ∷ []) }
-    ensures others { OnOk result ((other : ℕ) → is_eq (nat_cmp other key) ≡ false → pairs_of nat_cmp (joined multi.new.nodes) other ≡ pairs_of nat_cmp (joined multi.old.nodes) other) }
+    ensures ok { OnOk result (joined multi.new.nodes
+        ≡ put (by_number nat_cmp) (joined multi.old.nodes)
+        (numbered_pair key value multi.old.pair_next)) }
+    ensures last { OnOk result (values_of (joined multi.new.nodes) key
+        ≡ values_of (joined multi.old.nodes) key ++ value ∷ []) }
+    ensures others { OnOk result ((other : ℕ) → is_eq (nat_cmp other key) ≡ false
+        → pairs_of nat_cmp (joined multi.new.nodes) other
+        ≡ pairs_of nat_cmp (joined multi.old.nodes) other) }
     ensures refusal { IfErr result (λ e. e ≡ insertion_refusal nat_cmp nat_eq multi.old key value) }
     ensures same { OnErr result (multi.new ≡ multi.old) }
 {

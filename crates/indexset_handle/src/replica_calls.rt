@@ -39,7 +39,8 @@ pub fn apply_each(replica: &mut MapReplica, events: &[Event]) -> (u32, usize)
     ensures applied { applied_all replica.old (take result.1 events.now) ≡ Some replica.new }
     ensures all { result.0 ≡ YES → result.1 ≡ length events.now }
     ensures some { result.0 ≢ YES → result.1 < length events.now }
-    ensures refusal { result.0 ≢ YES → IfSome (slice_get events.now result.1) (λ e. result.0 ≡ unwrap_or (refused replica.new e) MEMORY) }
+    ensures refusal { result.0 ≢ YES → IfSome (slice_get events.now result.1)
+        (λ e. result.0 ≡ unwrap_or (refused replica.new e) MEMORY) }
     ensures status { (result.0 ≢ NO) × (result.0 ≢ NONE) }
 {
     let mut count = 0;

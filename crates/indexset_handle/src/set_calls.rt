@@ -28,7 +28,8 @@ pub fn write_each(mut walk: Range<'_, u64>, out: &mut [u64]) -> usize
 /// Writes the rank of each key, as far as there is room, and returns how many that are.
 pub fn rank_each(set: &BTreeSet<u64>, keys: &[u64], out: &mut [usize]) -> usize
     ensures count { result ≡ min (length keys.now) (length out.old) }
-    ensures written { out.new ≡ written result (map (rank nat_cmp (items set.now)) keys.now) out.old }
+    ensures written { out.new ≡ written result (map (rank nat_cmp (items set.now)) keys.now)
+        out.old }
 {
     let count = keys.len().min(out.len());
     for i in 0..count {
@@ -59,8 +60,10 @@ pub fn insert_each(set: &mut BTreeSet<u64>, keys: &[u64]) -> usize
 pub fn element_each(set: &BTreeSet<u64>, positions: &[usize], out: &mut [u64]) -> usize
     ensures room { result ≤ min (length positions.now) (length out.old) }
     ensures there { AllWithin (λ i. i < length (items set.now)) positions.now 0 result }
-    ensures stop { result < min (length positions.now) (length out.old) → length (items set.now) ≤ slice_index_or positions.now result 0 }
-    ensures written { out.new ≡ written result (map (element_at (items set.now)) positions.now) out.old }
+    ensures stop { result < min (length positions.now) (length out.old)
+        → length (items set.now) ≤ slice_index_or positions.now result 0 }
+    ensures written { out.new ≡ written result (map (element_at (items set.now)) positions.now)
+        out.old }
 {
     let room = positions.len().min(out.len());
     let mut count = 0;

@@ -42,7 +42,8 @@ pub fn write_behind(bytes: &[u8], out: &mut [u8], used: usize) -> usize
 pub fn write_keys(mut walk: TextRange<'_>, bytes: &mut [u8], lengths: &mut [usize]) -> usize
     ensures count { result ≡ min (length walk.entry) (length lengths.old) }
     ensures lengths { lengths.new ≡ written result (key_lengths walk.entry) lengths.old }
-    ensures bytes { bytes.new ≡ written_over (joined (take result (pair_keys walk.entry))) bytes.old }
+    ensures bytes { bytes.new ≡ written_over (joined (take result (pair_keys walk.entry)))
+        bytes.old }
 {
     let room = lengths.len();
     let mut used = 0;

@@ -31,7 +31,8 @@ pub fn put(
     value: u64,
 ) -> Result<Option<u64>, AllocError>
     ensures before { IfOk result (λ o. o ≡ value_of (slice_cmp nat_cmp) map.old.pairs key.now) }
-    ensures ok { OnOk result (map.new.pairs ≡ put_value (slice_cmp nat_cmp) map.old.pairs key.now value) }
+    ensures ok { OnOk result (map.new.pairs
+        ≡ put_value (slice_cmp nat_cmp) map.old.pairs key.now value) }
     ensures unchanged { OnErr result (map.new ≡ map.old) }
     ensures no_memory { has_key (slice_cmp nat_cmp) map.old.pairs key.now ≡ true → IsOk result }
 {

@@ -11,7 +11,8 @@ use crate::text_slot::TextMap;
 
 /// Returns the position of a key, or `None` where it is not there.
 pub fn position_of(map: &TextMap, key: &[u8]) -> Option<usize>
-    ensures position { result ≡ position (λ p. is_eq (slice_cmp nat_cmp p.key key.now)) map.now.pairs }
+    ensures position { result ≡ position (λ p. is_eq (slice_cmp nat_cmp p.key key.now))
+        map.now.pairs }
     ensures ascending { IsAscending (by_key (slice_cmp nat_cmp)) map.now.pairs }
 {
     // Tells that the keys ascend.

@@ -47,7 +47,11 @@ impl<T: Ord + Clone + Drop, Node: NodeLike<T>> Model for BTreeSet<T, Node> {
 
     ghost Value = { Tree T };
 
-    ghost view = { λ s. record { nodes = map Node.list s.nodes.items; size = s.size; next = s.next } };
+    ghost view = { λ s. record {
+      nodes = map Node.list s.nodes.items;
+      size = s.size;
+      next = s.next;
+    } };
 
     ghost invariant = { λ s. IsTree T.cmp Node.most (map Node.list s.nodes.items) s.size s.len };
 }

@@ -171,7 +171,8 @@ pub fn read_items<T: Item>(
 
 /// Whether a range may be asked for. The meter does not count the comparison.
 pub fn may_range<T: Item>(source: &Source, start: Bound<&T>, end: Bound<&T>) -> bool
-    ensures { result ≡ are_ordered T.cmp (bound_map (λ x. x.now) start.entry) (bound_map (λ x. x.now) end.entry) }
+    ensures { result ≡ are_ordered T.cmp (bound_map (λ x. x.now) start.entry)
+        (bound_map (λ x. x.now) end.entry) }
 {
     let asked = source.meter.asked.get();
     let is_ordered = bounds_are_ordered(start, end);

@@ -21,8 +21,10 @@ impl<K: Ord + Drop, V: Drop> BTreeMap<K, V> {
     pub fn split_off(&mut self, key: &K) -> Result<Self, Refusal>
         ensures below { OnOk result (self.new.pairs ≡ pairs_below K.cmp self.old.pairs key.now) }
         ensures rest { IfOk result (λ m. m.pairs ≡ pairs_from K.cmp self.old.pairs key.now) }
-        ensures all_below { OnOk result (All (λ k. is_lt (K.cmp k key.now) ≡ true) (pair_keys self.new.pairs)) }
-        ensures all_from { IfOk result (λ m. All (λ k. is_lt (K.cmp k key.now) ≡ false) (pair_keys m.pairs)) }
+        ensures all_below { OnOk result (All (λ k. is_lt (K.cmp k key.now) ≡ true)
+            (pair_keys self.new.pairs)) }
+        ensures all_from { IfOk result (λ m. All (λ k. is_lt (K.cmp k key.now) ≡ false)
+            (pair_keys m.pairs)) }
         ensures size { self.new.size ≡ self.old.size }
         ensures rest_size { IfOk result (λ m. m.size ≡ self.old.size) }
         ensures refusal { IfErr result (λ e. e ≡ Refusal.Memory) }
@@ -46,14 +48,17 @@ impl<K: Ord + Drop, V: Drop> BTreeMap<K, V> {
     /// assert!(rt; map.get(&2) == Some(&'c') && other.is_empty());
     /// ```
     pub fn append(&mut self, other: &mut Self) -> Result<(), Refusal>
-        ensures ok { OnOk result (self.new.pairs ≡ put_all (by_key K.cmp) self.old.pairs other.old.pairs) }
+        ensures ok { OnOk result (self.new.pairs
+            ≡ put_all (by_key K.cmp) self.old.pairs other.old.pairs) }
         ensures nodes { OnOk result (self.new ≡ with_pairs_put K.cmp self.old other.old.pairs) }
         ensures emptied { OnOk result (other.new.pairs ≡ []) }
         ensures size { self.new.size ≡ self.old.size }
         ensures other_size { other.new.size ≡ other.old.size }
         ensures refusal { IfErr result (λ e. e ≡ Refusal.Memory) }
-        ensures err { OnErr result (MovesSome (by_key K.cmp) self.old.pairs other.old.pairs self.new.pairs other.new.pairs) }
-        ensures err_nodes { OnErr result (PutsSomePairs K.cmp self.old other.old.pairs self.new other.new.pairs) }
+        ensures err { OnErr result (MovesSome (by_key K.cmp) self.old.pairs other.old.pairs
+            self.new.pairs other.new.pairs) }
+        ensures err_nodes { OnErr result (PutsSomePairs K.cmp self.old other.old.pairs self.new
+            other.new.pairs) }
         ensures some_left { OnErr result (0 < length other.new.pairs) }
     {
         self.set.append(&mut other.set)

@@ -11,9 +11,11 @@ use std::cmp::Ordering;
 use std::hash::{Hash, Hasher};
 
 impl<K: Ord, V: PartialEq> PartialEq for BTreeMap<K, V> {
-    ghost eq = { λ m n. pointwise (λ p q. K.eq p.key q.key && V.eq p.value q.value) m.pairs n.pairs };
+    ghost eq = { λ m n. pointwise (λ p q. K.eq p.key q.key && V.eq p.value q.value) m.pairs
+        n.pairs };
 
-    ghost laws = { on_per (λ m. m.pairs) (lists_per (and_per (on_per (λ p. p.key) K.PartialEq.laws) (on_per (λ p. p.value) V.laws))) };
+    ghost laws = { on_per (λ m. m.pairs) (lists_per
+        (and_per (on_per (λ p. p.key) K.PartialEq.laws) (on_per (λ p. p.value) V.laws))) };
 
     fn eq(&self, other: &BTreeMap<K, V>) -> bool {
         if self.len() != other.len() {
@@ -31,13 +33,19 @@ impl<K: Ord, V: PartialEq> PartialEq for BTreeMap<K, V> {
 }
 
 impl<K: Ord, V: Eq> Eq for BTreeMap<K, V> {
-    ghost laws = { on_equiv (λ m. m.pairs) (lists_equiv (and_equiv (on_equiv (λ p. p.key) K.Eq.laws) (on_equiv (λ p. p.value) V.Eq.laws))) };
+    ghost laws = { on_equiv (λ m. m.pairs)
+        (lists_equiv (and_equiv (on_equiv (λ p. p.key) K.Eq.laws)
+        (on_equiv (λ p. p.value) V.Eq.laws))) };
 }
 
 impl<K: Ord, V: PartialOrd> PartialOrd for BTreeMap<K, V> {
-    ghost partial_cmp = { λ m n. slice_partial_cmp (λ p q. partial_ordering_then (K.partial_cmp p.key q.key) (V.partial_cmp p.value q.value)) m.pairs n.pairs };
+    ghost partial_cmp = { λ m n. slice_partial_cmp
+        (λ p q. partial_ordering_then (K.partial_cmp p.key q.key) (V.partial_cmp p.value q.value))
+        m.pairs n.pairs };
 
-    ghost laws = { on_po (λ m. m.pairs) (lists_po (then_po (on_po (λ p. p.key) K.PartialOrd.laws) (on_po (λ p. p.value) V.PartialOrd.laws))) };
+    ghost laws = { on_po (λ m. m.pairs) (lists_po
+        (then_po (on_po (λ p. p.key) K.PartialOrd.laws)
+        (on_po (λ p. p.value) V.PartialOrd.laws))) };
 
     fn partial_cmp(&self, other: &BTreeMap<K, V>) -> Option<Ordering> {
         let (mut left, mut right) = (self.iter(), other.iter());
@@ -62,16 +70,23 @@ impl<K: Ord, V: PartialOrd> PartialOrd for BTreeMap<K, V> {
 }
 
 impl<K: Ord, V: Ord> Ord for BTreeMap<K, V> {
-    ghost cmp = { λ m n. slice_cmp (λ p q. ordering_then (K.cmp p.key q.key) (V.cmp p.value q.value)) m.pairs n.pairs };
+    ghost cmp = { λ m n. slice_cmp (λ p q. ordering_then (K.cmp p.key q.key)
+        (V.cmp p.value q.value)) m.pairs n.pairs };
 
-    ghost total = { on_total (λ m. m.pairs) (lists_total (then_total (on_total (λ p. p.key) K.total) (on_total (λ p. p.value) V.total))) };
+    ghost total = { on_total (λ m. m.pairs)
+        (lists_total (then_total (on_total (λ p. p.key) K.total)
+        (on_total (λ p. p.value) V.total))) };
 
-    ghost matches_partial_cmp = { λ m n. lists_agrees (then_agrees (λ p q. K.matches_partial_cmp p.key q.key) (λ p q. V.matches_partial_cmp p.value q.value)) m.pairs n.pairs };
+    ghost matches_partial_cmp = { λ m n. lists_agrees
+        (then_agrees (λ p q. K.matches_partial_cmp p.key q.key)
+        (λ p q. V.matches_partial_cmp p.value q.value)) m.pairs n.pairs };
 
     ghost matches_eq = { λ m n.
         let keys = K.cmp in
         let values = V.cmp in
-        lists_ties (λ p q. ordering_then (keys p.key q.key) (values p.value q.value)) (λ p q. both_tied _ _ (keys p.key q.key) (values p.value q.value) (K.matches_eq p.key q.key) (V.matches_eq p.value q.value)) m.pairs n.pairs };
+        lists_ties (λ p q. ordering_then (keys p.key q.key) (values p.value q.value))
+        (λ p q. both_tied _ _ (keys p.key q.key) (values p.value q.value) (K.matches_eq p.key q.key)
+        (V.matches_eq p.value q.value)) m.pairs n.pairs };
 
     fn cmp(&self, other: &BTreeMap<K, V>) -> Ordering {
         let (mut left, mut right) = (self.iter(), other.iter());
@@ -94,7 +109,9 @@ impl<K: Ord, V: Ord> Ord for BTreeMap<K, V> {
 impl<K: Ord + Hash, V: Hash> Hash for BTreeMap<K, V> {
     ghost hash_input = { λ m. fed.slice (λ p. K.hash_input p.key ++ V.hash_input p.value) m.pairs };
 
-    ghost respects_eq = { (on_Alike (λ m. m.pairs) (items_Alike (and-Alike (on_Alike (λ p. p.key) (record { fed = K.respects_eq })) (on_Alike (λ p. p.value) (record { fed = V.respects_eq }))))).fed };
+    ghost respects_eq = { (on_Alike (λ m. m.pairs)
+        (items_Alike (and-Alike (on_Alike (λ p. p.key) (record { fed = K.respects_eq }))
+        (on_Alike (λ p. p.value) (record { fed = V.respects_eq }))))).fed };
 
     fn hash<H: Hasher>(&self, state: &mut H) {
         state.write_usize(self.len());

@@ -50,7 +50,9 @@ impl<K: Ord, V> BTreeMap<K, V> {
     /// ```
     pub fn lower_bound(&self, bound: Bound<&K>) -> CursorMap<'_, K, V>
         ensures pairs { result.list ≡ self.now.pairs }
-        ensures position { result.position ≡ position_or_len (λ p. is_from_start K.cmp (bound_map (λ k. k.now) bound.entry) p.key) self.now.pairs }
+        ensures position { result.position
+            ≡ position_or_len (λ p. is_from_start K.cmp (bound_map (λ k. k.now) bound.entry) p.key)
+            self.now.pairs }
     {
         // The pairs ascend, as in `locate`.
         let _len = self.set.len();
@@ -70,7 +72,9 @@ impl<K: Ord, V> BTreeMap<K, V> {
     /// ```
     pub fn upper_bound(&self, bound: Bound<&K>) -> CursorMap<'_, K, V>
         ensures pairs { result.list ≡ self.now.pairs }
-        ensures position { result.position ≡ position_or_len (λ p. not (is_up_to_end K.cmp (bound_map (λ k. k.now) bound.entry) p.key)) self.now.pairs }
+        ensures position { result.position
+            ≡ position_or_len (λ p. not (is_up_to_end K.cmp (bound_map (λ k. k.now) bound.entry)
+            p.key)) self.now.pairs }
     {
         // The pairs ascend, as in `locate`.
         let _len = self.set.len();
@@ -119,7 +123,8 @@ impl<'a, K: Ord, V> CursorMap<'a, K, V> {
 
     /// Returns the key and the value at the position, and none at the end place.
     pub fn key_value(&self) -> Option<(&'a K, &'a V)>
-        ensures { option_map (λ p. (p.0.now, p.1.now)) result ≡ option_map entry_of (item_at self.now) }
+        ensures { option_map (λ p. (p.0.now, p.1.now)) result
+            ≡ option_map entry_of (item_at self.now) }
     {
         let pair = self.cursor.item()?;
         Some((&pair.key, &pair.value))
@@ -128,7 +133,8 @@ impl<'a, K: Ord, V> CursorMap<'a, K, V> {
     /// Returns the pair that `move_next` would go to: at the end place the first, or `None` where
     /// there is none.
     pub fn peek_next(&self) -> Option<(&'a K, &'a V)>
-        ensures { option_map (λ p. (p.0.now, p.1.now)) result ≡ option_map entry_of (item_at (one_on self.now)) }
+        ensures { option_map (λ p. (p.0.now, p.1.now)) result
+            ≡ option_map entry_of (item_at (one_on self.now)) }
     {
         let pair = self.cursor.peek_next()?;
         Some((&pair.key, &pair.value))
@@ -136,7 +142,9 @@ impl<'a, K: Ord, V> CursorMap<'a, K, V> {
 
     /// Returns the pair before, and none at the first position.
     pub fn peek_prev(&self) -> Option<(&'a K, &'a V)>
-        ensures { option_map (λ p. (p.0.now, p.1.now)) result ≡ (if self.now.position == 0 then None else option_map entry_of (slice_get self.now.list (self.now.position - 1))) }
+        ensures { option_map (λ p. (p.0.now, p.1.now)) result
+            ≡ (if self.now.position == 0 then None else option_map entry_of
+            (slice_get self.now.list (self.now.position - 1))) }
     {
         let pair = self.cursor.peek_prev()?;
         Some((&pair.key, &pair.value))
@@ -144,7 +152,8 @@ impl<'a, K: Ord, V> CursorMap<'a, K, V> {
 
     /// Returns the pair at another position, or `None` where there is none. The cursor stays.
     pub fn peek_index(&self, i: usize) -> Option<(&'a K, &'a V)>
-        ensures { option_map (λ p. (p.0.now, p.1.now)) result ≡ option_map entry_of (slice_get self.now.list i) }
+        ensures { option_map (λ p. (p.0.now, p.1.now)) result
+            ≡ option_map entry_of (slice_get self.now.list i) }
     {
         let pair = self.cursor.peek_index(i)?;
         Some((&pair.key, &pair.value))

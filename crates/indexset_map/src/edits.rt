@@ -27,9 +27,11 @@ impl<K: Ord + Drop, V: Drop> BTreeMap<K, V> {
         ensures old { IfOk result (λ o. o ≡ value_of K.cmp self.old.pairs key) }
         ensures ok { OnOk result (self.new ≡ with_entry K.cmp self.old key value) }
         ensures there { OnOk result (value_of K.cmp self.new.pairs key ≡ Some value) }
-        ensures others { OnOk result ((other : K) → is_eq (K.cmp other key) ≡ false → value_of K.cmp self.new.pairs other ≡ value_of K.cmp self.old.pairs other) }
+        ensures others { OnOk result ((other : K) → is_eq (K.cmp other key) ≡ false
+            → value_of K.cmp self.new.pairs other ≡ value_of K.cmp self.old.pairs other) }
         ensures no_memory { has_key K.cmp self.old.pairs key ≡ true → IsOk result }
-        ensures given_back { IfErr result (λ e. (e.value ≡ (key, value)) × (e.cause ≡ Refusal.Memory)) }
+        ensures given_back { IfErr result
+            (λ e. (e.value ≡ (key, value)) × (e.cause ≡ Refusal.Memory)) }
         ensures unchanged { OnErr result (self.new ≡ self.old) }
     {
         let spot = self.spot_from_end(&key);
@@ -47,7 +49,8 @@ impl<K: Ord + Drop, V: Drop> BTreeMap<K, V> {
         ensures rest { self.new ≡ without_entry K.cmp self.old key.now }
         ensures gone { has_key K.cmp self.new.pairs key.now ≡ false }
         ensures no_value { value_of K.cmp self.new.pairs key.now ≡ None }
-        ensures others { (other : K) → is_eq (K.cmp other key.now) ≡ false → value_of K.cmp self.new.pairs other ≡ value_of K.cmp self.old.pairs other }
+        ensures others { (other : K) → is_eq (K.cmp other key.now) ≡ false
+            → value_of K.cmp self.new.pairs other ≡ value_of K.cmp self.old.pairs other }
     {
         let spot = self.spot(key);
         if spot.found {
@@ -69,7 +72,8 @@ impl<K: Ord + Drop, V: Drop> BTreeMap<K, V> {
         ensures rest { self.new ≡ without_entry K.cmp self.old key.now }
         ensures gone { has_key K.cmp self.new.pairs key.now ≡ false }
         ensures no_value { value_of K.cmp self.new.pairs key.now ≡ None }
-        ensures others { (other : K) → is_eq (K.cmp other key.now) ≡ false → value_of K.cmp self.new.pairs other ≡ value_of K.cmp self.old.pairs other }
+        ensures others { (other : K) → is_eq (K.cmp other key.now) ≡ false
+            → value_of K.cmp self.new.pairs other ≡ value_of K.cmp self.old.pairs other }
     {
         let (_, value) = self.remove_entry(key)?;
         Some(value)
@@ -85,8 +89,10 @@ impl<K: Ord + Drop, V: Drop> BTreeMap<K, V> {
     pub fn pop_first(&mut self) -> Option<(K, V)>
         ensures value { result ≡ option_map entry_of (slice_get self.old.pairs 0) }
         ensures rest { self.new.pairs ≡ drop 1 self.old.pairs }
-        ensures whole { map entry_of self.old.pairs ≡ option_to_list result ++ map entry_of self.new.pairs }
-        ensures nodes { MatchOption result (self.new ≡ self.old) (λ _. self.new ≡ without_at self.old 0) }
+        ensures whole { map entry_of self.old.pairs
+            ≡ option_to_list result ++ map entry_of self.new.pairs }
+        ensures nodes { MatchOption result (self.new ≡ self.old)
+            (λ _. self.new ≡ without_at self.old 0) }
     {
         let Pair { key, value } = self.set.pop_first()?;
         Some((key, value))
@@ -95,10 +101,13 @@ impl<K: Ord + Drop, V: Drop> BTreeMap<K, V> {
     /// Removes the pair of the greatest key and returns it, or returns `None` where the map is
     /// empty. It allocates nothing.
     pub fn pop_last(&mut self) -> Option<(K, V)>
-        ensures value { result ≡ option_map entry_of (slice_get self.old.pairs (length self.old.pairs - 1)) }
+        ensures value { result ≡ option_map entry_of
+            (slice_get self.old.pairs (length self.old.pairs - 1)) }
         ensures rest { self.new.pairs ≡ take (length self.old.pairs - 1) self.old.pairs }
-        ensures whole { map entry_of self.old.pairs ≡ map entry_of self.new.pairs ++ option_to_list result }
-        ensures nodes { MatchOption result (self.new ≡ self.old) (λ _. self.new ≡ without_at self.old (length self.old.pairs - 1)) }
+        ensures whole { map entry_of self.old.pairs
+            ≡ map entry_of self.new.pairs ++ option_to_list result }
+        ensures nodes { MatchOption result (self.new ≡ self.old)
+            (λ _. self.new ≡ without_at self.old (length self.old.pairs - 1)) }
     {
         let Pair { key, value } = self.set.pop_last()?;
         Some((key, value))

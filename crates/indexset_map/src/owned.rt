@@ -201,7 +201,8 @@ impl<K: Ord + Drop, V: Drop> IntoIterator for BTreeMap<K, V> {
 
     type IntoIter = IntoIterMap<K, V>;
 
-    ghost into_iter_gives = { λ m r. (r ≡ map entry_of m.pairs) × GivesInOrder (K × V) × GivesInReverse (K × V) };
+    ghost into_iter_gives = { λ m r. (r ≡ map entry_of m.pairs) × GivesInOrder (K × V)
+        × GivesInReverse (K × V) };
 
     fn into_iter(self) -> IntoIterMap<K, V> {
         let BTreeMap { set } = self;

@@ -59,7 +59,8 @@ impl<K: Ord, V> BTreeMap<K, V> {
     // Returns the spot after the pairs before the start, and how many these are.
     pub(super) fn start_spot(&self, start: Bound<&K>) -> (Spot, usize)
         ensures place { result.1 ≡ place_of self.now.lengths result.0 }
-        ensures position { result.1 ≡ count_by (λ p. is_before K.cmp (bound_map (λ k. k.now) start.entry) p.key) self.now.pairs }
+        ensures position { result.1 ≡ count_by
+            (λ p. is_before K.cmp (bound_map (λ k. k.now) start.entry) p.key) self.now.pairs }
     {
         // The pairs ascend, as in `locate`.
         let _len = self.set.len();
@@ -70,7 +71,8 @@ impl<K: Ord, V> BTreeMap<K, V> {
 
     // Returns the first position whose key is past the end, or the length where there is none.
     pub(super) fn end_position(&self, end: Bound<&K>) -> usize
-        ensures { result ≡ count_by (λ p. is_up_to_end K.cmp (bound_map (λ k. k.now) end.entry) p.key) self.now.pairs }
+        ensures { result ≡ count_by (λ p. is_up_to_end K.cmp (bound_map (λ k. k.now) end.entry)
+            p.key) self.now.pairs }
     {
         // The pairs ascend, as in `locate`.
         let _len = self.set.len();

@@ -32,19 +32,25 @@ impl<K: Ord, V> BTreeMap<K, V> {
         requires { IsTrue (are_ordered K.cmp (R.start range) (R.end range)) }
         ensures same_map { (walk_map result).ghost_name ≡ self.entry.ghost_name }
         ensures unchanged { (walk_map result).now ≡ self.old }
-        ensures rest { walk_rest result ≡ pairs_within K.cmp self.old.pairs (R.start range) (R.end range) }
-        ensures span { IsSpan (λ p. is_within K.cmp (R.start range) (R.end range) p.key) self.old.pairs (walk_front result) (walk_back result) }
+        ensures rest { walk_rest result ≡ pairs_within K.cmp self.old.pairs (R.start range)
+            (R.end range) }
+        ensures span { IsSpan (λ p. is_within K.cmp (R.start range) (R.end range) p.key)
+            self.old.pairs (walk_front result) (walk_back result) }
     {
         self.within_mut(range.start_bound(), range.end_bound())
     }
 
     // Does the same of two bounds.
     fn within_mut(&mut self, start: Bound<&K>, end: Bound<&K>) -> RangeMut<'_, K, V>
-        requires { IsTrue (are_ordered K.cmp (bound_map (λ k. k.now) start) (bound_map (λ k. k.now) end)) }
+        requires { IsTrue (are_ordered K.cmp (bound_map (λ k. k.now) start)
+            (bound_map (λ k. k.now) end)) }
         ensures same_map { (walk_map result).ghost_name ≡ self.entry.ghost_name }
         ensures unchanged { (walk_map result).now ≡ self.old }
-        ensures rest { walk_rest result ≡ pairs_within K.cmp self.old.pairs (bound_map (λ k. k.now) start.entry) (bound_map (λ k. k.now) end.entry) }
-        ensures span { IsSpan (λ p. is_within K.cmp (bound_map (λ k. k.now) start.entry) (bound_map (λ k. k.now) end.entry) p.key) self.old.pairs (walk_front result) (walk_back result) }
+        ensures rest { walk_rest result ≡ pairs_within K.cmp self.old.pairs
+            (bound_map (λ k. k.now) start.entry) (bound_map (λ k. k.now) end.entry) }
+        ensures span { IsSpan (λ p. is_within K.cmp (bound_map (λ k. k.now) start.entry)
+            (bound_map (λ k. k.now) end.entry) p.key) self.old.pairs (walk_front result)
+            (walk_back result) }
     {
         // A map says here that its keys ascend, so the two positions cut out the range.
         let _len = self.len();
@@ -67,7 +73,8 @@ impl<K: Ord, V> BTreeMap<K, V> {
         ensures unchanged { (walk_map result).now ≡ self.old }
         ensures rest { walk_rest result ≡ in_positions self.old.pairs range.0 range.1 }
         ensures front { walk_front result ≡ min (start_index range.0) (walk_back result) }
-        ensures back { walk_back result ≡ min (end_index range.1 (length self.old.pairs)) (length self.old.pairs) }
+        ensures back { walk_back result ≡ min (end_index range.1 (length self.old.pairs))
+            (length self.old.pairs) }
     {
         let len = self.len();
         let back = end_position(range.1, len);

@@ -20,7 +20,8 @@ impl<K: Ord + Drop, V: Drop> BTreeMap<K, V> {
     ) -> Result<(), Refusal>
         requires order { IsAscending (by_key K.cmp) (self.old.pairs ++ run.old.items) }
         ensures order { OnOk result (IsAscending (by_key K.cmp) (self.new.pairs ++ run.new.items)) }
-        ensures inserted { OnOk result (with_all K.cmp self.new (map entry_of run.new.items) ≡ with_entry K.cmp (with_all K.cmp self.old (map entry_of run.old.items)) key value) }
+        ensures inserted { OnOk result (with_all K.cmp self.new (map entry_of run.new.items)
+            ≡ with_entry K.cmp (with_all K.cmp self.old (map entry_of run.old.items)) key value) }
         ensures refusal { IfErr result (λ e. e ≡ Refusal.Memory) }
     {
         // A set says here how long its nodes are, before and after.
@@ -41,7 +42,8 @@ impl<K: Ord + Drop, V: Drop> BTreeMap<K, V> {
     // Moves the pairs of a run behind those of the map. A failed call has moved a prefix.
     pub(super) fn take_run(&mut self, run: &mut Vec<Pair<K, V>>) -> Result<(), Refusal>
         requires order { IsAscending (by_key K.cmp) (self.old.pairs ++ run.old.items) }
-        ensures inserted { OnOk result (self.new ≡ with_all K.cmp self.old (map entry_of run.old.items)) }
+        ensures inserted { OnOk result (self.new
+            ≡ with_all K.cmp self.old (map entry_of run.old.items)) }
         ensures refusal { IfErr result (λ e. e ≡ Refusal.Memory) }
     {
         let _count = self.set.node_count();

@@ -41,7 +41,8 @@ impl<K: Ord + Drop, V: Drop> Extend<(K, V)> for BTreeMap<K, V> {
 impl<K: Ord + Drop, V: Drop> FromIterator<(K, V)> for BTreeMap<K, V> {
     type Alloc = Global;
 
-    ghost from_iter_gives = { λ entries m. m ≡ with_all K.cmp (no_pairs DEFAULT_INNER_SIZE) entries };
+    ghost from_iter_gives = { λ entries m. m
+        ≡ with_all K.cmp (no_pairs DEFAULT_INNER_SIZE) entries };
 
     fn from_iter<I: IntoIterator<Item = (K, V)>>(
         alloc: Global,

@@ -66,14 +66,16 @@ impl<'a, K: Ord, V> ValuesMut<'a, K, V> {
     /// Returns the number of remaining values.
     pub fn len(&self) -> usize
         ensures value { result ≡ length (walk_rest (values_walk self.now)) }
-        ensures places { result ≡ walk_back (values_walk self.now) - walk_front (values_walk self.now) }
+        ensures places { result ≡ walk_back (values_walk self.now)
+            - walk_front (values_walk self.now) }
     {
         self.back.saturating_sub(self.front)
     }
 
     /// Returns whether a value remains.
     pub fn has_next(&self) -> bool
-        ensures { result ≡ nat_lt (walk_front (values_walk self.now)) (walk_back (values_walk self.now)) }
+        ensures { result ≡ nat_lt (walk_front (values_walk self.now))
+            (walk_back (values_walk self.now)) }
     {
         self.front < self.back
     }
@@ -81,7 +83,10 @@ impl<'a, K: Ord, V> ValuesMut<'a, K, V> {
     /// Returns a mutable reference to the next value, or `None` where none remains.
     pub fn next(&mut self) -> Option<&mut V>
         ensures* writes_back { sem 𝓛 (lends_next_value_if K.row V.row self.entry result) }
-        ensures value { let s = values_walk self.old in MatchOption result (walk_back s ≤ walk_front s) (λ r. (walk_front s < walk_back s) × (option_map (λ p. p.value) (slice_get (walk_map s).now.pairs (walk_front s)) ≡ Some r.now)) }
+        ensures value { let s = values_walk self.old in MatchOption result
+            (walk_back s ≤ walk_front s) (λ r. (walk_front s < walk_back s)
+            × (option_map (λ p. p.value) (slice_get (walk_map s).now.pairs (walk_front s))
+            ≡ Some r.now)) }
     {
         if self.front < self.back {
             Some(self.next_value())
@@ -93,7 +98,10 @@ impl<'a, K: Ord, V> ValuesMut<'a, K, V> {
     /// Returns a mutable reference to the last remaining value.
     pub fn next_back(&mut self) -> Option<&mut V>
         ensures* writes_back { sem 𝓛 (lends_next_value_back_if K.row V.row self.entry result) }
-        ensures value { let s = values_walk self.old in MatchOption result (walk_back s ≤ walk_front s) (λ r. (walk_front s < walk_back s) × (option_map (λ p. p.value) (slice_get (walk_map s).now.pairs (walk_back s - 1)) ≡ Some r.now)) }
+        ensures value { let s = values_walk self.old in MatchOption result
+            (walk_back s ≤ walk_front s) (λ r. (walk_front s < walk_back s)
+            × (option_map (λ p. p.value) (slice_get (walk_map s).now.pairs (walk_back s - 1))
+            ≡ Some r.now)) }
     {
         if self.front < self.back {
             Some(self.next_value_back())
@@ -106,7 +114,8 @@ impl<'a, K: Ord, V> ValuesMut<'a, K, V> {
     pub fn next_value(&mut self) -> &mut V
         requires { let s = values_walk self.old in walk_front s < walk_back s }
         ensures* writes_back { sem 𝓛 (lends_next_value K.row V.row self.entry result) }
-        ensures value { let s = values_walk self.old in option_map (λ p. p.value) (slice_get (walk_map s).now.pairs (walk_front s)) ≡ Some result.now }
+        ensures value { let s = values_walk self.old in option_map (λ p. p.value)
+            (slice_get (walk_map s).now.pairs (walk_front s)) ≡ Some result.now }
     {
         let i = self.front;
         let spot = self.map.spot_near(self.node, self.start, i);
@@ -120,7 +129,8 @@ impl<'a, K: Ord, V> ValuesMut<'a, K, V> {
     pub fn next_value_back(&mut self) -> &mut V
         requires { let s = values_walk self.old in walk_front s < walk_back s }
         ensures* writes_back { sem 𝓛 (lends_next_value_back K.row V.row self.entry result) }
-        ensures value { let s = values_walk self.old in option_map (λ p. p.value) (slice_get (walk_map s).now.pairs (walk_back s - 1)) ≡ Some result.now }
+        ensures value { let s = values_walk self.old in option_map (λ p. p.value)
+            (slice_get (walk_map s).now.pairs (walk_back s - 1)) ≡ Some result.now }
     {
         let i = self.back - 1;
         let spot = self.map.spot_near(self.node, self.start, i);

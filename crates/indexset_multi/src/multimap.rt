@@ -48,7 +48,12 @@ impl<K: Ord + Clone + Drop, V: Eq + Clone + Drop, Node: NodeLike<MultiPair<K, V>
 
     ghost Value = { MultiTree K V };
 
-    ghost view = { λ m. record { nodes = m.set.nodes; size = m.set.size; next = m.set.next; pair_next = m.pair_next } };
+    ghost view = { λ m. record {
+      nodes = m.set.nodes;
+      size = m.set.size;
+      next = m.set.next;
+      pair_next = m.pair_next;
+    } };
 
     ghost invariant = { λ m. AreNumberedBelow m.pair_next (joined m.set.nodes) };
 }
@@ -83,7 +88,12 @@ impl<K: Ord + Clone + Drop, V: Eq + Clone + Drop, Node: NodeLike<MultiPair<K, V>
     /// Returns an empty map of the default node size, whose first event has the number 0.
     pub fn new(alloc: Global) -> Self
         requires { DEFAULT_INNER_SIZE ≤ Node.most }
-        ensures { result ≡ record { nodes = []; size = DEFAULT_INNER_SIZE; next = 0; pair_next = 0 } }
+        ensures { result ≡ record {
+          nodes = [];
+          size = DEFAULT_INNER_SIZE;
+          next = 0;
+          pair_next = 0;
+        } }
     {
         BTreeMultiMap::with_maximum_node_size(alloc, DEFAULT_INNER_SIZE)
     }
@@ -91,7 +101,12 @@ impl<K: Ord + Clone + Drop, V: Eq + Clone + Drop, Node: NodeLike<MultiPair<K, V>
     /// Returns an empty map, as `new` makes it.
     pub fn default(alloc: Global) -> Self
         requires { DEFAULT_INNER_SIZE ≤ Node.most }
-        ensures { result ≡ record { nodes = []; size = DEFAULT_INNER_SIZE; next = 0; pair_next = 0 } }
+        ensures { result ≡ record {
+          nodes = [];
+          size = DEFAULT_INNER_SIZE;
+          next = 0;
+          pair_next = 0;
+        } }
     {
         BTreeMultiMap::new(alloc)
     }

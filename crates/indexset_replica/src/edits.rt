@@ -16,8 +16,11 @@ pub(super) fn carry_out<T: Ord + Clone + Drop>(
     event: &ChangeEvent<T>,
 ) -> Result<(), Refusal>
     requires nodes { IsNodeList T.cmp (vec_items nodes.old.items) }
-    ensures done { OnOk result (IsClonedEdit T.cmp T.is_clone (vec_items nodes.old.items) (unassigned event.now) (vec_items nodes.new.items)) }
-    ensures refusal { IfErr result (λ e. e ≡ unwrap_or (misfit T.cmp (vec_items nodes.old.items) (unassigned event.now)) Refusal.Memory) }
+    ensures done { OnOk result (IsClonedEdit T.cmp T.is_clone (vec_items nodes.old.items)
+        (unassigned event.now) (vec_items nodes.new.items)) }
+    ensures refusal { IfErr result (λ e. e
+        ≡ unwrap_or (misfit T.cmp (vec_items nodes.old.items) (unassigned event.now))
+        Refusal.Memory) }
     ensures unchanged { OnErr result (vec_items nodes.new.items ≡ vec_items nodes.old.items) }
 {
     match event {
@@ -56,8 +59,11 @@ fn insert_item<T: Ord + Clone + Drop>(
     index: usize,
 ) -> Result<(), Refusal>
     requires nodes { IsNodeList T.cmp (vec_items nodes.old.items) }
-    ensures done { OnOk result (IsClonedEdit T.cmp T.is_clone (vec_items nodes.old.items) (InsertAt name.now value.now index) (vec_items nodes.new.items)) }
-    ensures refusal { IfErr result (λ e. e ≡ unwrap_or (misfit T.cmp (vec_items nodes.old.items) (InsertAt name.now value.now index)) Refusal.Memory) }
+    ensures done { OnOk result (IsClonedEdit T.cmp T.is_clone (vec_items nodes.old.items)
+        (InsertAt name.now value.now index) (vec_items nodes.new.items)) }
+    ensures refusal { IfErr result (λ e. e
+        ≡ unwrap_or (misfit T.cmp (vec_items nodes.old.items) (InsertAt name.now value.now index))
+        Refusal.Memory) }
     ensures unchanged { OnErr result (vec_items nodes.new.items ≡ vec_items nodes.old.items) }
 {
     let place = place_named(nodes.as_slice(), name)?;
@@ -82,8 +88,11 @@ fn remove_item<T: Ord + Clone + Drop>(
     index: usize,
 ) -> Result<(), Refusal>
     requires { IsNodeList T.cmp (vec_items nodes.old.items) }
-    ensures done { OnOk result (IsEdit T.cmp (vec_items nodes.old.items) (RemoveAt name.now value.now index) (vec_items nodes.new.items)) }
-    ensures refusal { IfErr result (λ e. e ≡ unwrap_or (misfit T.cmp (vec_items nodes.old.items) (RemoveAt name.now value.now index)) Refusal.Memory) }
+    ensures done { OnOk result (IsEdit T.cmp (vec_items nodes.old.items)
+        (RemoveAt name.now value.now index) (vec_items nodes.new.items)) }
+    ensures refusal { IfErr result (λ e. e
+        ≡ unwrap_or (misfit T.cmp (vec_items nodes.old.items) (RemoveAt name.now value.now index))
+        Refusal.Memory) }
     ensures unchanged { OnErr result (vec_items nodes.new.items ≡ vec_items nodes.old.items) }
 {
     let place = place_named(nodes.as_slice(), name)?;
@@ -104,8 +113,11 @@ fn remove_item<T: Ord + Clone + Drop>(
 // Inserts a node of this item alone.
 fn create_node<T: Ord + Clone + Drop>(nodes: &mut Vec<Vec<T>>, value: &T) -> Result<(), Refusal>
     requires nodes { IsNodeList T.cmp (vec_items nodes.old.items) }
-    ensures done { OnOk result (IsClonedEdit T.cmp T.is_clone (vec_items nodes.old.items) (CreateNode value.now) (vec_items nodes.new.items)) }
-    ensures refusal { IfErr result (λ e. e ≡ unwrap_or (misfit T.cmp (vec_items nodes.old.items) (CreateNode value.now)) Refusal.Memory) }
+    ensures done { OnOk result (IsClonedEdit T.cmp T.is_clone (vec_items nodes.old.items)
+        (CreateNode value.now) (vec_items nodes.new.items)) }
+    ensures refusal { IfErr result (λ e. e
+        ≡ unwrap_or (misfit T.cmp (vec_items nodes.old.items) (CreateNode value.now))
+        Refusal.Memory) }
     ensures unchanged { OnErr result (vec_items nodes.new.items ≡ vec_items nodes.old.items) }
 {
     let place = first_reaching(nodes.as_slice(), value);
@@ -124,7 +136,8 @@ fn room_for_node_of<T: Ord + Clone + Drop>(
 ) -> Result<Vec<T>, Refusal>
     ensures nodes { nodes.new.items ≡ nodes.old.items }
     ensures room { OnOk result (vec_len nodes.new < vec_capacity nodes.new) }
-    ensures node { IfOk result (λ node. (item : T) × IsEqualClone T.cmp T.is_clone value.now item × (node.items ≡ item ∷ [])) }
+    ensures node { IfOk result (λ node. (item : T) × IsEqualClone T.cmp T.is_clone value.now item
+        × (node.items ≡ item ∷ [])) }
     ensures refusal { IfErr result (λ e. e ≡ Refusal.Memory) }
 {
     nodes.reserve(1)?;
@@ -148,8 +161,11 @@ fn equal_clone<T: Ord + Clone + Drop>(value: &T) -> Result<T, Refusal>
 // Removes the node of that name.
 fn remove_node<T: Ord + Clone + Drop>(nodes: &mut Vec<Vec<T>>, name: &T) -> Result<(), Refusal>
     requires { IsNodeList T.cmp (vec_items nodes.old.items) }
-    ensures done { OnOk result (IsEdit T.cmp (vec_items nodes.old.items) (RemoveNode name.now) (vec_items nodes.new.items)) }
-    ensures refusal { IfErr result (λ e. e ≡ unwrap_or (misfit T.cmp (vec_items nodes.old.items) (RemoveNode name.now)) Refusal.Memory) }
+    ensures done { OnOk result (IsEdit T.cmp (vec_items nodes.old.items) (RemoveNode name.now)
+        (vec_items nodes.new.items)) }
+    ensures refusal { IfErr result (λ e. e
+        ≡ unwrap_or (misfit T.cmp (vec_items nodes.old.items) (RemoveNode name.now))
+        Refusal.Memory) }
     ensures unchanged { OnErr result (vec_items nodes.new.items ≡ vec_items nodes.old.items) }
 {
     let place = place_named(nodes.as_slice(), name)?;
@@ -164,8 +180,11 @@ fn split_node<T: Ord + Clone + Drop>(
     split_index: usize,
 ) -> Result<(), Refusal>
     requires { IsNodeList T.cmp (vec_items nodes.old.items) }
-    ensures done { OnOk result (IsEdit T.cmp (vec_items nodes.old.items) (SplitNode name.now split_index) (vec_items nodes.new.items)) }
-    ensures refusal { IfErr result (λ e. e ≡ unwrap_or (misfit T.cmp (vec_items nodes.old.items) (SplitNode name.now split_index)) Refusal.Memory) }
+    ensures done { OnOk result (IsEdit T.cmp (vec_items nodes.old.items)
+        (SplitNode name.now split_index) (vec_items nodes.new.items)) }
+    ensures refusal { IfErr result (λ e. e
+        ≡ unwrap_or (misfit T.cmp (vec_items nodes.old.items) (SplitNode name.now split_index))
+        Refusal.Memory) }
     ensures unchanged { OnErr result (vec_items nodes.new.items ≡ vec_items nodes.old.items) }
 {
     let place = place_named(nodes.as_slice(), name)?;
@@ -186,8 +205,11 @@ fn merge_nodes<T: Ord + Clone + Drop>(
     next_name: &T,
 ) -> Result<(), Refusal>
     requires { IsNodeList T.cmp (vec_items nodes.old.items) }
-    ensures done { OnOk result (IsEdit T.cmp (vec_items nodes.old.items) (MergeNodes name.now next_name.now) (vec_items nodes.new.items)) }
-    ensures refusal { IfErr result (λ e. e ≡ unwrap_or (misfit T.cmp (vec_items nodes.old.items) (MergeNodes name.now next_name.now)) Refusal.Memory) }
+    ensures done { OnOk result (IsEdit T.cmp (vec_items nodes.old.items)
+        (MergeNodes name.now next_name.now) (vec_items nodes.new.items)) }
+    ensures refusal { IfErr result (λ e. e
+        ≡ unwrap_or (misfit T.cmp (vec_items nodes.old.items) (MergeNodes name.now next_name.now))
+        Refusal.Memory) }
     ensures unchanged { OnErr result (vec_items nodes.new.items ≡ vec_items nodes.old.items) }
 {
     let place = place_named(nodes.as_slice(), name)?;

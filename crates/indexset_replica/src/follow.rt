@@ -33,37 +33,63 @@ impl<T: Ord + Clone + Drop> Replica<T> {
     /// ```
     pub fn follow(&mut self, events: &[ChangeEvent<T>], order: &[usize]) -> Result<(), Refusal>
         requires inside { All (λ p. p < length events.now) order.now }
-        ensures cloned { OnOk result (IsFollowed T.cmp T.is_clone events.now self.old order.now self.new) }
-        ensures followed { ((x y : T) → T.is_clone x y → y ≡ x) → OnOk result (followed T.cmp events.now self.old order.now ≡ Some self.new) }
-        ensures cloned_stopped { IfErr result (λ e. HasStopped T.cmp T.is_clone events.now self.old order.now e self.new) }
-        ensures stopped { ((x y : T) → T.is_clone x y → y ≡ x) → IfErr result (λ e. IsStopped T.cmp events.now self.old order.now e self.new) }
-        ensures delivery { ((x y : T) → T.is_clone x y → y ≡ x) → (s j : ℕ) (ns : List (List T)) → IsFeed T.cmp s ns events.now → IsAt T.cmp s ns events.now j self.old
+        ensures cloned { OnOk result (IsFollowed T.cmp T.is_clone events.now self.old order.now
+            self.new) }
+        ensures followed { ((x y : T) → T.is_clone x y → y ≡ x)
+            → OnOk result (followed T.cmp events.now self.old order.now ≡ Some self.new) }
+        ensures cloned_stopped { IfErr result
+            (λ e. HasStopped T.cmp T.is_clone events.now self.old order.now e self.new) }
+        ensures stopped { ((x y : T) → T.is_clone x y → y ≡ x)
+            → IfErr result (λ e. IsStopped T.cmp events.now self.old order.now e self.new) }
+        ensures delivery { ((x y : T) → T.is_clone x y → y ≡ x) → (s j : ℕ) (ns : List (List T))
+            → IsFeed T.cmp s ns events.now → IsAt T.cmp s ns events.now j self.old
             → OnOk result (IsDelivered T.cmp s ns events.now j order.now self.new) }
-        ensures alike { (s j : ℕ) (ns : List (List T)) → IsFeed T.cmp s ns events.now → IsAt T.cmp s ns events.now j self.old
-            → OnOk result ((r : ReplicaState T) × IsDelivered T.cmp s ns events.now j order.now r × IsAlike T.cmp T.is_clone r self.new) }
-        ensures memory_alone { (s j : ℕ) (ns : List (List T)) → IsFeed T.cmp s ns events.now → IsAt T.cmp s ns events.now j self.old
+        ensures alike { (s j : ℕ) (ns : List (List T)) → IsFeed T.cmp s ns events.now
+            → IsAt T.cmp s ns events.now j self.old
+            → OnOk result ((r : ReplicaState T) × IsDelivered T.cmp s ns events.now j order.now r
+            × IsAlike T.cmp T.is_clone r self.new) }
+        ensures memory_alone { (s j : ℕ) (ns : List (List T)) → IsFeed T.cmp s ns events.now
+            → IsAt T.cmp s ns events.now j self.old
             → IfErr result (λ e. e ≡ Refusal.Memory) }
-        ensures partly { ((x y : T) → T.is_clone x y → y ≡ x) → (s j : ℕ) (ns : List (List T)) → IsFeed T.cmp s ns events.now → IsAt T.cmp s ns events.now j self.old
-            → OnErr result ((k : ℕ) × (k ≤ length order.now) × IsDelivered T.cmp s ns events.now j (take k order.now) self.new) }
-        ensures partly_alike { (s j : ℕ) (ns : List (List T)) → IsFeed T.cmp s ns events.now → IsAt T.cmp s ns events.now j self.old
-            → OnErr result ((k : ℕ) × (r : ReplicaState T) × (k ≤ length order.now) × IsDelivered T.cmp s ns events.now j (take k order.now) r × IsAlike T.cmp T.is_clone r self.new) }
+        ensures partly { ((x y : T) → T.is_clone x y → y ≡ x) → (s j : ℕ) (ns : List (List T))
+            → IsFeed T.cmp s ns events.now → IsAt T.cmp s ns events.now j self.old
+            → OnErr result ((k : ℕ) × (k ≤ length order.now)
+            × IsDelivered T.cmp s ns events.now j (take k order.now) self.new) }
+        ensures partly_alike { (s j : ℕ) (ns : List (List T)) → IsFeed T.cmp s ns events.now
+            → IsAt T.cmp s ns events.now j self.old
+            → OnErr result ((k : ℕ) × (r : ReplicaState T) × (k ≤ length order.now)
+            × IsDelivered T.cmp s ns events.now j (take k order.now) r
+            × IsAlike T.cmp T.is_clone r self.new) }
 
         // From a beginning of a feed it goes on to a beginning.
         ensures onwards { self.old.next ≤ self.new.next }
-        ensures beginning { ((x y : T) → T.is_clone x y → y ≡ x) → (s : ℕ) (ns : List (List T)) → IsFeed T.cmp s ns events.now
-            → IsBeginning T.cmp s ns events.now self.old → IsBeginning T.cmp s ns events.now self.new }
-        ensures all_came { ((x y : T) → T.is_clone x y → y ≡ x) → (s : ℕ) (ns : List (List T)) → IsFeed T.cmp s ns events.now → IsBeginning T.cmp s ns events.now self.old
-            → IsSubsequence (numbers_from (self.old.next - s) (length events.now - (self.old.next - s))) order.now → OnOk result (HoldsAll T.cmp s ns events.now self.new) }
-        ensures all_held { ((x y : T) → T.is_clone x y → y ≡ x) → (s : ℕ) (ns : List (List T)) → IsFeed T.cmp s ns events.now → IsBeginning T.cmp s ns events.now self.old
-            → self.new.next ≡ s + length events.now → replay T.cmp ns events.now ≡ Some self.new.nodes }
+        ensures beginning { ((x y : T) → T.is_clone x y → y ≡ x) → (s : ℕ) (ns : List (List T))
+            → IsFeed T.cmp s ns events.now
+            → IsBeginning T.cmp s ns events.now self.old
+            → IsBeginning T.cmp s ns events.now self.new }
+        ensures all_came { ((x y : T) → T.is_clone x y → y ≡ x) → (s : ℕ) (ns : List (List T))
+            → IsFeed T.cmp s ns events.now → IsBeginning T.cmp s ns events.now self.old
+            → IsSubsequence (numbers_from (self.old.next - s)
+            (length events.now - (self.old.next - s))) order.now
+            → OnOk result (HoldsAll T.cmp s ns events.now self.new) }
+        ensures all_held { ((x y : T) → T.is_clone x y → y ≡ x) → (s : ℕ) (ns : List (List T))
+            → IsFeed T.cmp s ns events.now → IsBeginning T.cmp s ns events.now self.old
+            → self.new.next ≡ s + length events.now
+            → replay T.cmp ns events.now ≡ Some self.new.nodes }
 
         // At every type, of copies.
         ensures copied_beginning { (s : ℕ) (ns : List (List T)) → IsFeed T.cmp s ns events.now
-            → CopiesBeginning T.cmp T.is_clone s ns events.now self.old → CopiesBeginning T.cmp T.is_clone s ns events.now self.new }
-        ensures copied_all { (s : ℕ) (ns : List (List T)) → IsFeed T.cmp s ns events.now → CopiesBeginning T.cmp T.is_clone s ns events.now self.old
-            → IsSubsequence (numbers_from (self.old.next - s) (length events.now - (self.old.next - s))) order.now → OnOk result (CopiesAll T.cmp T.is_clone s ns events.now self.new) }
-        ensures copied_held { (s : ℕ) (ns : List (List T)) → IsFeed T.cmp s ns events.now → CopiesBeginning T.cmp T.is_clone s ns events.now self.old
-            → self.new.next ≡ s + length events.now → CopiesAll T.cmp T.is_clone s ns events.now self.new }
+            → CopiesBeginning T.cmp T.is_clone s ns events.now self.old
+            → CopiesBeginning T.cmp T.is_clone s ns events.now self.new }
+        ensures copied_all { (s : ℕ) (ns : List (List T)) → IsFeed T.cmp s ns events.now
+            → CopiesBeginning T.cmp T.is_clone s ns events.now self.old
+            → IsSubsequence (numbers_from (self.old.next - s)
+            (length events.now - (self.old.next - s))) order.now
+            → OnOk result (CopiesAll T.cmp T.is_clone s ns events.now self.new) }
+        ensures copied_held { (s : ℕ) (ns : List (List T)) → IsFeed T.cmp s ns events.now
+            → CopiesBeginning T.cmp T.is_clone s ns events.now self.old
+            → self.new.next ≡ s + length events.now
+            → CopiesAll T.cmp T.is_clone s ns events.now self.new }
     {
         for place in order {
             self.deliver(&events[*place])?;

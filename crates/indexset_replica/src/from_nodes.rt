@@ -21,9 +21,11 @@ impl<T: Ord + Clone + Drop> Replica<T> {
     /// assert!(rt; copy.len() == 3 && copy.last() == Some(&5) && copy.next() == 3);
     /// ```
     pub fn from_nodes(nodes: Vec<Vec<T>>, next: u64) -> Result<Self, Refused<Vec<Vec<T>>>>
-        ensures replica { IfOk result (λ r. r ≡ record { nodes = vec_items nodes.items; next = next }) }
+        ensures replica { IfOk result (λ r. r
+            ≡ record { nodes = vec_items nodes.items; next = next }) }
         ensures good { OnOk result (nodes_refusal T.cmp usize.MAX (vec_items nodes.items) ≡ None) }
-        ensures refusal { IfErr result (λ e. nodes_refusal T.cmp usize.MAX (vec_items nodes.items) ≡ Some e.cause) }
+        ensures refusal { IfErr result (λ e. nodes_refusal T.cmp usize.MAX (vec_items nodes.items)
+            ≡ Some e.cause) }
         ensures lawful { IsNodeList T.cmp (vec_items nodes.items) → IsOk result }
         ensures given_back { IfErr result (λ e. e.value ≡ nodes) }
     {

@@ -42,8 +42,10 @@ impl<'a, T> Iter<'a, T> {
     pub(super) fn between(nodes: &'a [Vec<T>], from: (usize, usize), to: (usize, usize)) -> Self
         requires from { IsPlace (vec_items nodes.now) from }
         requires to { IsPlace (vec_items nodes.now) to }
-        requires order { items_before (vec_items nodes.now) from ≤ items_before (vec_items nodes.now) to }
-        ensures { result ≡ between (items_before (vec_items nodes.now) from) (items_before (vec_items nodes.now) to) (joined (vec_items nodes.now)) }
+        requires order { items_before (vec_items nodes.now) from
+            ≤ items_before (vec_items nodes.now) to }
+        ensures { result ≡ between (items_before (vec_items nodes.now) from)
+            (items_before (vec_items nodes.now) to) (joined (vec_items nodes.now)) }
     {
         Iter {
             rest: Walk::between(nodes, from, to),
@@ -141,7 +143,8 @@ impl<'a, T: Ord + Clone + Drop> IntoIterator for &'a Replica<T> {
 
     type IntoIter = Iter<'a, T>;
 
-    ghost into_iter_gives = { λ r i. (i ≡ joined r.now.nodes) × ShowsInOrder (deref {X = T}) × ShowsInReverse (deref {X = T}) };
+    ghost into_iter_gives = { λ r i. (i ≡ joined r.now.nodes) × ShowsInOrder (deref {X = T})
+        × ShowsInReverse (deref {X = T}) };
 
     fn into_iter(self) -> Iter<'a, T> {
         self.iter()

@@ -25,34 +25,45 @@ pub fn refused_unless_a_step<T: Ord>()
 /// one at each place that equals it. There is no other.
 pub fn reached_in_one_pass()
     ensures found { (j : ℕ) (order : List ℕ) → IsReached j order (fold awaited j order) }
-    ensures once { (j m n : ℕ) (order : List ℕ) → IsReached j order m → IsReached j order n → m ≡ n }
+    ensures once { (j m n : ℕ) (order : List ℕ) → IsReached j order m → IsReached j order n
+        → m ≡ n }
 {}
 
 /// Where clones equal their sources, events that are clones lead where the events lead, item by item up
 /// to equal items, and so do they from nodes whose items are equal. From copies they lead to copies.
 pub fn replay_of_clones<T: Ord + Clone>()
-    ensures equal { ((x y : T) → T.is_clone x y → T.cmp x y ≡ Equal) → (ns ms after : List (List T)) (es fs : List (ChangeEvent T))
-        → AllZip (AllZip (λ x y. T.cmp x y ≡ Equal)) ns ms → AllZip (IsEventClone T.is_clone) es fs → replay T.cmp ns es ≡ Some after
-        → (r : List (List T)) × (replay T.cmp ms fs ≡ Some r) × AllZip (AllZip (λ x y. T.cmp x y ≡ Equal)) after r }
-    ensures copies { AreClonesEqual T.cmp T.is_clone → (ns ms after : List (List T)) (es fs : List (ChangeEvent T))
-        → AreCopies T.cmp T.is_clone ns ms → AllZip (IsEventClone T.is_clone) es fs → replay T.cmp ns es ≡ Some after
+    ensures equal { ((x y : T) → T.is_clone x y → T.cmp x y ≡ Equal)
+        → (ns ms after : List (List T)) (es fs : List (ChangeEvent T))
+        → AllZip (AllZip (λ x y. T.cmp x y ≡ Equal)) ns ms → AllZip (IsEventClone T.is_clone) es fs
+        → replay T.cmp ns es ≡ Some after
+        → (r : List (List T)) × (replay T.cmp ms fs ≡ Some r)
+        × AllZip (AllZip (λ x y. T.cmp x y ≡ Equal)) after r }
+    ensures copies { AreClonesEqual T.cmp T.is_clone
+        → (ns ms after : List (List T)) (es fs : List (ChangeEvent T))
+        → AreCopies T.cmp T.is_clone ns ms → AllZip (IsEventClone T.is_clone) es fs
+        → replay T.cmp ns es ≡ Some after
         → LeadsToCopies T.cmp T.is_clone ms fs after }
 {}
 
 /// A replica that holds copies of a tree's nodes holds copies of them after it applied a clone of the
 /// tree's event.
 pub fn step_of_clones<T: Ord + Clone>()
-    ensures { AreClonesEqual T.cmp T.is_clone → (ns ms after new : List (List T)) (e f : ChangeEvent T)
-        → AreCopies T.cmp T.is_clone ns ms → IsEventClone T.is_clone e f → step T.cmp ns e ≡ Some after
-        → IsClonedStep T.cmp T.is_clone ms (unassigned f) new → AreCopies T.cmp T.is_clone after new }
+    ensures { AreClonesEqual T.cmp T.is_clone
+        → (ns ms after new : List (List T)) (e f : ChangeEvent T)
+        → AreCopies T.cmp T.is_clone ns ms → IsEventClone T.is_clone e f
+        → step T.cmp ns e ≡ Some after
+        → IsClonedStep T.cmp T.is_clone ms (unassigned f) new
+        → AreCopies T.cmp T.is_clone after new }
 {}
 
 /// Nodes are copies of themselves, copies of copies are copies, and the items of copies equal those of
 /// their sources.
 pub fn copies_are_equal<T: Ord + Clone>()
     ensures itself { (ns : List (List T)) → AreCopies T.cmp T.is_clone ns ns }
-    ensures again { (ns ms ks : List (List T)) → AreCopies T.cmp T.is_clone ns ms → AreCopies T.cmp T.is_clone ms ks → AreCopies T.cmp T.is_clone ns ks }
-    ensures equal { (ns ms : List (List T)) → AreCopies T.cmp T.is_clone ns ms → AllZip (AllZip (λ x y. T.cmp x y ≡ Equal)) ns ms }
+    ensures again { (ns ms ks : List (List T)) → AreCopies T.cmp T.is_clone ns ms
+        → AreCopies T.cmp T.is_clone ms ks → AreCopies T.cmp T.is_clone ns ks }
+    ensures equal { (ns ms : List (List T)) → AreCopies T.cmp T.is_clone ns ms
+        → AllZip (AllZip (λ x y. T.cmp x y ≡ Equal)) ns ms }
 {}
 
 /// What a clone has of its source, as its text, copies have of theirs.

@@ -95,8 +95,11 @@ impl<T: Ord + Clone + Drop> Replica<T> {
     /// returns the node and changes nothing.
     pub fn attach(&mut self, node: Vec<T>) -> Result<(), Refused<Vec<T>>>
         ensures nodes { OnOk result (self.new.nodes ≡ attached T.cmp self.old.nodes node.items) }
-        ensures good { OnOk result (attach_refusal T.cmp (length node.items) self.old.nodes node.items ≡ None) }
-        ensures refusal { IfErr result (λ e. e.cause ≡ unwrap_or (attach_refusal T.cmp (length node.items) self.old.nodes node.items) Refusal.Memory) }
+        ensures good { OnOk result (attach_refusal T.cmp (length node.items) self.old.nodes
+            node.items ≡ None) }
+        ensures refusal { IfErr result (λ e. e.cause
+            ≡ unwrap_or (attach_refusal T.cmp (length node.items) self.old.nodes node.items)
+            Refusal.Memory) }
         ensures given_back { IfErr result (λ e. e.value ≡ node) }
         ensures next { self.new.next ≡ self.old.next }
         ensures unchanged { OnErr result (self.new ≡ self.old) }
@@ -128,11 +131,16 @@ impl<T: Ord + Clone + Drop> Replica<T> {
     /// assert!(rt; copy.contains(&5) && again.is_err() && copy.next() == 1);
     /// ```
     pub fn apply(&mut self, event: &ChangeEvent<T>) -> Result<(), Refusal>
-        ensures cloned { OnOk result (IsClonedStep T.cmp T.is_clone self.old.nodes (unassigned event.now) self.new.nodes) }
-        ensures step { ((x y : T) → T.is_clone x y → y ≡ x) → OnOk result (step T.cmp self.old.nodes event.now ≡ Some self.new.nodes) }
+        ensures cloned { OnOk result (IsClonedStep T.cmp T.is_clone self.old.nodes
+            (unassigned event.now) self.new.nodes) }
+        ensures step { ((x y : T) → T.is_clone x y → y ≡ x)
+            → OnOk result (step T.cmp self.old.nodes event.now ≡ Some self.new.nodes) }
         ensures next { OnOk result (self.new.next ≡ self.old.next + 1) }
-        ensures fits { OnOk result (apply_refusal T.cmp self.old.nodes self.old.next event.now ≡ None) }
-        ensures refusal { IfErr result (λ e. e ≡ unwrap_or (apply_refusal T.cmp self.old.nodes self.old.next event.now) Refusal.Memory) }
+        ensures fits { OnOk result (apply_refusal T.cmp self.old.nodes self.old.next event.now
+            ≡ None) }
+        ensures refusal { IfErr result (λ e. e
+            ≡ unwrap_or (apply_refusal T.cmp self.old.nodes self.old.next event.now)
+            Refusal.Memory) }
         ensures unchanged { OnErr result (self.new ≡ self.old) }
     {
         if event.id().inner() != self.next {

@@ -43,9 +43,12 @@ impl<T: Ord + Clone + Drop> Replica<T> {
     /// same two searches, with at most one comparison more. The comparator must find the items in order.
     pub fn get_by<P: Probe<T>>(&self, probe: &mut P) -> Option<&T>
         requires { IsParted (P.answer probe.old) (joined self.now.nodes) }
-        ensures value { option_copied result ≡ find (λ x. is_eq (P.answer probe.old x)) (joined self.now.nodes) }
+        ensures value { option_copied result
+            ≡ find (λ x. is_eq (P.answer probe.old x)) (joined self.now.nodes) }
         ensures fixed { P.answer probe.new ≡ P.answer probe.old }
-        ensures few { (size : ℕ) → All (λ n. n ≤ size) (node_lengths self.now.nodes) → P.asked probe.new ≤ P.asked probe.old + (digits (length self.now.nodes) + digits size + 1) }
+        ensures few { (size : ℕ) → All (λ n. n ≤ size) (node_lengths self.now.nodes)
+            → P.asked probe.new ≤ P.asked probe.old
+            + (digits (length self.now.nodes) + digits size + 1) }
     {
         if self.nodes.is_empty() {
             return None;
@@ -86,7 +89,9 @@ impl<T: Ord + Clone + Drop> Replica<T> {
     /// after events that are missing (`Missing`), in constant time. `apply` fails with `Gap` for the two
     /// last. It looks at the number alone, not at whether the event fits the nodes.
     pub fn expects(&self, event: &ChangeEvent<T>) -> Turn
-        ensures { result ≡ (if event_number event.now == self.now.next then Turn.Next else if nat_lt (event_number event.now) self.now.next then Turn.Had else Turn.Missing) }
+        ensures { result ≡ (if event_number event.now
+            == self.now.next then Turn.Next else if nat_lt (event_number event.now) self.now.next
+            then Turn.Had else Turn.Missing) }
     {
         let number = event.id().inner();
         if number == self.next {

@@ -33,7 +33,8 @@ fn ends_less<T: Ord>(node: &[T], value: &T) -> bool
 /// Returns the place of the node whose last item equals the name.
 pub(super) fn place_named<T: Ord>(nodes: &[Vec<T>], name: &T) -> Result<usize, Refusal>
     requires { IsNodeList T.cmp (vec_items nodes.now) }
-    ensures named { IfOk result (λ place. node_named T.cmp (vec_items nodes.now) name.now ≡ Some place) }
+    ensures named { IfOk result (λ place. node_named T.cmp (vec_items nodes.now) name.now
+        ≡ Some place) }
     ensures absent { IfErr result (λ e. node_named T.cmp (vec_items nodes.now) name.now ≡ None) }
     ensures refusal { IfErr result (λ e. e ≡ Refusal.NoSuchNode) }
 {
@@ -58,11 +59,15 @@ fn is_named<T: Ord>(node: &[T], name: &T) -> bool
 /// Returns where a whole node goes among the nodes, if it may.
 pub(super) fn place_of_node<T: Ord>(nodes: &[Vec<T>], node: &[T]) -> Result<usize, Refusal>
     requires { IsNodeList T.cmp (vec_items nodes.now) }
-    ensures place { IfOk result (λ place. place ≡ attach_index T.cmp (vec_items nodes.now) node.now) }
+    ensures place { IfOk result (λ place. place
+        ≡ attach_index T.cmp (vec_items nodes.now) node.now) }
     ensures within { IfOk result (λ place. place ≤ length nodes.now) }
-    ensures nodes { IfOk result (λ place. IsNodeList T.cmp (insert (vec_items nodes.now) place node.now)) }
-    ensures good { OnOk result (attach_refusal T.cmp (length node.now) (vec_items nodes.now) node.now ≡ None) }
-    ensures refusal { IfErr result (λ e. attach_refusal T.cmp (length node.now) (vec_items nodes.now) node.now ≡ Some e) }
+    ensures nodes { IfOk result (λ place. IsNodeList T.cmp
+        (insert (vec_items nodes.now) place node.now)) }
+    ensures good { OnOk result (attach_refusal T.cmp (length node.now) (vec_items nodes.now)
+        node.now ≡ None) }
+    ensures refusal { IfErr result (λ e. attach_refusal T.cmp (length node.now)
+        (vec_items nodes.now) node.now ≡ Some e) }
 {
     let Some(first) = node.first() else {
         return Err(Refusal::Empty);
@@ -101,7 +106,9 @@ pub(super) fn fits_at<T: Ord>(nodes: &[Vec<T>], place: usize, index: usize, valu
     requires nodes { IsNodeList T.cmp (vec_items nodes.now) }
     requires place { place < length nodes.now }
     requires index { index ≤ length (node_at (vec_items nodes.now) place) }
-    ensures { result ≡ is_ascending T.cmp (joined (splice (vec_items nodes.now) place (place + 1) (insert (node_at (vec_items nodes.now) place) index value.now ∷ []))) }
+    ensures { result ≡ is_ascending T.cmp
+        (joined (splice (vec_items nodes.now) place (place + 1)
+        (insert (node_at (vec_items nodes.now) place) index value.now ∷ []))) }
 {
     let node = nodes[place].as_slice();
     let before = node[..index].last().or(item_before(nodes, place));
@@ -113,7 +120,8 @@ pub(super) fn fits_at<T: Ord>(nodes: &[Vec<T>], place: usize, index: usize, valu
 pub(super) fn fits_before<T: Ord>(nodes: &[Vec<T>], place: usize, value: &T) -> bool
     requires nodes { IsNodeList T.cmp (vec_items nodes.now) }
     requires place { place ≤ length nodes.now }
-    ensures { result ≡ is_ascending T.cmp (joined (insert (vec_items nodes.now) place (value.now ∷ []))) }
+    ensures { result ≡ is_ascending T.cmp
+        (joined (insert (vec_items nodes.now) place (value.now ∷ []))) }
 {
     is_between(item_before(nodes, place), value, item_from(nodes, place))
 }
@@ -121,7 +129,8 @@ pub(super) fn fits_before<T: Ord>(nodes: &[Vec<T>], place: usize, value: &T) -> 
 /// Returns whether the value is above the item before it and below the item after it, where there
 /// are such.
 fn is_between<T: Ord>(before: Option<&T>, value: &T, after: Option<&T>) -> bool
-    ensures { result ≡ is_between T.cmp (option_copied before.entry) value.now (option_copied after.entry) }
+    ensures { result ≡ is_between T.cmp (option_copied before.entry) value.now
+        (option_copied after.entry) }
 {
     let above = match before {
         Some(item) => item.cmp(value).is_lt(),

@@ -29,8 +29,10 @@ impl<T: Ord + Clone + Drop> Replica<T> {
     /// assert!(rt; teens.copied().eq([10, 15]));
     /// ```
     pub fn range(&self, range: (Bound<&T>, Bound<&T>)) -> Iter<'_, T>
-        requires { IsTrue (are_ordered T.cmp (bound_map (λ v. v.now) range.0) (bound_map (λ v. v.now) range.1)) }
-        ensures rest { result ≡ in_range T.cmp (joined self.now.nodes) (bound_map (λ v. v.now) range.entry.0) (bound_map (λ v. v.now) range.entry.1) }
+        requires { IsTrue (are_ordered T.cmp (bound_map (λ v. v.now) range.0)
+            (bound_map (λ v. v.now) range.1)) }
+        ensures rest { result ≡ in_range T.cmp (joined self.now.nodes)
+            (bound_map (λ v. v.now) range.entry.0) (bound_map (λ v. v.now) range.entry.1) }
         ensures runs { ShowsInOrder (deref {X = T}) }
         ensures runs_back { ShowsInReverse (deref {X = T}) }
     {
@@ -45,7 +47,9 @@ impl<T: Ord + Clone + Drop> Replica<T> {
 fn place_from<T: Ord + Drop>(nodes: &[Vec<T>], start: Bound<&T>) -> (usize, usize)
     requires { IsNodeList T.cmp (vec_items nodes.now) }
     ensures place { IsPlace (vec_items nodes.now) result }
-    ensures before { items_before (vec_items nodes.now) result ≡ count_by (is_before T.cmp (bound_map (λ v. v.now) start.entry)) (joined (vec_items nodes.now)) }
+    ensures before { items_before (vec_items nodes.now) result
+        ≡ count_by (is_before T.cmp (bound_map (λ v. v.now) start.entry))
+        (joined (vec_items nodes.now)) }
 {
     match start {
         Bound::Included(item) => place_by(nodes, &mut ByItem::new(item)),
@@ -58,7 +62,9 @@ fn place_from<T: Ord + Drop>(nodes: &[Vec<T>], start: Bound<&T>) -> (usize, usiz
 fn place_to<T: Ord + Drop>(nodes: &[Vec<T>], end: Bound<&T>) -> (usize, usize)
     requires { IsNodeList T.cmp (vec_items nodes.now) }
     ensures place { IsPlace (vec_items nodes.now) result }
-    ensures before { items_before (vec_items nodes.now) result ≡ count_by (is_up_to_end T.cmp (bound_map (λ v. v.now) end.entry)) (joined (vec_items nodes.now)) }
+    ensures before { items_before (vec_items nodes.now) result
+        ≡ count_by (is_up_to_end T.cmp (bound_map (λ v. v.now) end.entry))
+        (joined (vec_items nodes.now)) }
 {
     match end {
         Bound::Included(item) => place_by(nodes, &mut Past::new(ByItem::new(item))),
@@ -72,7 +78,8 @@ fn place_by<T: Ord + Drop, P: Probe<T>>(nodes: &[Vec<T>], probe: &mut P) -> (usi
     requires filled { All (λ n. 1 ≤ n) (node_lengths (vec_items nodes.now)) }
     requires parted { IsParted (P.answer probe.old) (joined (vec_items nodes.now)) }
     ensures place { IsPlace (vec_items nodes.now) result }
-    ensures before { items_before (vec_items nodes.now) result ≡ less_count (P.answer probe.old) (joined (vec_items nodes.now)) }
+    ensures before { items_before (vec_items nodes.now) result
+        ≡ less_count (P.answer probe.old) (joined (vec_items nodes.now)) }
 {
     if nodes.is_empty() {
         return (0, 0);
@@ -85,7 +92,8 @@ fn place_by<T: Ord + Drop, P: Probe<T>>(nodes: &[Vec<T>], probe: &mut P) -> (usi
 // Returns the place behind all items.
 fn last_place<T>(nodes: &[Vec<T>]) -> (usize, usize)
     ensures place { IsPlace (vec_items nodes.now) result }
-    ensures before { items_before (vec_items nodes.now) result ≡ length (joined (vec_items nodes.now)) }
+    ensures before { items_before (vec_items nodes.now) result
+        ≡ length (joined (vec_items nodes.now)) }
 {
     if nodes.is_empty() {
         return (0, 0);

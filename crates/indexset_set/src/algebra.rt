@@ -97,7 +97,8 @@ impl<T: Ord> BTreeSet<T> {
 
     /// Returns whether no element has an equal one in the other set.
     pub fn is_disjoint(&self, other: &BTreeSet<T>) -> bool
-        ensures { result ≡ list_all (λ x. not (has_equal T.cmp (items other.now) x)) (items self.now) }
+        ensures { result ≡ list_all (λ x. not (has_equal T.cmp (items other.now) x))
+            (items self.now) }
     {
         self.intersection(other).next().is_none()
     }

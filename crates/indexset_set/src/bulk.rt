@@ -50,8 +50,10 @@ impl<T: Ord + Drop> BTreeSet<T> {
     pub fn split_off(&mut self, value: &T) -> Result<Self, Refusal>
         ensures below { OnOk result (items self.new ≡ below T.cmp (items self.old) value.now) }
         ensures rest { IfOk result (λ s. items s ≡ not_below T.cmp (items self.old) value.now) }
-        ensures all_below { OnOk result (All (λ x. is_lt (T.cmp x value.now) ≡ true) (items self.new)) }
-        ensures all_from { IfOk result (λ s. All (λ x. is_lt (T.cmp x value.now) ≡ false) (items s)) }
+        ensures all_below { OnOk result (All (λ x. is_lt (T.cmp x value.now) ≡ true)
+            (items self.new)) }
+        ensures all_from { IfOk result (λ s. All (λ x. is_lt (T.cmp x value.now) ≡ false)
+            (items s)) }
         ensures whole { IfOk result (λ s. items self.old ≡ items self.new ++ items s) }
         ensures size { self.new.size ≡ self.old.size }
         ensures rest_size { IfOk result (λ s. s.size ≡ self.old.size) }
@@ -96,14 +98,18 @@ impl<T: Ord + Drop> BTreeSet<T> {
     /// assert!(rt; set.iter().copied().eq([1, 2, 3]) && other.is_empty());
     /// ```
     pub fn append(&mut self, other: &mut Self) -> Result<(), Refusal>
-        ensures ok { OnOk result (items self.new ≡ put_all T.cmp (items self.old) (items other.old)) }
-        ensures nodes { OnOk result (self.new.nodes ≡ nodes_put_all T.cmp self.old (items other.old)) }
+        ensures ok { OnOk result (items self.new
+            ≡ put_all T.cmp (items self.old) (items other.old)) }
+        ensures nodes { OnOk result (self.new.nodes
+            ≡ nodes_put_all T.cmp self.old (items other.old)) }
         ensures emptied { OnOk result (items other.new ≡ []) }
         ensures size { self.new.size ≡ self.old.size }
         ensures other_size { other.new.size ≡ other.old.size }
         ensures refusal { IfErr result (λ e. e ≡ Refusal.Memory) }
-        ensures err { OnErr result (MovesSome T.cmp (items self.old) (items other.old) (items self.new) (items other.new)) }
-        ensures err_nodes { OnErr result (PutsSome T.cmp self.old (items other.old) self.new.nodes (items other.new)) }
+        ensures err { OnErr result (MovesSome T.cmp (items self.old) (items other.old)
+            (items self.new) (items other.new)) }
+        ensures err_nodes { OnErr result (PutsSome T.cmp self.old (items other.old) self.new.nodes
+            (items other.new)) }
         ensures some_left { OnErr result (0 < length (items other.new)) }
     {
         let mut near = 0;
@@ -128,8 +134,10 @@ impl<T: Ord + Drop> BTreeSet<T> {
     // moved a prefix.
     fn append_above(&mut self, other: &mut Self) -> Result<(), Refusal>
         requires order { IsAscending T.cmp (items self.old ++ items other.old) }
-        ensures moved { TakesSome (put T.cmp) (items self.old) (items other.old) (items self.new) (items other.new) }
-        ensures nodes { TakesSome (λ ns x. nodes_put T.cmp (cut ns self.old.size) x) self.old.nodes (items other.old) self.new.nodes (items other.new) }
+        ensures moved { TakesSome (put T.cmp) (items self.old) (items other.old) (items self.new)
+            (items other.new) }
+        ensures nodes { TakesSome (λ ns x. nodes_put T.cmp (cut ns self.old.size) x) self.old.nodes
+            (items other.old) self.new.nodes (items other.new) }
         ensures emptied { OnOk result (items other.new ≡ []) }
         ensures size { self.new.size ≡ self.old.size }
         ensures other_size { other.new.size ≡ other.old.size }
@@ -145,8 +153,10 @@ impl<T: Ord + Drop> BTreeSet<T> {
     // call changes neither.
     fn put_some_of(&mut self, other: &mut Self, near: usize) -> Result<usize, Refusal>
         requires some { 0 < length (items other.old) }
-        ensures moved { OnOk result (TakesSome (put T.cmp) (items self.old) (items other.old) (items self.new) (items other.new)) }
-        ensures nodes { OnOk result (TakesSome (λ ns x. nodes_put T.cmp (cut ns self.old.size) x) self.old.nodes (items other.old) self.new.nodes (items other.new)) }
+        ensures moved { OnOk result (TakesSome (put T.cmp) (items self.old) (items other.old)
+            (items self.new) (items other.new)) }
+        ensures nodes { OnOk result (TakesSome (λ ns x. nodes_put T.cmp (cut ns self.old.size) x)
+            self.old.nodes (items other.old) self.new.nodes (items other.new)) }
         ensures fewer { OnOk result (length (items other.new) < length (items other.old)) }
         ensures size { self.new.size ≡ self.old.size }
         ensures other_size { other.new.size ≡ other.old.size }

@@ -45,7 +45,8 @@ impl<'a, T: Ord> Model for Cursor<'a, T> {
 
     ghost view = { λ c. record { list = items c.set.now; position = c.position } };
 
-    ghost invariant = { λ c. (c.position ≤ length (items c.set.now)) × (c.start ≡ sum (take c.node (node_lengths c.set.now.nodes))) };
+    ghost invariant = { λ c. (c.position ≤ length (items c.set.now))
+        × (c.start ≡ sum (take c.node (node_lengths c.set.now.nodes))) };
 }
 
 impl<T: Ord> BTreeSet<T> {
@@ -68,7 +69,8 @@ impl<T: Ord> BTreeSet<T> {
     /// crate.)
     pub fn cursor_from<P: Probe<T> + Drop>(&self, start: Bound<P>) -> Cursor<'_, T>
         requires { IfBounded (λ p. FindsInOrder (P.answer p) (items self.now)) start }
-        ensures { result ≡ standing_at (items self.now) (count_by (is_before (λ x p. P.answer p x) start) (items self.now)) }
+        ensures { result ≡ standing_at (items self.now)
+            (count_by (is_before (λ x p. P.answer p x) start) (items self.now)) }
     {
         self.cursor_in(self.spine.start_of(start))
     }
@@ -77,7 +79,8 @@ impl<T: Ord> BTreeSet<T> {
     /// at the end place where there is none, by two binary searches. (Not in the Rust crate.)
     pub fn cursor_past<P: Probe<T> + Drop>(&self, end: Bound<P>) -> Cursor<'_, T>
         requires { IfBounded (λ p. FindsInOrder (P.answer p) (items self.now)) end }
-        ensures { result ≡ standing_at (items self.now) (count_by (is_up_to_end (λ x p. P.answer p x) end) (items self.now)) }
+        ensures { result ≡ standing_at (items self.now)
+            (count_by (is_up_to_end (λ x p. P.answer p x) end) (items self.now)) }
     {
         self.cursor_in(self.spine.end_of(end))
     }
@@ -141,7 +144,8 @@ impl<'a, T: Ord> Cursor<'a, T> {
 
     /// Returns the element before, and none at the first position.
     pub fn peek_prev(&self) -> Option<&'a T>
-        ensures { option_copied result ≡ (if self.now.position == 0 then None else slice_get self.now.list (self.now.position - 1)) }
+        ensures { option_copied result ≡ (if self.now.position
+            == 0 then None else slice_get self.now.list (self.now.position - 1)) }
     {
         let before = self.position.checked_sub(1)?;
         self.element_at(before)

@@ -95,7 +95,8 @@ impl<'a, T: Ord> IntoIterator for &'a BTreeSet<T> {
 
     type IntoIter = Iter<'a, T>;
 
-    ghost into_iter_gives = { λ b r. (r ≡ items b.now) × ShowsInOrder (deref {X = T}) × ShowsInReverse (deref {X = T}) };
+    ghost into_iter_gives = { λ b r. (r ≡ items b.now) × ShowsInOrder (deref {X = T})
+        × ShowsInReverse (deref {X = T}) };
 
     fn into_iter(self) -> Iter<'a, T> {
         self.iter()

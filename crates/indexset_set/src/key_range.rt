@@ -20,8 +20,10 @@ impl<K: Ord, V> BTreeSet<Pair<K, V>> {
     /// end, nor at it where both are excluded, which `bounds_are_ordered` of the core tests. (The
     /// Rust crate's map reaches into the set.)
     pub fn range_by_key(&self, range: (Bound<&K>, Bound<&K>)) -> Range<'_, Pair<K, V>>
-        requires { IsTrue (are_ordered K.cmp (bound_map (λ k. k.now) range.0) (bound_map (λ k. k.now) range.1)) }
-        ensures rest { result ≡ pairs_within K.cmp (items self.now) (bound_map (λ k. k.now) range.entry.0) (bound_map (λ k. k.now) range.entry.1) }
+        requires { IsTrue (are_ordered K.cmp (bound_map (λ k. k.now) range.0)
+            (bound_map (λ k. k.now) range.1)) }
+        ensures rest { result ≡ pairs_within K.cmp (items self.now)
+            (bound_map (λ k. k.now) range.entry.0) (bound_map (λ k. k.now) range.entry.1) }
         ensures ascending { IsAscending (by_key K.cmp) result }
         ensures runs { ShowsInOrder (deref {X = Pair K V}) }
         ensures runs_back { ShowsInReverse (deref {X = Pair K V}) }

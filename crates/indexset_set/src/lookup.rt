@@ -27,8 +27,10 @@ pub(super) fn locate<T: Ord>(spine: &Spine<T>, value: &T) -> Spot
     ensures item { IsTrue result.found → IsItemSpot spine.now.nodes result }
     ensures position { position_of spine.now.nodes result ≡ rank T.cmp (items spine.now) value.now }
     ensures place { result ≡ spot_of T.cmp spine.now.nodes value.now }
-    ensures found { OnTrue result.found (IsFoundAt T.cmp (items spine.now) value.now (position_of spine.now.nodes result)) }
-    ensures gap { OnFalse result.found (IsGapFor T.cmp (items spine.now) value.now (position_of spine.now.nodes result)) }
+    ensures found { OnTrue result.found (IsFoundAt T.cmp (items spine.now) value.now
+        (position_of spine.now.nodes result)) }
+    ensures gap { OnFalse result.found (IsGapFor T.cmp (items spine.now) value.now
+        (position_of spine.now.nodes result)) }
 {
     spine.locate_by(&mut ByItem::new(value))
 }
@@ -40,8 +42,10 @@ pub(super) fn locate_from_end<T: Ord>(spine: &Spine<T>, value: &T) -> Spot
     ensures item { IsTrue result.found → IsItemSpot spine.now.nodes result }
     ensures position { position_of spine.now.nodes result ≡ rank T.cmp (items spine.now) value.now }
     ensures place { result ≡ spot_of T.cmp spine.now.nodes value.now }
-    ensures found { OnTrue result.found (IsFoundAt T.cmp (items spine.now) value.now (position_of spine.now.nodes result)) }
-    ensures gap { OnFalse result.found (IsGapFor T.cmp (items spine.now) value.now (position_of spine.now.nodes result)) }
+    ensures found { OnTrue result.found (IsFoundAt T.cmp (items spine.now) value.now
+        (position_of spine.now.nodes result)) }
+    ensures gap { OnFalse result.found (IsGapFor T.cmp (items spine.now) value.now
+        (position_of spine.now.nodes result)) }
 {
     spine.locate_from_end_by(&mut ByItem::new(value))
 }
@@ -53,8 +57,10 @@ pub(super) fn locate_near<T: Ord>(spine: &Spine<T>, near: usize, value: &T) -> S
     ensures item { IsTrue result.found → IsItemSpot spine.now.nodes result }
     ensures position { position_of spine.now.nodes result ≡ rank T.cmp (items spine.now) value.now }
     ensures place { result ≡ spot_of T.cmp spine.now.nodes value.now }
-    ensures found { OnTrue result.found (IsFoundAt T.cmp (items spine.now) value.now (position_of spine.now.nodes result)) }
-    ensures gap { OnFalse result.found (IsGapFor T.cmp (items spine.now) value.now (position_of spine.now.nodes result)) }
+    ensures found { OnTrue result.found (IsFoundAt T.cmp (items spine.now) value.now
+        (position_of spine.now.nodes result)) }
+    ensures gap { OnFalse result.found (IsGapFor T.cmp (items spine.now) value.now
+        (position_of spine.now.nodes result)) }
 {
     spine.locate_near_by(near, &mut ByItem::new(value))
 }
@@ -98,8 +104,10 @@ impl<T: Ord> BTreeSet<T> {
     /// ```
     pub fn rank(&self, value: &T) -> usize
         ensures value { result ≡ rank T.cmp (items self.now) value.now }
-        ensures there { has_equal T.cmp (items self.now) value.now ≡ true → slice_get (items self.now) result ≡ equal_element T.cmp (items self.now) value.now }
-        ensures inside { has_equal T.cmp (items self.now) value.now ≡ true → result < length (items self.now) }
+        ensures there { has_equal T.cmp (items self.now) value.now ≡ true
+            → slice_get (items self.now) result ≡ equal_element T.cmp (items self.now) value.now }
+        ensures inside { has_equal T.cmp (items self.now) value.now ≡ true
+            → result < length (items self.now) }
         ensures before { AllWithin (λ x. T.cmp x value.now ≡ Less) (items self.now) 0 result }
     {
         self.spine.position(&locate(&self.spine, value))
@@ -114,7 +122,8 @@ impl<T: Ord> BTreeSet<T> {
     /// ```
     pub fn index_of(&self, value: &T) -> Option<usize>
         ensures value { result ≡ index_of T.cmp (items self.now) value.now }
-        ensures there { IfSome result (λ i. slice_get (items self.now) i ≡ equal_element T.cmp (items self.now) value.now) }
+        ensures there { IfSome result (λ i. slice_get (items self.now) i
+            ≡ equal_element T.cmp (items self.now) value.now) }
         ensures inside { IfSome result (λ i. i < length (items self.now)) }
     {
         let spot = locate(&self.spine, value);
@@ -155,9 +164,11 @@ impl<T: Ord> BTreeSet<T> {
     /// compares as `locate_by` does.
     pub fn get_by<P: Probe<T>>(&self, probe: &mut P) -> Option<&T>
         requires { FindsInOrder (P.answer probe.old) (items self.now) }
-        ensures value { option_copied result ≡ find (λ x. is_eq (P.answer probe.old x)) (items self.now) }
+        ensures value { option_copied result
+            ≡ find (λ x. is_eq (P.answer probe.old x)) (items self.now) }
         ensures fixed { P.answer probe.new ≡ P.answer probe.old }
-        ensures few { P.asked probe.new ≤ P.asked probe.old + (digits (length self.now.nodes) + digits self.now.size + 1) }
+        ensures few { P.asked probe.new ≤ P.asked probe.old
+            + (digits (length self.now.nodes) + digits self.now.size + 1) }
     {
         let spot = self.spine.locate_by(probe);
         if spot.found {
@@ -171,12 +182,15 @@ impl<T: Ord> BTreeSet<T> {
     /// none, how many it finds Less. It makes one comparison a step of two binary searches.
     pub fn locate_by<P: Probe<T>>(&self, probe: &mut P) -> Result<usize, usize>
         requires { FindsInOrder (P.answer probe.old) (items self.now) }
-        ensures found { IfOk result (λ i. position (λ x. is_eq (P.answer probe.old x)) (items self.now) ≡ Some i) }
-        ensures absent { IfErr result (λ _. position (λ x. is_eq (P.answer probe.old x)) (items self.now) ≡ None) }
+        ensures found { IfOk result (λ i. position (λ x. is_eq (P.answer probe.old x))
+            (items self.now) ≡ Some i) }
+        ensures absent { IfErr result (λ _. position (λ x. is_eq (P.answer probe.old x))
+            (items self.now) ≡ None) }
         ensures gap { IfErr result (λ i. i ≡ less_count (P.answer probe.old) (items self.now)) }
         ensures ascending { IsAscending T.cmp (items self.now) }
         ensures fixed { P.answer probe.new ≡ P.answer probe.old }
-        ensures few { P.asked probe.new ≤ P.asked probe.old + (digits (length self.now.nodes) + digits self.now.size + 1) }
+        ensures few { P.asked probe.new ≤ P.asked probe.old
+            + (digits (length self.now.nodes) + digits self.now.size + 1) }
     {
         let spot = self.spine.locate_by(probe);
         let position = self.spine.position(&spot);

@@ -54,11 +54,13 @@ impl<T: Ord + Drop> BTreeSet<T> {
     /// assert!(rt; set.iter().copied().eq([10, 20, 30]));
     /// ```
     pub fn from_iter<I: IntoIterator<Item = T>>(alloc: Global, iter: I) -> Result<Self, Refusal>
-        requires { IsFiniteIterable I.into_iter_gives I.IntoIter.can_next I.IntoIter.remaining iter }
+        requires { IsFiniteIterable I.into_iter_gives I.IntoIter.can_next I.IntoIter.remaining
+            iter }
         ensures kept { IfOk result (λ s. (it : I.IntoIter) × I.into_iter_gives iter it
             × WholeRun I.IntoIter.next_gives it (λ run. items s ≡ fold (keep T.cmp) [] run.items)) }
         ensures nodes { IfOk result (λ s. (it : I.IntoIter) × I.into_iter_gives iter it
-            × WholeRun I.IntoIter.next_gives it (λ run. s.nodes ≡ nodes_kept_all T.cmp (cut ([] ∷ []) DEFAULT_INNER_SIZE) run.items)) }
+            × WholeRun I.IntoIter.next_gives it
+            (λ run. s.nodes ≡ nodes_kept_all T.cmp (cut ([] ∷ []) DEFAULT_INNER_SIZE) run.items)) }
         ensures size { IfOk result (λ s. s.size ≡ DEFAULT_INNER_SIZE) }
         ensures refusal { IfErr result (λ e. e ≡ Refusal.Memory) }
     {
@@ -72,11 +74,13 @@ impl<T: Ord + Drop> BTreeSet<T> {
         iter: I,
     ) -> Result<Self, Refusal>
         requires two { 2 ≤ size }
-        requires finite { IsFiniteIterable I.into_iter_gives I.IntoIter.can_next I.IntoIter.remaining iter }
+        requires finite { IsFiniteIterable I.into_iter_gives I.IntoIter.can_next
+            I.IntoIter.remaining iter }
         ensures kept { IfOk result (λ s. (it : I.IntoIter) × I.into_iter_gives iter it
             × WholeRun I.IntoIter.next_gives it (λ run. items s ≡ fold (keep T.cmp) [] run.items)) }
         ensures nodes { IfOk result (λ s. (it : I.IntoIter) × I.into_iter_gives iter it
-            × WholeRun I.IntoIter.next_gives it (λ run. s.nodes ≡ nodes_kept_all T.cmp (cut ([] ∷ []) size) run.items)) }
+            × WholeRun I.IntoIter.next_gives it
+            (λ run. s.nodes ≡ nodes_kept_all T.cmp (cut ([] ∷ []) size) run.items)) }
         ensures size { IfOk result (λ s. s.size ≡ size) }
         ensures refusal { IfErr result (λ e. e ≡ Refusal.Memory) }
     {
@@ -98,7 +102,8 @@ impl<T: Ord + Drop> BTreeSet<T> {
     /// ```
     pub fn from(alloc: Global, values: Vec<T>) -> Result<Self, Refusal>
         ensures kept { IfOk result (λ s. items s ≡ fold (keep T.cmp) [] values.items) }
-        ensures nodes { IfOk result (λ s. s.nodes ≡ nodes_kept_all T.cmp (cut ([] ∷ []) DEFAULT_INNER_SIZE) values.items) }
+        ensures nodes { IfOk result (λ s. s.nodes
+            ≡ nodes_kept_all T.cmp (cut ([] ∷ []) DEFAULT_INNER_SIZE) values.items) }
         ensures size { IfOk result (λ s. s.size ≡ DEFAULT_INNER_SIZE) }
         ensures refusal { IfErr result (λ e. e ≡ Refusal.Memory) }
     {
@@ -117,11 +122,14 @@ impl<T: Ord + Drop> BTreeSet<T> {
     /// ```
     pub fn from_sorted(alloc: Global, values: Vec<T>) -> Result<Self, Refused<Vec<T>>>
         ensures elements { IfOk result (λ s. items s ≡ values.items) }
-        ensures nodes { IfOk result (λ s. s.nodes ≡ nodes_kept_all T.cmp (cut ([] ∷ []) DEFAULT_INNER_SIZE) values.items) }
+        ensures nodes { IfOk result (λ s. s.nodes
+            ≡ nodes_kept_all T.cmp (cut ([] ∷ []) DEFAULT_INNER_SIZE) values.items) }
         ensures size { IfOk result (λ s. s.size ≡ DEFAULT_INNER_SIZE) }
         ensures ascending { OnOk result (IsAscending T.cmp values.items) }
-        ensures unsorted { IfErr result (λ e. (IsAscending T.cmp values.items → ⊥) → (e.value ≡ values) × (e.cause ≡ Refusal.Unsorted)) }
-        ensures memory { IfErr result (λ e. IsAscending T.cmp values.items → (e.value.items ≡ []) × (e.cause ≡ Refusal.Memory)) }
+        ensures unsorted { IfErr result (λ e. (IsAscending T.cmp values.items → ⊥)
+            → (e.value ≡ values) × (e.cause ≡ Refusal.Unsorted)) }
+        ensures memory { IfErr result (λ e. IsAscending T.cmp values.items
+            → (e.value.items ≡ []) × (e.cause ≡ Refusal.Memory)) }
     {
         if !is_sorted(values.as_slice()) {
             return Err(Refused {
@@ -145,7 +153,8 @@ impl<T: Ord + Drop> BTreeSet<T> {
     where
         T: Clone,
         ensures copy { IfOk result (λ s. IsSetCopy T.cmp T.is_clone self.now s) }
-        ensures cloned { ((x y : T) → T.is_clone x y → T.cmp x y ≡ Equal) → IfOk result (λ s. AllZip (AllZip T.is_clone) self.now.nodes s.nodes) }
+        ensures cloned { ((x y : T) → T.is_clone x y → T.cmp x y ≡ Equal)
+            → IfOk result (λ s. AllZip (AllZip T.is_clone) self.now.nodes s.nodes) }
         ensures ok { ((x y : T) → T.is_clone x y → y ≡ x) → IfOk result (λ s. s ≡ self.now) }
         ensures size { IfOk result (λ s. s.size ≡ self.now.size) }
         ensures refusal { IfErr result (λ e. e ≡ Refusal.Memory) }

@@ -22,7 +22,8 @@ impl<K: Ord, V> BTreeSet<Pair<K, V>> {
     /// Returns a mutable reference to the value at a position, or `None` where there is none.
     pub fn value_mut(&mut self, i: usize) -> Option<&mut V>
         ensures* writes_back { sem 𝓛 (lends_value_if K.row V.row K.Ord self.entry i result) }
-        ensures value { option_copied_mut result ≡ option_map (λ p. p.value) (slice_get (items self.old) i) }
+        ensures value { option_copied_mut result
+            ≡ option_map (λ p. p.value) (slice_get (items self.old) i) }
     {
         if i < self.spine.len() {
             Some(self.value_at_mut(i))
@@ -35,10 +36,14 @@ impl<K: Ord, V> BTreeSet<Pair<K, V>> {
     /// `None` where there is none. It compares as `locate_by` does.
     pub fn value_mut_by<P: Probe<Pair<K, V>>>(&mut self, probe: &mut P) -> Option<&mut V>
         requires { FindsInOrder (P.answer probe.old) (items self.old) }
-        ensures* writes_back { sem 𝓛 (lends_value_if K.row V.row K.Ord self.entry (less_count (P.answer probe.old) (items self.old)) result) }
-        ensures value { option_copied_mut result ≡ option_map (λ p. p.value) (find (λ x. is_eq (P.answer probe.old x)) (items self.old)) }
+        ensures* writes_back { sem 𝓛 (lends_value_if K.row V.row K.Ord self.entry
+            (less_count (P.answer probe.old) (items self.old)) result) }
+        ensures value { option_copied_mut result
+            ≡ option_map (λ p. p.value) (find (λ x. is_eq (P.answer probe.old x))
+            (items self.old)) }
         ensures fixed { P.answer probe.new ≡ P.answer probe.old }
-        ensures few { P.asked probe.new ≤ P.asked probe.old + (digits (length self.old.nodes) + digits self.old.size + 1) }
+        ensures few { P.asked probe.new ≤ P.asked probe.old
+            + (digits (length self.old.nodes) + digits self.old.size + 1) }
     {
         let spot = self.spine.locate_by(probe);
         if spot.found {
@@ -51,7 +56,8 @@ impl<K: Ord, V> BTreeSet<Pair<K, V>> {
     /// Returns the key at a position with a mutable reference to its value, or `None` past the end.
     pub fn pair_mut(&mut self, i: usize) -> Option<(&K, &mut V)>
         ensures* writes_back { sem 𝓛 (lends_pair_if K.row V.row K.Ord self.entry i result) }
-        ensures value { option_map deref_pair_mut result ≡ option_map entry_of (slice_get (items self.old) i) }
+        ensures value { option_map deref_pair_mut result
+            ≡ option_map entry_of (slice_get (items self.old) i) }
     {
         let has = self.reaches(i);
         if has {
@@ -71,7 +77,8 @@ impl<K: Ord, V> BTreeSet<Pair<K, V>> {
     fn pair_at_mut(&mut self, i: usize) -> (&K, &mut V)
         requires { i < length (items self.old) }
         ensures* writes_back { sem 𝓛 (lends_pair K.row V.row K.Ord self.entry i result) }
-        ensures value { option_map entry_of (slice_get (items self.old) i) ≡ Some (result.0.now, result.1.now) }
+        ensures value { option_map entry_of (slice_get (items self.old) i)
+            ≡ Some (result.0.now, result.1.now) }
     {
         let pair = self.spine.get_mut(i).unwrap();
         (&pair.key, &mut pair.value)

@@ -35,18 +35,23 @@ impl<T: Ord> BTreeSet<T> {
         ensures variant { IsSome result ↔ (0 < length (items self.now)) }
         ensures least { IfSome result (λ least. below T.cmp (items self.now) least.now ≡ []) }
         ensures held { IfSome result (λ least. has_equal T.cmp (items self.now) least.now ≡ true) }
-        ensures all_from { IfSome result (λ least. All (λ x. is_lt (T.cmp x least.now) ≡ false) (items self.now)) }
+        ensures all_from { IfSome result (λ least. All (λ x. is_lt (T.cmp x least.now) ≡ false)
+            (items self.now)) }
     {
         self.spine.iter().next()
     }
 
     /// Returns the greatest element, or `None` where there is none.
     pub fn last(&self) -> Option<&T>
-        ensures element { option_copied result ≡ slice_get (items self.now) (length (items self.now) - 1) }
+        ensures element { option_copied result
+            ≡ slice_get (items self.now) (length (items self.now) - 1) }
         ensures variant { IsSome result ↔ (0 < length (items self.now)) }
-        ensures greatest { IfSome result (λ greatest. above T.cmp (items self.now) greatest.now ≡ []) }
-        ensures held { IfSome result (λ greatest. has_equal T.cmp (items self.now) greatest.now ≡ true) }
-        ensures all_up_to { IfSome result (λ greatest. All (λ x. is_gt (T.cmp x greatest.now) ≡ false) (items self.now)) }
+        ensures greatest { IfSome result (λ greatest. above T.cmp (items self.now) greatest.now
+            ≡ []) }
+        ensures held { IfSome result (λ greatest. has_equal T.cmp (items self.now) greatest.now
+            ≡ true) }
+        ensures all_up_to { IfSome result
+            (λ greatest. All (λ x. is_gt (T.cmp x greatest.now) ≡ false) (items self.now)) }
     {
         self.spine.iter().next_back()
     }
@@ -64,7 +69,8 @@ impl<T: Ord + Drop> BTreeSet<T> {
         ensures value { result ≡ slice_get (items self.old) 0 }
         ensures rest { items self.new ≡ drop 1 (items self.old) }
         ensures whole { items self.old ≡ option_to_list result ++ items self.new }
-        ensures nodes { MatchOption result (self.new ≡ self.old) (λ _. IsWithoutAt self.old.nodes 0 self.new.nodes) }
+        ensures nodes { MatchOption result (self.new ≡ self.old)
+            (λ _. IsWithoutAt self.old.nodes 0 self.new.nodes) }
         ensures size { self.new.size ≡ self.old.size }
     {
         let spot = self.spine.first_spot()?;
@@ -82,7 +88,8 @@ impl<T: Ord + Drop> BTreeSet<T> {
         ensures value { result ≡ slice_get (items self.old) (length (items self.old) - 1) }
         ensures rest { items self.new ≡ take (length (items self.old) - 1) (items self.old) }
         ensures whole { items self.old ≡ items self.new ++ option_to_list result }
-        ensures nodes { MatchOption result (self.new ≡ self.old) (λ _. IsWithoutAt self.old.nodes (length (items self.old) - 1) self.new.nodes) }
+        ensures nodes { MatchOption result (self.new ≡ self.old)
+            (λ _. IsWithoutAt self.old.nodes (length (items self.old) - 1) self.new.nodes) }
         ensures size { self.new.size ≡ self.old.size }
     {
         let spot = self.spine.last_spot()?;

@@ -40,8 +40,10 @@ impl<T: Ord> BTreeSet<T> {
 
     // Does the same of two bounds.
     fn within(&self, start: Bound<&T>, end: Bound<&T>) -> Range<'_, T>
-        requires { IsTrue (are_ordered T.cmp (bound_map (λ v. v.now) start) (bound_map (λ v. v.now) end)) }
-        ensures rest { result ≡ in_range T.cmp (items self.now) (bound_map (λ v. v.now) start.entry) (bound_map (λ v. v.now) end.entry) }
+        requires { IsTrue (are_ordered T.cmp (bound_map (λ v. v.now) start)
+            (bound_map (λ v. v.now) end)) }
+        ensures rest { result ≡ in_range T.cmp (items self.now) (bound_map (λ v. v.now) start.entry)
+            (bound_map (λ v. v.now) end.entry) }
         ensures ascending { IsAscending T.cmp result }
         ensures runs { ShowsInOrder (deref {X = T}) }
         ensures runs_back { ShowsInReverse (deref {X = T}) }

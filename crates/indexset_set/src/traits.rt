@@ -29,7 +29,8 @@ impl<T: Ord + Clone> Clone for BTreeSet<T> {
 }
 
 impl<T: Ord + Drop> Extend<T> for BTreeSet<T> {
-    ghost extend_gives = { λ s xs new. (items new ≡ fold (keep T.cmp) (items s) xs) × (new.size ≡ s.size) };
+    ghost extend_gives = { λ s xs new. (items new ≡ fold (keep T.cmp) (items s) xs)
+        × (new.size ≡ s.size) };
 
     fn extend<I: IntoIterator<Item = T>>(&mut self, iter: I) -> Result<(), AllocError> {
         for value in iter {
@@ -42,7 +43,8 @@ impl<T: Ord + Drop> Extend<T> for BTreeSet<T> {
 impl<T: Ord + Drop> FromIterator<T> for BTreeSet<T> {
     type Alloc = Global;
 
-    ghost from_iter_gives = { λ xs s. (items s ≡ fold (keep T.cmp) [] xs) × (s.size ≡ DEFAULT_INNER_SIZE) };
+    ghost from_iter_gives = { λ xs s. (items s ≡ fold (keep T.cmp) [] xs)
+        × (s.size ≡ DEFAULT_INNER_SIZE) };
 
     fn from_iter<I: IntoIterator<Item = T>>(alloc: Global, iter: I) -> Result<Self, AllocError> {
         match BTreeSet::from_iter(alloc, iter) {

@@ -24,7 +24,11 @@ impl Model for Fenwick {
 
     ghost Value = { Lengths };
 
-    ghost view = { λ f. record { lengths = lengths_of f.cells.items; room = vec_capacity f.cells } };
+    ghost view = { λ f. record {
+      lengths = lengths_of f.cells.items;
+      room = vec_capacity
+          f.cells;
+    } };
 
     ghost invariant = { λ f. IsFenwick f.cells.items };
 }
@@ -107,7 +111,8 @@ impl Fenwick {
     pub fn add(&mut self, i: usize, n: usize)
         requires inside { i < length self.old.lengths }
         requires fits { sum self.old.lengths + n < 2 ^ 64 }
-        ensures lengths { self.new.lengths ≡ slice_set self.old.lengths i (slice_index self.old.lengths i + n) }
+        ensures lengths { self.new.lengths
+            ≡ slice_set self.old.lengths i (slice_index self.old.lengths i + n) }
         ensures room { self.new.room ≡ self.old.room }
     {
         table::raise(self.cells.as_mut_slice(), i, n);
@@ -117,7 +122,8 @@ impl Fenwick {
     pub fn sub(&mut self, i: usize, n: usize)
         requires inside { i < length self.old.lengths }
         requires enough { n ≤ slice_index self.old.lengths i }
-        ensures lengths { self.new.lengths ≡ slice_set self.old.lengths i (slice_index self.old.lengths i - n) }
+        ensures lengths { self.new.lengths
+            ≡ slice_set self.old.lengths i (slice_index self.old.lengths i - n) }
         ensures room { self.new.room ≡ self.old.room }
     {
         table::lower(self.cells.as_mut_slice(), i, n);

@@ -28,9 +28,12 @@ impl<T> Model for IntoIter<T> {
 
     ghost Value = { List T };
 
-    ghost view = { λ a. into_iter_items a.front ++ (joined (vec_items (into_iter_items a.middle)) ++ into_iter_items a.back) };
+    ghost view = { λ a. into_iter_items a.front
+        ++ (joined (vec_items (into_iter_items a.middle)) ++ into_iter_items a.back) };
 
-    ghost invariant = { λ a. a.left ≡ length (into_iter_items a.front ++ (joined (vec_items (into_iter_items a.middle)) ++ into_iter_items a.back)) };
+    ghost invariant = { λ a. a.left ≡ length
+        (into_iter_items a.front ++ (joined (vec_items (into_iter_items a.middle))
+        ++ into_iter_items a.back)) };
 }
 
 impl<T> IntoIter<T> {

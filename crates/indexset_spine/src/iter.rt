@@ -21,8 +21,10 @@ pub(crate) fn walk_between<'a, T>(
 ) -> Walk<'a, T, Vec<T>, ReadVec>
     requires start { IsSpot (vec_items nodes.now) start.now }
     requires end { IsSpot (vec_items nodes.now) end.now }
-    requires order { position_of (vec_items nodes.now) start.now ≤ position_of (vec_items nodes.now) end.now }
-    ensures { result ≡ between (position_of (vec_items nodes.now) start.now) (position_of (vec_items nodes.now) end.now) (joined (vec_items nodes.now)) }
+    requires order { position_of (vec_items nodes.now) start.now
+        ≤ position_of (vec_items nodes.now) end.now }
+    ensures { result ≡ between (position_of (vec_items nodes.now) start.now)
+        (position_of (vec_items nodes.now) end.now) (joined (vec_items nodes.now)) }
 {
     Walk::between(nodes, (start.node, start.offset), (end.node, end.offset))
 }

@@ -16,14 +16,17 @@ pub(crate) fn items_before(index: &Fenwick, k: usize) -> usize
 
 /// Returns the node of a position, and the offset in that node.
 pub(crate) fn node_and_offset(index: &Fenwick, position: usize) -> Option<(usize, usize)>
-    ensures { MatchOption result (sum index.now.lengths ≤ position) (λ p. (p.0 < length index.now.lengths) × (p.1 < slice_index index.now.lengths p.0) × (prefix_sum index.now.lengths p.0 + p.1 ≡ position)) }
+    ensures { MatchOption result (sum index.now.lengths ≤ position)
+        (λ p. (p.0 < length index.now.lengths) × (p.1 < slice_index index.now.lengths p.0)
+        × (prefix_sum index.now.lengths p.0 + p.1 ≡ position)) }
 {
     find_in(&mut index.cells(), position)
 }
 
 /// Returns whether the item at a position is in the node `k`, before which `start` items stand.
 pub(crate) fn is_in<T>(nodes: &[Vec<T>], k: usize, start: usize, i: usize) -> bool
-    ensures { IsTrue result → (k < length nodes.now) × (start ≤ i) × (i - start < length (node_at (vec_items nodes.now) k)) }
+    ensures { IsTrue result → (k < length nodes.now) × (start ≤ i)
+        × (i - start < length (node_at (vec_items nodes.now) k)) }
 {
     k < nodes.len() && start <= i && i - start < nodes[k].len()
 }

@@ -15,7 +15,8 @@ use std::cmp::Ordering;
 /// many as asked for, and none where there is no last item.
 pub(crate) fn count_below_last<T: Ord>(items: &[T], from: &[T], most: usize) -> usize
     requires { IsAscending T.cmp from.now }
-    ensures below { All (λ x. HoldsAt (λ l. T.cmp x l ≡ Less) items.now (length items.now - 1)) (take result from.now) }
+    ensures below { All (λ x. HoldsAt (λ l. T.cmp x l ≡ Less) items.now (length items.now - 1))
+        (take result from.now) }
     ensures most { result ≤ most }
     ensures within { result ≤ length from.now }
 {
@@ -38,7 +39,8 @@ pub(crate) fn merge_first<T: Ord + Drop>(
     requires order { IsAscending T.cmp items.old.items }
     requires from_order { IsAscending T.cmp from.old.items }
     requires within { count ≤ length from.old.items }
-    ensures merged { OnOk result (items.new.items ≡ fold (put T.cmp) items.old.items (take count from.old.items)) }
+    ensures merged { OnOk result (items.new.items
+        ≡ fold (put T.cmp) items.old.items (take count from.old.items)) }
     ensures rest { OnOk result (from.new.items ≡ drop count from.old.items) }
     ensures refusal { IfErr result (λ e. e ≡ Refusal.Memory) }
     ensures unchanged { OnErr result (items.new.items ≡ items.old.items) }
@@ -62,7 +64,8 @@ fn merge_back<T: Ord + Drop>(items: &mut Vec<T>, run: &mut Vec<T>, merged: &mut 
     requires run_order { IsAscending T.cmp run.old.items }
     requires empty { merged.old.items ≡ [] }
     requires room { vec_len items.old + vec_len run.old ≤ vec_capacity merged.old }
-    ensures merged { items.new.items ++ merged.new.items ≡ fold (put T.cmp) items.old.items run.old.items }
+    ensures merged { items.new.items ++ merged.new.items
+        ≡ fold (put T.cmp) items.old.items run.old.items }
     ensures few { vec_len items.new + vec_len merged.new ≤ vec_len items.old + vec_len run.old }
     ensures capacity { vec_capacity items.new ≡ vec_capacity items.old }
 {
@@ -81,7 +84,9 @@ fn merge_back<T: Ord + Drop>(items: &mut Vec<T>, run: &mut Vec<T>, merged: &mut 
 
 // Returns how the last item compares with that of a run. None is below any.
 fn order_of_last<T: Ord>(items: &[T], run: &[T]) -> Ordering
-    ensures { ForSome (slice_get run.now (length run.now - 1)) (λ b. MatchOption (slice_get items.now (length items.now - 1)) (result ≡ Less) (λ a. result ≡ T.cmp a b)) }
+    ensures { ForSome (slice_get run.now (length run.now - 1))
+        (λ b. MatchOption (slice_get items.now (length items.now - 1)) (result ≡ Less)
+        (λ a. result ≡ T.cmp a b)) }
 {
     match (items.last(), run.last()) {
         (Some(item), Some(next)) => item.cmp(next),

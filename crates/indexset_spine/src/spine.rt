@@ -51,7 +51,8 @@ impl<T> Model for Spine<T> {
 
     ghost view = { λ s. cut (vec_items s.nodes.items) s.size };
 
-    ghost invariant = { λ s. IsIndexed (node_lengths (vec_items s.nodes.items)) s.size s.len s.index.lengths };
+    ghost invariant = { λ s. IsIndexed (node_lengths (vec_items s.nodes.items)) s.size s.len
+        s.index.lengths };
 }
 
 impl<T> Spine<T> {
@@ -92,13 +93,17 @@ impl<T> Spine<T> {
     pub fn locate_by<P: Probe<T>>(&self, probe: &mut P) -> Spot
         requires { IsParted (P.answer probe.old) (items self.now) }
         ensures node { result.node ≡ node_for (P.answer probe.old) self.now.nodes }
-        ensures offset { result.offset ≡ less_count (P.answer probe.old) (node_at self.now.nodes result.node) }
-        ensures found { result.found ≡ equal_at (P.answer probe.old) (items self.now) (position_of self.now.nodes result) }
+        ensures offset { result.offset ≡ less_count (P.answer probe.old)
+            (node_at self.now.nodes result.node) }
+        ensures found { result.found ≡ equal_at (P.answer probe.old) (items self.now)
+            (position_of self.now.nodes result) }
         ensures spot { IsSpot self.now.nodes result }
         ensures item { IsTrue result.found → IsItemSpot self.now.nodes result }
-        ensures position { position_of self.now.nodes result ≡ less_count (P.answer probe.old) (items self.now) }
+        ensures position { position_of self.now.nodes result
+            ≡ less_count (P.answer probe.old) (items self.now) }
         ensures fixed { P.answer probe.new ≡ P.answer probe.old }
-        ensures few { P.asked probe.new ≤ P.asked probe.old + (digits (length self.now.nodes) + digits self.now.size + 1) }
+        ensures few { P.asked probe.new ≤ P.asked probe.old
+            + (digits (length self.now.nodes) + digits self.now.size + 1) }
     {
         self.locate_among(probe, self.len)
     }
@@ -109,13 +114,17 @@ impl<T> Spine<T> {
     pub fn locate_from_end_by<P: Probe<T>>(&self, probe: &mut P) -> Spot
         requires { IsParted (P.answer probe.old) (items self.now) }
         ensures node { result.node ≡ node_for (P.answer probe.old) self.now.nodes }
-        ensures offset { result.offset ≡ less_count (P.answer probe.old) (node_at self.now.nodes result.node) }
-        ensures found { result.found ≡ equal_at (P.answer probe.old) (items self.now) (position_of self.now.nodes result) }
+        ensures offset { result.offset ≡ less_count (P.answer probe.old)
+            (node_at self.now.nodes result.node) }
+        ensures found { result.found ≡ equal_at (P.answer probe.old) (items self.now)
+            (position_of self.now.nodes result) }
         ensures spot { IsSpot self.now.nodes result }
         ensures item { IsTrue result.found → IsItemSpot self.now.nodes result }
-        ensures position { position_of self.now.nodes result ≡ less_count (P.answer probe.old) (items self.now) }
+        ensures position { position_of self.now.nodes result
+            ≡ less_count (P.answer probe.old) (items self.now) }
         ensures fixed { P.answer probe.new ≡ P.answer probe.old }
-        ensures few { P.asked probe.new ≤ P.asked probe.old + (digits (length self.now.nodes) + digits self.now.size + 2) }
+        ensures few { P.asked probe.new ≤ P.asked probe.old
+            + (digits (length self.now.nodes) + digits self.now.size + 2) }
     {
         let node = self.nodes.len() - 1;
         let items = self.nodes[node].as_slice();
@@ -135,13 +144,17 @@ impl<T> Spine<T> {
     pub fn locate_near_by<P: Probe<T>>(&self, near: usize, probe: &mut P) -> Spot
         requires { IsParted (P.answer probe.old) (items self.now) }
         ensures node { result.node ≡ node_for (P.answer probe.old) self.now.nodes }
-        ensures offset { result.offset ≡ less_count (P.answer probe.old) (node_at self.now.nodes result.node) }
-        ensures found { result.found ≡ equal_at (P.answer probe.old) (items self.now) (position_of self.now.nodes result) }
+        ensures offset { result.offset ≡ less_count (P.answer probe.old)
+            (node_at self.now.nodes result.node) }
+        ensures found { result.found ≡ equal_at (P.answer probe.old) (items self.now)
+            (position_of self.now.nodes result) }
         ensures spot { IsSpot self.now.nodes result }
         ensures item { IsTrue result.found → IsItemSpot self.now.nodes result }
-        ensures position { position_of self.now.nodes result ≡ less_count (P.answer probe.old) (items self.now) }
+        ensures position { position_of self.now.nodes result
+            ≡ less_count (P.answer probe.old) (items self.now) }
         ensures fixed { P.answer probe.new ≡ P.answer probe.old }
-        ensures few { P.asked probe.new ≤ P.asked probe.old + (digits (length self.now.nodes) + digits self.now.size + 3) }
+        ensures few { P.asked probe.new ≤ P.asked probe.old
+            + (digits (length self.now.nodes) + digits self.now.size + 3) }
     {
         if locate::is_sought(self.nodes.as_slice(), near, probe) {
             return self.locate_in(near, probe, self.len);
@@ -154,13 +167,17 @@ impl<T> Spine<T> {
     fn locate_among<P: Probe<T>>(&self, probe: &mut P, len: usize) -> Spot
         requires { IsParted (P.answer probe.old) (items self.now) }
         ensures node { result.node ≡ node_for (P.answer probe.old) self.now.nodes }
-        ensures offset { result.offset ≡ less_count (P.answer probe.old) (node_at self.now.nodes result.node) }
-        ensures found { result.found ≡ equal_at (P.answer probe.old) (items self.now) (position_of self.now.nodes result) }
+        ensures offset { result.offset ≡ less_count (P.answer probe.old)
+            (node_at self.now.nodes result.node) }
+        ensures found { result.found ≡ equal_at (P.answer probe.old) (items self.now)
+            (position_of self.now.nodes result) }
         ensures spot { IsSpot self.now.nodes result }
         ensures item { IsTrue result.found → IsItemSpot self.now.nodes result }
-        ensures position { position_of self.now.nodes result ≡ less_count (P.answer probe.old) (items self.now) }
+        ensures position { position_of self.now.nodes result
+            ≡ less_count (P.answer probe.old) (items self.now) }
         ensures fixed { P.answer probe.new ≡ P.answer probe.old }
-        ensures few { P.asked probe.new ≤ P.asked probe.old + (digits (length self.now.nodes) + digits self.now.size + 1) }
+        ensures few { P.asked probe.new ≤ P.asked probe.old
+            + (digits (length self.now.nodes) + digits self.now.size + 1) }
     {
         let node = locate::node_by(self.nodes.as_slice(), probe);
         self.locate_in(node, probe, len)
@@ -171,11 +188,14 @@ impl<T> Spine<T> {
         requires parted { IsParted (P.answer probe.old) (items self.now) }
         requires node { node ≡ node_for (P.answer probe.old) self.now.nodes }
         ensures node { result.node ≡ node }
-        ensures offset { result.offset ≡ less_count (P.answer probe.old) (node_at self.now.nodes result.node) }
-        ensures found { result.found ≡ equal_at (P.answer probe.old) (items self.now) (position_of self.now.nodes result) }
+        ensures offset { result.offset ≡ less_count (P.answer probe.old)
+            (node_at self.now.nodes result.node) }
+        ensures found { result.found ≡ equal_at (P.answer probe.old) (items self.now)
+            (position_of self.now.nodes result) }
         ensures spot { IsSpot self.now.nodes result }
         ensures item { IsTrue result.found → IsItemSpot self.now.nodes result }
-        ensures position { position_of self.now.nodes result ≡ less_count (P.answer probe.old) (items self.now) }
+        ensures position { position_of self.now.nodes result
+            ≡ less_count (P.answer probe.old) (items self.now) }
         ensures fixed { P.answer probe.new ≡ P.answer probe.old }
         ensures few { P.asked probe.new ≤ P.asked probe.old + (digits self.now.size + 1) }
     {
@@ -200,7 +220,9 @@ impl<T> Spine<T> {
 
     /// Returns the spot of the item at a position, or `None` past the end.
     pub fn spot(&self, i: usize) -> Option<Spot>
-        ensures { MatchOption result (length (items self.now) ≤ i) (λ s. IsItemSpot self.now.nodes s × (position_of self.now.nodes s ≡ i) × IsTrue s.found) }
+        ensures { MatchOption result (length (items self.now) ≤ i)
+            (λ s. IsItemSpot self.now.nodes s × (position_of self.now.nodes s ≡ i)
+            × IsTrue s.found) }
     {
         let (node, offset) = lengths::node_and_offset(&self.index, i)?;
         Some(Spot {
@@ -256,7 +278,8 @@ impl<T> Spine<T> {
     /// Returns the item at a spot.
     pub fn item(&self, spot: &Spot) -> &T
         requires { IsItemSpot self.now.nodes spot.now }
-        ensures { slice_get (items self.now) (position_of self.now.nodes spot.now) ≡ Some result.now }
+        ensures { slice_get (items self.now) (position_of self.now.nodes spot.now)
+            ≡ Some result.now }
     {
         &self.nodes[spot.node][spot.offset]
     }
@@ -265,7 +288,8 @@ impl<T> Spine<T> {
     /// next, if any.
     pub fn item_from(&self, spot: &Spot) -> Option<&T>
         requires { IsSpot self.now.nodes spot.now }
-        ensures { option_copied result ≡ slice_get (items self.now) (position_of self.now.nodes spot.now) }
+        ensures { option_copied result ≡ slice_get (items self.now)
+            (position_of self.now.nodes spot.now) }
     {
         match item_in(&self.nodes, spot.node, spot.offset) {
             Some(item) => Some(item),
@@ -316,8 +340,10 @@ impl<T> Spine<T> {
     /// Returns a mutable reference to the item at a spot.
     pub fn item_mut(&mut self, spot: Spot) -> &mut T
         requires { IsItemSpot self.old.nodes spot }
-        ensures* writes_back { sem 𝓛 (lends_at T.row self.entry (position_of self.old.nodes spot) result) }
-        ensures value { slice_get (items self.old) (position_of self.old.nodes spot) ≡ Some result.now }
+        ensures* writes_back { sem 𝓛 (lends_at T.row self.entry (position_of self.old.nodes spot)
+            result) }
+        ensures value { slice_get (items self.old) (position_of self.old.nodes spot)
+            ≡ Some result.now }
     {
         let items = &mut self.nodes[spot.node];
         &mut items[spot.offset]
@@ -336,7 +362,8 @@ impl<'a, T> IntoIterator for &'a Spine<T> {
 
     type IntoIter = Iter<'a, T>;
 
-    ghost into_iter_gives = { λ b r. (r ≡ items b.now) × ShowsInOrder (deref {X = T}) × ShowsInReverse (deref {X = T}) };
+    ghost into_iter_gives = { λ b r. (r ≡ items b.now) × ShowsInOrder (deref {X = T})
+        × ShowsInReverse (deref {X = T}) };
 
     fn into_iter(self) -> Iter<'a, T> {
         self.iter()

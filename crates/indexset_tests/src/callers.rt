@@ -13,7 +13,8 @@ use std::ops::Bound;
 
 /// Writes 7 in place of the value of a key that is there.
 pub fn write_seven(m: &mut BTreeMap<u8, u32>, key: u8)
-    ensures { m.new ≡ (if is_some (value_of nat_cmp m.old.pairs key) then with_value nat_cmp m.old key 7 else m.old) }
+    ensures { m.new ≡ (if is_some (value_of nat_cmp m.old.pairs key) then with_value nat_cmp m.old
+        key 7 else m.old) }
 {
     if let Some(value) = m.get_mut(&key) {
         *value = 7;
@@ -92,7 +93,8 @@ pub fn add_ten_to_values(m: &mut BTreeMap<u8, u32>)
 /// Adds a hundred to the values of the keys from the first on that are below the second.
 pub fn add_hundred(m: &mut BTreeMap<u8, u32>, from: u8, below: u8)
     requires { from ≤ below }
-    ensures { m.new ≡ with_pairs m.old (map (raised_within (Included from) (Excluded below) 100) m.old.pairs) }
+    ensures { m.new ≡ with_pairs m.old (map (raised_within (Included from) (Excluded below) 100)
+        m.old.pairs) }
 {
     let mut walk = m.range_mut((Bound::Included(&from), Bound::Excluded(&below)));
     while walk.has_next() {

@@ -16,8 +16,10 @@ pub type Numbers = BTreeSet<u64, Vec<u64>>;
 /// Inserts a number, and returns the events, at most three, that turn the nodes of a copy into the
 /// present ones.
 pub fn put(tree: &mut Numbers, value: u64) -> Result<Vec<ChangeEvent<u64>>, Refused<u64>>
-    ensures contents { IfOk result (λ _. joined tree.new.nodes ≡ put nat_cmp (joined tree.old.nodes) value) }
-    ensures replay { IfOk result (λ events. replay nat_cmp tree.old.nodes events.items ≡ Some tree.new.nodes) }
+    ensures contents { IfOk result (λ _. joined tree.new.nodes
+        ≡ put nat_cmp (joined tree.old.nodes) value) }
+    ensures replay { IfOk result (λ events. replay nat_cmp tree.old.nodes events.items
+        ≡ Some tree.new.nodes) }
     ensures numbered { IfOk result (λ events. IsNumberedFrom tree.old.next events.items) }
     ensures next { IfOk result (λ events. tree.new.next ≡ tree.old.next + length events.items) }
     ensures few { IfOk result (λ events. length events.items ≤ 3) }
@@ -34,7 +36,8 @@ pub fn put(tree: &mut Numbers, value: u64) -> Result<Vec<ChangeEvent<u64>>, Refu
 /// Inserts a number, and returns whether it is present, as it then always is.
 pub fn hold(tree: &mut Numbers, value: u64) -> Result<bool, Refused<u64>>
     ensures there { IfOk result (λ there. there ≡ true) }
-    ensures contents { OnOk result (joined tree.new.nodes ≡ keep nat_cmp (joined tree.old.nodes) value) }
+    ensures contents { OnOk result (joined tree.new.nodes
+        ≡ keep nat_cmp (joined tree.old.nodes) value) }
     ensures same { OnErr result (tree.new ≡ tree.old) }
 {
     tree.insert(value)?;
@@ -43,8 +46,10 @@ pub fn hold(tree: &mut Numbers, value: u64) -> Result<bool, Refused<u64>>
 
 /// Removes a number, and returns the events.
 pub fn take(tree: &mut Numbers, value: u64) -> Result<Vec<ChangeEvent<u64>>, Refusal>
-    ensures contents { IfOk result (λ _. joined tree.new.nodes ≡ without nat_cmp (joined tree.old.nodes) value) }
-    ensures replay { IfOk result (λ events. replay nat_cmp tree.old.nodes events.items ≡ Some tree.new.nodes) }
+    ensures contents { IfOk result (λ _. joined tree.new.nodes
+        ≡ without nat_cmp (joined tree.old.nodes) value) }
+    ensures replay { IfOk result (λ events. replay nat_cmp tree.old.nodes events.items
+        ≡ Some tree.new.nodes) }
     ensures numbered { IfOk result (λ events. IsNumberedFrom tree.old.next events.items) }
     ensures next { IfOk result (λ events. tree.new.next ≡ tree.old.next + length events.items) }
     ensures few { IfOk result (λ events. length events.items ≤ 3) }
@@ -63,7 +68,8 @@ pub type Quotes = BTreeMap<u64, u64, Vec<Pair<u64, u64>>>;
 /// Sets the price of an item, and returns the price that is found for it, as it then always is.
 pub fn quote(quotes: &mut Quotes, item: u64, price: u64) -> Result<Option<u64>, Refused<(u64, u64)>>
     ensures now { OnOk result (value_of nat_cmp (joined quotes.new.nodes) item ≡ Some price) }
-    ensures contents { OnOk result (joined quotes.new.nodes ≡ put (by_key nat_cmp) (joined quotes.old.nodes) (pair item price)) }
+    ensures contents { OnOk result (joined quotes.new.nodes
+        ≡ put (by_key nat_cmp) (joined quotes.old.nodes) (pair item price)) }
     ensures told { IfOk result (λ told. told ≡ Some price) }
     ensures same { OnErr result (quotes.new ≡ quotes.old) }
 {

@@ -17,14 +17,17 @@ pub fn apply_all<T: Ord + Clone + Drop>(
     copy: &mut Replica<T>,
     events: &[ChangeEvent<T>],
 ) -> Result<(), Refusal>
-    ensures same { ((x y : T) → T.is_clone x y → y ≡ x) → OnOk result (replay T.cmp copy.old.nodes events.now ≡ Some copy.new.nodes) }
+    ensures same { ((x y : T) → T.is_clone x y → y ≡ x)
+        → OnOk result (replay T.cmp copy.old.nodes events.now ≡ Some copy.new.nodes) }
     ensures applied { ((x y : T) → T.is_clone x y → y ≡ x) → replay T.cmp copy.old.nodes
         (take (copy.new.next - copy.old.next) events.now) ≡ Some copy.new.nodes }
     ensures next { OnOk result (copy.new.next ≡ copy.old.next + length events.now) }
     ensures onwards { copy.old.next ≤ copy.new.next }
     ensures stopped { OnErr result (copy.new.next < copy.old.next + length events.now) }
-    ensures copies { AreClonesEqual T.cmp T.is_clone → (ns after : List (List T)) (es : List _) → AreCopies T.cmp T.is_clone ns copy.old.nodes
-        → AllZip (IsEventClone T.is_clone) es events.now → replay T.cmp ns es ≡ Some after → OnOk result (AreCopies T.cmp T.is_clone after copy.new.nodes) }
+    ensures copies { AreClonesEqual T.cmp T.is_clone → (ns after : List (List T)) (es : List _)
+        → AreCopies T.cmp T.is_clone ns copy.old.nodes
+        → AllZip (IsEventClone T.is_clone) es events.now → replay T.cmp ns es ≡ Some after
+        → OnOk result (AreCopies T.cmp T.is_clone after copy.new.nodes) }
 {
     replay_in_parts::<T>();
     step_of_clones::<T>();

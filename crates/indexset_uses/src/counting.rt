@@ -27,8 +27,10 @@ pub fn count_of_both(a: &BTreeSet<u64>, b: &BTreeSet<u64>) -> usize
 
 /// Returns where a key is, or how many keys are below it, and how many comparisons the search made.
 pub fn place_of(set: &BTreeSet<u64>, key: u64) -> (Result<usize, usize>, u64)
-    ensures found { IfOk result.0 (λ i. position (λ x. is_eq (nat_cmp x key)) (items set.now) ≡ Some i) }
-    ensures absent { IfErr result.0 (λ _. position (λ x. is_eq (nat_cmp x key)) (items set.now) ≡ None) }
+    ensures found { IfOk result.0 (λ i. position (λ x. is_eq (nat_cmp x key)) (items set.now)
+        ≡ Some i) }
+    ensures absent { IfErr result.0 (λ _. position (λ x. is_eq (nat_cmp x key)) (items set.now)
+        ≡ None) }
     ensures below { IfErr result.0 (λ i. i ≡ rank nat_cmp (items set.now) key) }
     ensures few { result.1 ≤ digits (length set.now.nodes) + digits set.now.size + 1 }
 {

@@ -48,9 +48,12 @@ impl Primary {
 
     /// Sets the balance of an account, and keeps all others and all events.
     pub fn set(&mut self, account: u64, balance: u64) -> Result<(), Refusal>
-        ensures held { OnOk result (value_of nat_cmp (joined self.new.map.nodes) account ≡ Some balance) }
-        ensures contents { OnOk result (joined self.new.map.nodes ≡ put (by_key nat_cmp) (joined self.old.map.nodes) (pair account balance)) }
-        ensures kept { OnOk result (take (length self.old.events.items) self.new.events.items ≡ self.old.events.items) }
+        ensures held { OnOk result (value_of nat_cmp (joined self.new.map.nodes) account
+            ≡ Some balance) }
+        ensures contents { OnOk result (joined self.new.map.nodes
+            ≡ put (by_key nat_cmp) (joined self.old.map.nodes) (pair account balance)) }
+        ensures kept { OnOk result (take (length self.old.events.items) self.new.events.items
+            ≡ self.old.events.items) }
         ensures same { OnErr result (self.new.map ≡ self.old.map) }
         ensures no_event { OnErr result (self.new.events.items ≡ self.old.events.items) }
     {
@@ -89,8 +92,10 @@ fn set_and_keep(
     ensures numbered { IsNumberedFrom 0 events.new.items }
     ensures counted { map.new.next ≡ length events.new.items }
     ensures held { OnOk result (value_of nat_cmp (joined map.new.nodes) account ≡ Some balance) }
-    ensures contents { OnOk result (joined map.new.nodes ≡ put (by_key nat_cmp) (joined map.old.nodes) (pair account balance)) }
-    ensures kept { OnOk result (take (length events.old.items) events.new.items ≡ events.old.items) }
+    ensures contents { OnOk result (joined map.new.nodes
+        ≡ put (by_key nat_cmp) (joined map.old.nodes) (pair account balance)) }
+    ensures kept { OnOk result (take (length events.old.items) events.new.items
+        ≡ events.old.items) }
     ensures same { OnErr result (map.new ≡ map.old) }
     ensures no_event { OnErr result (events.new.items ≡ events.old.items) }
 {

@@ -21,7 +21,8 @@ pub fn insert(
     ensures replay { replay nat_cmp [] journal.new.items ≡ Some tree.new.nodes }
     ensures numbered { IsNumberedFrom 0 journal.new.items }
     ensures next { tree.new.next ≡ length journal.new.items }
-    ensures contents { OnOk result (joined tree.new.nodes ≡ put nat_cmp (joined tree.old.nodes) value) }
+    ensures contents { OnOk result (joined tree.new.nodes
+        ≡ put nat_cmp (joined tree.old.nodes) value) }
     ensures kept { take (length journal.old.items) journal.new.items ≡ journal.old.items }
     ensures given_back { IfErr result (λ refused. refused.value ≡ value) }
     ensures same { OnErr result (tree.new ≡ tree.old) }

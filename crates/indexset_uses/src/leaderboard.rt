@@ -23,9 +23,11 @@ pub type Board = BTreeSet<Entry>;
 
 /// Adds an entry, and returns whether it is new.
 pub fn add(board: &mut Board, entry: Entry) -> Result<bool, Refused<Entry>>
-    ensures new { IfOk result (λ new. new ≡ not (has_equal ⟦<Entry as Ord>⟧.cmp (items board.old) entry)) }
+    ensures new { IfOk result (λ new. new
+        ≡ not (has_equal ⟦<Entry as Ord>⟧.cmp (items board.old) entry)) }
     ensures there { OnOk result (has_equal ⟦<Entry as Ord>⟧.cmp (items board.new) entry ≡ true) }
-    ensures contents { OnOk result (items board.new ≡ keep ⟦<Entry as Ord>⟧.cmp (items board.old) entry) }
+    ensures contents { OnOk result (items board.new
+        ≡ keep ⟦<Entry as Ord>⟧.cmp (items board.old) entry) }
     ensures same { OnErr result (board.new ≡ board.old) }
     ensures given_back { IfErr result (λ refused.
         (refused.value ≡ entry) × (refused.cause ≡ Memory)) }
@@ -43,8 +45,10 @@ pub fn place(board: &Board, entry: Entry) -> Option<usize>
 /// How many entries are better than this one, which may be absent: those before its place.
 pub fn better(board: &Board, entry: Entry) -> usize
     ensures count { result ≡ rank ⟦<Entry as Ord>⟧.cmp (items board.now) entry }
-    ensures inside { has_equal ⟦<Entry as Ord>⟧.cmp (items board.now) entry ≡ true → result < length (items board.now) }
-    ensures before { AllWithin (λ other. ⟦<Entry as Ord>⟧.cmp other entry ≡ Less) (items board.now) 0 result }
+    ensures inside { has_equal ⟦<Entry as Ord>⟧.cmp (items board.now) entry ≡ true
+        → result < length (items board.now) }
+    ensures before { AllWithin (λ other. ⟦<Entry as Ord>⟧.cmp other entry ≡ Less) (items board.now)
+        0 result }
 {
     board.rank(&entry)
 }
@@ -57,7 +61,8 @@ pub fn page(
     size: usize,
 ) -> Result<Vec<Entry>, AllocError>
     requires { number * size + size < 2 ^ 64 }
-    ensures { IfOk result (λ page. page.items ≡ take size (drop (number * size) (items board.now))) }
+    ensures { IfOk result (λ page. page.items
+        ≡ take size (drop (number * size) (items board.now))) }
 {
     let from = number * size;
     let bounds = (Bound::Included(from), Bound::Excluded(from + size));

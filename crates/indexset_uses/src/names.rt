@@ -30,8 +30,10 @@ pub fn set_text(
 ) -> Result<(), Refusal>
     requires { copy.old.nodes ≡ names.old.nodes }
     ensures same { OnOk result (copy.new.nodes ≡ names.new.nodes) }
-    ensures held { OnOk result (value_of (slice_cmp nat_cmp) (joined copy.new.nodes) name ≡ Some text) }
-    ensures contents { OnOk result (joined names.new.nodes ≡ put (by_key (slice_cmp nat_cmp)) (joined names.old.nodes) (pair name text)) }
+    ensures held { OnOk result (value_of (slice_cmp nat_cmp) (joined copy.new.nodes) name
+        ≡ Some text) }
+    ensures contents { OnOk result (joined names.new.nodes
+        ≡ put (by_key (slice_cmp nat_cmp)) (joined names.old.nodes) (pair name text)) }
     ensures refused { OnErr result (((names.new ≡ names.old) × (copy.new ≡ copy.old))
         ⊎ (joined names.new.nodes ≡ put (by_key (slice_cmp nat_cmp))
         (joined names.old.nodes) (pair name text))) }
@@ -46,8 +48,10 @@ pub fn set_text(
 pub fn forget(names: &mut Names, copy: &mut Replica<Named>, name: &ByteStr) -> Result<(), Refusal>
     requires { copy.old.nodes ≡ names.old.nodes }
     ensures same { OnOk result (copy.new.nodes ≡ names.new.nodes) }
-    ensures gone { OnOk result (has_key (slice_cmp nat_cmp) (joined copy.new.nodes) name.now ≡ false) }
-    ensures contents { OnOk result (joined names.new.nodes ≡ without_key (slice_cmp nat_cmp) (joined names.old.nodes) name.now) }
+    ensures gone { OnOk result (has_key (slice_cmp nat_cmp) (joined copy.new.nodes) name.now
+        ≡ false) }
+    ensures contents { OnOk result (joined names.new.nodes
+        ≡ without_key (slice_cmp nat_cmp) (joined names.old.nodes) name.now) }
     ensures refused { OnErr result (((names.new ≡ names.old) × (copy.new ≡ copy.old))
         ⊎ (joined names.new.nodes ≡ without_key (slice_cmp nat_cmp)
         (joined names.old.nodes) name.now)) }
@@ -58,7 +62,8 @@ pub fn forget(names: &mut Names, copy: &mut Replica<Named>, name: &ByteStr) -> R
 
 /// The text of a name, which is looked up as it is: no key is made of it.
 pub fn text_of<'a>(names: &'a Names, name: &str) -> Option<&'a ByteStr>
-    ensures { option_copied result ≡ value_of (slice_cmp nat_cmp) (joined names.now.nodes) name.now }
+    ensures { option_copied result ≡ value_of (slice_cmp nat_cmp) (joined names.now.nodes)
+        name.now }
 {
     // Tells that the names ascend.
     let _nodes = names.node_count();

@@ -20,7 +20,8 @@ pub struct Book {
 
 /// Adds a quantity at a price, up to the greatest u64, and returns how much there then is.
 pub fn add(levels: &mut Levels, price: u64, quantity: u64) -> Result<u64, Refused<(u64, u64)>>
-    ensures sum { IfOk result (λ now. now ≡ min (unwrap_or (value_of nat_cmp levels.old.pairs price) 0 + quantity) (2 ^ 64 - 1)) }
+    ensures sum { IfOk result (λ now. now
+        ≡ min (unwrap_or (value_of nat_cmp levels.old.pairs price) 0 + quantity) (2 ^ 64 - 1)) }
     ensures held { IfOk result (λ now. value_of nat_cmp levels.new.pairs price ≡ Some now) }
     ensures contents { IfOk result (λ now. levels.new ≡ with_entry nat_cmp levels.old price now) }
     ensures same { OnErr result (levels.new ≡ levels.old) }
@@ -35,9 +36,12 @@ pub fn add(levels: &mut Levels, price: u64, quantity: u64) -> Result<u64, Refuse
 /// Takes a quantity off a price, and returns what is left, or `None` where the price has none. A price
 /// of which nothing is left is removed.
 pub fn reduce(levels: &mut Levels, price: u64, quantity: u64) -> Option<u64>
-    ensures left { IfSome result (λ left. left ≡ unwrap_or (value_of nat_cmp levels.old.pairs price) 0 - quantity) }
-    ensures removed { IfSome result (λ left. left ≡ 0 → levels.new ≡ without_entry nat_cmp levels.old price) }
-    ensures kept { IfSome result (λ left. 0 < left → levels.new.pairs ≡ set_value nat_cmp levels.old.pairs price left) }
+    ensures left { IfSome result (λ left. left
+        ≡ unwrap_or (value_of nat_cmp levels.old.pairs price) 0 - quantity) }
+    ensures removed { IfSome result (λ left. left ≡ 0
+        → levels.new ≡ without_entry nat_cmp levels.old price) }
+    ensures kept { IfSome result (λ left. 0 < left
+        → levels.new.pairs ≡ set_value nat_cmp levels.old.pairs price left) }
     ensures none { IfNone result (value_of nat_cmp levels.old.pairs price ≡ None) }
     ensures same { IfNone result (levels.new ≡ levels.old) }
 {
@@ -53,8 +57,10 @@ pub fn reduce(levels: &mut Levels, price: u64, quantity: u64) -> Option<u64>
 
 /// The highest bid, with its quantity.
 pub fn best_bid(book: &Book) -> Option<(u64, u64)>
-    ensures last { result ≡ option_map entry_of (slice_get book.now.bids.pairs (length book.now.bids.pairs - 1)) }
-    ensures highest { IfSome result (λ best. above nat_cmp (pair_keys book.now.bids.pairs) best.0 ≡ []) }
+    ensures last { result ≡ option_map entry_of
+        (slice_get book.now.bids.pairs (length book.now.bids.pairs - 1)) }
+    ensures highest { IfSome result (λ best. above nat_cmp (pair_keys book.now.bids.pairs) best.0
+        ≡ []) }
 {
     let (price, quantity) = book.bids.last_key_value()?;
     Some((*price, *quantity))
@@ -63,7 +69,8 @@ pub fn best_bid(book: &Book) -> Option<(u64, u64)>
 /// The lowest ask, with its quantity.
 pub fn best_ask(book: &Book) -> Option<(u64, u64)>
     ensures first { result ≡ option_map entry_of (slice_get book.now.asks.pairs 0) }
-    ensures lowest { IfSome result (λ best. below nat_cmp (pair_keys book.now.asks.pairs) best.0 ≡ []) }
+    ensures lowest { IfSome result (λ best. below nat_cmp (pair_keys book.now.asks.pairs) best.0
+        ≡ []) }
 {
     let (price, quantity) = book.asks.first_key_value()?;
     Some((*price, *quantity))

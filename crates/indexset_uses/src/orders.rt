@@ -25,7 +25,8 @@ pub fn cancel(orders: &mut Orders, customer: u64, order: u64) -> Result<(), Refu
     ensures gone { OnOk result (pairs_of nat_cmp (joined orders.new.nodes) customer ≡ without_first
         (λ p. nat_eq p.value order) (pairs_of nat_cmp (joined orders.old.nodes) customer)) }
     ensures others { OnOk result ((other : ℕ) → is_eq (nat_cmp other customer) ≡ false →
-        pairs_of nat_cmp (joined orders.new.nodes) other ≡ pairs_of nat_cmp (joined orders.old.nodes) other) }
+        pairs_of nat_cmp (joined orders.new.nodes) other
+        ≡ pairs_of nat_cmp (joined orders.old.nodes) other) }
     ensures same { OnErr result (orders.new ≡ orders.old) }
 {
     orders.remove(&customer, &order)?;

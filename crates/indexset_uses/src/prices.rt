@@ -35,9 +35,11 @@ pub fn price_or(
     item: u64,
     usual: u64,
 ) -> Result<u64, Refused<(u64, u64)>>
-    ensures price { IfOk result (λ price. price ≡ unwrap_or (value_of nat_cmp prices.old.pairs item) usual) }
+    ensures price { IfOk result (λ price. price
+        ≡ unwrap_or (value_of nat_cmp prices.old.pairs item) usual) }
     ensures now { IfOk result (λ price. value_of nat_cmp prices.new.pairs item ≡ Some price) }
-    ensures contents { IfOk result (λ price. prices.new ≡ with_entry nat_cmp prices.old item price) }
+    ensures contents { IfOk result (λ price. prices.new
+        ≡ with_entry nat_cmp prices.old item price) }
     ensures same { OnErr result (prices.new ≡ prices.old) }
 {
     let price = prices.entry(item).or_insert(usual)?;
@@ -46,7 +48,8 @@ pub fn price_or(
 
 /// Raises each price by 10, as far as a u64 goes.
 pub fn raise(prices: &mut BTreeMap<u64, u64>)
-    ensures { prices.new.pairs ≡ written (λ pair. min (pair.value + 10) (2 ^ 64 - 1)) prices.old.pairs 0 (length prices.old.pairs) }
+    ensures { prices.new.pairs ≡ written (λ pair. min (pair.value + 10) (2 ^ 64 - 1))
+        prices.old.pairs 0 (length prices.old.pairs) }
 {
     let mut walk = prices.iter_mut();
     while walk.has_next() {

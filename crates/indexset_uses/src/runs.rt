@@ -24,7 +24,8 @@ pub fn run_stock(
     stock: &mut Stock,
     commands: Vec<LoggedMapCommand<ByteStr, u64>>,
 ) -> LogRun<Stock>
-    ensures replay { replay (by_key (slice_cmp nat_cmp)) stock.old.nodes result.events.items ≡ Some stock.new.nodes }
+    ensures replay { replay (by_key (slice_cmp nat_cmp)) stock.old.nodes result.events.items
+        ≡ Some stock.new.nodes }
     ensures numbered { IsNumberedFrom stock.old.next result.events.items }
     ensures next { stock.new.next ≡ stock.old.next + length result.events.items }
     ensures replies { result.replies.items ≡ scan (logged_map_after (slice_cmp nat_cmp))
@@ -34,7 +35,9 @@ pub fn run_stock(
     ensures fewer { OnSome result.refused
         (length result.replies.items < length commands.items) }
     ensures refused { IfSome result.refused (λ cause. cause ≢ Memory → cause ≡ Numbers) }
-    ensures contents { joined stock.new.nodes ≡ fold (logged_map_after (slice_cmp nat_cmp)) (joined stock.old.nodes) (take (length result.replies.items) commands.items) }
+    ensures contents { joined stock.new.nodes
+        ≡ fold (logged_map_after (slice_cmp nat_cmp)) (joined stock.old.nodes)
+        (take (length result.replies.items) commands.items) }
 {
     run_logged(alloc, stock, commands)
 }
@@ -54,9 +57,13 @@ pub fn run_counts(
     ensures replies { result.replies.items ≡ scan (logged_map_after string_cmp)
         (logged_map_reply string_cmp) (joined counts.old.nodes)
         (take (length result.replies.items) commands.items) }
-    ensures contents { joined counts.new.nodes ≡ fold (logged_map_after string_cmp) (joined counts.old.nodes) (take (length result.replies.items) commands.items) }
+    ensures contents { joined counts.new.nodes
+        ≡ fold (logged_map_after string_cmp) (joined counts.old.nodes)
+        (take (length result.replies.items) commands.items) }
     ensures numbered { IsNumberedFrom counts.old.next result.events.items }
-    ensures copies { LeadsToCopies (by_key string_cmp) (λ p q. (string_bytes q.key ≡ string_bytes p.key) × (q.value ≡ p.value)) counts.old.nodes result.events.items counts.new.nodes }
+    ensures copies { LeadsToCopies (by_key string_cmp)
+        (λ p q. (string_bytes q.key ≡ string_bytes p.key) × (q.value ≡ p.value)) counts.old.nodes
+        result.events.items counts.new.nodes }
     ensures next { counts.new.next ≡ counts.old.next + length result.events.items }
     ensures few { length result.events.items ≤ 3 * length result.replies.items }
 {

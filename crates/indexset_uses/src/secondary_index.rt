@@ -18,10 +18,17 @@ pub type Index = BTreeMultiMap<ByteStr, u64, Vec<Listed>>;
 /// Lists a document under a tag, behind those that it has, and returns whether it was not listed there.
 /// All other documents stay.
 pub fn add(index: &mut Index, tag: ByteStr, document: u64) -> Result<bool, Refused<(ByteStr, u64)>>
-    ensures new { IfOk result (λ new. new ≡ not (is_some (equal_pair (slice_cmp nat_cmp) nat_eq (joined index.old.nodes) tag document))) }
-    ensures listed { OnOk result (is_some (equal_pair (slice_cmp nat_cmp) nat_eq (joined index.new.nodes) tag document) ≡ true) }
-    ensures contents { OnOk result (joined index.new.nodes ≡ put (by_number (slice_cmp nat_cmp)) (joined index.old.nodes) (inserted_pair (slice_cmp nat_cmp) nat_eq index.old tag document)) }
-    ensures other_tags { OnOk result ((other : List ℕ) → is_eq (slice_cmp nat_cmp other tag) ≡ false → pairs_of (slice_cmp nat_cmp) (joined index.new.nodes) other ≡ pairs_of (slice_cmp nat_cmp) (joined index.old.nodes) other) }
+    ensures new { IfOk result (λ new. new
+        ≡ not (is_some (equal_pair (slice_cmp nat_cmp) nat_eq (joined index.old.nodes) tag
+        document))) }
+    ensures listed { OnOk result (is_some
+        (equal_pair (slice_cmp nat_cmp) nat_eq (joined index.new.nodes) tag document) ≡ true) }
+    ensures contents { OnOk result (joined index.new.nodes
+        ≡ put (by_number (slice_cmp nat_cmp)) (joined index.old.nodes)
+        (inserted_pair (slice_cmp nat_cmp) nat_eq index.old tag document)) }
+    ensures other_tags { OnOk result ((other : List ℕ) → is_eq (slice_cmp nat_cmp other tag) ≡ false
+        → pairs_of (slice_cmp nat_cmp) (joined index.new.nodes) other
+        ≡ pairs_of (slice_cmp nat_cmp) (joined index.old.nodes) other) }
     ensures same { OnErr result (index.new ≡ index.old) }
     ensures given_back { IfErr result (λ refused. refused.value ≡ (tag, document)) }
 {
@@ -31,9 +38,16 @@ pub fn add(index: &mut Index, tag: ByteStr, document: u64) -> Result<bool, Refus
 
 /// Takes a document off a tag, and returns whether it was listed there.
 pub fn remove(index: &mut Index, tag: &ByteStr, document: u64) -> Result<bool, Refusal>
-    ensures was { IfOk result (λ was. was ≡ is_some (equal_pair (slice_cmp nat_cmp) nat_eq (joined index.old.nodes) tag.now document)) }
-    ensures gone { OnOk result (pairs_of (slice_cmp nat_cmp) (joined index.new.nodes) tag.now ≡ without_first (λ pair. nat_eq pair.value document) (pairs_of (slice_cmp nat_cmp) (joined index.old.nodes) tag.now)) }
-    ensures other_tags { OnOk result ((other : List ℕ) → is_eq (slice_cmp nat_cmp other tag.now) ≡ false → pairs_of (slice_cmp nat_cmp) (joined index.new.nodes) other ≡ pairs_of (slice_cmp nat_cmp) (joined index.old.nodes) other) }
+    ensures was { IfOk result (λ was. was
+        ≡ is_some (equal_pair (slice_cmp nat_cmp) nat_eq (joined index.old.nodes) tag.now
+        document)) }
+    ensures gone { OnOk result (pairs_of (slice_cmp nat_cmp) (joined index.new.nodes) tag.now
+        ≡ without_first (λ pair. nat_eq pair.value document)
+        (pairs_of (slice_cmp nat_cmp) (joined index.old.nodes) tag.now)) }
+    ensures other_tags { OnOk result ((other : List ℕ)
+        → is_eq (slice_cmp nat_cmp other tag.now) ≡ false
+        → pairs_of (slice_cmp nat_cmp) (joined index.new.nodes) other
+        ≡ pairs_of (slice_cmp nat_cmp) (joined index.old.nodes) other) }
     ensures same { OnErr result (index.new ≡ index.old) }
     ensures listed { OnErr result (is_some (equal_pair (slice_cmp nat_cmp) nat_eq
         (joined index.old.nodes) tag.now document) ≡ true) }

@@ -29,8 +29,10 @@ pub fn set_count(
 ) -> Result<(), Refusal>
     requires { copy.old.nodes ≡ stock.old.nodes }
     ensures same { OnOk result (copy.new.nodes ≡ stock.new.nodes) }
-    ensures held { OnOk result (value_of (slice_cmp nat_cmp) (joined copy.new.nodes) name ≡ Some count) }
-    ensures contents { OnOk result (joined stock.new.nodes ≡ put (by_key (slice_cmp nat_cmp)) (joined stock.old.nodes) (pair name count)) }
+    ensures held { OnOk result (value_of (slice_cmp nat_cmp) (joined copy.new.nodes) name
+        ≡ Some count) }
+    ensures contents { OnOk result (joined stock.new.nodes
+        ≡ put (by_key (slice_cmp nat_cmp)) (joined stock.old.nodes) (pair name count)) }
     ensures refused { OnErr result (((stock.new ≡ stock.old) × (copy.new ≡ copy.old))
         ⊎ (joined stock.new.nodes ≡ put (by_key (slice_cmp nat_cmp))
         (joined stock.old.nodes) (pair name count))) }
@@ -44,7 +46,8 @@ pub fn set_count(
 pub fn forget(stock: &mut Stock, copy: &mut Replica<Count>, name: &ByteStr) -> Result<(), Refusal>
     requires { copy.old.nodes ≡ stock.old.nodes }
     ensures same { OnOk result (copy.new.nodes ≡ stock.new.nodes) }
-    ensures contents { OnOk result (joined stock.new.nodes ≡ without_key (slice_cmp nat_cmp) (joined stock.old.nodes) name.now) }
+    ensures contents { OnOk result (joined stock.new.nodes
+        ≡ without_key (slice_cmp nat_cmp) (joined stock.old.nodes) name.now) }
     ensures refused { OnErr result (((stock.new ≡ stock.old) × (copy.new ≡ copy.old))
         ⊎ (joined stock.new.nodes ≡ without_key (slice_cmp nat_cmp)
         (joined stock.old.nodes) name.now)) }

@@ -28,13 +28,16 @@ pub fn set_count(
     name: String,
     count: u64,
 ) -> Result<Vec<ChangeEvent<Count>>, Refused<(String, u64)>>
-    ensures contents { OnOk result (joined counts.new.nodes ≡ put (by_key string_cmp) (joined counts.old.nodes) (pair name count)) }
+    ensures contents { OnOk result (joined counts.new.nodes
+        ≡ put (by_key string_cmp) (joined counts.old.nodes) (pair name count)) }
     ensures held { OnOk result (value_of string_cmp (joined counts.new.nodes) name ≡ Some count) }
     ensures numbered { IfOk result (λ events. IsNumberedFrom counts.old.next events.items) }
     ensures next { IfOk result (λ events. counts.new.next ≡ counts.old.next + length events.items) }
     ensures few { IfOk result (λ events. length events.items ≤ 3) }
-    ensures told { IfOk result (λ events. AllZip (IsEventClone (λ p q. (string_bytes q.key ≡ string_bytes p.key) × (q.value ≡ p.value)))
-        (numbered_from counts.old.next (put_events (by_key string_cmp) counts.old.size counts.old.nodes (pair name count))) events.items) }
+    ensures told { IfOk result (λ events. AllZip
+        (IsEventClone (λ p q. (string_bytes q.key ≡ string_bytes p.key) × (q.value ≡ p.value)))
+        (numbered_from counts.old.next (put_events (by_key string_cmp) counts.old.size
+        counts.old.nodes (pair name count))) events.items) }
     ensures same { OnErr result (counts.new ≡ counts.old) }
 {
     numbered_by_place::<Count>();
@@ -51,10 +54,17 @@ pub fn set_in_both(
     name: String,
     count: u64,
 ) -> Result<(), Refusal>
-    requires { AreCopies (by_key string_cmp) (λ p q. (string_bytes q.key ≡ string_bytes p.key) × (q.value ≡ p.value)) counts.old.nodes copy.old.nodes }
-    ensures copies { OnOk result (AreCopies (by_key string_cmp) (λ p q. (string_bytes q.key ≡ string_bytes p.key) × (q.value ≡ p.value)) counts.new.nodes copy.new.nodes) }
-    ensures contents { OnOk result (joined counts.new.nodes ≡ put (by_key string_cmp) (joined counts.old.nodes) (pair name count)) }
-    ensures same { OnOk result (map (map {B = List ℕ × ℕ} (λ p. (string_bytes p.key, p.value))) copy.new.nodes ≡ map (map {B = List ℕ × ℕ} (λ p. (string_bytes p.key, p.value))) counts.new.nodes) }
+    requires { AreCopies (by_key string_cmp)
+        (λ p q. (string_bytes q.key ≡ string_bytes p.key) × (q.value ≡ p.value)) counts.old.nodes
+        copy.old.nodes }
+    ensures copies { OnOk result (AreCopies (by_key string_cmp)
+        (λ p q. (string_bytes q.key ≡ string_bytes p.key) × (q.value ≡ p.value)) counts.new.nodes
+        copy.new.nodes) }
+    ensures contents { OnOk result (joined counts.new.nodes
+        ≡ put (by_key string_cmp) (joined counts.old.nodes) (pair name count)) }
+    ensures same { OnOk result (map (map {B = List ℕ × ℕ} (λ p. (string_bytes p.key, p.value)))
+        copy.new.nodes ≡ map (map {B = List ℕ × ℕ} (λ p. (string_bytes p.key, p.value)))
+        counts.new.nodes) }
     ensures refused { OnErr result (((counts.new ≡ counts.old) × (copy.new ≡ copy.old))
         ⊎ (joined counts.new.nodes ≡ put (by_key string_cmp)
         (joined counts.old.nodes) (pair name count))) }
@@ -69,13 +79,16 @@ pub fn set_in_both(
 /// Removes a name, and returns the events, at most three. They are numbered in turn, and are those of
 /// the removal with clones of its names.
 pub fn forget(counts: &mut Counts, name: &String) -> Result<Vec<ChangeEvent<Count>>, Refusal>
-    ensures contents { OnOk result (joined counts.new.nodes ≡ without_key string_cmp (joined counts.old.nodes) name.now) }
+    ensures contents { OnOk result (joined counts.new.nodes
+        ≡ without_key string_cmp (joined counts.old.nodes) name.now) }
     ensures gone { OnOk result (has_key string_cmp (joined counts.new.nodes) name.now ≡ false) }
     ensures numbered { IfOk result (λ events. IsNumberedFrom counts.old.next events.items) }
     ensures next { IfOk result (λ events. counts.new.next ≡ counts.old.next + length events.items) }
     ensures few { IfOk result (λ events. length events.items ≤ 3) }
-    ensures told { IfOk result (λ events. AllZip (IsEventClone (λ p q. (string_bytes q.key ≡ string_bytes p.key) × (q.value ≡ p.value)))
-        (numbered_from counts.old.next (key_removal_events string_cmp counts.old.size counts.old.nodes name.now)) events.items) }
+    ensures told { IfOk result (λ events. AllZip
+        (IsEventClone (λ p q. (string_bytes q.key ≡ string_bytes p.key) × (q.value ≡ p.value)))
+        (numbered_from counts.old.next (key_removal_events string_cmp counts.old.size
+        counts.old.nodes name.now)) events.items) }
     ensures same { OnErr result (counts.new ≡ counts.old) }
 {
     numbered_by_place::<Count>();
@@ -86,7 +99,9 @@ pub fn forget(counts: &mut Counts, name: &String) -> Result<Vec<ChangeEvent<Coun
 /// Applies an event to a copy: its nodes are then those that the event leads to, with a clone for an
 /// item that it inserts, and it awaits the next event.
 pub fn follow(copy: &mut Replica<Count>, event: &ChangeEvent<Count>) -> Result<(), Refusal>
-    ensures nodes { OnOk result (IsClonedStep (by_key string_cmp) (λ p q. (string_bytes q.key ≡ string_bytes p.key) × (q.value ≡ p.value)) copy.old.nodes (unassigned event.now) copy.new.nodes) }
+    ensures nodes { OnOk result (IsClonedStep (by_key string_cmp)
+        (λ p q. (string_bytes q.key ≡ string_bytes p.key) × (q.value ≡ p.value)) copy.old.nodes
+        (unassigned event.now) copy.new.nodes) }
     ensures next { OnOk result (copy.new.next ≡ copy.old.next + 1) }
     ensures same { OnErr result (copy.new ≡ copy.old) }
 {

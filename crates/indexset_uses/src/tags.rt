@@ -24,10 +24,16 @@ pub fn add(
     tag: ByteStr,
     document: ByteStr,
 ) -> Result<Vec<ChangeEvent<Tagged>>, Refused<(ByteStr, ByteStr)>>
-    ensures there { OnOk result (is_some (equal_pair (slice_cmp nat_cmp) (pointwise nat_eq) (joined tags.new.nodes) tag document) ≡ true) }
-    ensures contents { OnOk result (joined tags.new.nodes ≡ put (by_number (slice_cmp nat_cmp)) (joined tags.old.nodes) (inserted_pair (slice_cmp nat_cmp) (pointwise nat_eq) tags.old tag document)) }
-    ensures others { OnOk result ((other : List ℕ) → is_eq (slice_cmp nat_cmp other tag) ≡ false → pairs_of (slice_cmp nat_cmp) (joined tags.new.nodes) other ≡ pairs_of (slice_cmp nat_cmp) (joined tags.old.nodes) other) }
-    ensures replay { IfOk result (λ events. replay (by_number (slice_cmp nat_cmp)) tags.old.nodes events.items ≡ Some tags.new.nodes) }
+    ensures there { OnOk result (is_some (equal_pair (slice_cmp nat_cmp) (pointwise nat_eq)
+        (joined tags.new.nodes) tag document) ≡ true) }
+    ensures contents { OnOk result (joined tags.new.nodes
+        ≡ put (by_number (slice_cmp nat_cmp)) (joined tags.old.nodes)
+        (inserted_pair (slice_cmp nat_cmp) (pointwise nat_eq) tags.old tag document)) }
+    ensures others { OnOk result ((other : List ℕ) → is_eq (slice_cmp nat_cmp other tag) ≡ false
+        → pairs_of (slice_cmp nat_cmp) (joined tags.new.nodes) other
+        ≡ pairs_of (slice_cmp nat_cmp) (joined tags.old.nodes) other) }
+    ensures replay { IfOk result (λ events. replay (by_number (slice_cmp nat_cmp)) tags.old.nodes
+        events.items ≡ Some tags.new.nodes) }
     ensures numbered { IfOk result (λ events. IsNumberedFrom tags.old.next events.items) }
     ensures next { IfOk result (λ events. tags.new.next ≡ tags.old.next + length events.items) }
     ensures same { OnErr result (tags.new ≡ tags.old) }
@@ -44,9 +50,14 @@ pub fn remove(
     tag: &ByteStr,
     document: &ByteStr,
 ) -> Result<Vec<ChangeEvent<Tagged>>, Refusal>
-    ensures gone { OnOk result (pairs_of (slice_cmp nat_cmp) (joined tags.new.nodes) tag.now ≡ without_first (λ pair. pointwise nat_eq pair.value document.now) (pairs_of (slice_cmp nat_cmp) (joined tags.old.nodes) tag.now)) }
-    ensures others { OnOk result ((other : List ℕ) → is_eq (slice_cmp nat_cmp other tag.now) ≡ false → pairs_of (slice_cmp nat_cmp) (joined tags.new.nodes) other ≡ pairs_of (slice_cmp nat_cmp) (joined tags.old.nodes) other) }
-    ensures replay { IfOk result (λ events. replay (by_number (slice_cmp nat_cmp)) tags.old.nodes events.items ≡ Some tags.new.nodes) }
+    ensures gone { OnOk result (pairs_of (slice_cmp nat_cmp) (joined tags.new.nodes) tag.now
+        ≡ without_first (λ pair. pointwise nat_eq pair.value document.now)
+        (pairs_of (slice_cmp nat_cmp) (joined tags.old.nodes) tag.now)) }
+    ensures others { OnOk result ((other : List ℕ) → is_eq (slice_cmp nat_cmp other tag.now) ≡ false
+        → pairs_of (slice_cmp nat_cmp) (joined tags.new.nodes) other
+        ≡ pairs_of (slice_cmp nat_cmp) (joined tags.old.nodes) other) }
+    ensures replay { IfOk result (λ events. replay (by_number (slice_cmp nat_cmp)) tags.old.nodes
+        events.items ≡ Some tags.new.nodes) }
     ensures numbered { IfOk result (λ events. IsNumberedFrom tags.old.next events.items) }
     ensures next { IfOk result (λ events. tags.new.next ≡ tags.old.next + length events.items) }
     ensures same { OnErr result (tags.new ≡ tags.old) }

@@ -40,7 +40,8 @@ pub fn resume(
 /// copy more than a usize counts.
 pub fn promote(copy: Replica<u64>, size: usize) -> Result<Numbers, Refusal>
     requires { 2 ≤ size }
-    ensures tree { IfOk result (λ tree. tree ≡ record { nodes = copy.nodes; size = size; next = copy.next }) }
+    ensures tree { IfOk result (λ tree. tree
+        ≡ record { nodes = copy.nodes; size = size; next = copy.next }) }
     ensures taken { All (λ n. n ≤ size) (map (λ node. length node) copy.nodes)
         → length (joined copy.nodes) < 2 ^ 64 → IsOk result }
 {

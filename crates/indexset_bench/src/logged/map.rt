@@ -61,7 +61,8 @@ impl<K: Ord + Clone + Drop, V: Clone + Drop, Node: NodeLike<Pair<K, V>>> Logged
 
     ghost left = { logged_map_left K.cmp };
 
-    ghost lacks_numbers = { λ t command. nat_lt MAX (t.next + length (logged_map_events K.cmp t command)) };
+    ghost lacks_numbers = { λ t command. nat_lt MAX
+        (t.next + length (logged_map_events K.cmp t command)) };
 
     ghost clones = { ((x y : K) → K.is_clone x y → y ≡ x) × ((x y : V) → V.is_clone x y → y ≡ x) };
 

@@ -60,11 +60,13 @@ impl<K: Ord + Clone + Drop, V: Eq + Clone + Drop, Node: NodeLike<MultiPair<K, V>
 
     ghost left = { logged_multi_left K.cmp V.eq };
 
-    ghost lacks_numbers = { λ m command. lacks_pair_number K.cmp V.eq m command || nat_lt MAX (m.next + length (logged_multi_events K.cmp V.eq m command)) };
+    ghost lacks_numbers = { λ m command. lacks_pair_number K.cmp V.eq m command || nat_lt MAX
+        (m.next + length (logged_multi_events K.cmp V.eq m command)) };
 
     ghost clones = { ((x y : K) → K.is_clone x y → y ≡ x) × ((x y : V) → V.is_clone x y → y ≡ x) };
 
-    ghost cloned = { λ p q. K.is_clone p.key q.key × (V.is_clone p.value q.value × (q.discriminator ≡ p.discriminator)) };
+    ghost cloned = { λ p q. K.is_clone p.key q.key
+        × (V.is_clone p.value q.value × (q.discriminator ≡ p.discriminator)) };
 
     fn act(
         &mut self,

@@ -56,7 +56,8 @@ impl<T: Ord + Clone + Drop, Node: NodeLike<T>> Logged for BTreeSet<T, Node> {
 
     ghost left = { logged_set_left T.cmp };
 
-    ghost lacks_numbers = { λ t command. nat_lt MAX (t.next + length (logged_set_events T.cmp t command)) };
+    ghost lacks_numbers = { λ t command. nat_lt MAX
+        (t.next + length (logged_set_events T.cmp t command)) };
 
     ghost clones = { (x y : T) → T.is_clone x y → y ≡ x };
 

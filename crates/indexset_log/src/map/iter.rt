@@ -90,7 +90,8 @@ impl<'a, K: Ord + Clone + Drop, V: Clone + Drop, Node: NodeLike<Pair<K, V>>> Int
 
     type IntoIter = Iter<'a, K, V, Node>;
 
-    ghost into_iter_gives = { λ m r. (r ≡ joined m.now.nodes) × ShowsInOrder (pair_shown {K = K} {V = V}) × ShowsInReverse (pair_shown {K = K} {V = V}) };
+    ghost into_iter_gives = { λ m r. (r ≡ joined m.now.nodes)
+        × ShowsInOrder (pair_shown {K = K} {V = V}) × ShowsInReverse (pair_shown {K = K} {V = V}) };
 
     fn into_iter(self) -> Iter<'a, K, V, Node> {
         self.iter()

@@ -110,7 +110,8 @@ impl<'a, T: Ord + Clone + Drop, Node: NodeLike<T>> IntoIterator for &'a BTreeSet
 
     type IntoIter = Iter<'a, T, Node>;
 
-    ghost into_iter_gives = { λ b r. (r ≡ joined b.now.nodes) × ShowsInOrder (deref {X = T}) × ShowsInReverse (deref {X = T}) };
+    ghost into_iter_gives = { λ b r. (r ≡ joined b.now.nodes) × ShowsInOrder (deref {X = T})
+        × ShowsInReverse (deref {X = T}) };
 
     fn into_iter(self) -> Iter<'a, T, Node> {
         self.iter()

@@ -84,7 +84,10 @@ impl<K: Ord + Clone + Drop, V: Eq + Clone + Drop, Node: NodeLike<MultiPair<K, V>
     // Returns the pair that an insertion puts, and the number of the next new pair after it.
     fn pair_for(&self, key: K, value: V) -> Result<(MultiPair<K, V>, u64), Refused<(K, V)>>
         ensures answer { IfOk result (λ r.
-            r ≡ (inserted_pair K.cmp V.eq self.now key value, pair_next_after K.cmp V.eq self.now key value)) }
+            r ≡ (
+              inserted_pair K.cmp V.eq self.now key value,
+              pair_next_after K.cmp V.eq self.now key value,
+            )) }
         ensures refusal { is_err result ≡ lacks_number K.cmp V.eq self.now key value }
         ensures cause { IfErr result (λ e. e.cause ≡ Refusal.Numbers) }
         ensures given_back { IfErr result (λ e. e.value ≡ (key, value)) }

@@ -30,23 +30,30 @@ pub fn identical<T: Ord + Clone>()
 
 /// Lists, options and boxes of such a type.
 pub fn holders<T: Ord + Clone>()
-    ensures vec { AreClonesEqual T.cmp T.is_clone → AreClonesEqual ⟦<Vec<T> as Ord>⟧.cmp ⟦<Vec<T> as Clone>⟧.is_clone }
-    ensures option { AreClonesEqual T.cmp T.is_clone → AreClonesEqual ⟦<Option<T> as Ord>⟧.cmp ⟦<Option<T> as Clone>⟧.is_clone }
-    ensures boxed { AreClonesEqual T.cmp T.is_clone → AreClonesEqual ⟦<Box<T> as Ord>⟧.cmp ⟦<Box<T> as Clone>⟧.is_clone }
+    ensures vec { AreClonesEqual T.cmp T.is_clone
+        → AreClonesEqual ⟦<Vec<T> as Ord>⟧.cmp ⟦<Vec<T> as Clone>⟧.is_clone }
+    ensures option { AreClonesEqual T.cmp T.is_clone
+        → AreClonesEqual ⟦<Option<T> as Ord>⟧.cmp ⟦<Option<T> as Clone>⟧.is_clone }
+    ensures boxed { AreClonesEqual T.cmp T.is_clone
+        → AreClonesEqual ⟦<Box<T> as Ord>⟧.cmp ⟦<Box<T> as Clone>⟧.is_clone }
 {}
 
 /// Tuples of such types.
 pub fn tuples<A: Ord + Clone, B: Ord + Clone, C: Ord + Clone>()
     ensures two { AreClonesEqual A.cmp A.is_clone → AreClonesEqual B.cmp B.is_clone
         → AreClonesEqual ⟦<(A, B) as Ord>⟧.cmp ⟦<(A, B) as Clone>⟧.is_clone }
-    ensures three { AreClonesEqual A.cmp A.is_clone → AreClonesEqual B.cmp B.is_clone → AreClonesEqual C.cmp C.is_clone
+    ensures three { AreClonesEqual A.cmp A.is_clone → AreClonesEqual B.cmp B.is_clone
+        → AreClonesEqual C.cmp C.is_clone
         → AreClonesEqual ⟦<(A, B, C) as Ord>⟧.cmp ⟦<(A, B, C) as Clone>⟧.is_clone }
 {}
 
 /// Pairs whose keys are of such a type, whatever their values are.
 pub fn pairs<K: Ord + Clone, V: Clone>()
     ensures pair { AreClonesEqual K.cmp K.is_clone
-        → AreClonesEqual {T = Pair K V} (by_key K.cmp) (λ p q. K.is_clone p.key q.key × V.is_clone p.value q.value) }
+        → AreClonesEqual {T = Pair K V} (by_key K.cmp)
+        (λ p q. K.is_clone p.key q.key × V.is_clone p.value q.value) }
     ensures numbered { AreClonesEqual K.cmp K.is_clone
-        → AreClonesEqual {T = MultiPair K V} (by_number K.cmp) (λ p q. K.is_clone p.key q.key × (V.is_clone p.value q.value × (q.discriminator ≡ p.discriminator))) }
+        → AreClonesEqual {T = MultiPair K V} (by_number K.cmp)
+        (λ p q. K.is_clone p.key q.key × (V.is_clone p.value q.value
+        × (q.discriminator ≡ p.discriminator))) }
 {}

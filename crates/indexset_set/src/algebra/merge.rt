@@ -36,9 +36,11 @@ impl<'a, T: Ord> Model for Merge<'a, T> {
 
     ghost use Rattle.indexset_set.specs.Merge.{merged};
 
-    ghost view = { λ m. merged T.cmp (cons_option (option_copied m.next_left) m.left) (cons_option (option_copied m.next_right) m.right) };
+    ghost view = { λ m. merged T.cmp (cons_option (option_copied m.next_left) m.left)
+        (cons_option (option_copied m.next_right) m.right) };
 
-    ghost invariant = { λ m. IfNone m.next_left (m.left ≡ []) × IfNone m.next_right (m.right ≡ []) };
+    ghost invariant = { λ m. IfNone m.next_left (m.left ≡ [])
+        × IfNone m.next_right (m.right ≡ []) };
 }
 
 impl<'a, T: Ord> Merge<'a, T> {

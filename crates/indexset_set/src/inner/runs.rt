@@ -17,15 +17,20 @@ pub fn join_run<T: Ord + Drop>(
 ) -> Result<Option<T>, Refused<T>>
     requires order { IsAscending T.cmp (items set.old ++ run.old.items) }
     ensures order { OnOk result (IsAscending T.cmp (items set.new ++ run.new.items)) }
-    ensures items { IfOk result (λ back. back ≡ None → items set.new ++ run.new.items ≡ items set.old ++ (run.old.items ++ value ∷ [])) }
-    ensures nodes { IfOk result (λ back. back ≡ None → with_all_last set.old.size set.new.nodes run.new.items ≡ with_all_last set.old.size set.old.nodes (run.old.items ++ value ∷ [])) }
+    ensures items { IfOk result (λ back. back ≡ None
+        → items set.new ++ run.new.items ≡ items set.old ++ (run.old.items ++ value ∷ [])) }
+    ensures nodes { IfOk result (λ back. back ≡ None
+        → with_all_last set.old.size set.new.nodes run.new.items
+        ≡ with_all_last set.old.size set.old.nodes (run.old.items ++ value ∷ [])) }
     ensures back { IfOk result (λ back. IfSome back (λ v. v ≡ value)) }
     ensures emptied { IfOk result (λ back. IfSome back (λ _. run.new.items ≡ [])) }
-    ensures moved { IfOk result (λ back. IfSome back (λ _. set.new.nodes ≡ with_all_last set.old.size set.old.nodes run.old.items)) }
+    ensures moved { IfOk result (λ back. IfSome back
+        (λ _. set.new.nodes ≡ with_all_last set.old.size set.old.nodes run.old.items)) }
     ensures size { set.new.size ≡ set.old.size }
     ensures given_back { IfErr result (λ e. (e.value ≡ value) × (e.cause ≡ Refusal.Memory)) }
     ensures err { OnErr result (items set.new ++ run.new.items ≡ items set.old ++ run.old.items) }
-    ensures err_nodes { OnErr result (with_all_last set.old.size set.new.nodes run.new.items ≡ with_all_last set.old.size set.old.nodes run.old.items) }
+    ensures err_nodes { OnErr result (with_all_last set.old.size set.new.nodes run.new.items
+        ≡ with_all_last set.old.size set.old.nodes run.old.items) }
 {
     let _count = set.node_count();
     let joins = is_above(set, run.as_slice(), &value);
@@ -51,7 +56,8 @@ fn ready_run<T: Ord + Drop>(
 ) -> Result<(), Refusal>
     requires order { IsAscending T.cmp (items set.old ++ run.old.items) }
     ensures items { items set.new ++ run.new.items ≡ items set.old ++ run.old.items }
-    ensures nodes { with_all_last set.old.size set.new.nodes run.new.items ≡ with_all_last set.old.size set.old.nodes run.old.items }
+    ensures nodes { with_all_last set.old.size set.new.nodes run.new.items
+        ≡ with_all_last set.old.size set.old.nodes run.old.items }
     ensures room { OnOk result (joins ≡ true → vec_len run.new < vec_capacity run.new) }
     ensures emptied { OnOk result (joins ≡ false → run.new.items ≡ []) }
     ensures size { set.new.size ≡ set.old.size }
@@ -70,7 +76,8 @@ fn ready_run<T: Ord + Drop>(
 pub fn take_run<T: Ord + Drop>(set: &mut BTreeSet<T>, run: &mut Vec<T>) -> Result<(), Refusal>
     requires order { IsAscending T.cmp (items set.old ++ run.old.items) }
     ensures items { items set.new ++ run.new.items ≡ items set.old ++ run.old.items }
-    ensures nodes { with_all_last set.old.size set.new.nodes run.new.items ≡ with_all_last set.old.size set.old.nodes run.old.items }
+    ensures nodes { with_all_last set.old.size set.new.nodes run.new.items
+        ≡ with_all_last set.old.size set.old.nodes run.old.items }
     ensures emptied { OnOk result (run.new.items ≡ []) }
     ensures size { set.new.size ≡ set.old.size }
     ensures refusal { IfErr result (λ e. e ≡ Refusal.Memory) }
@@ -84,7 +91,8 @@ pub fn take_run<T: Ord + Drop>(set: &mut BTreeSet<T>, run: &mut Vec<T>) -> Resul
 fn take_full_run<T: Ord + Drop>(set: &mut BTreeSet<T>, run: &mut Vec<T>) -> Result<(), Refusal>
     requires order { IsAscending T.cmp (items set.old ++ run.old.items) }
     ensures items { items set.new ++ run.new.items ≡ items set.old ++ run.old.items }
-    ensures nodes { with_all_last set.old.size set.new.nodes run.new.items ≡ with_all_last set.old.size set.old.nodes run.old.items }
+    ensures nodes { with_all_last set.old.size set.new.nodes run.new.items
+        ≡ with_all_last set.old.size set.old.nodes run.old.items }
     ensures size { set.new.size ≡ set.old.size }
     ensures refusal { IfErr result (λ e. e ≡ Refusal.Memory) }
 {

@@ -23,7 +23,8 @@ pub fn spot_by<T: Ord, P: Probe<T>>(set: &BTreeSet<T>, probe: &mut P) -> Spot
     ensures cut { IsCut (node_lengths set.now.nodes) set.now.size }
     ensures ascending { IsAscending T.cmp (items set.now) }
     ensures fixed { P.answer probe.new ≡ P.answer probe.old }
-    ensures few { P.asked probe.new ≤ P.asked probe.old + (digits (length set.now.nodes) + digits set.now.size + 1) }
+    ensures few { P.asked probe.new ≤ P.asked probe.old
+        + (digits (length set.now.nodes) + digits set.now.size + 1) }
 {
     // A spine says here how long its nodes are.
     let _count = set.spine.node_count();
@@ -38,7 +39,8 @@ pub fn spot_from_end_by<T: Ord, P: Probe<T>>(set: &BTreeSet<T>, probe: &mut P) -
     ensures cut { IsCut (node_lengths set.now.nodes) set.now.size }
     ensures ascending { IsAscending T.cmp (items set.now) }
     ensures fixed { P.answer probe.new ≡ P.answer probe.old }
-    ensures few { P.asked probe.new ≤ P.asked probe.old + (digits (length set.now.nodes) + digits set.now.size + 2) }
+    ensures few { P.asked probe.new ≤ P.asked probe.old
+        + (digits (length set.now.nodes) + digits set.now.size + 2) }
 {
     // As in `spot_by`.
     let _count = set.spine.node_count();
@@ -47,14 +49,17 @@ pub fn spot_from_end_by<T: Ord, P: Probe<T>>(set: &BTreeSet<T>, probe: &mut P) -
 
 /// Returns the spot of the least element, or `None` where there is none.
 pub fn first_spot<T: Ord>(set: &BTreeSet<T>) -> Option<Spot>
-    ensures { MatchOption result (length (items set.now) ≡ 0) (λ s. IsItemSpot set.now.nodes s × (position_of set.now.nodes s ≡ 0) × IsTrue s.found) }
+    ensures { MatchOption result (length (items set.now) ≡ 0)
+        (λ s. IsItemSpot set.now.nodes s × (position_of set.now.nodes s ≡ 0) × IsTrue s.found) }
 {
     set.spine.first_spot()
 }
 
 /// Returns the spot of the greatest element, or `None` where there is none.
 pub fn last_spot<T: Ord>(set: &BTreeSet<T>) -> Option<Spot>
-    ensures { MatchOption result (length (items set.now) ≡ 0) (λ s. IsItemSpot set.now.nodes s × (position_of set.now.nodes s ≡ length (items set.now) - 1) × IsTrue s.found) }
+    ensures { MatchOption result (length (items set.now) ≡ 0)
+        (λ s. IsItemSpot set.now.nodes s × (position_of set.now.nodes s
+        ≡ length (items set.now) - 1) × IsTrue s.found) }
 {
     set.spine.last_spot()
 }
@@ -64,7 +69,8 @@ pub fn last_spot<T: Ord>(set: &BTreeSet<T>) -> Option<Spot>
 pub fn start_of<T: Ord, P: Probe<T> + Drop>(set: &BTreeSet<T>, start: Bound<P>) -> Spot
     requires { IfBounded (λ p. FindsInOrder (P.answer p) (items set.now)) start }
     ensures spot { IsSpot set.now.nodes result }
-    ensures position { position_of set.now.nodes result ≡ count_by (is_before (λ x p. P.answer p x) start) (items set.now) }
+    ensures position { position_of set.now.nodes result
+        ≡ count_by (is_before (λ x p. P.answer p x) start) (items set.now) }
 {
     set.spine.start_of(start)
 }
@@ -107,9 +113,12 @@ pub fn insert_at<T: Ord + Drop>(
 ) -> Result<Spot, Refused<T>>
     requires spot { IsSpot set.old.nodes spot }
     requires gap { IsGapFor T.cmp (items set.old) value (position_of set.old.nodes spot) }
-    ensures nodes { OnOk result (set.new.nodes ≡ with_inserted set.old.size set.old.nodes spot value) }
-    ensures items { OnOk result (items set.new ≡ insert (items set.old) (position_of set.old.nodes spot) value) }
-    ensures stands { IfOk result (λ to. IsItemSpot set.new.nodes to × (position_of set.new.nodes to ≡ position_of set.old.nodes spot) × IsTrue to.found) }
+    ensures nodes { OnOk result (set.new.nodes
+        ≡ with_inserted set.old.size set.old.nodes spot value) }
+    ensures items { OnOk result (items set.new
+        ≡ insert (items set.old) (position_of set.old.nodes spot) value) }
+    ensures stands { IfOk result (λ to. IsItemSpot set.new.nodes to
+        × (position_of set.new.nodes to ≡ position_of set.old.nodes spot) × IsTrue to.found) }
     ensures size { set.new.size ≡ set.old.size }
     ensures given_back { IfErr result (λ e. (e.value ≡ value) × (e.cause ≡ Refusal.Memory)) }
     ensures unchanged { OnErr result (set.new ≡ set.old) }

@@ -17,12 +17,14 @@ ghost use Rattle.indexset_set.specs.SetWalks.{Pulls, given_at_back, given_in_fro
 /// Over any turns from either end, what an iterator gave in front, what it has left, and what it
 /// gave at the back are its list: it gives each item once.
 pub fn a_walk_gives_each_item_once<T>()
-    ensures { (ends : List Bool) (s t : List T) (rs : List (Option _)) → Pulls deref ends s rs t → s ≡ given_in_front deref ends rs ++ (t ++ given_at_back deref ends rs) }
+    ensures { (ends : List Bool) (s t : List T) (rs : List (Option _)) → Pulls deref ends s rs t
+        → s ≡ given_in_front deref ends rs ++ (t ++ given_at_back deref ends rs) }
 {}
 
 /// Each turn leaves one item less, until none is left.
 pub fn a_walk_ends<T>()
-    ensures { (ends : List Bool) (s t : List T) (rs : List (Option _)) → Pulls deref ends s rs t → length t ≡ length s - length ends }
+    ensures { (ends : List Bool) (s t : List T) (rs : List (Option _)) → Pulls deref ends s rs t
+        → length t ≡ length s - length ends }
 {}
 
 /// With nothing remaining, either end returns `None`.
@@ -33,43 +35,62 @@ pub fn a_walk_stays_at_its_end<T>()
 
 /// The part between two positions is the elements at the positions that satisfy both bounds.
 pub fn positions_satisfy_both_bounds<T>()
-    ensures { (l : List T) (start end : Bound ℕ) → in_positions l start end ≡ map (λ p. p.1) (filter (λ p. is_at_position start end p.0) (enumerate_from 0 l)) }
+    ensures { (l : List T) (start end : Bound ℕ)
+        → in_positions l start end ≡ map (λ p. p.1)
+        (filter (λ p. is_at_position start end p.0) (enumerate_from 0 l)) }
 {}
 
 /// A cut at a value leaves what is below it, and removes the others: nothing is lost.
 pub fn a_cut_parts_the_list<T>()
-    ensures parts { (cmp : T → T → Ordering) (l : List T) → IsTotalOrder cmp → IsAscending cmp l → (v : T) → below cmp l v ++ not_below cmp l v ≡ l }
-    ensures below { (cmp : T → T → Ordering) (l : List T) (v : T) → All (λ x. is_lt (cmp x v) ≡ true) (below cmp l v) }
-    ensures others { (cmp : T → T → Ordering) (l : List T) (v : T) → All (λ x. is_lt (cmp x v) ≡ false) (not_below cmp l v) }
+    ensures parts { (cmp : T → T → Ordering) (l : List T) → IsTotalOrder cmp → IsAscending cmp l
+        → (v : T) → below cmp l v ++ not_below cmp l v ≡ l }
+    ensures below { (cmp : T → T → Ordering) (l : List T) (v : T)
+        → All (λ x. is_lt (cmp x v) ≡ true) (below cmp l v) }
+    ensures others { (cmp : T → T → Ordering) (l : List T) (v : T)
+        → All (λ x. is_lt (cmp x v) ≡ false) (not_below cmp l v) }
 {}
 
 /// A union ascends, has an equal one of each element of either list and of nothing else, and of equal
 /// ones the first list's.
 pub fn a_union_has_the_elements_of_either<T>()
-    ensures ascending { (cmp : T → T → Ordering) (l r : List T) → IsTotalOrder cmp → IsAscending cmp l → IsAscending cmp (union cmp l r) }
-    ensures members { (cmp : T → T → Ordering) (l r : List T) → IsTotalOrder cmp → IsAscending cmp l → (x : T) → has_equal cmp (union cmp l r) x ≡ (has_equal cmp l x || has_equal cmp r x) }
-    ensures from_either { (cmp : T → T → Ordering) (l r : List T) → IsTotalOrder cmp → IsAscending cmp l → (x : T) → Contains (union cmp l r) x → Contains l x ⊎ (Contains r x × (has_equal cmp l x ≡ false)) }
+    ensures ascending { (cmp : T → T → Ordering) (l r : List T) → IsTotalOrder cmp
+        → IsAscending cmp l → IsAscending cmp (union cmp l r) }
+    ensures members { (cmp : T → T → Ordering) (l r : List T) → IsTotalOrder cmp → IsAscending cmp l
+        → (x : T) → has_equal cmp (union cmp l r) x ≡ (has_equal cmp l x || has_equal cmp r x) }
+    ensures from_either { (cmp : T → T → Ordering) (l r : List T) → IsTotalOrder cmp
+        → IsAscending cmp l → (x : T) → Contains (union cmp l r) x
+        → Contains l x ⊎ (Contains r x × (has_equal cmp l x ≡ false)) }
 {}
 
 /// An intersection ascends, and has an equal one of what both lists have.
 pub fn an_intersection_has_what_both_have<T>()
-    ensures ascending { (cmp : T → T → Ordering) (l r : List T) → IsAscending cmp l → IsAscending cmp (intersection cmp l r) }
-    ensures members { (cmp : T → T → Ordering) (l r : List T) → IsTotalOrder cmp → (x : T) → has_equal cmp (intersection cmp l r) x ≡ (has_equal cmp l x && has_equal cmp r x) }
+    ensures ascending { (cmp : T → T → Ordering) (l r : List T) → IsAscending cmp l
+        → IsAscending cmp (intersection cmp l r) }
+    ensures members { (cmp : T → T → Ordering) (l r : List T) → IsTotalOrder cmp → (x : T)
+        → has_equal cmp (intersection cmp l r) x ≡ (has_equal cmp l x && has_equal cmp r x) }
 {}
 
 /// A difference ascends, and has an equal one of what the first list has alone.
 pub fn a_difference_has_what_the_first_has_alone<T>()
-    ensures ascending { (cmp : T → T → Ordering) (l r : List T) → IsAscending cmp l → IsAscending cmp (difference cmp l r) }
-    ensures members { (cmp : T → T → Ordering) (l r : List T) → IsTotalOrder cmp → (x : T) → has_equal cmp (difference cmp l r) x ≡ (has_equal cmp l x && not (has_equal cmp r x)) }
+    ensures ascending { (cmp : T → T → Ordering) (l r : List T) → IsAscending cmp l
+        → IsAscending cmp (difference cmp l r) }
+    ensures members { (cmp : T → T → Ordering) (l r : List T) → IsTotalOrder cmp → (x : T)
+        → has_equal cmp (difference cmp l r) x ≡ (has_equal cmp l x && not (has_equal cmp r x)) }
 {}
 
 /// A symmetric difference ascends, and has an equal one of what either list has alone.
 pub fn a_symmetric_difference_has_what_either_has_alone<T>()
-    ensures ascending { (cmp : T → T → Ordering) (l r : List T) → IsTotalOrder cmp → IsAscending cmp l → IsAscending cmp (symmetric_difference cmp l r) }
-    ensures members { (cmp : T → T → Ordering) (l r : List T) → IsTotalOrder cmp → IsAscending cmp l → (x : T) → has_equal cmp (symmetric_difference cmp l r) x ≡ ((has_equal cmp l x && not (has_equal cmp r x)) || (has_equal cmp r x && not (has_equal cmp l x))) }
+    ensures ascending { (cmp : T → T → Ordering) (l r : List T) → IsTotalOrder cmp
+        → IsAscending cmp l → IsAscending cmp (symmetric_difference cmp l r) }
+    ensures members { (cmp : T → T → Ordering) (l r : List T) → IsTotalOrder cmp → IsAscending cmp l
+        → (x : T) → has_equal cmp (symmetric_difference cmp l r) x
+        ≡ ((has_equal cmp l x && not (has_equal cmp r x)) ||
+        (has_equal cmp r x && not (has_equal cmp l x))) }
 {}
 
 /// A union is as long as both lists, less what they have in common.
 pub fn lengths_of_union_and_intersection<T>()
-    ensures { (cmp : T → T → Ordering) (l r : List T) → IsTotalOrder cmp → IsAscending cmp l → IsAscending cmp r → length (union cmp l r) + length (intersection cmp l r) ≡ length l + length r }
+    ensures { (cmp : T → T → Ordering) (l r : List T) → IsTotalOrder cmp → IsAscending cmp l
+        → IsAscending cmp r → length (union cmp l r) + length (intersection cmp l r)
+        ≡ length l + length r }
 {}

@@ -12,10 +12,12 @@ pub fn lowbit_is_the_lowest_one()
 
 /// A cell ends the sum that begins without its lowest one bit.
 pub fn cells_add_up()
-    ensures { (lengths : List ℕ) (i : ℕ) → prefix_sum lengths (i - lowbit i) + cell_of lengths i ≡ prefix_sum lengths i }
+    ensures { (lengths : List ℕ) (i : ℕ) → prefix_sum lengths (i - lowbit i) + cell_of lengths i
+        ≡ prefix_sum lengths i }
 {}
 
 /// The cells determine the lengths.
 pub fn cells_tell_lengths()
-    ensures { (cells lengths : List ℕ) → IsFenwickOf (cell_in cells) (length cells) lengths → lengths_of cells ≡ lengths }
+    ensures { (cells lengths : List ℕ) → IsFenwickOf (cell_in cells) (length cells) lengths
+        → lengths_of cells ≡ lengths }
 {}

@@ -29,7 +29,9 @@ pub fn prefix_in<C: Cells>(cells: &mut C, k: usize) -> usize
 pub fn find_in<C: Cells>(cells: &mut C, position: usize) -> Option<(usize, usize)>
     ghost lengths: { List ℕ }
     requires cells { IsFenwickOf (C.cell cells.old) (C.number cells.old) lengths }
-    ensures found { MatchOption result (sum lengths ≤ position) (λ p. (p.0 < length lengths) × (p.1 < slice_index lengths p.0) × (prefix_sum lengths p.0 + p.1 ≡ position)) }
+    ensures found { MatchOption result (sum lengths ≤ position)
+        (λ p. (p.0 < length lengths) × (p.1 < slice_index lengths p.0)
+        × (prefix_sum lengths p.0 + p.1 ≡ position)) }
     ensures fixed { C.cell cells.new ≡ C.cell cells.old }
     ensures stays { C.number cells.new ≡ C.number cells.old }
     ensures few { C.asked cells.new ≤ C.asked cells.old + digits (C.number cells.old) }

@@ -24,7 +24,8 @@ pub(super) fn raise(cells: &mut [usize], i: usize, n: usize)
     requires inside { i < length cells.old }
     requires fits { sum (lengths_of cells.old) + n < 2 ^ 64 }
     ensures cells { IsFenwick cells.new }
-    ensures lengths { lengths_of cells.new ≡ slice_set (lengths_of cells.old) i (slice_index (lengths_of cells.old) i + n) }
+    ensures lengths { lengths_of cells.new
+        ≡ slice_set (lengths_of cells.old) i (slice_index (lengths_of cells.old) i + n) }
 {
     let mut j = i + 1;
     while j <= cells.len() {
@@ -39,7 +40,8 @@ pub(super) fn lower(cells: &mut [usize], i: usize, n: usize)
     requires inside { i < length cells.old }
     requires enough { n ≤ slice_index (lengths_of cells.old) i }
     ensures cells { IsFenwick cells.new }
-    ensures lengths { lengths_of cells.new ≡ slice_set (lengths_of cells.old) i (slice_index (lengths_of cells.old) i - n) }
+    ensures lengths { lengths_of cells.new
+        ≡ slice_set (lengths_of cells.old) i (slice_index (lengths_of cells.old) i - n) }
 {
     let mut j = i + 1;
     while j <= cells.len() {

@@ -15,13 +15,15 @@ impl<T: Drop> Spine<T> {
     /// Moves the items of another spine behind those of this one, as `append_items` does, and leaves the
     /// other one empty node.
     pub fn append(&mut self, other: &mut Spine<T>) -> Result<(), Refusal>
-        ensures nodes { OnOk result (self.new.nodes ≡ with_all_last self.old.size self.old.nodes (items other.old)) }
+        ensures nodes { OnOk result (self.new.nodes
+            ≡ with_all_last self.old.size self.old.nodes (items other.old)) }
         ensures items { items self.new ++ items other.new ≡ items self.old ++ items other.old }
         ensures emptied { OnOk result (other.new.nodes ≡ [] ∷ []) }
         ensures size { self.new.size ≡ self.old.size }
         ensures other_size { other.new.size ≡ other.old.size }
         ensures refusal { IfErr result (λ e. e ≡ Refusal.Memory) }
-        ensures moved { TakesSome (with_last self.old.size) self.old.nodes (items other.old) self.new.nodes (items other.new) }
+        ensures moved { TakesSome (with_last self.old.size) self.old.nodes (items other.old)
+            self.new.nodes (items other.new) }
         ensures some_left { OnErr result (0 < length (items other.new)) }
     {
         let _count = self.node_count();
@@ -38,12 +40,14 @@ impl<T: Drop> Spine<T> {
     /// full node is halved. They move by blocks, as many at once as the last node has room for. A
     /// failed call has moved some first items so, and leaves the others.
     pub fn append_items(&mut self, from: &mut Vec<T>) -> Result<(), Refusal>
-        ensures nodes { OnOk result (self.new.nodes ≡ with_all_last self.old.size self.old.nodes from.old.items) }
+        ensures nodes { OnOk result (self.new.nodes
+            ≡ with_all_last self.old.size self.old.nodes from.old.items) }
         ensures items { items self.new ++ from.new.items ≡ items self.old ++ from.old.items }
         ensures emptied { OnOk result (from.new.items ≡ []) }
         ensures size { self.new.size ≡ self.old.size }
         ensures refusal { IfErr result (λ e. e ≡ Refusal.Memory) }
-        ensures moved { TakesSome (with_last self.old.size) self.old.nodes from.old.items self.new.nodes from.new.items }
+        ensures moved { TakesSome (with_last self.old.size) self.old.nodes from.old.items
+            self.new.nodes from.new.items }
         ensures some_left { OnErr result (0 < length from.new.items) }
     {
         let _count = self.node_count();
@@ -57,7 +61,8 @@ impl<T: Drop> Spine<T> {
     // was full. A failed call changes neither.
     fn append_block(&mut self, from: &mut Vec<T>) -> Result<(), Refusal>
         requires { 0 < length from.old.items }
-        ensures moved { TakesSome (with_last self.old.size) self.old.nodes from.old.items self.new.nodes from.new.items }
+        ensures moved { TakesSome (with_last self.old.size) self.old.nodes from.old.items
+            self.new.nodes from.new.items }
         ensures fewer { OnOk result (length from.new.items < length from.old.items) }
         ensures size { self.new.size ≡ self.old.size }
         ensures refusal { IfErr result (λ e. e ≡ Refusal.Memory) }
@@ -83,11 +88,13 @@ impl<T: Drop> Spine<T> {
 // Moves the items of nodes behind those of a spine, first to last, and leaves each node that it
 // moved empty. A failed call has moved some first items so.
 fn move_nodes<T: Drop>(spine: &mut Spine<T>, from: &mut Vec<Vec<T>>) -> Result<(), Refusal>
-    ensures moved { TakesSome (with_last spine.old.size) spine.old.nodes (joined (vec_items from.old.items)) spine.new.nodes (joined (vec_items from.new.items)) }
+    ensures moved { TakesSome (with_last spine.old.size) spine.old.nodes
+        (joined (vec_items from.old.items)) spine.new.nodes (joined (vec_items from.new.items)) }
     ensures emptied { OnOk result (joined (vec_items from.new.items) ≡ []) }
     ensures size { spine.new.size ≡ spine.old.size }
     ensures as_many { length from.new.items ≡ length from.old.items }
-    ensures bounded { (n : ℕ) → All (λ l. l ≤ n) (node_lengths (vec_items from.old.items)) → All (λ l. l ≤ n) (node_lengths (vec_items from.new.items)) }
+    ensures bounded { (n : ℕ) → All (λ l. l ≤ n) (node_lengths (vec_items from.old.items))
+        → All (λ l. l ≤ n) (node_lengths (vec_items from.new.items)) }
     ensures refusal { IfErr result (λ e. e ≡ Refusal.Memory) }
     ensures some_left { OnErr result (0 < length (joined (vec_items from.new.items))) }
 {

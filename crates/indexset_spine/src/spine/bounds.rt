@@ -15,7 +15,8 @@ impl<T> Spine<T> {
     pub fn start_of<P: Probe<T> + Drop>(&self, start: Bound<P>) -> Spot
         requires { IfBounded (λ p. IsParted (P.answer p) (items self.now)) start }
         ensures spot { IsSpot self.now.nodes result }
-        ensures position { position_of self.now.nodes result ≡ count_by (is_before (λ x p. P.answer p x) start) (items self.now) }
+        ensures position { position_of self.now.nodes result
+            ≡ count_by (is_before (λ x p. P.answer p x) start) (items self.now) }
     {
         match start {
             Bound::Included(mut probe) => self.locate_by(&mut probe),
@@ -28,7 +29,8 @@ impl<T> Spine<T> {
     pub fn end_of<P: Probe<T> + Drop>(&self, end: Bound<P>) -> Spot
         requires { IfBounded (λ p. IsParted (P.answer p) (items self.now)) end }
         ensures spot { IsSpot self.now.nodes result }
-        ensures position { position_of self.now.nodes result ≡ count_by (is_up_to_end (λ x p. P.answer p x) end) (items self.now) }
+        ensures position { position_of self.now.nodes result
+            ≡ count_by (is_up_to_end (λ x p. P.answer p x) end) (items self.now) }
     {
         match end {
             Bound::Included(probe) => self.locate_by(&mut Past::new(probe)),

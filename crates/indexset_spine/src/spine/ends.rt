@@ -8,7 +8,9 @@ use crate::spot::Spot;
 impl<T> Spine<T> {
     /// Returns the spot of the first item, or `None` where there is none.
     pub fn first_spot(&self) -> Option<Spot>
-        ensures { MatchOption result (length (items self.now) ≡ 0) (λ s. IsItemSpot self.now.nodes s × (position_of self.now.nodes s ≡ 0) × IsTrue s.found) }
+        ensures { MatchOption result (length (items self.now) ≡ 0)
+            (λ s. IsItemSpot self.now.nodes s × (position_of self.now.nodes s ≡ 0)
+            × IsTrue s.found) }
     {
         if self.len == 0 {
             return None;
@@ -22,7 +24,9 @@ impl<T> Spine<T> {
 
     /// Returns the spot of the last item, or `None` where there is none.
     pub fn last_spot(&self) -> Option<Spot>
-        ensures { MatchOption result (length (items self.now) ≡ 0) (λ s. IsItemSpot self.now.nodes s × (position_of self.now.nodes s ≡ length (items self.now) - 1) × IsTrue s.found) }
+        ensures { MatchOption result (length (items self.now) ≡ 0)
+            (λ s. IsItemSpot self.now.nodes s
+            × (position_of self.now.nodes s ≡ length (items self.now) - 1) × IsTrue s.found) }
     {
         if self.len == 0 {
             return None;

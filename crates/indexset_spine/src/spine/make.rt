@@ -68,9 +68,12 @@ impl<T: Drop> Spine<T> {
 
 // Nodes of clones of the items of these.
 fn clone_nodes<T: Clone + Drop>(alloc: Global, nodes: &[Vec<T>]) -> Result<Vec<Vec<T>>, Refusal>
-    ensures cloned { IfOk result (λ copies. AllZip (AllZip T.is_clone) (vec_items nodes.now) (vec_items copies.items)) }
-    ensures lengths { IfOk result (λ copies. node_lengths (vec_items copies.items) ≡ node_lengths (vec_items nodes.now)) }
-    ensures nodes { ((x y : T) → T.is_clone x y → y ≡ x) → IfOk result (λ copies. vec_items copies.items ≡ vec_items nodes.now) }
+    ensures cloned { IfOk result (λ copies. AllZip (AllZip T.is_clone) (vec_items nodes.now)
+        (vec_items copies.items)) }
+    ensures lengths { IfOk result (λ copies. node_lengths (vec_items copies.items)
+        ≡ node_lengths (vec_items nodes.now)) }
+    ensures nodes { ((x y : T) → T.is_clone x y → y ≡ x)
+        → IfOk result (λ copies. vec_items copies.items ≡ vec_items nodes.now) }
     ensures refusal { IfErr result (λ e. e ≡ Refusal.Memory) }
 {
     let mut copies = Vec::with_capacity(alloc, nodes.len())?;

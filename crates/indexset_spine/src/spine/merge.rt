@@ -23,7 +23,9 @@ impl<T: Ord + Drop> Spine<T> {
     pub fn count_inside(&self, spot: &Spot, other: &Spine<T>) -> usize
         requires spot { IsSpot self.now.nodes spot.now }
         requires order { IsAscending T.cmp (items other.now) }
-        ensures below { All (λ x. HoldsAt (λ l. T.cmp x l ≡ Less) (node_at self.now.nodes spot.now.node) (length (node_at self.now.nodes spot.now.node) - 1)) (take result (items other.now)) }
+        ensures below { All (λ x. HoldsAt (λ l. T.cmp x l ≡ Less)
+            (node_at self.now.nodes spot.now.node)
+            (length (node_at self.now.nodes spot.now.node) - 1)) (take result (items other.now)) }
         ensures room { length (node_at self.now.nodes spot.now.node) + result ≤ self.now.size }
         ensures within { result ≤ length (node_at other.now.nodes 0) }
     {
@@ -51,7 +53,9 @@ impl<T: Ord + Drop> Spine<T> {
         requires within { count ≤ length (node_at other.old.nodes 0) }
         requires order { IsAscending T.cmp (items self.old) }
         requires other_order { IsAscending T.cmp (items other.old) }
-        ensures nodes { OnOk result (self.new.nodes ≡ slice_set self.old.nodes node (fold (put T.cmp) (node_at self.old.nodes node) (take count (items other.old)))) }
+        ensures nodes { OnOk result (self.new.nodes
+            ≡ slice_set self.old.nodes node
+            (fold (put T.cmp) (node_at self.old.nodes node) (take count (items other.old)))) }
         ensures rest { OnOk result (items other.new ≡ drop count (items other.old)) }
         ensures size { self.new.size ≡ self.old.size }
         ensures other_size { other.new.size ≡ other.old.size }

@@ -41,7 +41,8 @@ impl<T> Spine<T> {
         requires start { IsSpot self.now.nodes start.now }
         requires end { IsSpot self.now.nodes end.now }
         requires order { position_of self.now.nodes start.now ≤ position_of self.now.nodes end.now }
-        ensures rest { result ≡ between (position_of self.now.nodes start.now) (position_of self.now.nodes end.now) (items self.now) }
+        ensures rest { result ≡ between (position_of self.now.nodes start.now)
+            (position_of self.now.nodes end.now) (items self.now) }
         ensures runs { ShowsInOrder (deref {X = T}) }
         ensures runs_back { ShowsInReverse (deref {X = T}) }
     {

@@ -28,7 +28,8 @@ impl<T: Drop> Spine<T> {
         requires { IsItemSpot self.old.nodes spot }
         ensures value { slice_get (items self.old) (position_of self.old.nodes spot) ≡ Some result }
         ensures nodes { self.new.nodes ≡ with_replaced self.old.nodes spot value }
-        ensures items { items self.new ≡ slice_set (items self.old) (position_of self.old.nodes spot) value }
+        ensures items { items self.new ≡ slice_set (items self.old)
+            (position_of self.old.nodes spot) value }
         ensures size { self.new.size ≡ self.old.size }
     {
         let node = &mut self.nodes[spot.node];
@@ -41,7 +42,8 @@ impl<T: Drop> Spine<T> {
 fn take_out<T: Drop>(nodes: &mut Vec<Vec<T>>, index: &mut Fenwick, spot: Spot) -> T
     requires spot { IsItemSpot (vec_items nodes.old.items) spot }
     requires index { index.old.lengths ≡ node_lengths (vec_items nodes.old.items) }
-    ensures value { slice_get (node_at (vec_items nodes.old.items) spot.node) spot.offset ≡ Some result }
+    ensures value { slice_get (node_at (vec_items nodes.old.items) spot.node) spot.offset
+        ≡ Some result }
     ensures nodes { vec_items nodes.new.items ≡ without_item (vec_items nodes.old.items) spot }
     ensures index { index.new.lengths ≡ node_lengths (vec_items nodes.new.items) }
 {

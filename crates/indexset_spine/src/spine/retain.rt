@@ -32,13 +32,15 @@ impl<T: Drop> Spine<T> {
 fn retain_nodes<T: Drop, F: FnMut(&mut T) -> bool>(nodes: &mut Vec<Vec<T>>, mut f: F)
     requires callable { F.IsAlwaysCallable f }
     requires some { 0 < length nodes.old.items }
-    ensures { RetainsNodes (CalledAtMut F.FnMut) f (vec_items nodes.old.items) (vec_items nodes.new.items) }
+    ensures { RetainsNodes (CalledAtMut F.FnMut) f (vec_items nodes.old.items)
+        (vec_items nodes.new.items) }
 {
     let alloc = *nodes.allocator();
     nodes.retain_mut(
         move |node|
             requires { F.IsAlwaysCallable f }
-            ensures kept { RetainsTo (CalledAtMut F.FnMut) f.entry node.old.items node.new.items f.exit }
+            ensures kept { RetainsTo (CalledAtMut F.FnMut) f.entry node.old.items node.new.items
+                f.exit }
             ensures callable { F.IsAlwaysCallable f.exit }
             ensures some { result ≡ not (length node.new.items == 0) }
         {

@@ -19,8 +19,10 @@ impl<T: Drop> Spine<T> {
         requires { IsSpot self.old.nodes spot }
         ensures nodes { OnOk result (self.new.nodes ≡ left_nodes self.old.nodes spot) }
         ensures rest_nodes { IfOk result (λ s. s.nodes ≡ right_nodes self.old.nodes spot) }
-        ensures left { OnOk result (items self.new ≡ take (position_of self.old.nodes spot) (items self.old)) }
-        ensures right { IfOk result (λ s. items s ≡ drop (position_of self.old.nodes spot) (items self.old)) }
+        ensures left { OnOk result (items self.new
+            ≡ take (position_of self.old.nodes spot) (items self.old)) }
+        ensures right { IfOk result (λ s. items s
+            ≡ drop (position_of self.old.nodes spot) (items self.old)) }
         ensures size { self.new.size ≡ self.old.size }
         ensures right_size { IfOk result (λ s. s.size ≡ self.old.size) }
         ensures refusal { IfErr result (λ e. e ≡ Refusal.Memory) }
@@ -47,8 +49,10 @@ impl<T: Drop> Spine<T> {
 // Removes the nodes from a spot on. A failed call changes nothing.
 fn split_nodes<T: Drop>(nodes: &mut Vec<Vec<T>>, spot: Spot) -> Result<Vec<Vec<T>>, Refusal>
     requires { IsSpot (vec_items nodes.old.items) spot }
-    ensures left { OnOk result (vec_items nodes.new.items ≡ left_nodes (vec_items nodes.old.items) spot) }
-    ensures right { IfOk result (λ rest. vec_items rest.items ≡ right_nodes (vec_items nodes.old.items) spot) }
+    ensures left { OnOk result (vec_items nodes.new.items
+        ≡ left_nodes (vec_items nodes.old.items) spot) }
+    ensures right { IfOk result (λ rest. vec_items rest.items
+        ≡ right_nodes (vec_items nodes.old.items) spot) }
     ensures refusal { IfErr result (λ e. e ≡ Refusal.Memory) }
     ensures unchanged { OnErr result (vec_items nodes.new.items ≡ vec_items nodes.old.items) }
 {
