@@ -13,6 +13,7 @@ import dataclasses
 import pathlib
 import re
 import sys
+import textwrap
 from collections.abc import Callable, Iterable, Iterator
 
 ROOT = pathlib.Path(__file__).resolve().parent.parent
@@ -99,8 +100,9 @@ def take_head(lines: list[str], at: int) -> list[str]:
         nested += depth(text)
         if not is_ghost and nested == 1 and text.endswith("{") and not CLAUSE.match(text.strip()):
             return taken + [text[:-1].rstrip()]
-        taken.append(text.removesuffix(";"))
+        taken.append(text)
         if nested == 0 and (text.endswith(";") or (is_ghost and text.endswith("}")) or text.endswith("} {}")):
+            taken[-1] = text.removesuffix(";")
             break
     return taken
 
@@ -112,18 +114,10 @@ def joined(lines: Iterable[str]) -> str:
 
 
 def head_and_clauses(lines: list[str]) -> tuple[str, list[str]]:
-    """The signature on one line, and each clause on a line."""
-    signature: list[str] = []
-    clauses: list[str] = []
-    for line in lines:
-        text = line.strip()
-        if CLAUSE.match(text):
-            clauses.append(re.sub(r"\} \{\}$", "}", text))
-        elif clauses:
-            clauses[-1] += " " + text
-        else:
-            signature.append(text)
-    return joined(signature), clauses
+    """The signature on one line, and the lines of the clauses, indented as in the source."""
+    first = next((at for at, line in enumerate(lines) if CLAUSE.match(line.strip())), len(lines))
+    clauses = [re.sub(r"\} \{\}$", "}", line) for line in lines[first:]]
+    return joined(lines[:first]), textwrap.dedent("\n".join(clauses)).splitlines()
 
 
 def doc_sentence(doc: list[str]) -> str:
@@ -159,7 +153,7 @@ def calls_of(text: str, free: Callable[[str], bool], public: set[str]) -> Iterat
         elif line == "}":
             owner = ""
         elif is_ghost_member(text) and owner_type(owner) in public:
-            yield Call(owner, doc_sentence(doc), "", [joined(take_head(lines, at))])
+            yield Call(owner, doc_sentence(doc), "", textwrap.dedent("\n".join(take_head(lines, at))).splitlines())
         elif is_call(line, owner, free, public):
             yield Call(owner, doc_sentence(doc), *head_and_clauses(take_head(lines, at)))
         elif text.startswith(("#[", "//")):
