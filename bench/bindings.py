@@ -4,18 +4,25 @@ some runs, with the loop over the operations, and without the end of what they m
 After `bindings/test.sh`:  PYTHONPATH=bindings/python/out python3 bench/bindings.py 1000 100000 1000000
 INDEXSET_BACKEND=ctypes has it go by ctypes.
 """
+from __future__ import annotations
+
 import argparse
+import importlib
 import random
 import time
 from collections import deque
+from collections.abc import Callable, Iterable, Iterator, Sequence
+from types import ModuleType
+from typing import Any
 
-import indexset
-import sortedcontainers
-
+indexset = importlib.import_module("indexset")
+sortedcontainers = importlib.import_module("sortedcontainers")
 SLICE = 100
+Row = tuple[str, float, int]  # its name, the cost of all its operations, and how many they are
+Rows = Callable[[ModuleType, Sequence[int], Sequence[int], Sequence[int], int], Iterator[Row]]
 
 
-def cost(call, *words):
+def cost(call: Callable[..., object], *words: object) -> float:
     start = time.thread_time()
     kept = call(*words)
     spent = time.thread_time() - start
@@ -23,7 +30,7 @@ def cost(call, *words):
     return spent
 
 
-def least(call, *words):
+def least(call: Callable[..., object], *words: object) -> float:
     """The same of what ends soon, the least of some runs in a row."""
     first = cost(call, *words)
     return min([first, *(cost(call, *words) for _ in range(20 if first < 0.001 else 0))])
@@ -32,22 +39,22 @@ def least(call, *words):
 # ---- loops over an operation
 
 
-def each(call, items):
+def each(call: Callable[[Any], object], items: Iterable[object]) -> None:
     for item in items:
         call(item)
 
 
-def contains(held, items):
+def contains(held: Any, items: Iterable[object]) -> None:
     for item in items:
         item in held
 
 
-def at(held, items):
+def at(held: Any, items: Iterable[object]) -> None:
     for item in items:
         held[item]
 
 
-def slices(held, items):
+def slices(held: Any, items: Iterable[int]) -> None:
     for item in items:
         held[item : item + SLICE]
 
@@ -55,42 +62,42 @@ def slices(held, items):
 # These two ask for the order at last, so that no change is left to make.
 
 
-def set_at(held, items):
+def set_at(held: Any, items: Iterable[object]) -> None:
     for item in items:
         held[item] = item
     next(iter(held))
 
 
-def delete(held, items):
+def delete(held: Any, items: Iterable[object]) -> None:
     for item in items:
         del held[item]
     next(iter(held), None)
 
 
-def first(held, items):
+def first(held: Any, items: Iterable[object]) -> None:
     for _ in items:
         next(iter(held))
 
 
-def ranges(held, items):
+def ranges(held: Any, items: Iterable[object]) -> None:
     for item in items:
         next(held.irange(item))
 
 
-def walk(held):
+def walk(held: Iterable[object]) -> None:
     for _ in held:
         pass
 
 
-def drain(iterable):
+def drain(iterable: Iterable[object]) -> None:
     deque(iterable, 0)
 
 
 # ---- rows
 
 
-def of_set(lib, keys, drawn, positions, some):
-    """The name of each row of a set with the cost of all its operations and how many they are."""
+def of_set(lib: ModuleType, keys: Sequence[int], drawn: Sequence[int], positions: Sequence[int], some: int) -> Iterator[Row]:
+    """The rows of a set."""
     held, count = lib.SortedSet(), len(keys)
     yield "add", cost(each, held.add, keys), count
     yield "in", cost(contains, held, drawn), count
@@ -108,7 +115,7 @@ def of_set(lib, keys, drawn, positions, some):
     yield "remove", cost(each, held.remove, drawn), count
 
 
-def of_dict(lib, keys, drawn, positions, some):
+def of_dict(lib: ModuleType, keys: Sequence[int], drawn: Sequence[int], positions: Sequence[int], some: int) -> Iterator[Row]:
     held, count = lib.SortedDict(), len(keys)
     yield "d[k] = v", cost(set_at, held, keys), count
     yield "d[k]", cost(at, held, drawn), count
@@ -118,17 +125,17 @@ def of_dict(lib, keys, drawn, positions, some):
     yield "del d[k]", cost(delete, held, drawn), count
 
 
-def of_text(lib, keys, drawn, positions, some):
-    keys, drawn = ([f"key {key}" for key in items] for items in (keys, drawn))
+def of_text(lib: ModuleType, keys: Sequence[int], drawn: Sequence[int], positions: Sequence[int], some: int) -> Iterator[Row]:
+    texts, sought = ([f"key {key}" for key in items] for items in (keys, drawn))
     held, count = lib.SortedDict(), len(keys)
-    yield "text: d[k] = v", cost(set_at, held, keys), count
-    yield "text: get", cost(each, held.get, drawn), count
-    yield "text: bisect_left", cost(each, held.bisect_left, drawn), count
+    yield "text: d[k] = v", cost(set_at, held, texts), count
+    yield "text: get", cost(each, held.get, sought), count
+    yield "text: bisect_left", cost(each, held.bisect_left, sought), count
     yield "text: list", least(list, held), count
-    yield "text: del d[k]", cost(delete, held, drawn), count
+    yield "text: del d[k]", cost(delete, held, sought), count
 
 
-def of_list(lib, keys, drawn, positions, some):
+def of_list(lib: ModuleType, keys: Sequence[int], drawn: Sequence[int], positions: Sequence[int], some: int) -> Iterator[Row]:
     held, count = lib.SortedList(), len(keys)
     yield "list: add", cost(each, held.add, keys), count
     yield "list: in", cost(contains, held, drawn), count
@@ -138,12 +145,12 @@ def of_list(lib, keys, drawn, positions, some):
     yield "list: remove", cost(each, held.remove, drawn), count
 
 
-def of_plain(lib, keys, drawn, positions, some):
+def of_plain(lib: ModuleType, keys: Sequence[int], drawn: Sequence[int], positions: Sequence[int], some: int) -> Iterator[Row]:
     """A dict beside both."""
     yield "in, of a dict", cost(contains, dict.fromkeys(keys), drawn), len(keys)
 
 
-def run(rows, lib, count):
+def run(rows: Rows, lib: ModuleType, count: int) -> Iterator[tuple[str, float]]:
     """Each row's name and its nanoseconds an operation."""
     rng = random.Random(count)
     keys = list({rng.getrandbits(63) - (1 << 62) for _ in range(count)})
@@ -153,20 +160,20 @@ def run(rows, lib, count):
         yield name, seconds / operations * 1e9
 
 
-def compare(rows, count, times):
+def compare(rows: Rows, count: int, times: int) -> None:
     """Prints each row, with the least costs of some runs."""
-    found = {}
+    found: dict[str, dict[ModuleType, list[float]]] = {}
     for _ in range(times):
         for lib in (indexset, sortedcontainers):
             for name, spent in run(rows, lib, count):
                 found.setdefault(name, {}).setdefault(lib, []).append(spent)
-    for name, spent in found.items():
-        ours, peer = (min(spent[lib]) for lib in (indexset, sortedcontainers))
+    for name, figures in found.items():
+        ours, peer = (min(figures[lib]) for lib in (indexset, sortedcontainers))
         ours, peer = (min(ours, peer),) * 2 if rows is of_plain else (ours, peer)
         print(f"{count}\t{name}\t{ours:.0f}\t{peer:.0f}", flush=True)
 
 
-def main():
+def main() -> None:
     words = argparse.ArgumentParser(description=__doc__, formatter_class=argparse.RawDescriptionHelpFormatter)
     words.add_argument("counts", type=int, nargs="+")
     words.add_argument("--times", type=int, help="how many runs; more where there are few keys")

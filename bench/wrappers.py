@@ -1,4 +1,7 @@
 """The tables of the C library beside pb_ds, and of the Python package beside sortedcontainers."""
+
+from __future__ import annotations
+
 import importlib.util
 import os
 import subprocess
@@ -10,24 +13,25 @@ from tables import table
 ROWS = {"insert": "insert", "contains": "contains", "rank": "rank", "at": "at", "remove": "remove"}
 OUT = build.TOP / "bindings"
 BACKENDS = {"extension": "the compiled module", "ctypes": "ctypes"}
+Cells = dict[tuple[int, str], str]  # by number of keys and row: our figure, the other's
 
 
-def read(text):
-    """The cells of what the C program printed, by number of keys and row: our figure, the other's."""
-    cells = {}
+def read(text: str) -> Cells:
+    """The cells of what the C program printed."""
+    cells: Cells = {}
     for line in text.splitlines()[1:]:
         keys, row, ours, other = line.split()
         cells[int(keys), row] = f"{ours}/{other}"
     return cells
 
 
-def read_python(text):
+def read_python(text: str) -> Cells:
     """The same of Python's; the rows stand in the order in which they were printed."""
     lines = [line.split("\t") for line in text.splitlines()[1:]]
     return {(int(keys), row): f"{ours}/{other}" for keys, row, ours, other in lines}
 
 
-def c_cells(keys):
+def c_cells(keys: list[str]) -> Cells:
     build.OUT.mkdir(exist_ok=True)
     made, library = build.OUT / "beside", OUT / "c/out/libindexset.a"
     built = library.exists() and build.ran("g++", "-O2", "-I", str(OUT / "c"), str(build.HERE / "beside.cpp"), str(library), "-o", str(made))
@@ -37,7 +41,7 @@ def c_cells(keys):
     return read(subprocess.run(["taskset", "-c", "0", made, *keys], check=True, capture_output=True, text=True).stdout)
 
 
-def python_cells(keys, backend):
+def python_cells(keys: list[str], backend: str) -> Cells | None:
     """None where the package is not built so."""
     package, library = OUT / "python/out", OUT / "c/out/libindexset.so"
     has_module = any((package / "indexset").glob("_fast*")) or backend == "ctypes"
@@ -49,14 +53,14 @@ def python_cells(keys, backend):
     return read_python(subprocess.run(words, env=where, check=True, capture_output=True, text=True).stdout)
 
 
-def of_python(found, keys):
+def of_python(found: dict[str, Cells], keys: list[int]) -> str:
     """The table of every row, with a column a backend and number of keys."""
     head = ["Ours/`sortedcontainers`", *(f"{name}, {k:,}" for name in found for k in keys)]
     rows = list(dict.fromkeys(row for cells in found.values() for _, row in cells))
     return table(head, [[f"`{row}`", *(cells.get((k, row), "–") for cells in found.values() for k in keys)] for row in rows])
 
 
-def of_wrappers(keys):
+def of_wrappers(keys: list[int]) -> str | None:
     """The two tables, or None where nothing can be measured."""
     words = [str(k) for k in keys]
     in_c = c_cells(words)
