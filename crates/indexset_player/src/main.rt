@@ -5,6 +5,8 @@
 //! what came: see [`Ending`].
 #![tactic(auto)]
 
+mod plain;
+
 use indexset_play::player::{Fault, Script};
 use std::env;
 use std::io::{self, ErrorKind};
@@ -36,7 +38,7 @@ impl Ending {
 
 // Plays a script on the subject that it names.
 fn play(script: &Script) -> Option<Result<bool, Fault>> {
-    match indexset_plain_play::play(script) {
+    match plain::play(script) {
         Some(played) => Some(played),
         None => indexset_log_play::play(script),
     }

@@ -1,7 +1,6 @@
 //! Subjects of the plain family: what its scripts call. Sets and maps stand here over numbers, letters, texts,
 //! items that are equal and differ, and items that own a block, beside what both families stand on: nodes of
 //! either type, the index of lengths and the list that is cut into nodes.
-#![tactic(auto)]
 
 mod entries;
 mod indexes;
@@ -13,12 +12,12 @@ mod sets;
 mod spines;
 mod walks;
 
-use crate::indexes::Indexes;
-use crate::lending::Lending;
-use crate::maps::Maps;
-use crate::nodes::Nodes;
-use crate::sets::Sets;
-use crate::spines::Spines;
+use crate::plain::indexes::Indexes;
+use crate::plain::lending::Lending;
+use crate::plain::maps::Maps;
+use crate::plain::nodes::Nodes;
+use crate::plain::sets::Sets;
+use crate::plain::spines::Spines;
 use indexset_core::array_node::ArrayNode;
 use indexset_play::owned::Owned;
 use indexset_play::player::{Fault, Script};

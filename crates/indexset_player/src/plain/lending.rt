@@ -1,7 +1,7 @@
 //! A map of numbers whose entries and walks lend its values to write.
 
-use crate::maps::tell_nodes;
-use crate::{entries, lent};
+use crate::plain::maps::tell_nodes;
+use crate::plain::{entries, lent};
 use indexset_map::BTreeMap;
 use indexset_play::player::Swept;
 use indexset_play::script::{Stop, Subject, read, tell};

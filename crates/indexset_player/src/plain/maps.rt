@@ -1,7 +1,7 @@
 //! Two maps, of which most calls take the first. A pair is a word, as `1:a`.
 
-use crate::lent;
-use crate::walks::tell_pair;
+use crate::plain::lent;
+use crate::plain::walks::tell_pair;
 use indexset_core::refusal::{Refusal, Refused};
 use indexset_map::BTreeMap;
 use indexset_play::player::Swept;

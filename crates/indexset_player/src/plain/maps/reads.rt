@@ -1,7 +1,7 @@
 //! Calls that read a map.
 
 use super::{Maps, tell_nodes};
-use crate::walks::{
+use crate::plain::walks::{
     follow, tell_pair, walk_all, walk_keys, walk_owned, walk_owned_keys, walk_owned_values,
     walk_values,
 };

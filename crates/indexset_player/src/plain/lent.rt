@@ -1,6 +1,6 @@
 //! Values that calls of a map lend to write. `next=7` writes 7 over the value that comes next.
 
-use crate::maps::pair;
+use crate::plain::maps::pair;
 use indexset_core::bounds::bounds_are_ordered;
 use indexset_map::BTreeMap;
 use indexset_play::script::{Stop, read_bound, tell};
