@@ -37,6 +37,7 @@ sanitized() {
 }
 
 try make -s -j "$(nproc)" -C c check
+try c/test_install.sh
 try python3 python/test_package.py
 try env PYTHONPATH=python/out python3 -m doctest README.md
 backends=(ctypes)
@@ -51,7 +52,7 @@ if [ "${#backends[@]}" = 2 ] && has gcc "the extension under sanitizers"; then
     try sanitized
 fi
 if has mypy "what the types say"; then
-    try mypy --strict --no-incremental --cache-dir=/dev/null python/indexset python/sample.py
+    try mypy --strict --no-incremental --cache-dir=/dev/null python/indexset python/sample.py write.py
 fi
 # Another Python with numpy, where the first has none.
 if ! python3 -c 'import numpy' 2> /dev/null; then

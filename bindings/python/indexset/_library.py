@@ -10,6 +10,8 @@ import sys
 from array import array
 from typing import Any
 
+from ._signatures import CALLS
+
 NO, YES, MEMORY, NONE, HELD, NUMBERS, UNFIT = range(7)
 GAP = 11
 
@@ -48,74 +50,7 @@ def _load() -> Any:
 
 
 def _declare(loaded: Any) -> None:
-    handle, truth, status = ctypes.c_void_p, ctypes.c_bool, ctypes.c_uint32
-    key, count, out, text = Number, Count, ctypes.c_void_p, ctypes.c_char_p
-    named = [handle, text, count]
-    for name, result, words in [
-        ("version", status, []),
-        ("set_new", status, [handle]),
-        ("set_clone", status, [handle, handle]),
-        ("set_free", None, [handle]),
-        ("set_clear", None, [handle]),
-        ("set_len", count, [handle]),
-        ("set_insert", status, [handle, key]),
-        ("set_remove", truth, [handle, key]),
-        ("set_contains", truth, [handle, key]),
-        ("set_rank", count, [handle, key]),
-        ("set_at", truth, [handle, count, out]),
-        ("set_range_by_position", count, [handle, count, out, count]),
-        ("set_insert_all", status, [handle, out, count, out]),
-        ("set_ranks", count, [handle, out, count, out, count]),
-        ("set_at_all", count, [handle, out, count, out, count]),
-        ("text_map_new", status, [handle]),
-        ("text_map_clone", status, [handle, handle]),
-        ("text_map_free", None, [handle]),
-        ("text_map_clear", None, [handle]),
-        ("text_map_len", count, [handle]),
-        ("text_map_insert", status, [*named, key, out]),
-        ("text_map_remove", truth, [*named, out]),
-        ("text_map_contains", truth, named),
-        ("text_map_rank", count, named),
-        ("text_map_at", truth, [handle, count, out, count, out, out]),
-        ("text_map_range_by_position", count, [handle, count, out, count]),
-        ("multi_new", status, [handle]),
-        ("multi_free", None, [handle]),
-        ("multi_clear", None, [handle]),
-        ("multi_len", count, [handle]),
-        ("multi_insert", status, [handle, key, key]),
-        ("multi_remove", status, [handle, key, key]),
-        ("multi_remove_first", status, [handle, key, out]),
-        ("multi_contains", truth, [handle, key, key]),
-        ("multi_contains_key", truth, [handle, key]),
-        ("multi_count", count, [handle, key]),
-        ("multi_get", count, [handle, key, out, count]),
-        ("multi_first", truth, [handle, out, out]),
-        ("multi_last", truth, [handle, out, out]),
-        ("multi_range", count, [handle, key, key, out, count, out, count]),
-        ("log_new", status, [handle, count, key]),
-        ("log_free", None, [handle]),
-        ("log_len", count, [handle]),
-        ("log_node_count", count, [handle]),
-        ("log_next", key, [handle]),
-        ("log_insert", status, [handle, key, key, out, out, count, out]),
-        ("log_remove", status, [handle, key, out, out, count, out]),
-        ("log_get", truth, [handle, key, out]),
-        ("log_contains", truth, [handle, key]),
-        ("log_range", count, [handle, key, key, out, count, out, count]),
-        ("log_node_lengths", count, [handle, out, count]),
-        ("replica_new", status, [handle, key]),
-        ("replica_from_log", status, [handle, handle]),
-        ("replica_free", None, [handle]),
-        ("replica_apply", status, [handle, out]),
-        ("replica_apply_all", status, [handle, out, count, out]),
-        ("replica_len", count, [handle]),
-        ("replica_node_count", count, [handle]),
-        ("replica_next", key, [handle]),
-        ("replica_get", truth, [handle, key, out]),
-        ("replica_contains", truth, [handle, key]),
-        ("replica_range", count, [handle, key, key, out, count, out, count]),
-        ("replica_node_lengths", count, [handle, out, count]),
-    ]:
+    for name, result, words in CALLS:
         function = getattr(loaded, "indexset_" + name)
         function.restype, function.argtypes = result, words
 

@@ -1,0 +1,86 @@
+#!/usr/bin/env bash
+# Installs the library in a folder, builds a program outside the repository on it, by pkg-config and by CMake, and looks
+# at the names that the libraries export. The last line counts.
+set -u
+cd "$(dirname "$0")"
+room=$(mktemp -d)
+trap 'rm -rf "$room"' EXIT
+passed=0
+failed=0
+
+# Runs a command; a line says where it fails.
+try() {
+    if "$@" > "$room/said" 2>&1; then
+        passed=$((passed + 1))
+    else
+        failed=$((failed + 1))
+        echo "failed: $*"
+        cat "$room/said"
+    fi
+}
+
+has() {
+    command -v "$1" > /dev/null || { echo "$1 is not installed: its part is left out"; false; }
+}
+
+by_pkg_config() {
+    export PKG_CONFIG_PATH="$room/to/lib/pkgconfig"
+    local words
+    words=$(pkg-config --cflags --libs indexset) &&
+        test "$(pkg-config --modversion indexset)" = "$(sed -n 's/^version = "\(.*\)"/\1/p' ../python/pyproject.toml)" &&
+        cc -Wall -Wextra -Werror "$room/least.c" $words -o "$room/shared" &&
+        readelf -d "$room/shared" | grep -q 'NEEDED.*libindexset\.so\.[0-9]*\.[0-9]*\]' &&
+        test "$(LD_LIBRARY_PATH="$room/to/lib" "$room/shared")" = 7
+}
+
+by_cmake() {
+    cmake -S "$room" -B "$room/built" -DCMAKE_PREFIX_PATH="$room/to" && cmake --build "$room/built" &&
+        test "$("$room/built/shared")" = 7 && test "$("$room/built/alone")" = 7
+}
+
+# An older series is no library for a newer program.
+refuses_another_version() {
+    sed -i 's/indexset 0\.[0-9]*/indexset 0.999/' "$room/CMakeLists.txt"
+    ! cmake -S "$room" -B "$room/other" -DCMAKE_PREFIX_PATH="$room/to"
+}
+
+# Only the names of the header.
+exports() {
+    local odd
+    odd=$({ nm -D --defined-only "$room/to/lib/libindexset.so"; nm -g --defined-only "$room/to/lib/libindexset.a"; } |
+        awk 'NF == 3 {print $3}' | grep -v '^indexset_')
+    test -z "$odd" || { echo "$odd"; false; }
+}
+
+cat > "$room/least.c" << 'C'
+#include <indexset.h>
+#include <inttypes.h>
+#include <stdio.h>
+
+int main(void) {
+    indexset_set set = INDEXSET_HANDLE;
+    uint64_t least;
+    if (indexset_set_new(&set) != INDEXSET_YES || indexset_set_insert(&set, 30) != INDEXSET_YES
+        || indexset_set_insert(&set, 7) != INDEXSET_YES || !indexset_set_first(&set, &least)) {
+        return 1;
+    }
+    indexset_set_free(&set);
+    return printf("%" PRIu64 "\n", least) < 0;
+}
+C
+cat > "$room/CMakeLists.txt" << 'C'
+cmake_minimum_required(VERSION 3.13)
+project(least C)
+find_package(indexset 0.2 REQUIRED)
+add_executable(shared least.c)
+target_link_libraries(shared PRIVATE indexset::indexset)
+add_executable(alone least.c)
+target_link_libraries(alone PRIVATE indexset::static)
+C
+
+try make -s install PREFIX="$room/to"
+try exports
+has pkg-config && try by_pkg_config
+has cmake && try by_cmake && try refuses_another_version
+echo "$passed passed, $failed failed"
+test "$failed" = 0
