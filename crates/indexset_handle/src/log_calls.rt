@@ -28,8 +28,7 @@ pub fn insert_told(
         (put_events (by_key nat_cmp) log.old.size log.old.nodes (pair key value))) }
     ensures few { IfOk result (λ r. r.1 ≤ 3) }
     ensures ok { OnOk result (log.new ≡ record {
-      nodes = with_put (by_key nat_cmp) log.old.size
-          log.old.nodes (pair key value);
+      nodes = with_put (by_key nat_cmp) log.old.size log.old.nodes (pair key value);
       size = log.old.size;
       next = log.old.next
           + length (put_events (by_key nat_cmp) log.old.size log.old.nodes (pair key value));

@@ -26,8 +26,7 @@ impl Model for Fenwick {
 
     ghost view = { λ f. record {
       lengths = lengths_of f.cells.items;
-      room = vec_capacity
-          f.cells;
+      room = vec_capacity f.cells;
     } };
 
     ghost invariant = { λ f. IsFenwick f.cells.items };
