@@ -8,7 +8,7 @@ use Rattle.indexset_core.proofs.CallerLemmas.{length-joined, joined_around, join
 use Rattle.indexset_spine.specs.declared.spot.Spot.{Spot}
 use Rattle.indexset_spine.specs.Cut.{IsSpot, IsItemSpot, position_of}
 use Rattle.indexset_spine.specs.Edits.{RetainsEach, RetainsNodes, with_item_in, with_halved, without_emptied, without_all_emptied, or_one_empty, left_nodes, right_nodes}
-use Rattle.indexset_spine.specs.Fenwick.{prefix_sum}
+use Rattle.indexset_index.specs.Fenwick.{prefix_sum}
 use Rattle.indexset_spine.proofs.CutSplits.{joined_emptied}
 
 module _ {X : Type 0} where

@@ -1,7 +1,5 @@
 pub mod AppendLemmas
 pub mod CallerLemmas
-pub mod CellExamples
-pub mod CellLemmas
 pub mod CopyLemmas
 pub mod CutEdits
 pub mod CutExamples
@@ -9,16 +7,12 @@ pub mod CutLemmas
 pub mod CutSplits
 pub mod EditSteps
 pub mod EndLemmas
-pub mod FindLemmas
 pub mod IndexLemmas
 pub mod IntoLemmas
-pub mod LengthLemmas
-pub mod LowbitLemmas
 pub mod MergeSteps
 pub mod NodeLengthLemmas
 pub mod PartLemmas
 pub mod PlaceLemmas
-pub mod PrefixLemmas
 pub mod PutLemmas
 pub mod RemoveSteps
 pub mod RetainSteps

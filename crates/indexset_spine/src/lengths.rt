@@ -1,10 +1,10 @@
 //! The lengths of nodes, added up: by an index, or one by one.
 ghost use Rattle.std.specs.Prelude.{◌≡◌, ◌^◌, ◌+◌, ◌-◌, ◌<◌, ◌≤◌, IsTrue, length, sum, slice_index, MatchOption};
 ghost use Rattle.indexset_core.specs.Nodes.{joined, node_at, vec_items};
-ghost use Rattle.indexset_spine.specs.Fenwick.{prefix_sum};
+ghost use Rattle.indexset_index.specs.Fenwick.{prefix_sum};
 
-use crate::fenwick::Fenwick;
-use crate::fenwick::sums::{find_in, prefix_in};
+use indexset_index::fenwick::Fenwick;
+use indexset_index::fenwick::sums::{find_in, prefix_in};
 
 /// Returns the sum of the first `k` lengths.
 pub(crate) fn items_before(index: &Fenwick, k: usize) -> usize

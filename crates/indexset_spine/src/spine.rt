@@ -21,13 +21,13 @@ mod remove;
 mod retain;
 mod split;
 
-use crate::fenwick::Fenwick;
 use crate::into_iter::IntoIter;
 use crate::iter::{Iter, walk_between};
 use crate::spot::Spot;
 use crate::{lengths, locate};
 use indexset_core::probe::Probe;
 use indexset_core::walk::Walk;
+use indexset_index::fenwick::Fenwick;
 use std::alloc::Global;
 use std::marker::Model;
 

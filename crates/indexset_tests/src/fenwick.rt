@@ -1,12 +1,13 @@
 //! Worked figures of an index of the lengths 2, 2, 2, 4, and how many cells each answer reads.
 ghost use Rattle.std.specs.Prelude.{◌≡◌, ◌<◌, ◌≤◌, ◌^◌, ◌∷◌, [], length, sum};
 ghost use Rattle.indexset_core.specs.Nodes.{node_lengths, vec_items};
-ghost use Rattle.indexset_spine.specs.Fenwick.{cell_of};
+ghost use Rattle.indexset_index.specs.Fenwick.{cell_of};
 
 use indexset_core::refusal::Refusal;
-use indexset_spine::fenwick::Fenwick;
-use indexset_spine::fenwick::cells::Cells;
-use indexset_spine::fenwick::sums::{find_in, prefix_in};
+use indexset_core::walk::ReadVec;
+use indexset_index::fenwick::Fenwick;
+use indexset_index::fenwick::cells::Cells;
+use indexset_index::fenwick::sums::{find_in, prefix_in};
 use std::alloc::Global;
 use std::test::Fail;
 
@@ -148,11 +149,11 @@ fn is_rebuilt(index: &mut Fenwick, nodes: &[Vec<u8>]) -> bool
     if index.reserve_one().is_err() {
         return false;
     }
-    index.rebuild(nodes);
+    index.rebuild::<u8, Vec<u8>, ReadVec>(nodes);
     let rebuilt = prefix(index, 3).0 == 6;
     index.truncate(2);
     let cut = index.len() == 2 && prefix(index, 2).0 == 3;
-    index.rebuild_from(2, nodes);
+    index.rebuild_from::<u8, Vec<u8>, ReadVec>(2, nodes);
     rebuilt && cut && find(index, 3).0 == Some((2, 0))
 }
 

@@ -1,9 +1,9 @@
 //! An index of lengths.
 
+use indexset_index::fenwick::Fenwick;
+use indexset_index::fenwick::cells::Cells;
 use indexset_play::player::Swept;
 use indexset_play::script::{Stop, Subject, read, tell};
-use indexset_spine::fenwick::Fenwick;
-use indexset_spine::fenwick::cells::Cells;
 use std::alloc::Global;
 use std::str::SplitWhitespace;
 

@@ -10,6 +10,7 @@ use super::insert::make_room;
 use crate::lengths;
 use indexset_core::moves::move_front;
 use indexset_core::refusal::Refusal;
+use indexset_core::walk::ReadVec;
 
 impl<T: Drop> Spine<T> {
     /// Moves the items of another spine behind those of this one, as `append_items` does, and leaves the
@@ -32,7 +33,9 @@ impl<T: Drop> Spine<T> {
         other.len = lengths::count_items(other.nodes.as_slice());
         // There is room for as many lengths as there were.
         let _count = other.index.len();
-        other.index.rebuild(other.nodes.as_slice());
+        other
+            .index
+            .rebuild::<T, Vec<T>, ReadVec>(other.nodes.as_slice());
         moved
     }
 

@@ -6,11 +6,12 @@ ghost use Rattle.indexset_spine.specs.Cut.{items, IsItemSpot, IsSpot, position_o
 ghost use Rattle.indexset_spine.specs.Edits.{IsShortEnd, with_item_in, with_halved};
 
 use super::Spine;
-use crate::fenwick::Fenwick;
 use crate::spot::Spot;
 use indexset_core::halve::halve_node;
 use indexset_core::moves::insert_item;
 use indexset_core::refusal::{Refusal, Refused};
+use indexset_core::walk::ReadVec;
+use indexset_index::fenwick::Fenwick;
 
 impl<T: Drop> Spine<T> {
     /// Inserts an item at a spot, and returns the spot where it then stands. A full node is first
@@ -120,7 +121,7 @@ pub(super) fn make_room<T>(
     }
     index.reserve_one()?;
     let to = halve_at(nodes, spot)?;
-    index.rebuild_from(spot.node, nodes.as_slice());
+    index.rebuild_from::<T, Vec<T>, ReadVec>(spot.node, nodes.as_slice());
     Ok(to)
 }
 

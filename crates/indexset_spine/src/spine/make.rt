@@ -4,8 +4,9 @@ ghost use Rattle.std.specs.List.{AllZip};
 ghost use Rattle.indexset_core.specs.Nodes.{node_lengths, vec_items};
 
 use super::Spine;
-use crate::fenwick::Fenwick;
 use indexset_core::refusal::Refusal;
+use indexset_core::walk::ReadVec;
+use indexset_index::fenwick::Fenwick;
 use std::alloc::Global;
 
 impl<T: Drop> Spine<T> {
@@ -43,7 +44,7 @@ impl<T: Drop> Spine<T> {
         let alloc = *self.nodes.allocator();
         let nodes = clone_nodes(alloc, self.nodes.as_slice())?;
         let mut index = Fenwick::with_capacity(alloc, self.index.len())?;
-        index.rebuild(nodes.as_slice());
+        index.rebuild::<T, Vec<T>, ReadVec>(nodes.as_slice());
         Ok(Spine {
             nodes,
             size: self.size,
@@ -62,7 +63,8 @@ impl<T: Drop> Spine<T> {
         self.len = 0;
         // There is room for as many lengths as there were.
         let _count = self.index.len();
-        self.index.rebuild(self.nodes.as_slice());
+        self.index
+            .rebuild::<T, Vec<T>, ReadVec>(self.nodes.as_slice());
     }
 }
 

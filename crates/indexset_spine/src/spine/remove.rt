@@ -5,9 +5,10 @@ ghost use Rattle.indexset_spine.specs.Cut.{items, IsItemSpot, position_of, witho
 ghost use Rattle.indexset_spine.specs.Edits.{without_emptied};
 
 use super::Spine;
-use crate::fenwick::Fenwick;
 use crate::spot::Spot;
 use indexset_core::moves::remove_item;
+use indexset_core::walk::ReadVec;
+use indexset_index::fenwick::Fenwick;
 use std::mem;
 
 impl<T: Drop> Spine<T> {
@@ -63,7 +64,7 @@ pub(super) fn drop_indexed_if_empty<T: Drop>(nodes: &mut Vec<Vec<T>>, index: &mu
     if drop_if_empty(nodes, k) {
         // There is room for as many lengths as there were, and their sum fits.
         let _count = index.len();
-        index.rebuild_from(k, nodes.as_slice());
+        index.rebuild_from::<T, Vec<T>, ReadVec>(k, nodes.as_slice());
     }
 }
 

@@ -8,6 +8,7 @@ ghost use Rattle.indexset_spine.specs.Edits.{RetainsTo, RetainsNodes};
 
 use super::Spine;
 use crate::lengths;
+use indexset_core::walk::ReadVec;
 
 impl<T: Drop> Spine<T> {
     /// Calls the closure once for each item, first to last, and keeps the items for which it
@@ -23,7 +24,8 @@ impl<T: Drop> Spine<T> {
         self.len = lengths::count_items(self.nodes.as_slice());
         // There is room for as many lengths as there were.
         let _count = self.index.len();
-        self.index.rebuild(self.nodes.as_slice());
+        self.index
+            .rebuild::<T, Vec<T>, ReadVec>(self.nodes.as_slice());
     }
 }
 

@@ -6,10 +6,11 @@ ghost use Rattle.indexset_spine.specs.Edits.{left_nodes, right_nodes};
 
 use super::Spine;
 use super::remove::drop_if_empty;
-use crate::fenwick::Fenwick;
 use crate::spot::Spot;
 use indexset_core::moves::move_tail;
 use indexset_core::refusal::Refusal;
+use indexset_core::walk::ReadVec;
+use indexset_index::fenwick::Fenwick;
 use std::mem;
 
 impl<T: Drop> Spine<T> {
@@ -33,8 +34,9 @@ impl<T: Drop> Spine<T> {
         let count = self.index.len();
         let mut index = Fenwick::with_capacity(alloc, count - spot.node)?;
         let nodes = split_nodes(&mut self.nodes, spot)?;
-        index.rebuild(nodes.as_slice());
-        self.index.rebuild_from(spot.node, self.nodes.as_slice());
+        index.rebuild::<T, Vec<T>, ReadVec>(nodes.as_slice());
+        self.index
+            .rebuild_from::<T, Vec<T>, ReadVec>(spot.node, self.nodes.as_slice());
         let right = Spine {
             nodes,
             size: self.size,

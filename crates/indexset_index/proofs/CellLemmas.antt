@@ -1,0 +1,150 @@
+-- Cells when lengths change.
+use Rattle.std.proofs.Common.{◌≡◌, ℕ, zero, suc, ◌+◌, ◌-◌, ◌<◌, ◌≤◌, ◌^◌, ◌≢◌, List, [], ◌∷◌, ◌++◌, length, sum, take, set, get_or, refl, ap, sym, ◌∙◌, inl, inr, eq-zero-or-pos, drop, length-append, arith}
+use Rattle.std.proofs.lemmas.List.FromFn.{fill_by_all}
+use Rattle.std.proofs.lemmas.List.Sums.{sum_by-append, sum_by-set, sum_by-take-drop}
+use Rattle.std.proofs.lemmas.List.{length-take, take-append-le, take-take, get_or_append_left, get_or-take, drop-set-lt, take-set-le, get_or-set_same, get_or-set_other, length-set}
+use Rattle.std.proofs.Math.Seq.{get_or-append_seam}
+use Rattle.indexset_index.specs.Fenwick.{lowbit, prefix_sum, cell_of, cell_in, told_sum, told_within, lengths_of, IsFenwickOf, IsFenwick}
+use Rattle.indexset_index.proofs.LowbitLemmas.{lowbit-pos, skipped, taken-in}
+use Rattle.indexset_index.proofs.PrefixLemmas.{prefix-cell, prefix-more, prefix-le}
+
+told_sum-is : (cells ls : List ℕ) → IsFenwickOf (cell_in cells) (length cells) ls → (f k : ℕ) → k ≤ f → k ≤ length ls → told_within f cells k ≡ prefix_sum ls k
+told_sum-is cells ls is zero zero p q = refl
+told_sum-is cells ls is zero (suc k) p q = absurd (omega arith)
+told_sum-is cells ls is (suc f) zero p q = refl
+told_sum-is cells ls is (suc f) (suc k) p q =
+    let some = lowbit-pos (suc k) (omega arith) in
+    omega (arith, is.count_is, is.each (suc k) (omega arith) (omega (arith, is.count_is)), told_sum-is cells ls is f (suc k - lowbit (suc k)) (omega arith) (omega arith), prefix-cell ls (suc k))
+
+-- the cells tell the lengths
+pub told : (cells ls : List ℕ) → IsFenwickOf (cell_in cells) (length cells) ls → lengths_of cells ≡ ls
+unfolding lengths_of
+told cells ls is =
+    sym (fill_by_all (λ i. told_sum cells (i + 1) - told_sum cells i) ls (length cells) 0 (sym is.count_is)
+    (λ k h. omega (arith, is.count_is, told_sum-is cells ls is (k + 1) (k + 1) (omega arith) (omega (arith, is.count_is)), told_sum-is cells ls is k k (omega arith) (omega (arith, is.count_is)), prefix-more ls k (omega (arith, is.count_is)))))
+
+pub is_fenwick : (cells ls : List ℕ) → IsFenwickOf (cell_in cells) (length cells) ls → IsFenwick cells
+is_fenwick cells ls is = rw (told cells ls is) is
+
+-- the same sums so far, the same cell
+cell-same : (xs ys : List ℕ) (i : ℕ) → ((k : ℕ) → k ≤ i → prefix_sum xs k ≡ prefix_sum ys k) → cell_of xs i ≡ cell_of ys i
+cell-same xs ys i h = omega (arith, prefix-cell xs i, prefix-cell ys i, h i (omega arith), h (i - lowbit i) (omega arith))
+
+pub cell-append : (ls : List ℕ) (x i : ℕ) → i ≤ length ls → cell_of (ls ++ x ∷ []) i ≡ cell_of ls i
+cell-append ls x i h = cell-same (ls ++ x ∷ []) ls i (λ k le. ap sum (take-append-le k ls (x ∷ []) (omega arith)))
+
+pub prefix-last : (ls : List ℕ) (x n : ℕ) → n ≡ length ls → prefix_sum (ls ++ x ∷ []) (n + 1) ≡ prefix_sum (ls ++ x ∷ []) n + x
+prefix-last ls x n e =
+    let seam : get_or (ls ++ x ∷ []) n 0 ≡ x = rw e (get_or-append_seam ls x [] 0) in
+    omega (arith, prefix-more (ls ++ x ∷ []) n (omega (arith, length-append ls (x ∷ []))))
+
+pub sum-last : (ls : List ℕ) (x : ℕ) → sum (ls ++ x ∷ []) ≡ sum ls + x
+sum-last ls x = omega (arith, sum_by-append (λ y. y) ls (x ∷ []))
+
+-- one length more, and its cell
+pub pushed : (cells ls : List ℕ) (c x : ℕ) → IsFenwickOf (cell_in cells) (length cells) ls → c ≡ cell_of (ls ++ x ∷ []) (length cells + 1) → sum ls + x < 2 ^ 64 → IsFenwickOf (cell_in (cells ++ c ∷ [])) (length (cells ++ c ∷ [])) (ls ++ x ∷ [])
+pushed cells ls c x is here fits = record {
+  count_is = omega (arith, is.count_is, length-append cells (c ∷ []), length-append ls (x ∷ []));
+  fits = omega (arith, sum_by-append (λ y. y) ls (x ∷ []));
+  each = λ i p q.
+      elim (eq-zero-or-pos (i - length cells)) [
+        | inl le ↦
+            let kept = cell-append ls x i (omega (arith, is.count_is)) in
+            get_or_append_left cells (c ∷ []) 0 (i - 1) (omega arith) ∙ (is.each i p (omega arith) ∙ sym kept)
+        | inr gt ↦
+            let at : i ≡ length cells + 1 = omega (arith, length-append cells (c ∷ [])) in
+            let place : i - 1 ≡ length cells = omega arith in
+            rw (place) (get_or-append_seam cells c [] 0) ∙ (here ∙ ap (cell_of (ls ++ x ∷ [])) (sym at))
+      ];
+}
+
+-- the first k lengths, and their cells
+pub shortened : (cells ls : List ℕ) (k : ℕ) → IsFenwickOf (cell_in cells) (length cells) ls → IsFenwickOf (cell_in (take k cells)) (length (take k cells)) (take k ls)
+shortened cells ls k is = record {
+  count_is = omega (arith, is.count_is, length-take k cells, length-take k ls);
+  fits = omega (arith, is.fits, prefix-le ls k);
+  each = λ i p q.
+      let below : i ≤ k = omega (arith, length-take k cells) in
+      let kept : cell_of (take k ls) i ≡ cell_of ls i = cell-same (take k ls) ls i (λ j h. ap sum (take-take j k ls (omega arith))) in
+      get_or-take k cells (i - 1) 0 (omega arith) ∙ (is.each i p (omega (arith, length-take k cells)) ∙ sym kept);
+}
+
+prefix-set-below : (ls : List ℕ) (i v k : ℕ) → k ≤ i → prefix_sum (set ls i v) k ≡ prefix_sum ls k
+prefix-set-below ls i v k h = ap sum (take-set-le k ls i v h)
+
+prefix-set-above : (ls : List ℕ) (i v k : ℕ) → i < length ls → i < k → prefix_sum (set ls i v) k + get_or ls i 0 ≡ prefix_sum ls k + v
+prefix-set-above ls i v k p h =
+    let rest : sum (drop k (set ls i v)) ≡ sum (drop k ls) = ap sum (drop-set-lt k ls i v h) in
+    omega (arith, rest, sum_by-take-drop (λ x. x) ls k, sum_by-take-drop (λ x. x) (set ls i v) k, sum_by-set (λ x. x) ls i v 0 p)
+
+-- a cell that sums the changed length
+pub touched : (ls : List ℕ) (i v j : ℕ) → i < length ls → j - lowbit j ≤ i → i < j → cell_of (set ls i v) j + get_or ls i 0 ≡ cell_of ls j + v
+touched ls i v j p q h = omega (arith, prefix-cell ls j, prefix-cell (set ls i v) j, prefix-set-below ls i v (j - lowbit j) q, prefix-set-above ls i v j p h)
+
+-- a cell that begins past it
+untouched : (ls : List ℕ) (i v j : ℕ) → i < length ls → i < j - lowbit j → cell_of (set ls i v) j ≡ cell_of ls j
+untouched ls i v j p h = omega (arith, prefix-cell ls j, prefix-cell (set ls i v) j, prefix-set-above ls i v (j - lowbit j) p h, prefix-set-above ls i v j p (omega arith))
+
+pub cell-le : (ls : List ℕ) (j : ℕ) → cell_of ls j ≤ sum ls
+cell-le ls j = omega (arith, prefix-cell ls j, prefix-le ls j)
+
+-- the cells below j are those with the i-th length changed to v, the others those from before
+pub record IsChanged (ls : List ℕ) (i v : ℕ) (cells : List ℕ) (j : ℕ) : Type 0 where
+  pub count_is : length cells ≡ length ls
+  pub above : i < j
+  pub holds : j - lowbit j ≤ i
+  pub changed : (m : ℕ) → 0 < m → m < j → m ≤ length cells → cell_in cells m ≡ cell_of (set ls i v) m
+  pub ahead : (m : ℕ) → j ≤ m → m ≤ length cells → cell_in cells m ≡ cell_of ls m
+
+pub change_starts : (ls : List ℕ) (i v : ℕ) (cells : List ℕ) → IsFenwickOf (cell_in cells) (length cells) ls → IsChanged ls i v cells (i + 1)
+change_starts ls i v cells is = record {
+  count_is = is.count_is;
+  above = omega arith;
+  holds = omega (arith, lowbit-pos (i + 1) (omega arith));
+  changed = λ m p q r. is.each m p r ∙ sym (cell-same (set ls i v) ls m (λ k h. prefix-set-below ls i v k (omega arith)));
+  ahead = λ m p q. is.each m (omega arith) q;
+}
+
+pub change_goes_on : (ls : List ℕ) (i v : ℕ) (cells : List ℕ) (j w : ℕ) → i < length ls → IsChanged ls i v cells j → j ≤ length cells → w + get_or ls i 0 ≡ cell_in cells j + v → IsChanged ls i v (set cells (j - 1) w) (j + lowbit j)
+change_goes_on ls i v cells j w p at q is = record {
+  count_is = omega (arith, at.count_is, length-set cells (j - 1) w);
+  above = omega (arith, at.above);
+  holds = omega (arith, at.holds, taken-in j);
+  changed = λ m a b r.
+      let size = length-set cells (j - 1) w in
+      elim (eq-zero-or-pos (m - j)) [
+        | inl le ↦
+            elim (eq-zero-or-pos (j - m)) [
+              | inl ge ↦
+                  let here : m ≡ j = omega arith in
+                  let place : m - 1 ≡ j - 1 = omega arith in
+                  let new : w ≡ cell_of (set ls i v) j = omega (arith, is, at.ahead j (omega arith) q, touched ls i v j p at.holds at.above) in
+                  ap (λ k. get_or (set cells (j - 1) w) k 0) place ∙ (get_or-set_same cells (j - 1) w 0 (omega arith) ∙ (new ∙ ap (cell_of (set ls i v)) (sym here)))
+              | inr lt ↦
+                  let off : m - 1 ≢ j - 1 = omega arith in
+                  get_or-set_other cells (j - 1) (m - 1) w 0 off ∙ at.changed m a (omega arith) (omega arith)
+            ]
+        | inr gt ↦
+            let off : m - 1 ≢ j - 1 = omega (arith, at.above) in
+            get_or-set_other cells (j - 1) (m - 1) w 0 off ∙ (at.ahead m (omega arith) (omega arith) ∙ sym (untouched ls i v m p (omega (arith, at.above, skipped j m (omega arith) b))))
+      ];
+  ahead = λ m a r.
+      let size = length-set cells (j - 1) w in
+      let off : m - 1 ≢ j - 1 = omega (arith, lowbit-pos j (omega (arith, at.above))) in
+      get_or-set_other cells (j - 1) (m - 1) w 0 off ∙ at.ahead m (omega arith) (omega arith);
+}
+
+pub change_ends : (ls : List ℕ) (i v : ℕ) (cells : List ℕ) (j : ℕ) → IsChanged ls i v cells j → length cells < j → sum (set ls i v) < 2 ^ 64 → IsFenwickOf (cell_in cells) (length cells) (set ls i v)
+change_ends ls i v cells j at p fits = record {
+  count_is = omega (arith, at.count_is, length-set ls i v);
+  fits = fits;
+  each = λ m a b. at.changed m a (omega arith) b;
+}
+
+-- no cells are those of no lengths
+pub none : (cells : List ℕ) → cells ≡ [] → IsFenwickOf (cell_in cells) (length cells) []
+none cells e = record {
+  count_is = ap length e;
+  fits = omega arith;
+  each = λ i p q. absurd (omega (arith, ap length e));
+}

@@ -1,0 +1,6 @@
+pub mod CellExamples
+pub mod CellLemmas
+pub mod FindLemmas
+pub mod LengthLemmas
+pub mod LowbitLemmas
+pub mod PrefixLemmas

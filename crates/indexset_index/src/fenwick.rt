@@ -1,0 +1,157 @@
+//! A Fenwick index: lengths, kept as sums that are quick to add up, to search and to change.
+ghost use Rattle.std.specs.Prelude.{◌≡◌, ◌+◌, ◌-◌, ◌<◌, ◌≤◌, ◌^◌, [], ◌∷◌, ◌++◌, length, map, sum, take, slice_index, slice_set, IfOk, IfErr, OnOk};
+ghost use Rattle.indexset_core.specs.Nodes.{node_lengths};
+
+pub mod cells;
+pub mod laws;
+pub mod sums;
+mod table;
+
+use indexset_core::refusal::Refusal;
+use indexset_core::walk::ReadNode;
+use std::alloc::Global;
+use std::marker::Model;
+
+/// An index of lengths, whose sum is at most `usize::MAX`.
+#[derive(Drop)]
+pub struct Fenwick {
+    // Cell i, counted from 1, is the sum of as many lengths up to the i-th as the lowest one bit of i says.
+    cells: Vec<usize>,
+}
+
+impl Model for Fenwick {
+    ghost use Rattle.std.specs.Prelude.{vec_capacity};
+    ghost use Rattle.indexset_index.specs.Fenwick.{Lengths, lengths_of, IsFenwick};
+
+    ghost Value = { Lengths };
+
+    ghost view = { λ f. record {
+      lengths = lengths_of f.cells.items;
+      room = vec_capacity f.cells;
+    } };
+
+    ghost invariant = { λ f. IsFenwick f.cells.items };
+}
+
+impl Fenwick {
+    /// No length, and room for some.
+    pub fn with_capacity(alloc: Global, capacity: usize) -> Result<Self, Refusal>
+        ensures empty { IfOk result (λ f. f.lengths ≡ []) }
+        ensures room { IfOk result (λ f. capacity ≤ f.room) }
+        ensures refusal { IfErr result (λ e. e ≡ Refusal.Memory) }
+    {
+        Ok(Fenwick {
+            cells: Vec::with_capacity(alloc, capacity)?,
+        })
+    }
+
+    /// Returns the index of these lengths.
+    pub fn from_lengths(alloc: Global, lengths: &[usize]) -> Result<Self, Refusal>
+        requires { sum lengths.now < 2 ^ 64 }
+        ensures ok { IfOk result (λ f. f.lengths ≡ lengths.now) }
+        ensures refusal { IfErr result (λ e. e ≡ Refusal.Memory) }
+    {
+        let mut index = Fenwick::with_capacity(alloc, lengths.len())?;
+        for length in lengths {
+            index.push(*length);
+        }
+        Ok(index)
+    }
+
+    /// Returns the number of lengths: at most as many as there is room for.
+    pub fn len(&self) -> usize
+        ensures value { result ≡ length self.now.lengths }
+        ensures within { length self.now.lengths ≤ self.now.room }
+        ensures fits { sum self.now.lengths < 2 ^ 64 }
+    {
+        self.cells.len()
+    }
+
+    /// Makes room for one more length. A failed call changes nothing.
+    pub fn reserve_one(&mut self) -> Result<(), Refusal>
+        ensures room { OnOk result (length self.new.lengths < self.new.room) }
+        ensures lengths { self.new.lengths ≡ self.old.lengths }
+        ensures kept { self.old.room ≤ self.new.room }
+        ensures refusal { IfErr result (λ e. e ≡ Refusal.Memory) }
+    {
+        self.reserve(1)
+    }
+
+    /// Makes room for `additional` more lengths. A failed call changes nothing.
+    pub fn reserve(&mut self, more: usize) -> Result<(), Refusal>
+        ensures room { OnOk result (length self.new.lengths + more ≤ self.new.room) }
+        ensures lengths { self.new.lengths ≡ self.old.lengths }
+        ensures kept { self.old.room ≤ self.new.room }
+        ensures refusal { IfErr result (λ e. e ≡ Refusal.Memory) }
+    {
+        self.cells.reserve(more)?;
+        Ok(())
+    }
+
+    /// One length more, where there is room. It allocates nothing.
+    pub fn push(&mut self, last: usize)
+        requires room { length self.old.lengths < self.old.room }
+        requires fits { sum self.old.lengths + last < 2 ^ 64 }
+        ensures lengths { self.new.lengths ≡ self.old.lengths ++ last ∷ [] }
+        ensures room { self.new.room ≡ self.old.room }
+    {
+        let cell = table::next_cell(self.cells.as_slice(), last);
+        self.cells.push_reserved(cell);
+    }
+
+    /// Keeps the first `k` lengths.
+    pub fn truncate(&mut self, k: usize)
+        ensures lengths { self.new.lengths ≡ take k self.old.lengths }
+        ensures room { self.new.room ≡ self.old.room }
+    {
+        self.cells.truncate(k);
+    }
+
+    /// Adds to the i-th length, counted from 0.
+    pub fn add(&mut self, i: usize, n: usize)
+        requires inside { i < length self.old.lengths }
+        requires fits { sum self.old.lengths + n < 2 ^ 64 }
+        ensures lengths { self.new.lengths
+            ≡ slice_set self.old.lengths i (slice_index self.old.lengths i + n) }
+        ensures room { self.new.room ≡ self.old.room }
+    {
+        table::raise(self.cells.as_mut_slice(), i, n);
+    }
+
+    /// Takes from the i-th length, counted from 0.
+    pub fn sub(&mut self, i: usize, n: usize)
+        requires inside { i < length self.old.lengths }
+        requires enough { n ≤ slice_index self.old.lengths i }
+        ensures lengths { self.new.lengths
+            ≡ slice_set self.old.lengths i (slice_index self.old.lengths i - n) }
+        ensures room { self.new.room ≡ self.old.room }
+    {
+        table::lower(self.cells.as_mut_slice(), i, n);
+    }
+
+    /// Writes the lengths of these nodes, where there is room. It allocates nothing.
+    pub fn rebuild<T, Node, R: ReadNode<T, Node>>(&mut self, nodes: &[Node])
+        requires room { length nodes.now ≤ self.old.room }
+        requires fits { sum (node_lengths (map R.list nodes.now)) < 2 ^ 64 }
+        ensures lengths { self.new.lengths ≡ node_lengths (map R.list nodes.now) }
+        ensures room { self.new.room ≡ self.old.room }
+    {
+        self.rebuild_from::<T, Node, R>(0, nodes);
+    }
+
+    /// Writes the lengths of these nodes, of which the first `k` are there already. It allocates
+    /// nothing.
+    pub fn rebuild_from<T, Node, R: ReadNode<T, Node>>(&mut self, k: usize, nodes: &[Node])
+        requires same { take k self.old.lengths ≡ take k (node_lengths (map R.list nodes.now)) }
+        requires within { k ≤ length nodes.now }
+        requires room { length nodes.now ≤ self.old.room }
+        requires fits { sum (node_lengths (map R.list nodes.now)) < 2 ^ 64 }
+        ensures lengths { self.new.lengths ≡ node_lengths (map R.list nodes.now) }
+        ensures room { self.new.room ≡ self.old.room }
+    {
+        self.truncate(k);
+        for node in &nodes[k..] {
+            self.push(R::items_of(node).len());
+        }
+    }
+}

@@ -1,0 +1,84 @@
+//! The cells of an index, which are read one at a time and count their reads.
+ghost use Rattle.std.specs.Prelude.{◌≡◌, ℕ, ◌+◌, ◌≤◌, length};
+ghost use Rattle.indexset_index.specs.Fenwick.{cell_of, IsFenwickOf};
+
+use super::Fenwick;
+use indexset_core::steps::Steps;
+use std::marker::Model;
+
+/// Cells of an index, read one at a time.
+pub trait Cells {
+    /// How many cells there are.
+    ghost number: { Self → ℕ };
+
+    /// What each cell holds, counted from 1: a fixed function of its place.
+    ghost cell: { Self → ℕ → ℕ };
+
+    /// How many cells were read.
+    ghost asked: { Self → ℕ };
+
+    /// Returns the number of cells.
+    fn count(&self) -> usize
+        ensures { result ≡ number self.now };
+
+    /// What cell i holds, counted from 1.
+    fn read(&mut self, i: usize) -> usize
+        requires one { 1 ≤ i }
+        requires within { i ≤ number self.old }
+        ensures answer { result ≡ cell self.old i }
+        ensures fixed { cell self.new ≡ cell self.old }
+        ensures stays { number self.new ≡ number self.old }
+        ensures counted { asked self.new ≡ asked self.old + 1 };
+}
+
+impl Fenwick {
+    /// Returns the cells, none of them read yet.
+    pub fn cells(&self) -> IndexCells<'_>
+        ensures value { result ≡ (self.now.lengths, 0) }
+        ensures lawful { IsFenwickOf (cell_of result.0) (length result.0) result.0 }
+    {
+        // The cells are those of the lengths.
+        let _cells = &self.cells;
+        IndexCells {
+            index: self,
+            steps: Steps::new(),
+        }
+    }
+}
+
+/// The cells of an index: its lengths, and how many cells were read.
+#[derive(Drop)]
+pub struct IndexCells<'a> {
+    index: &'a Fenwick,
+    steps: Steps,
+}
+
+impl<'a> Model for IndexCells<'a> {
+    ghost use Rattle.std.specs.Prelude.{ℕ, List};
+
+    ghost Value = { List ℕ × ℕ };
+
+    ghost view = { λ s. (s.index.now.lengths, s.steps) };
+}
+
+impl<'a> Cells for IndexCells<'a> {
+    ghost use Rattle.std.specs.Prelude.{length};
+    ghost use Rattle.indexset_index.specs.Fenwick.{cell_of};
+
+    ghost number = { λ s. length s.0 };
+
+    ghost cell = { λ s i. cell_of s.0 i };
+
+    ghost asked = { λ s. s.1 };
+
+    fn count(&self) -> usize {
+        let index = self.index;
+        index.cells.len()
+    }
+
+    fn read(&mut self, i: usize) -> usize {
+        self.steps.tick();
+        let index = self.index;
+        index.cells[i - 1]
+    }
+}

@@ -1,5 +1,0 @@
-use Rattle.indexset_spine.proofs.LowbitLemmas.{lowbit-zero, lowbit-at, ones-clears}
-use Rattle.indexset_spine.proofs.fenwick.laws.lowbit_is_the_lowest_one.Goals as goal
-
-pub returns : goal.returns
-returns c = record { none = lowbit-zero; value = lowbit-at; ones = ones-clears }
