@@ -13,7 +13,7 @@ pub mod set;
 use indexset_core::refusal::Refusal;
 use indexset_log::change::ChangeEvent;
 
-/// A tree whose changes come out as events. (Not in the Rust crate.)
+/// A tree whose changes come out as events.
 pub trait Logged {
     /// What its nodes hold.
     type Item: Ord + Drop;

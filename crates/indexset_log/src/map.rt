@@ -48,7 +48,7 @@ impl<K: Ord + Clone + Drop, V: Clone + Drop, Node: NodeLike<Pair<K, V>>> Model
 
 impl<K: Ord + Clone + Drop, V: Clone + Drop, Node: NodeLike<Pair<K, V>>> BTreeMap<K, V, Node> {
     /// Returns an empty map, whose nodes are to hold at most `size` pairs each, and whose first
-    /// event has the number `next`. (Not in the Rust crate.)
+    /// event has the number `next`.
     pub fn starting_at(alloc: Global, size: usize, next: u64) -> Self
         requires two { 2 ≤ size }
         requires within { size ≤ Node.most }
@@ -61,8 +61,8 @@ impl<K: Ord + Clone + Drop, V: Clone + Drop, Node: NodeLike<Pair<K, V>>> BTreeMa
 
     /// Returns the map of these nodes, whose first event has the number `next`, as the set makes
     /// it: the nodes are taken as they are, nothing is allocated, and no number is used up. A
-    /// failed call hands the nodes back, and no call fails where the nodes are lawful for this size
-    /// and the number of items is a usize. (Not in the Rust crate.)
+    /// failed call returns the nodes in the error, and no call fails where the nodes are lawful for
+    /// this size and the number of items is a usize.
     pub fn from_nodes(nodes: Vec<Node>, size: usize, next: u64) -> Result<Self, Refused<Vec<Node>>>
         requires two { 2 ≤ size }
         requires within { size ≤ Node.most }
@@ -144,7 +144,7 @@ impl<K: Ord + Clone + Drop, V: Clone + Drop, Node: NodeLike<Pair<K, V>>> BTreeMa
         self.set.capacity()
     }
 
-    /// Returns the number of the next event. (Not in the Rust crate.)
+    /// Returns the number of the next event.
     pub fn events_issued(&self) -> u64
         ensures { result ≡ self.now.next }
     {
@@ -165,8 +165,8 @@ impl<K: Ord + Clone + Drop, V: Clone + Drop, Node: NodeLike<Pair<K, V>>> BTreeMa
         self.set.iter_nodes()
     }
 
-    /// Inserts a whole node of pairs, as the set does. It gives no event and uses up no number. A
-    /// failed call hands the node back and changes nothing.
+    /// Inserts a whole node of pairs, as the set does. It gives no event and consumes no event
+    /// number. A failed call returns the node in the error and changes nothing.
     pub fn attach_node(&mut self, node: Node) -> Result<(), Refused<Node>>
         ensures nodes { OnOk result (self.new.nodes ≡ attached (by_key K.cmp) self.old.nodes
             (Node.list node)) }
@@ -201,8 +201,7 @@ impl<K: Ord + Clone + Drop, V: Clone + Drop, Node: NodeLike<Pair<K, V>>> BTreeMa
     }
 
     /// Returns the first pair that the comparator finds equal, or `None` where there is none, by
-    /// two binary searches, as `get` makes. The comparator must find the pairs in order. (Not in
-    /// the Rust crate.)
+    /// two binary searches, as `get` makes. The comparator must find the pairs in order.
     pub fn get_by<P: Probe<Pair<K, V>>>(&self, probe: &mut P) -> Option<&Pair<K, V>>
         requires { IsParted (P.answer probe.old) (joined self.now.nodes) }
         ensures value { option_copied result ≡ find (λ p. is_eq (P.answer probe.old p))

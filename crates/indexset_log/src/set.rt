@@ -192,7 +192,7 @@ impl<T: Ord + Clone + Drop, Node: NodeLike<T>> BTreeSet<T, Node> {
     }
 
     /// Returns the first item that the comparator finds equal, or `None` where there is none. It
-    /// compares as `locate_by` does. (Not in the Rust crate.)
+    /// compares as `locate_by` does.
     pub fn get_by<P: Probe<T>>(&self, probe: &mut P) -> Option<&T>
         requires { IsParted (P.answer probe.old) (joined self.now.nodes) }
         ensures value { option_copied result ≡ find (λ x. is_eq (P.answer probe.old x))

@@ -1,4 +1,4 @@
-//! A cursor that stands at a position of a map, or at its end place.
+//! A cursor, which points at a pair of a map or past the end.
 ghost use Rattle.std.specs.Prelude.{◌≡◌, ◌-◌, ◌==◌, None, not, slice_get, if◌then◌else◌};
 ghost use Rattle.std.specs.List.{position_or_len};
 ghost use Rattle.std.specs.Option.{option_copied, option_map};
@@ -14,7 +14,7 @@ use indexset_set::Cursor;
 use std::marker::Model;
 use std::ops::Bound;
 
-/// A position of a map from 0 to the length, which is the end place, where there is no pair.
+/// A position of a map: that of a pair, or the length, which is past the end.
 ///
 /// ```
 /// let map = BTreeMap::from_iter(alloc, [(1, 'a'), (3, 'b')])?;
@@ -22,8 +22,7 @@ use std::ops::Bound;
 /// assert!(rt; cursor.key() == Some(&3) && cursor.peek_prev() == Some((&1, &'a')));
 /// ```
 ///
-/// A cursor goes round: one on from the end place is the first position, and one back from there is
-/// the end place.
+/// A cursor wraps around: after the last pair comes the position past the end, and then the first pair.
 #[derive(Drop)]
 pub struct CursorMap<'a, K: Ord, V> {
     cursor: Cursor<'a, Pair<K, V>>,
@@ -40,8 +39,8 @@ impl<'a, K: Ord, V> Model for CursorMap<'a, K, V> {
 }
 
 impl<K: Ord, V> BTreeMap<K, V> {
-    /// Returns a cursor at the first pair whose key is within the bound, or at the end place where
-    /// there is none.
+    /// Returns a cursor at the first pair whose key is within the bound, or past the end if there is
+    /// none.
     ///
     /// ```
     /// let map = BTreeMap::from_iter(alloc, [(10, 'a'), (20, 'b')])?;
@@ -62,8 +61,8 @@ impl<K: Ord, V> BTreeMap<K, V> {
         }
     }
 
-    /// Returns a cursor at the first pair whose key is past the bound, as the end of a range, or at
-    /// the end place where there is none: above an included key, and at or above an excluded one.
+    /// Returns a cursor at the first pair whose key is past the bound, as the end of a range, or past
+    /// the end if there is none: above an included key, and at or above an excluded one.
     ///
     /// ```
     /// let map = BTreeMap::from_iter(alloc, [(10, 'a'), (20, 'b')])?;
@@ -86,42 +85,42 @@ impl<K: Ord, V> BTreeMap<K, V> {
 }
 
 impl<'a, K: Ord, V> CursorMap<'a, K, V> {
-    /// Goes one on, and from the end place to the first position.
+    /// Moves to the next pair; from past the end, to the first.
     pub fn move_next(&mut self)
         ensures { self.new ≡ one_on self.old }
     {
         self.cursor.move_next();
     }
 
-    /// Goes one back, and from the first position to the end place.
+    /// Moves to the previous pair; from the first, past the end.
     pub fn move_prev(&mut self)
         ensures { self.new ≡ one_back self.old }
     {
         self.cursor.move_prev();
     }
 
-    /// Goes to a position, or to the end place where there is none.
+    /// Moves to a position, or past the end if there is no such pair.
     pub fn move_index(&mut self, i: usize)
         ensures { self.new ≡ standing_at self.old.list i }
     {
         self.cursor.move_index(i);
     }
 
-    /// Returns the key at the position, and none at the end place.
+    /// Returns the key of the pair that the cursor points at, or `None` past the end.
     pub fn key(&self) -> Option<&'a K>
         ensures { option_copied result ≡ option_map (λ p. p.key) (item_at self.now) }
     {
         Some(&self.cursor.item()?.key)
     }
 
-    /// Returns the value at the position, and none at the end place.
+    /// Returns the value of the pair that the cursor points at, or `None` past the end.
     pub fn value(&self) -> Option<&'a V>
         ensures { option_copied result ≡ option_map (λ p. p.value) (item_at self.now) }
     {
         Some(&self.cursor.item()?.value)
     }
 
-    /// Returns the key and the value at the position, and none at the end place.
+    /// Returns the pair that the cursor points at, or `None` past the end.
     pub fn key_value(&self) -> Option<(&'a K, &'a V)>
         ensures { option_map (λ p. (p.0.now, p.1.now)) result
             ≡ option_map entry_of (item_at self.now) }
@@ -130,8 +129,8 @@ impl<'a, K: Ord, V> CursorMap<'a, K, V> {
         Some((&pair.key, &pair.value))
     }
 
-    /// Returns the pair that `move_next` would go to: at the end place the first, or `None` where
-    /// there is none.
+    /// Returns the pair that `move_next` would move to, past the end the first, or `None` if there is
+    /// none.
     pub fn peek_next(&self) -> Option<(&'a K, &'a V)>
         ensures { option_map (λ p. (p.0.now, p.1.now)) result
             ≡ option_map entry_of (item_at (one_on self.now)) }
@@ -140,7 +139,7 @@ impl<'a, K: Ord, V> CursorMap<'a, K, V> {
         Some((&pair.key, &pair.value))
     }
 
-    /// Returns the pair before, and none at the first position.
+    /// Returns the previous pair, or `None` at the first.
     pub fn peek_prev(&self) -> Option<(&'a K, &'a V)>
         ensures { option_map (λ p. (p.0.now, p.1.now)) result
             ≡ (if self.now.position == 0 then None else option_map entry_of
@@ -150,7 +149,7 @@ impl<'a, K: Ord, V> CursorMap<'a, K, V> {
         Some((&pair.key, &pair.value))
     }
 
-    /// Returns the pair at another position, or `None` where there is none. The cursor stays.
+    /// Returns the pair at another position, if any. The cursor stays.
     pub fn peek_index(&self, i: usize) -> Option<(&'a K, &'a V)>
         ensures { option_map (λ p. (p.0.now, p.1.now)) result
             ≡ option_map entry_of (slice_get self.now.list i) }

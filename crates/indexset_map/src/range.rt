@@ -20,7 +20,7 @@ pub type RangeMap<'a, K, V> = IterMap<'a, K, V>;
 
 impl<K: Ord, V> BTreeMap<K, V> {
     /// Returns the pairs whose keys satisfy both bounds, in order. The start must not be past the
-    /// end, nor at it where both are excluded, which `bounds_are_ordered` of the core tests.
+    /// end, nor at it where both are excluded (see `base::bounds::bounds_are_ordered`).
     ///
     /// ```
     /// let map = BTreeMap::from_iter(alloc, [(5, 'a'), (10, 'b'), (15, 'c'), (20, 'd')])?;

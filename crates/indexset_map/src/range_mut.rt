@@ -17,8 +17,8 @@ impl<K: Ord, V> BTreeMap<K, V> {
     ghost use Rattle.indexset_map.specs.Walk.{IsSpan, walk_back, walk_front, walk_map, walk_rest};
 
     /// Returns the pairs whose keys satisfy both bounds, in order, with mutable references to the
-    /// values. The start must not be past the end, nor at it where both are excluded, which
-    /// `bounds_are_ordered` of the core tests.
+    /// values. The start must not be past the end, nor at it where both are excluded (see
+    /// `base::bounds::bounds_are_ordered`).
     ///
     /// ```
     /// let mut map = BTreeMap::from_iter(alloc, [(5, 1), (10, 1), (15, 1)])?;

@@ -64,7 +64,7 @@ impl<K: Ord + Clone + Drop, V: Eq + Clone + Drop, Node: NodeLike<MultiPair<K, V>
     Node,
 > {
     /// Returns an empty map, whose nodes are to hold at most `size` pairs each, and whose first
-    /// event has the number `next`. (Not in the Rust crate.)
+    /// event has the number `next`.
     pub fn starting_at(alloc: Global, size: usize, next: u64) -> Self
         requires two { 2 ≤ size }
         requires within { size ≤ Node.most }
@@ -146,7 +146,7 @@ impl<K: Ord + Clone + Drop, V: Eq + Clone + Drop, Node: NodeLike<MultiPair<K, V>
         self.set.capacity()
     }
 
-    /// Returns the number of the next event. (Not in the Rust crate.)
+    /// Returns the number of the next event.
     pub fn events_issued(&self) -> u64
         ensures { result ≡ self.now.next }
     {

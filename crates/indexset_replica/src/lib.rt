@@ -88,7 +88,7 @@ impl<T: Ord + Clone + Drop> Replica<T> {
         self.get(value).is_some()
     }
 
-    /// Inserts a whole node in its place among the others, and uses up no event number. It compares the
+    /// Inserts a whole node in its place among the others, and consumes no event number. It compares the
     /// items of the node once each, and makes one binary search among the nodes. It fails with the first
     /// of these: `Empty`; `Unsorted`, where the node is not strictly ascending; `Overlaps`, where it does
     /// not lie wholly before, after or between two neighbouring nodes; `Memory`. A call that fails

@@ -17,9 +17,9 @@ use std::ops::Bound;
 
 impl<T: Ord + Clone + Drop> Replica<T> {
     /// Returns the items that satisfy both bounds, in order and from both ends. The start must not be
-    /// past the end, nor at it where both are excluded, which `bounds_are_ordered` of the core tests. For
-    /// each bound that names an item it makes two binary searches: one among the nodes and one in a node.
-    /// It allocates nothing.
+    /// past the end, nor at it where both are excluded (see `base::bounds::bounds_are_ordered`). For each
+    /// bound that names an item it makes two binary searches: one among the nodes and one in a node. It
+    /// allocates nothing.
     ///
     /// ```
     /// // The items from 10 on that are below 20.

@@ -1,4 +1,4 @@
-//! A cursor that stands at a position of a set, or at its end place.
+//! A cursor, which points at an element of a set or past the end.
 ghost use Rattle.std.specs.Prelude.{◌≡◌, ◌+◌, ◌-◌, ◌≤◌, ◌==◌, None, length, min, slice_get, if◌then◌else◌};
 ghost use Rattle.std.specs.List.{count_by};
 ghost use Rattle.std.specs.Option.{option_copied};
@@ -14,7 +14,7 @@ use indexset_spine::spot::Spot;
 use std::marker::Model;
 use std::ops::Bound;
 
-/// A position of a set from 0 to the length, which is the end place, where there is no element.
+/// A position of a set: that of an element, or the length, which is past the end.
 ///
 /// ```
 /// // The neighbours of the element at position 1.
@@ -23,8 +23,8 @@ use std::ops::Bound;
 /// assert!(rt; cursor.peek_prev() == Some(&10) && cursor.peek_next() == Some(&30));
 /// ```
 ///
-/// A cursor goes round: one on from the end place is the first position, and one back from there is
-/// the end place. Within a node it asks the index nothing.
+/// A cursor wraps around: after the last element comes the position past the end, and then the first
+/// element. Within a node it asks the index nothing.
 #[derive(Drop)]
 pub struct Cursor<'a, T: Ord> {
     set: &'a BTreeSet<T>,
@@ -50,7 +50,7 @@ impl<'a, T: Ord> Model for Cursor<'a, T> {
 }
 
 impl<T: Ord> BTreeSet<T> {
-    /// Returns a cursor at a position, or at the end place where there is none.
+    /// Returns a cursor at a position, or past the end if there is no such element.
     pub fn cursor_at(&self, i: usize) -> Cursor<'_, T>
         ensures { result ≡ standing_at (items self.now) i }
     {
@@ -65,8 +65,7 @@ impl<T: Ord> BTreeSet<T> {
     }
 
     /// Returns a cursor at the first element that is not before the start, a bound on what a probe
-    /// seeks, or at the end place where there is none, by two binary searches. (Not in the Rust
-    /// crate.)
+    /// seeks, or past the end if there is none, by two binary searches.
     pub fn cursor_from<P: Probe<T> + Drop>(&self, start: Bound<P>) -> Cursor<'_, T>
         requires { IfBounded (λ p. FindsInOrder (P.answer p) (items self.now)) start }
         ensures { result ≡ standing_at (items self.now)
@@ -76,7 +75,7 @@ impl<T: Ord> BTreeSet<T> {
     }
 
     /// Returns a cursor at the first element that is past the end, a bound on what a probe seeks, or
-    /// at the end place where there is none, by two binary searches. (Not in the Rust crate.)
+    /// past the end if there is none, by two binary searches.
     pub fn cursor_past<P: Probe<T> + Drop>(&self, end: Bound<P>) -> Cursor<'_, T>
         requires { IfBounded (λ p. FindsInOrder (P.answer p) (items self.now)) end }
         ensures { result ≡ standing_at (items self.now)
@@ -101,14 +100,14 @@ impl<T: Ord> BTreeSet<T> {
 }
 
 impl<'a, T: Ord> Cursor<'a, T> {
-    /// Goes one on, and from the end place to the first position.
+    /// Moves to the next element; from past the end, to the first.
     pub fn move_next(&mut self)
         ensures { self.new ≡ one_on self.old }
     {
         self.stand_at(self.next_position());
     }
 
-    /// Goes one back, and from the first position to the end place.
+    /// Moves to the previous element; from the first, past the end.
     pub fn move_prev(&mut self)
         ensures { self.new ≡ one_back self.old }
     {
@@ -119,7 +118,7 @@ impl<'a, T: Ord> Cursor<'a, T> {
         self.stand_at(before);
     }
 
-    /// Goes to a position, or to the end place where there is none.
+    /// Moves to a position, or past the end if there is no such element.
     pub fn move_index(&mut self, i: usize)
         ensures { self.new ≡ standing_at self.old.list i }
     {
@@ -127,22 +126,22 @@ impl<'a, T: Ord> Cursor<'a, T> {
         self.stand_at(at);
     }
 
-    /// Returns the element at the position, and none at the end place.
+    /// Returns the element that the cursor points at, or `None` past the end.
     pub fn item(&self) -> Option<&'a T>
         ensures { option_copied result ≡ item_at self.now }
     {
         self.element_at(self.position)
     }
 
-    /// Returns the element that `move_next` would go to: at the end place the first, or `None`
-    /// where there is none.
+    /// Returns the element that `move_next` would move to, past the end the first, or `None` if there
+    /// is none.
     pub fn peek_next(&self) -> Option<&'a T>
         ensures { option_copied result ≡ item_at (one_on self.now) }
     {
         self.element_at(self.next_position())
     }
 
-    /// Returns the element before, and none at the first position.
+    /// Returns the previous element, or `None` at the first.
     pub fn peek_prev(&self) -> Option<&'a T>
         ensures { option_copied result ≡ (if self.now.position
             == 0 then None else slice_get self.now.list (self.now.position - 1)) }
@@ -151,14 +150,14 @@ impl<'a, T: Ord> Cursor<'a, T> {
         self.element_at(before)
     }
 
-    /// Returns the element at another position, or `None` where there is none. The cursor stays.
+    /// Returns the element at another position, if any. The cursor stays.
     pub fn peek_index(&self, i: usize) -> Option<&'a T>
         ensures { option_copied result ≡ slice_get self.now.list i }
     {
         self.element_at(i)
     }
 
-    // Stands at a position, which may be the end place.
+    // Points at a position, or past the end.
     fn stand_at(&mut self, i: usize)
         requires { i ≤ length self.old.list }
         ensures { self.new ≡ record { list = self.old.list; position = i } }
@@ -171,7 +170,7 @@ impl<'a, T: Ord> Cursor<'a, T> {
         self.position = i;
     }
 
-    // Returns the element at a position, or none where there is none.
+    // Returns the element at a position, if any.
     fn element_at(&self, i: usize) -> Option<&'a T>
         ensures { option_copied result ≡ slice_get self.now.list i }
     {
@@ -182,7 +181,7 @@ impl<'a, T: Ord> Cursor<'a, T> {
         Some(element(self.set, &spot))
     }
 
-    // One on, and from the end place the first position.
+    // The next position; past the end, the first.
     fn next_position(&self) -> usize
         ensures value { result ≡ (one_on self.now).position }
         ensures inside { result ≤ length self.now.list }

@@ -12,7 +12,7 @@ impl<T: Ord + Drop> BTreeSet<T> {
     /// Inserts `value` and returns true. If an equal element is present, keeps it, drops `value`,
     /// allocates nothing and returns false. It costs two binary searches at most, one comparison
     /// where the value is above all elements, and moves items of one node. Fails with `Memory`: a
-    /// failed call hands the value back and changes nothing.
+    /// failed call returns the value in the error and changes nothing.
     ///
     /// ```
     /// let mut set = BTreeSet::new(alloc)?;
@@ -41,7 +41,7 @@ impl<T: Ord + Drop> BTreeSet<T> {
 
     /// Replaces the element equal to `value` and returns the old one, and allocates nothing then.
     /// If there is none, inserts `value` and returns `None`. Costs as `insert`. Fails with
-    /// `Memory`: a failed call hands the value back and changes nothing.
+    /// `Memory`: a failed call returns the value in the error and changes nothing.
     ///
     /// ```
     /// let mut set = BTreeSet::from_iter(alloc, [7])?;

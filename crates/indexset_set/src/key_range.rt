@@ -17,8 +17,8 @@ use std::ops::Bound;
 
 impl<K: Ord, V> BTreeSet<Pair<K, V>> {
     /// Returns the pairs whose keys satisfy both bounds, in order. The start must not be past the
-    /// end, nor at it where both are excluded, which `bounds_are_ordered` of the core tests. (The
-    /// Rust crate's map reaches into the set.)
+    /// end, nor at it where both are excluded (see `base::bounds::bounds_are_ordered`). (The Rust
+    /// crate's map reaches into the set.)
     pub fn range_by_key(&self, range: (Bound<&K>, Bound<&K>)) -> Range<'_, Pair<K, V>>
         requires { IsTrue (are_ordered K.cmp (bound_map (λ k. k.now) range.0)
             (bound_map (λ k. k.now) range.1)) }

@@ -114,7 +114,7 @@ impl<T: Ord> BTreeSet<T> {
     }
 
     /// Returns the position of the element equal to the value, or `None`, by two binary searches
-    /// and a sum over the index. (Not in the Rust crate.)
+    /// and a sum over the index.
     ///
     /// ```
     /// let set = BTreeSet::from_iter(alloc, [10, 20, 30])?;
@@ -147,7 +147,7 @@ impl<T: Ord> BTreeSet<T> {
     }
 
     /// Returns the first element that is above the value, or `None` where there is none, by two
-    /// binary searches. (Not in the Rust crate.)
+    /// binary searches.
     ///
     /// ```
     /// let set = BTreeSet::from_iter(alloc, [10, 20, 30])?;

@@ -111,9 +111,8 @@ impl<T: Ord + Drop> BTreeSet<T> {
     }
 
     /// Returns the set of values that ascend strictly, in the nodes that `from` makes of them, by two
-    /// comparisons a value and no search. Where they do not ascend, fails with `Unsorted` and hands
-    /// them back. Fails with `Memory`, and then drops the values and hands back none. (Not in the
-    /// Rust crate.)
+    /// comparisons a value and no search. Where they do not ascend, fails with `Unsorted` and returns
+    /// them in the error. Fails with `Memory`, and then drops the values.
     ///
     /// ```
     /// let set = BTreeSet::from_sorted(alloc, vec![in alloc; 10, 20, 30]?)?;

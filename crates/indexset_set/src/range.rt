@@ -20,7 +20,7 @@ pub type Range<'a, T> = Iter<'a, T>;
 
 impl<T: Ord> BTreeSet<T> {
     /// Returns the elements that satisfy both bounds, in order. The start must not be past the end,
-    /// nor at it where both are excluded, which `bounds_are_ordered` of the core tests.
+    /// nor at it where both are excluded (see `base::bounds::bounds_are_ordered`).
     ///
     /// ```
     /// let set = BTreeSet::from_iter(alloc, [5, 10, 15, 20])?;

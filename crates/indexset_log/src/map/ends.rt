@@ -60,7 +60,7 @@ impl<K: Ord + Clone + Drop, V: Clone + Drop, Node: NodeLike<Pair<K, V>>> BTreeMa
         Ok((entry_of(pair), events))
     }
 
-    /// Removes the pair of the least key, if any, and returns it. It uses up as many numbers as
+    /// Removes the pair of the least key, if any, and returns it. It consumes as many event numbers as
     /// `pop_first_cdc`, and fails with `Numbers` where they do not fit. It allocates only where it merges
     /// two nodes of a type that allocates, and else does not fail with `Memory`. A failed call changes
     /// nothing.
@@ -105,10 +105,10 @@ impl<K: Ord + Clone + Drop, V: Clone + Drop, Node: NodeLike<Pair<K, V>>> BTreeMa
         Ok((entry_of(pair), events))
     }
 
-    /// Removes the pair of the greatest key, if any, and returns it. It uses up as many numbers as
-    /// `pop_last_cdc`, and fails with `Numbers` where they do not fit. It allocates only where it merges
-    /// two nodes of a type that allocates, and else does not fail with `Memory`. A failed call changes
-    /// nothing.
+    /// Removes the pair of the greatest key, if any, and returns it. It consumes as many event numbers
+    /// as `pop_last_cdc`, and fails with `Numbers` where they do not fit. It allocates only where it
+    /// merges two nodes of a type that allocates, and else does not fail with `Memory`. A failed call
+    /// changes nothing.
     pub fn pop_last(&mut self) -> Result<Option<(K, V)>, Refusal>
         ensures answer { IfOk result (λ entry.
             entry ≡ option_map entry_of (slice_get (joined self.old.nodes)

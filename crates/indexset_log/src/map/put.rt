@@ -14,7 +14,7 @@ use indexset_core::refusal::Refused;
 
 impl<K: Ord + Clone + Drop, V: Clone + Drop, Node: NodeLike<Pair<K, V>>> BTreeMap<K, V, Node> {
     /// Inserts a pair, replaces that of an equal key and returns its value, and returns the events.
-    /// A failed call hands key and value back and changes nothing.
+    /// A failed call returns key and value in the error and changes nothing.
     ///
     /// ```
     /// // The events of a change, applied to a copy.
@@ -49,7 +49,7 @@ impl<K: Ord + Clone + Drop, V: Clone + Drop, Node: NodeLike<Pair<K, V>>> BTreeMa
     }
 
     /// Does the same where the key is absent. If it is present, returns `None`, drops key and
-    /// value, uses up no number, allocates nothing and changes nothing.
+    /// value, consumes no event number, allocates nothing and changes nothing.
     pub fn checked_insert_cdc(
         &mut self,
         key: K,
@@ -74,8 +74,9 @@ impl<K: Ord + Clone + Drop, V: Clone + Drop, Node: NodeLike<Pair<K, V>>> BTreeMa
         Ok(self.set.put_cdc_checked(Pair { key, value })?)
     }
 
-    /// Inserts a pair, or replaces that of an equal key and returns its value. It uses up as many
-    /// numbers as `insert_cdc`. A failed call hands key and value back and changes nothing.
+    /// Inserts a pair, or replaces that of an equal key and returns its value. It consumes as many
+    /// event numbers as `insert_cdc`. A failed call returns key and value in the error and changes
+    /// nothing.
     pub fn insert(&mut self, key: K, value: V) -> Result<Option<V>, Refused<(K, V)>>
         ensures answer { IfOk result (λ old. old ≡ value_of K.cmp (joined self.old.nodes) key) }
         ensures refusal { IfErr result (λ e.
@@ -93,7 +94,7 @@ impl<K: Ord + Clone + Drop, V: Clone + Drop, Node: NodeLike<Pair<K, V>>> BTreeMa
     }
 
     /// Inserts a pair where the key is absent. If it is present, returns `None`, drops key and
-    /// value, uses up no number, allocates nothing and changes nothing.
+    /// value, consumes no event number, allocates nothing and changes nothing.
     pub fn checked_insert(&mut self, key: K, value: V) -> Result<Option<()>, Refused<(K, V)>>
         ensures answer { IfOk result (λ r. is_none r ≡ has_key K.cmp (joined self.old.nodes) key) }
         ensures refusal { IfErr result (λ e.

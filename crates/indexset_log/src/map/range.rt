@@ -19,7 +19,7 @@ pub type Range<'a, K, V, Node> = Iter<'a, K, V, Node>;
 
 impl<K: Ord + Clone + Drop, V: Clone + Drop, Node: NodeLike<Pair<K, V>>> BTreeMap<K, V, Node> {
     /// Returns the pairs whose keys satisfy both bounds, in order. The start must not be past the
-    /// end, nor at it where both are excluded, which `bounds_are_ordered` of the core tests.
+    /// end, nor at it where both are excluded (see `base::bounds::bounds_are_ordered`).
     ///
     /// ```
     /// // The pairs of the keys from 10 on that are below 20.

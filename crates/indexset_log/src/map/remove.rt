@@ -50,9 +50,10 @@ impl<K: Ord + Clone + Drop, V: Clone + Drop, Node: NodeLike<Pair<K, V>>> BTreeMa
         }
     }
 
-    /// Removes the pair of a key, if any, and returns it. It uses up as many numbers as `remove_cdc`, and
-    /// fails with `Numbers` where they do not fit. It allocates only where it merges two nodes of a type
-    /// that allocates, and else does not fail with `Memory`. A failed call changes nothing.
+    /// Removes the pair of a key, if any, and returns it. It consumes as many event numbers as
+    /// `remove_cdc`, and fails with `Numbers` where they do not fit. It allocates only where it merges
+    /// two nodes of a type that allocates, and else does not fail with `Memory`. A failed call changes
+    /// nothing.
     pub fn remove(&mut self, key: &K) -> Result<Option<(K, V)>, Refusal>
         ensures answer { IfOk result (λ entry.
             entry ≡ option_map entry_of (pair_of K.cmp (joined self.old.nodes) key.now)) }

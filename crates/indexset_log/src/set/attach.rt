@@ -16,11 +16,11 @@ use indexset_core::probe::ByItem;
 use indexset_core::refusal::{Refusal, Refused};
 
 impl<T: Ord + Clone + Drop, Node: NodeLike<T>> BTreeSet<T, Node> {
-    /// Inserts a whole node in its place among the others. It gives no event and uses up no number.
-    /// Fails with the first of these that holds: `Empty`; `TooLarge`, with more items than the node
-    /// size; `Unsorted`, not strictly ascending; `Overlaps`, where it does not lie wholly before,
-    /// after or between two neighbouring nodes; then `Memory`. A failed call hands the node back
-    /// and changes nothing.
+    /// Inserts a whole node in its place among the others. It gives no event and consumes no event
+    /// number. Fails with the first of these that holds: `Empty`; `TooLarge`, with more items than
+    /// the node size; `Unsorted`, not strictly ascending; `Overlaps`, where it does not lie wholly
+    /// before, after or between two neighbouring nodes; then `Memory`. A failed call returns the
+    /// node in the error and changes nothing.
     pub fn attach_node(&mut self, node: Node) -> Result<(), Refused<Node>>
         ensures nodes { OnOk result (self.new.nodes ≡ attached T.cmp self.old.nodes
             (Node.list node)) }

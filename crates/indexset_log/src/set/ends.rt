@@ -58,7 +58,7 @@ impl<T: Ord + Clone + Drop, Node: NodeLike<T>> BTreeSet<T, Node> {
         self.remove_from_cdc(place)
     }
 
-    /// Removes the least item, if any, and returns it. It uses up as many numbers as
+    /// Removes the least item, if any, and returns it. It consumes as many event numbers as
     /// `pop_first_cdc`, and fails with `Numbers` where they do not fit. It allocates only where it
     /// merges two nodes of a type that allocates, and else does not fail with `Memory`. A failed call
     /// changes nothing.
@@ -103,7 +103,7 @@ impl<T: Ord + Clone + Drop, Node: NodeLike<T>> BTreeSet<T, Node> {
         self.remove_from_cdc(place)
     }
 
-    /// Removes the greatest item, if any, and returns it. It uses up as many numbers as
+    /// Removes the greatest item, if any, and returns it. It consumes as many event numbers as
     /// `pop_last_cdc`, and fails with `Numbers` where they do not fit. It allocates only where it
     /// merges two nodes of a type that allocates, and else does not fail with `Memory`. A failed call
     /// changes nothing.

@@ -18,8 +18,8 @@ impl<T: Ord + Clone + Drop, Node: NodeLike<T>> BTreeSet<T, Node> {
     /// and no number is used up; neighbouring nodes are compared once. Fails at the first node that
     /// is `Empty`, `TooLarge`, `Unsorted`, or `Overlaps` the one before, by the first of these that
     /// holds, and after all others with `Memory` where there are more items than `usize::MAX`. A
-    /// failed call hands the nodes back. No call fails where the nodes are lawful for this size and
-    /// the number of items is a usize. (Not in the Rust crate.)
+    /// failed call returns the nodes in the error. No call fails where the nodes are lawful for
+    /// this size and the number of items is a usize.
     pub fn from_nodes(nodes: Vec<Node>, size: usize, next: u64) -> Result<Self, Refused<Vec<Node>>>
         requires two { 2 ≤ size }
         requires within { size ≤ Node.most }
@@ -85,8 +85,7 @@ fn count<T: Ord + Drop, Node: NodeLike<T>>(nodes: &[Node]) -> Option<usize>
 /// Tests whether the nodes may be those of a tree whose nodes hold at most `size` items each, and
 /// allocates nothing: it compares neighbouring items once, those of two neighbouring nodes too.
 /// Fails at the first node that is `Empty`, `TooLarge`, `Unsorted`, or `Overlaps` the one before,
-/// by the first of these that holds; `TooLarge` is impossible where `size` is `usize::MAX`. (Not in
-/// the Rust crate.)
+/// by the first of these that holds; `TooLarge` is impossible where `size` is `usize::MAX`.
 pub fn test_nodes<'a, T: Ord + Drop + 'a, Node: NodeLike<T>>(
     nodes: &'a [Node],
     size: usize,

@@ -21,8 +21,8 @@ use indexset_core::refusal::{Refusal, Refused};
 use indexset_core::search;
 
 impl<T: Ord + Clone + Drop, Node: NodeLike<T>> BTreeSet<T, Node> {
-    /// Inserts an item, replaces an equal one, and returns the events. A failed call hands the item
-    /// back and changes nothing.
+    /// Inserts an item, replaces an equal one, and returns the events. A failed call returns the
+    /// item in the error and changes nothing.
     ///
     /// ```
     /// let mut tree: set::BTreeSet<u64, Vec<u64>> = set::BTreeSet::new(alloc);
@@ -50,7 +50,7 @@ impl<T: Ord + Clone + Drop, Node: NodeLike<T>> BTreeSet<T, Node> {
     }
 
     /// Does the same where no equal item is present. If one is, returns `None`, drops the item,
-    /// uses up no number, allocates nothing and changes nothing.
+    /// consumes no event number, allocates nothing and changes nothing.
     #[tactic(auto, unfolding(indexset_core::specs::Order::keep, crate::specs::Edits::with_checked_put, crate::specs::Table::checked_put_events))]
     pub fn put_cdc_checked(&mut self, value: T) -> Result<Option<Vec<ChangeEvent<T>>>, Refused<T>>
         ensures answer { IfOk result (λ r. is_none r ≡ has_equal T.cmp
@@ -80,8 +80,8 @@ impl<T: Ord + Clone + Drop, Node: NodeLike<T>> BTreeSet<T, Node> {
         }
     }
 
-    /// Inserts an item, or replaces an equal one. It uses up as many numbers as `put_cdc`. A failed
-    /// call hands the item back and changes nothing.
+    /// Inserts an item, or replaces an equal one. It consumes as many event numbers as `put_cdc`. A
+    /// failed call returns the item in the error and changes nothing.
     pub fn put(&mut self, value: T) -> Result<Option<T>, Refused<T>>
         ensures answer { IfOk result (λ old. old ≡ equal_element T.cmp
             (joined self.old.nodes) value) }
@@ -100,7 +100,7 @@ impl<T: Ord + Clone + Drop, Node: NodeLike<T>> BTreeSet<T, Node> {
     }
 
     /// Inserts an item and returns true. If an equal one is present, returns false, drops the item,
-    /// uses up no number, allocates nothing and changes nothing.
+    /// consumes no event number, allocates nothing and changes nothing.
     ///
     /// ```
     /// let mut tree: set::BTreeSet<u64, Vec<u64>> = set::BTreeSet::new(alloc);
@@ -229,7 +229,7 @@ impl<T: Ord + Clone + Drop, Node: NodeLike<T>> BTreeSet<T, Node> {
     }
 
     // Inserts an item where it goes: `next` is the number of the next event after it. A failed call
-    // hands the item back and changes nothing.
+    // returns the item in the error and changes nothing.
     fn carry_out(&mut self, aim: Option<Aim>, next: u64, value: T) -> Result<Option<T>, Refused<T>>
         requires aim { IsAimed T.cmp self.old.size self.old.nodes value aim }
         requires next { next ≡ self.old.next + count_for aim }
@@ -283,7 +283,7 @@ impl<T: Ord + Clone + Drop, Node: NodeLike<T>> BTreeSet<T, Node> {
         Ok(log.events)
     }
 
-    // Inserts an item where it goes. A failed call hands it back and changes nothing.
+    // Inserts an item where it goes. A failed call returns it in the error and changes nothing.
     fn put_in_target(&mut self, aim: Aim, next: u64, value: T) -> Result<Option<T>, Refused<T>>
         requires aim { IsAim T.cmp self.old.size self.old.nodes value aim }
         requires next { next ≡ self.old.next + count_for (Some aim) }
@@ -310,7 +310,7 @@ impl<T: Ord + Clone + Drop, Node: NodeLike<T>> BTreeSet<T, Node> {
         }
     }
 
-    // Inserts the first item. A failed call hands it back and changes nothing.
+    // Inserts the first item. A failed call returns it in the error and changes nothing.
     #[tactic(auto, unfolding(crate::specs::Edits::with_put, crate::specs::Table::put_events))]
     fn put_first(&mut self, next: u64, value: T) -> Result<Option<T>, Refused<T>>
         requires none { self.old.nodes ≡ [] }

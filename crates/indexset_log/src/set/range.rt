@@ -87,7 +87,7 @@ impl<'a, T: Ord + Clone + Drop, Node: NodeLike<T>> FusedIterator for Range<'a, T
 
 impl<T: Ord + Clone + Drop, Node: NodeLike<T>> BTreeSet<T, Node> {
     /// Returns the items that satisfy both bounds, in order. The start must not be past the end,
-    /// nor at it where both are excluded, which `bounds_are_ordered` of the core tests.
+    /// nor at it where both are excluded (see `base::bounds::bounds_are_ordered`).
     ///
     /// ```
     /// let mut tree: set::BTreeSet<u64, Vec<u64>> = set::BTreeSet::new(alloc);
@@ -115,7 +115,7 @@ impl<T: Ord + Clone + Drop, Node: NodeLike<T>> BTreeSet<T, Node> {
     /// Returns the items from one place to before another, in order. A place is a node and an
     /// offset in it of at most its length, as `locate_by` returns it; where there is no node it is
     /// (0, 0). No fewer items may stand before the second place. The lengths of the nodes between
-    /// the two are added up, so that the iterator knows its own. (Not in the Rust crate.)
+    /// the two are added up, so that the iterator knows its own.
     pub fn range_between(&self, from: (usize, usize), to: (usize, usize)) -> Range<'_, T, Node>
         requires from { IsPlace self.now.nodes from }
         requires to { IsPlace self.now.nodes to }
@@ -133,7 +133,7 @@ impl<T: Ord + Clone + Drop, Node: NodeLike<T>> BTreeSet<T, Node> {
     }
 
     /// Returns the place after the items before the start, by two binary searches, or none where it
-    /// is unbounded. Its probe must find the items in order. (Not in the Rust crate.)
+    /// is unbounded. Its probe must find the items in order.
     pub fn place_from<P: Probe<T> + Drop>(&self, start: Bound<P>) -> (usize, usize)
         requires { IfBounded (λ p. IsParted (P.answer p) (joined self.now.nodes)) start }
         ensures place { IsPlace self.now.nodes result }
@@ -148,7 +148,7 @@ impl<T: Ord + Clone + Drop, Node: NodeLike<T>> BTreeSet<T, Node> {
     }
 
     /// Returns the place after the items that are not past the end, by two binary searches, or none
-    /// where it is unbounded. Its probe must find the items in order. (Not in the Rust crate.)
+    /// where it is unbounded. Its probe must find the items in order.
     pub fn place_to<P: Probe<T> + Drop>(&self, end: Bound<P>) -> (usize, usize)
         requires { IfBounded (λ p. IsParted (P.answer p) (joined self.now.nodes)) end }
         ensures place { IsPlace self.now.nodes result }
@@ -165,7 +165,7 @@ impl<T: Ord + Clone + Drop, Node: NodeLike<T>> BTreeSet<T, Node> {
     /// Returns the places before and after the items that the comparator finds Equal, which must find
     /// the items in order: two binary searches for the first, and from there steps that double, so
     /// that `n` such items cost few comparisons more than one. Where there is none, both places are
-    /// where one would go. (Not in the Rust crate.)
+    /// where one would go.
     pub fn places_by<P: Probe<T>>(&self, probe: &mut P) -> ((usize, usize), (usize, usize))
         requires { IsParted (P.answer probe.old) (joined self.now.nodes) }
         ensures from { IsPlace self.now.nodes result.0 }
@@ -220,7 +220,7 @@ impl<T: Ord + Clone + Drop, Node: NodeLike<T>> BTreeSet<T, Node> {
     }
 
     /// Returns the place of the item that stands so many items after a place, by the lengths of the
-    /// nodes between: it makes no comparison. There must be such an item. (Not in the Rust crate.)
+    /// nodes between: it makes no comparison. There must be such an item.
     pub fn place_ahead(&self, place: (usize, usize), count: usize) -> (usize, usize)
         requires place { IsPlace self.now.nodes place }
         requires within { items_before self.now.nodes place + count

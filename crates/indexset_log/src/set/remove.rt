@@ -74,9 +74,10 @@ impl<T: Ord + Clone + Drop, Node: NodeLike<T>> BTreeSet<T, Node> {
         Ok((item, events))
     }
 
-    /// Removes the equal item, if any, and returns it. It uses up as many numbers as `remove_cdc`, and
-    /// fails with `Numbers` where they do not fit. It allocates only where it merges two nodes of a type
-    /// that allocates, and else does not fail with `Memory`. A failed call changes nothing.
+    /// Removes the equal item, if any, and returns it. It consumes as many event numbers as
+    /// `remove_cdc`, and fails with `Numbers` where they do not fit. It allocates only where it merges
+    /// two nodes of a type that allocates, and else does not fail with `Memory`. A failed call changes
+    /// nothing.
     pub fn remove(&mut self, value: &T) -> Result<Option<T>, Refusal>
         ensures answer { IfOk result (λ item.
             item ≡ equal_element T.cmp (joined self.old.nodes) value.now) }
@@ -98,9 +99,10 @@ impl<T: Ord + Clone + Drop, Node: NodeLike<T>> BTreeSet<T, Node> {
         self.remove_from(place)
     }
 
-    /// Removes the item at a place, and returns it. It uses up as many numbers as `remove_at_cdc`, and
-    /// fails with `Numbers` where they do not fit. It allocates only where it merges two nodes of a type
-    /// that allocates, and else does not fail with `Memory`. A failed call changes nothing.
+    /// Removes the item at a place, and returns it. It consumes as many event numbers as
+    /// `remove_at_cdc`, and fails with `Numbers` where they do not fit. It allocates only where it
+    /// merges two nodes of a type that allocates, and else does not fail with `Memory`. A failed call
+    /// changes nothing.
     pub fn remove_at(&mut self, node: usize, offset: usize) -> Result<T, Refusal>
         requires node { node < length self.old.nodes }
         requires offset { offset < length (node_at self.old.nodes node) }
@@ -125,7 +127,7 @@ impl<T: Ord + Clone + Drop, Node: NodeLike<T>> BTreeSet<T, Node> {
     }
 
     /// Returns why a removal of the item at a place would be refused: with `Numbers` where too few
-    /// are left for its events, else with `Memory`. (Not in the Rust crate.)
+    /// are left for its events, else with `Memory`.
     pub fn removal_refusal(&self, node: usize, offset: usize) -> Refusal
         requires node { node < length self.now.nodes }
         requires offset { offset < length (node_at self.now.nodes node) }

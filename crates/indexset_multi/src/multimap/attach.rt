@@ -17,11 +17,11 @@ impl<K: Ord + Clone + Drop, V: Eq + Clone + Drop, Node: NodeLike<MultiPair<K, V>
     V,
     Node,
 > {
-    /// Inserts a whole node of pairs in its place among the others. It gives no event and uses up
-    /// no number; where the number of the next new pair is not above those of the node's pairs, it
-    /// is raised to the one after the greatest of them. A node with a pair that has the greatest
-    /// number is refused with `PairNumber`, before all that `attach_node` of the set refuses. A
-    /// failed call hands the node back and changes nothing.
+    /// Inserts a whole node of pairs in its place among the others. It gives no event and consumes
+    /// no event number; where the number of the next new pair is not above those of the node's
+    /// pairs, it is raised to the one after the greatest of them. A node with a pair that has the
+    /// greatest number is refused with `PairNumber`, before all that `attach_node` of the set
+    /// refuses. A failed call returns the node in the error and changes nothing.
     pub fn attach_multi_node(&mut self, node: Node) -> Result<(), Refused<Node>>
         ensures nodes { OnOk result (self.new.nodes ≡ attached (by_number K.cmp) self.old.nodes
             (Node.list node)) }

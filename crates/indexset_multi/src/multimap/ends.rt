@@ -85,10 +85,10 @@ impl<K: Ord + Clone + Drop, V: Eq + Clone + Drop, Node: NodeLike<MultiPair<K, V>
         Ok((entry_of(pair), events))
     }
 
-    /// Removes the first pair of the least key, if any, and returns it, without a comparison. It uses up as
-    /// many numbers as `pop_first_cdc`, and fails with `Numbers` where they do not fit. It allocates only
-    /// where it merges two nodes of a type that allocates, and else does not fail with `Memory`. A failed call
-    /// changes nothing.
+    /// Removes the first pair of the least key, if any, and returns it, without a comparison. It consumes as
+    /// many event numbers as `pop_first_cdc`, and fails with `Numbers` where they do not fit. It allocates
+    /// only where it merges two nodes of a type that allocates, and else does not fail with `Memory`. A failed
+    /// call changes nothing.
     pub fn pop_first(&mut self) -> Result<Option<(K, V)>, Refusal>
         ensures answer { IfOk result (λ entry.
             entry ≡ option_map key_and_value (slice_get (joined self.old.nodes) 0)) }
@@ -128,9 +128,9 @@ impl<K: Ord + Clone + Drop, V: Eq + Clone + Drop, Node: NodeLike<MultiPair<K, V>
         Ok((entry_of(pair), events))
     }
 
-    /// Removes the last pair of the greatest key, if any, and returns it, without a comparison. It uses up as
-    /// many numbers as `pop_last_cdc`, and fails with `Numbers` where they do not fit. It allocates only where
-    /// it merges two nodes of a type that allocates, and else does not fail with `Memory`. A failed call
+    /// Removes the last pair of the greatest key, if any, and returns it, without a comparison. It consumes as
+    /// many event numbers as `pop_last_cdc`, and fails with `Numbers` where they do not fit. It allocates only
+    /// where it merges two nodes of a type that allocates, and else does not fail with `Memory`. A failed call
     /// changes nothing.
     ///
     /// ```

@@ -22,9 +22,9 @@ impl<K: Ord + Clone + Drop, V: Eq + Clone + Drop, Node: NodeLike<MultiPair<K, V>
     /// among all pairs, and 0 where there are none. The nodes are taken as they are, no pair is
     /// copied, nothing is allocated, and no number is used up; each pair's number is read once, and
     /// neighbouring nodes are compared once. Fails with `PairNumber` where a pair has the greatest
-    /// number, before all that `from_nodes` of the set refuses. A failed call hands the nodes back.
-    /// No call fails where the nodes are lawful for this size, no pair has the greatest number and
-    /// the number of pairs is a usize. (Not in the Rust crate.)
+    /// number, before all that `from_nodes` of the set refuses. A failed call returns the nodes in
+    /// the error. No call fails where the nodes are lawful for this size, no pair has the greatest
+    /// number and the number of pairs is a usize.
     pub fn from_nodes(nodes: Vec<Node>, size: usize, next: u64) -> Result<Self, Refused<Vec<Node>>>
         requires two { 2 ≤ size }
         requires within { size ≤ Node.most }

@@ -194,8 +194,8 @@ impl<K: Ord + Clone + Drop, V: Eq + Clone + Drop, Node: NodeLike<MultiPair<K, V>
     }
 
     /// Returns the pairs whose keys satisfy both bounds, in order. The start must not be past the
-    /// end, nor at it where both are excluded, which `bounds_are_ordered` of the core tests. Each
-    /// bound costs two binary searches.
+    /// end, nor at it where both are excluded (see `base::bounds::bounds_are_ordered`). Each bound
+    /// costs two binary searches.
     ///
     /// ```
     /// // The pairs of the keys from 10 on that are below 20.

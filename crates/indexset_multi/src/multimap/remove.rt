@@ -47,7 +47,7 @@ impl<K: Ord + Clone + Drop, V: Eq + Clone + Drop, Node: NodeLike<MultiPair<K, V>
         self.take_cdc(place)
     }
 
-    /// Removes the first pair of a key, if any, and returns it. It uses up as many numbers as
+    /// Removes the first pair of a key, if any, and returns it. It consumes as many event numbers as
     /// `remove_some_cdc`, and fails with `Numbers` where they do not fit. It allocates only where it merges
     /// two nodes of a type that allocates, and else does not fail with `Memory`. A failed call changes
     /// nothing.

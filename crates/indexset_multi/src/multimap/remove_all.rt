@@ -21,7 +21,7 @@ impl<K: Ord + Clone + Drop, V: Eq + Clone + Drop, Node: NodeLike<MultiPair<K, V>
 > {
     /// Removes all pairs of a key, the first of them again and again by `remove_some`, and returns how
     /// many they were. Fails where one of these removals does: the pairs before it are gone, and it and
-    /// those after it stay. (Not in the Rust crate.)
+    /// those after it stay.
     pub fn remove_all(&mut self, key: &K) -> Result<usize, Refusal>
         ensures count { IfOk result (λ n. n ≡ length (pairs_of K.cmp
             (joined self.old.nodes) key.now)) }
@@ -46,7 +46,7 @@ impl<K: Ord + Clone + Drop, V: Eq + Clone + Drop, Node: NodeLike<MultiPair<K, V>
     /// Fails where one of these removals does, or where the list of events has no room for more, with
     /// `Numbers` where too few are left for that removal, else with `Memory`: the pairs before it are
     /// gone, and their events are handed back; it and those after it stay. Where the key has no pair it
-    /// allocates nothing. (Not in the Rust crate.)
+    /// allocates nothing.
     pub fn remove_all_cdc(
         &mut self,
         key: &K,

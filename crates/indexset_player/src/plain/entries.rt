@@ -6,7 +6,7 @@ use indexset_play::script::{Stop, read, tell};
 use std::str::SplitWhitespace;
 
 // Writes the value that a call lends into the answer, and the next word, if there is one, over it. A refused
-// call hands the pair back.
+// call returns the pair in the error.
 fn tell_lent(
     given: (u64, u64),
     lent: Result<&mut u64, Refused<(u64, u64)>>,

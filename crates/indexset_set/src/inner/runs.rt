@@ -6,10 +6,10 @@ ghost use Rattle.indexset_spine.specs.Cut.{items, with_all_last};
 use crate::BTreeSet;
 use indexset_core::refusal::{Refusal, Refused};
 
-/// Puts a value that is above all behind a run, whose values are yet to go behind the elements,
-/// and returns `None`. Any other value it returns, once it has moved the run. It makes one
-/// comparison. Fails with `Memory`: a failed call hands the value back, and has moved a prefix
-/// of the run.
+/// Puts a value that is above all behind a run, whose values are yet to go behind the elements, and
+/// returns `None`. Any other value it returns, once it has moved the run. It makes one comparison.
+/// Fails with `Memory`: a failed call returns the value in the error, and has moved a prefix of the
+/// run.
 pub fn join_run<T: Ord + Drop>(
     set: &mut BTreeSet<T>,
     run: &mut Vec<T>,

@@ -104,8 +104,8 @@ pub fn element<'a, T: Ord>(set: &'a BTreeSet<T>, spot: &Spot) -> &'a T
 }
 
 /// Inserts a value at the spot where a search for it ended, and returns the spot where it then
-/// stands. It makes no comparison. Fails with `Memory`: a failed call hands the value back and
-/// changes nothing.
+/// stands. It makes no comparison. Fails with `Memory`: a failed call returns the value in the
+/// error and changes nothing.
 pub fn insert_at<T: Ord + Drop>(
     set: &mut BTreeSet<T>,
     spot: Spot,
