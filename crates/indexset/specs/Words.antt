@@ -52,11 +52,11 @@ pub use Rattle.indexset_core.specs.Nodes.{joined, vec_items, IsNodeList}
 pub use Rattle.indexset_log.specs.Clones.{IsEventClone}
 pub use Rattle.indexset_log.specs.declared.change.ChangeEvent.{ChangeEvent}
 pub use Rattle.indexset_log.specs.Keys.{key_removal_events}
-pub use Rattle.indexset_log.specs.Tree.{Tree}
+pub use Rattle.indexset_log.specs.Tree.{Tree, refusal_for}
 pub use Rattle.indexset_log.specs.Table.{put_events, checked_put_events, removal_events}
 pub use Rattle.indexset_log.specs.Replay.{IsNumberedFrom, numbered_from, replay, step, unassigned}
 pub use Rattle.indexset_multi.specs.Keys.{entries, equal_pair, has_pair_of, pairs_of, without_first}
-pub use Rattle.indexset_multi.specs.Tree.{MultiTree, inserted_pair}
+pub use Rattle.indexset_multi.specs.Tree.{MultiTree, inserted_pair, insertion_refusal, pair_removal_events}
 pub use Rattle.indexset_replica.specs.Copies.{AreClonesEqual, AreCopies, IsCopy, LeadsToCopies}
 pub use Rattle.indexset_replica.specs.Delivery.{CopiesAll, CopiesBeginning, HasStopped, HoldsAll, IsAlike, IsAt, IsBeginning, IsDelivered, IsDelivery, IsFeed, IsFollowed, IsReached, IsSubsequence, numbers_from}
 pub use Rattle.indexset_replica.specs.Replica.{AddsClone, IsClonedStep, IsEqualClone}

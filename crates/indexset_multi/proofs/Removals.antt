@@ -167,6 +167,14 @@ module _ {K V : Type 0} {cmp : K → K → Ordering} (o : IsTotalOrder cmp) (old
         let x = some_from (first_pair cmp (joined now.nodes) k) found in
         omega (arith, some_found (λ p. is_eq (cmp p.key k)) (joined now.nodes) x.0 x.1, ap (λ l. length l) g.gone, length-drop n (pairs_of cmp (joined old.nodes) k))
 
+    -- where the key had no pair, a removal tells nothing
+    pub nothing_told : pairs_of cmp (joined old.nodes) k ≡ [] → first_events cmp now k ≡ []
+    nothing_told none =
+        elim (first_pair cmp (joined now.nodes) k) as (λ o. first_pair cmp (joined now.nodes) k ≡ o → pair_removal_events cmp now.size now.nodes o ≡ []) [
+          | None ↦ λ _. refl
+          | Some x ↦ λ found. absurd (omega (arith, more_left (ap is_some found), ap (λ l. length l) none))
+        ] refl
+
     module _ (within : n ≤ length (pairs_of cmp (joined old.nodes) k)) where
       number : length (pairs_of cmp (joined old.nodes) k) - length (pairs_of cmp (joined now.nodes) k) ≡ n
       number = let g = now_gone in omega (arith, within, ap (λ l. length l) g.gone, length-drop n (pairs_of cmp (joined old.nodes) k))

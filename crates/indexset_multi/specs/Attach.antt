@@ -1,5 +1,5 @@
 -- Nodes of numbered pairs, given whole.
-use Rattle.std.specs.Prelude.{ℕ, ◌+◌, ◌==◌, max, Bool, List, [], ◌∷◌, if◌then◌else◌, Option, Some}
+use Rattle.std.specs.Prelude.{◌≡◌, ℕ, ◌+◌, ◌==◌, length, max, Bool, List, [], ◌∷◌, if◌then◌else◌, Option, Some}
 use Rattle.std.below.core.specs.declared.int.u64.TheConstants.{MAX}
 use Rattle.std.specs.List.{list_any}
 use Rattle.std.specs.declared.cmp.Ordering.{Ordering}
@@ -8,7 +8,8 @@ use Rattle.indexset_core.specs.declared.refusal.Refusal.{Refusal}
 use Rattle.indexset_core.specs.declared.refusal.Refusal.TheVariants.{PairNumber}
 use Rattle.indexset_core.specs.MultiPairs.{by_number}
 use Rattle.indexset_core.specs.Nodes.{joined}
-use Rattle.indexset_log.specs.Attach.{attach_refusal, nodes_refusal}
+use Rattle.indexset_core.specs.Order.{IsAscending}
+use Rattle.indexset_log.specs.Attach.{attach_refusal, attached, nodes_refusal}
 use Rattle.indexset_multi.specs.Tree.{MultiTree}
 
 module _ {K V : Type 0} where
@@ -24,6 +25,15 @@ module _ {K V : Type 0} where
   -- why n is refused: the first cause that applies, where one does
   abbrev pub pairs_refusal : (K → K → Ordering) → MultiTree K V → List (MultiPair K V) → Option Refusal
   pairs_refusal cmp m n = if has_greatest n then Some PairNumber else attach_refusal (by_number cmp) m.size m.nodes n
+
+  -- n was put among the nodes: no event, and the number of the next new pair is above those of n
+  pub record IsAttached (cmp : K → K → Ordering) (old new : MultiTree K V) (n : List (MultiPair K V)) : Type 0 where
+    pub nodes : new.nodes ≡ attached (by_number cmp) old.nodes n
+    pub ascending : IsAscending (by_number cmp) (joined new.nodes)
+    pub count : length (joined new.nodes) ≡ length (joined old.nodes) + length n
+    pub size : new.size ≡ old.size
+    pub next : new.next ≡ old.next
+    pub pair_next : new.pair_next ≡ max old.pair_next (free_number n)
 
   -- why the nodes are refused as those of a multimap: the first cause that applies, where one does
   abbrev pub pair_nodes_refusal : (K → K → Ordering) → ℕ → List (List (MultiPair K V)) → Option Refusal

@@ -1,7 +1,7 @@
 //! Orders by customer: a multimap, in which a key has several values.
-ghost use Rattle.std.specs.Prelude.{◌≡◌, ℕ, false, length, nat_eq, OnOk, OnErr};
+ghost use Rattle.std.specs.Prelude.{◌≡◌, ℕ, false, length, nat_eq, IfErr, OnOk, OnErr};
 ghost use Rattle.std.specs.Ordering.{is_eq, nat_cmp};
-ghost use Rattle.indexset.specs.Words.{by_number, inserted_pair, joined, pairs_of, put, without_first};
+ghost use Rattle.indexset.specs.Words.{by_number, equal_pair, inserted_pair, insertion_refusal, joined, pair_removal_events, pairs_of, put, refusal_for, without_first};
 
 use indexset::base::multipair::MultiPair;
 use indexset::base::refusal::{Refusal, Refused};
@@ -14,7 +14,10 @@ pub type Orders = BTreeMultiMap<u64, u64, Vec<MultiPair<u64, u64>>>;
 pub fn file(orders: &mut Orders, customer: u64, order: u64) -> Result<(), Refused<(u64, u64)>>
     ensures filed { OnOk result (joined orders.new.nodes ≡ put (by_number nat_cmp)
         (joined orders.old.nodes) (inserted_pair nat_cmp nat_eq orders.old customer order)) }
+    ensures given_back { IfErr result (λ refused. refused.value ≡ (customer, order)) }
     ensures same { OnErr result (orders.new ≡ orders.old) }
+    ensures cause { IfErr result (λ refused.
+        refused.cause ≡ insertion_refusal nat_cmp nat_eq orders.old customer order) }
 {
     orders.insert(customer, order)?;
     Ok(())
@@ -28,6 +31,9 @@ pub fn cancel(orders: &mut Orders, customer: u64, order: u64) -> Result<(), Refu
         pairs_of nat_cmp (joined orders.new.nodes) other
         ≡ pairs_of nat_cmp (joined orders.old.nodes) other) }
     ensures same { OnErr result (orders.new ≡ orders.old) }
+    ensures cause { IfErr result (λ refusal. refusal ≡ refusal_for orders.old.next (length
+        (pair_removal_events nat_cmp orders.old.size orders.old.nodes
+        (equal_pair nat_cmp nat_eq (joined orders.old.nodes) customer order)))) }
 {
     orders.remove(&customer, &order)?;
     Ok(())

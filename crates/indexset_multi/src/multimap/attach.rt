@@ -1,11 +1,7 @@
 //! Insertion of whole nodes.
-ghost use Rattle.std.specs.Prelude.{◌≡◌, ◌+◌, max, false, true, length, None, MatchOption, IfOk, OnOk, IfErr, OnErr, IsOk};
+ghost use Rattle.std.specs.Prelude.{◌≡◌, false, true, None, MatchOption, OnOk, IfErr, OnErr, IsOk};
 ghost use Rattle.std.specs.Option.{unwrap_or};
-ghost use Rattle.indexset_core.specs.MultiPairs.{by_number};
-ghost use Rattle.indexset_core.specs.Nodes.{joined};
-ghost use Rattle.indexset_core.specs.Order.{IsAscending};
-ghost use Rattle.indexset_log.specs.Attach.{attached};
-ghost use Rattle.indexset_multi.specs.Attach.{free_number, has_greatest, pairs_refusal};
+ghost use Rattle.indexset_multi.specs.Attach.{IsAttached, free_number, has_greatest, pairs_refusal};
 
 use super::BTreeMultiMap;
 use indexset_core::multipair::MultiPair;
@@ -23,19 +19,11 @@ impl<K: Ord + Clone + Drop, V: Eq + Clone + Drop, Node: NodeLike<MultiPair<K, V>
     /// greatest number is refused with `PairNumber`, before all that `attach_node` of the set
     /// refuses. A failed call returns the node in the error and changes nothing.
     pub fn attach_multi_node(&mut self, node: Node) -> Result<(), Refused<Node>>
-        ensures nodes { OnOk result (self.new.nodes ≡ attached (by_number K.cmp) self.old.nodes
-            (Node.list node)) }
-        ensures ascending { OnOk result (IsAscending (by_number K.cmp) (joined self.new.nodes)) }
-        ensures count { OnOk result (length (joined self.new.nodes)
-            ≡ length (joined self.old.nodes) + length (Node.list node)) }
+        ensures attached { OnOk result (IsAttached K.cmp self.old self.new (Node.list node)) }
         ensures good { IsOk result → pairs_refusal K.cmp self.old (Node.list node) ≡ None }
         ensures refusal { IfErr result (λ e. e.cause ≡ unwrap_or
             (pairs_refusal K.cmp self.old (Node.list node)) Refusal.Memory) }
         ensures given_back { IfErr result (λ e. e.value ≡ node) }
-        ensures size { self.new.size ≡ self.old.size }
-        ensures next { self.new.next ≡ self.old.next }
-        ensures pair_next { OnOk result (self.new.pair_next
-            ≡ max self.old.pair_next (free_number (Node.list node))) }
         ensures unchanged { OnErr result (self.new ≡ self.old) }
     {
         let Some(free) = free_number(node.iter().as_slice()) else {

@@ -21,7 +21,7 @@ impl<K: Ord + Clone + Drop, V: Eq + Clone + Drop, Node: NodeLike<MultiPair<K, V>
 > {
     /// Removes all pairs of a key, the first of them again and again by `remove_some`, and returns how
     /// many they were. Fails where one of these removals does: the pairs before it are gone, and it and
-    /// those after it stay.
+    /// those after it stay. Where the key has no pair it does not fail.
     pub fn remove_all(&mut self, key: &K) -> Result<usize, Refusal>
         ensures count { IfOk result (λ n. n ≡ length (pairs_of K.cmp
             (joined self.old.nodes) key.now)) }
@@ -30,6 +30,7 @@ impl<K: Ord + Clone + Drop, V: Eq + Clone + Drop, Node: NodeLike<MultiPair<K, V>
         ensures gone { OnOk result (pairs_of K.cmp (joined self.new.nodes) key.now ≡ []) }
         ensures refusal { IfErr result (λ e. e ≡ refusal_of self.new
             (some_removal K.cmp self.new key.now)) }
+        ensures no_event { pairs_of K.cmp (joined self.old.nodes) key.now ≡ [] → IsOk result }
         ensures removed { AreRemoved K.cmp self.old self.new key.now }
     {
         // What holds of the nodes at first, and that the number of pairs fits.

@@ -1,7 +1,8 @@
 use Rattle.std.proofs.Common.{rules, ◌≡◌, ◌+◌, ◌-◌, ◌<◌, true, false, is_some, length, refl, ap, sym, subst, ◌∙◌, arith}
+use Rattle.std.proofs.lemmas.Bool.{false≢true}
 use Rattle.indexset_core.specs.Nodes.{joined}
 use Rattle.indexset_multi.specs.Keys.{first_pair, key_and_value, pairs_of}
-use Rattle.indexset_multi.proofs.Removals.{all_kept, all_removed, are_removed, more_left, none_left, one_more, removed_fit, some_mapped, stays}
+use Rattle.indexset_multi.proofs.Removals.{all_kept, all_removed, are_removed, more_left, none_left, nothing_told, one_more, removed_fit, some_mapped, stays}
 use Rattle.indexset_multi.proofs.multimap.BTreeMultiMap.remove_all.Goals as goal
 
 pub loop-count-init : goal.loop-count-init
@@ -56,6 +57,7 @@ returns g c =
       contents = all_kept g.met.K.Ord.total old c.rule.ensures.tree k at.count is at.invariant.within gone;
       gone = none_left g.met.K.Ord.total old c.rule.ensures.tree k at.count is at.invariant.within gone;
       refusal = tt;
+      no_event = λ _. refl;
       removed = are_removed g.met.K.Ord.total old c.rule.ensures.tree k at.count is at.invariant.within;
     }
 
@@ -68,5 +70,6 @@ returns-in_err-remove_some g c =
       contents = search rules;
       gone = search rules;
       refusal = search rules;
+      no_event = λ none. absurd (false≢true (c.in_err-remove_some.ensures.no_event (nothing_told g.met.K.Ord.total c.args.self.now c.rule.ensures.tree c.args.key.now at.count at.invariant.tree none)));
       removed = are_removed g.met.K.Ord.total c.args.self.now c.rule.ensures.tree c.args.key.now at.count is at.invariant.within;
     }
