@@ -1,7 +1,7 @@
 //! A change log: the events that a copy of a tree elsewhere needs.
-ghost use Rattle.std.specs.Prelude.{◌≡◌, ◌≢◌, ◌+◌, ◌≤◌, length, true, Some, IfOk, IfErr, OnErr, OnOk};
+ghost use Rattle.std.specs.Prelude.{◌≡◌, ◌+◌, ◌≤◌, length, true, Some, IfOk, IfErr, OnErr, OnOk};
 ghost use Rattle.std.specs.Ordering.{nat_cmp};
-ghost use Rattle.indexset.specs.Words.{IsNumberedFrom, by_key, joined, keep, pair, put, replay, value_of, without};
+ghost use Rattle.indexset.specs.Words.{IsNumberedFrom, by_key, checked_put_events, joined, keep, pair, put, put_events, refusal_for, removal_events, replay, value_of, without};
 
 use indexset::base::pair::Pair;
 use indexset::base::refusal::{Refusal, Refused};
@@ -25,8 +25,8 @@ pub fn put(tree: &mut Numbers, value: u64) -> Result<Vec<ChangeEvent<u64>>, Refu
     ensures few { IfOk result (λ events. length events.items ≤ 3) }
     ensures given_back { IfErr result (λ refused. refused.value ≡ value) }
     ensures same { OnErr result (tree.new ≡ tree.old) }
-    ensures cause { IfErr result (λ refused.
-        refused.cause ≢ Refusal.Memory → refused.cause ≡ Refusal.Numbers) }
+    ensures cause { IfErr result (λ refused. refused.cause ≡ refusal_for tree.old.next
+        (length (put_events nat_cmp tree.old.size tree.old.nodes value))) }
 {
     laws::numbered_by_place::<u64>();
     let (_, events) = tree.put_cdc(value)?;
@@ -38,7 +38,10 @@ pub fn hold(tree: &mut Numbers, value: u64) -> Result<bool, Refused<u64>>
     ensures there { IfOk result (λ there. there ≡ true) }
     ensures contents { OnOk result (joined tree.new.nodes
         ≡ keep nat_cmp (joined tree.old.nodes) value) }
+    ensures given_back { IfErr result (λ refused. refused.value ≡ value) }
     ensures same { OnErr result (tree.new ≡ tree.old) }
+    ensures cause { IfErr result (λ refused. refused.cause ≡ refusal_for tree.old.next
+        (length (checked_put_events nat_cmp tree.old.size tree.old.nodes value))) }
 {
     tree.insert(value)?;
     Ok(tree.contains(&value))
@@ -54,8 +57,8 @@ pub fn take(tree: &mut Numbers, value: u64) -> Result<Vec<ChangeEvent<u64>>, Ref
     ensures next { IfOk result (λ events. tree.new.next ≡ tree.old.next + length events.items) }
     ensures few { IfOk result (λ events. length events.items ≤ 3) }
     ensures same { OnErr result (tree.new ≡ tree.old) }
-    ensures cause { IfErr result (λ refusal.
-        refusal ≢ Refusal.Memory → refusal ≡ Refusal.Numbers) }
+    ensures cause { IfErr result (λ refusal. refusal ≡ refusal_for tree.old.next
+        (length (removal_events nat_cmp tree.old.size tree.old.nodes value))) }
 {
     laws::numbered_by_place::<u64>();
     let (_, events) = tree.remove_cdc(&value)?;
@@ -71,7 +74,10 @@ pub fn quote(quotes: &mut Quotes, item: u64, price: u64) -> Result<Option<u64>, 
     ensures contents { OnOk result (joined quotes.new.nodes
         ≡ put (by_key nat_cmp) (joined quotes.old.nodes) (pair item price)) }
     ensures told { IfOk result (λ told. told ≡ Some price) }
+    ensures given_back { IfErr result (λ refused. refused.value ≡ (item, price)) }
     ensures same { OnErr result (quotes.new ≡ quotes.old) }
+    ensures cause { IfErr result (λ refused. refused.cause ≡ refusal_for quotes.old.next
+        (length (put_events (by_key nat_cmp) quotes.old.size quotes.old.nodes (pair item price)))) }
 {
     quotes.insert(item, price)?;
     Ok(quotes.get(&item).map(|pair| pair.value))

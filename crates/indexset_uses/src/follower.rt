@@ -46,7 +46,7 @@ impl Primary {
         self.events.len()
     }
 
-    /// Sets the balance of an account, and keeps all others and all events.
+    /// Sets the balance of an account, and keeps all others and all events. Fails for memory alone.
     pub fn set(&mut self, account: u64, balance: u64) -> Result<(), Refusal>
         ensures held { OnOk result (value_of nat_cmp (joined self.new.map.nodes) account
             ≡ Some balance) }
@@ -56,6 +56,7 @@ impl Primary {
             ≡ self.old.events.items) }
         ensures same { OnErr result (self.new.map ≡ self.old.map) }
         ensures no_event { OnErr result (self.new.events.items ≡ self.old.events.items) }
+        ensures memory { IfErr result (λ refusal. refusal ≡ Refusal.Memory) }
     {
         set_and_keep(&mut self.map, &mut self.events, account, balance)
     }
@@ -98,7 +99,10 @@ fn set_and_keep(
         ≡ events.old.items) }
     ensures same { OnErr result (map.new ≡ map.old) }
     ensures no_event { OnErr result (events.new.items ≡ events.old.items) }
+    ensures memory { IfErr result (λ refusal. refusal ≡ Refusal.Memory) }
 {
+    // With room for three events there are numbers for those of the call.
+    laws::three_events::<Balance>();
     events.reserve(3)?;
     let (_, mut added) = map.insert_cdc(account, balance)?;
     laws::replay_in_parts::<Balance>();

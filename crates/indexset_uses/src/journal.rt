@@ -1,5 +1,5 @@
 //! A journal: the events of all calls on a set since it was empty, kept in one list.
-ghost use Rattle.std.specs.Prelude.{◌≡◌, ◌≢◌, [], length, take, Some, IfErr, OnErr, OnOk};
+ghost use Rattle.std.specs.Prelude.{◌≡◌, [], length, take, Some, IfErr, OnErr, OnOk};
 ghost use Rattle.std.specs.Ordering.{nat_cmp};
 ghost use Rattle.indexset.specs.Words.{IsNumberedFrom, joined, put, replay, without};
 
@@ -9,7 +9,8 @@ use indexset::cdc::change::ChangeEvent;
 use indexset::cdc::laws;
 
 /// Inserts a number, and appends the events of the call to the journal, which keeps all before them.
-/// Whatever it returns, the journal replayed from nothing leads to the nodes of the set.
+/// Whatever it returns, the journal replayed from nothing leads to the nodes of the set. Fails for memory
+/// alone: as many events as there are numbers fit in no list.
 pub fn insert(
     tree: &mut Numbers,
     journal: &mut Vec<ChangeEvent<u64>>,
@@ -26,10 +27,11 @@ pub fn insert(
     ensures kept { take (length journal.old.items) journal.new.items ≡ journal.old.items }
     ensures given_back { IfErr result (λ refused. refused.value ≡ value) }
     ensures same { OnErr result (tree.new ≡ tree.old) }
-    ensures cause { IfErr result (λ refused.
-        refused.cause ≢ Refusal.Memory → refused.cause ≡ Refusal.Numbers) }
+    ensures memory { IfErr result (λ refused. refused.cause ≡ Refusal.Memory) }
 {
-    // A call returns at most three events: with room for three before it, none is lost.
+    // A call returns at most three events: with room for three before it, none is lost, and there are
+    // numbers for them.
+    laws::three_events::<u64>();
     if journal.reserve(3).is_err() {
         let cause = Refusal::Memory;
         return Err(Refused { value, cause });

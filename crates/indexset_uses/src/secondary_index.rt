@@ -2,7 +2,7 @@
 ghost use Rattle.std.specs.Prelude.{◌≡◌, ℕ, List, nat_eq, true, false, not, is_some, length, IfOk, OnOk, OnErr, IfErr};
 ghost use Rattle.std.specs.Ordering.{is_eq, nat_cmp};
 ghost use Rattle.std.specs.Cmp.Lexicographic.{slice_cmp};
-ghost use Rattle.indexset.specs.Words.{by_number, entries, equal_pair, inserted_pair, joined, pairs_of, put, without_first};
+ghost use Rattle.indexset.specs.Words.{by_number, entries, equal_pair, inserted_pair, insertion_refusal, joined, pair_removal_events, pairs_of, put, refusal_for, without_first};
 
 use bytes::ByteStr;
 use indexset::base::multipair::MultiPair;
@@ -31,6 +31,8 @@ pub fn add(index: &mut Index, tag: ByteStr, document: u64) -> Result<bool, Refus
         ≡ pairs_of (slice_cmp nat_cmp) (joined index.old.nodes) other) }
     ensures same { OnErr result (index.new ≡ index.old) }
     ensures given_back { IfErr result (λ refused. refused.value ≡ (tag, document)) }
+    ensures cause { IfErr result (λ refused. refused.cause
+        ≡ insertion_refusal (slice_cmp nat_cmp) nat_eq index.old tag document) }
 {
     let before = index.insert(tag, document)?;
     Ok(before.is_none())
@@ -51,6 +53,9 @@ pub fn remove(index: &mut Index, tag: &ByteStr, document: u64) -> Result<bool, R
     ensures same { OnErr result (index.new ≡ index.old) }
     ensures listed { OnErr result (is_some (equal_pair (slice_cmp nat_cmp) nat_eq
         (joined index.old.nodes) tag.now document) ≡ true) }
+    ensures cause { IfErr result (λ refusal. refusal ≡ refusal_for index.old.next (length
+        (pair_removal_events (slice_cmp nat_cmp) index.old.size index.old.nodes
+        (equal_pair (slice_cmp nat_cmp) nat_eq (joined index.old.nodes) tag.now document)))) }
 {
     let removed = index.remove(tag, &document)?;
     Ok(removed.is_some())

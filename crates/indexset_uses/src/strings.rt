@@ -1,9 +1,9 @@
 //! Maps whose keys are `String`s. Their clones are other values of the same bytes, so the contracts say
 //! what the map holds and which numbers the events have, and of the items of events that they are clones.
-ghost use Rattle.std.specs.Prelude.{◌≡◌, ◌+◌, ◌≤◌, ◌⊎◌, ℕ, List, length, false, map, Some, IfOk, OnOk, OnErr, string_bytes};
+ghost use Rattle.std.specs.Prelude.{◌≡◌, ◌+◌, ◌≤◌, ◌⊎◌, ℕ, List, length, false, map, Some, IfErr, IfOk, OnOk, OnErr, string_bytes};
 ghost use Rattle.std.specs.List.{AllZip};
 ghost use Rattle.std.specs.String.{string_cmp};
-ghost use Rattle.indexset.specs.Words.{by_key, has_key, joined, key_removal_events, numbered_from, pair, put, put_events, unassigned, value_of, without_key, AreCopies, IsClonedStep, IsEventClone, IsNumberedFrom};
+ghost use Rattle.indexset.specs.Words.{by_key, has_key, joined, key_removal_events, numbered_from, pair, put, put_events, refusal_for, unassigned, value_of, without_key, AreCopies, IsClonedStep, IsEventClone, IsNumberedFrom};
 
 use crate::copies::apply_all;
 use bytes::ByteStr;
@@ -39,6 +39,9 @@ pub fn set_count(
         (numbered_from counts.old.next (put_events (by_key string_cmp) counts.old.size
         counts.old.nodes (pair name count))) events.items) }
     ensures same { OnErr result (counts.new ≡ counts.old) }
+    ensures given_back { IfErr result (λ refused. refused.value ≡ (name, count)) }
+    ensures cause { IfErr result (λ refused. refused.cause ≡ refusal_for counts.old.next (length
+        (put_events (by_key string_cmp) counts.old.size counts.old.nodes (pair name count)))) }
 {
     numbered_by_place::<Count>();
     let (_, events) = counts.insert_cdc(name, count)?;
@@ -90,6 +93,8 @@ pub fn forget(counts: &mut Counts, name: &String) -> Result<Vec<ChangeEvent<Coun
         (numbered_from counts.old.next (key_removal_events string_cmp counts.old.size
         counts.old.nodes name.now)) events.items) }
     ensures same { OnErr result (counts.new ≡ counts.old) }
+    ensures cause { IfErr result (λ refusal. refusal ≡ refusal_for counts.old.next
+        (length (key_removal_events string_cmp counts.old.size counts.old.nodes name.now))) }
 {
     numbered_by_place::<Count>();
     let (_, events) = counts.remove_cdc(name)?;

@@ -1,8 +1,8 @@
 //! An index from tags to the names of documents: a logged map in which a tag has many names.
-ghost use Rattle.std.specs.Prelude.{◌≡◌, ◌+◌, ℕ, List, nat_eq, false, length, true, is_some, Some, IfOk, OnOk, OnErr};
+ghost use Rattle.std.specs.Prelude.{◌≡◌, ◌+◌, ℕ, List, nat_eq, false, length, true, is_some, Some, IfErr, IfOk, OnOk, OnErr};
 ghost use Rattle.std.specs.Ordering.{is_eq, nat_cmp};
 ghost use Rattle.std.specs.Cmp.Lexicographic.{pointwise, slice_cmp};
-ghost use Rattle.indexset.specs.Words.{by_number, entries, equal_pair, inserted_pair, joined, pairs_of, put, replay, without_first, IsNumberedFrom};
+ghost use Rattle.indexset.specs.Words.{by_number, entries, equal_pair, inserted_pair, insertion_refusal, joined, pair_removal_events, pairs_of, put, refusal_for, replay, without_first, IsNumberedFrom};
 
 use bytes::ByteStr;
 use indexset::base::multipair::MultiPair;
@@ -37,6 +37,9 @@ pub fn add(
     ensures numbered { IfOk result (λ events. IsNumberedFrom tags.old.next events.items) }
     ensures next { IfOk result (λ events. tags.new.next ≡ tags.old.next + length events.items) }
     ensures same { OnErr result (tags.new ≡ tags.old) }
+    ensures given_back { IfErr result (λ refused. refused.value ≡ (tag, document)) }
+    ensures cause { IfErr result (λ refused. refused.cause
+        ≡ insertion_refusal (slice_cmp nat_cmp) (pointwise nat_eq) tags.old tag document) }
 {
     laws::numbered_by_place::<Tagged>();
     let (_, events) = tags.insert_cdc(tag, document)?;
@@ -61,6 +64,10 @@ pub fn remove(
     ensures numbered { IfOk result (λ events. IsNumberedFrom tags.old.next events.items) }
     ensures next { IfOk result (λ events. tags.new.next ≡ tags.old.next + length events.items) }
     ensures same { OnErr result (tags.new ≡ tags.old) }
+    ensures cause { IfErr result (λ refusal. refusal ≡ refusal_for tags.old.next (length
+        (pair_removal_events (slice_cmp nat_cmp) tags.old.size tags.old.nodes
+        (equal_pair (slice_cmp nat_cmp) (pointwise nat_eq) (joined tags.old.nodes) tag.now
+        document.now)))) }
 {
     laws::numbered_by_place::<Tagged>();
     let (_, events) = tags.remove_cdc(tag, document)?;

@@ -2,7 +2,7 @@ use Rattle.std.proofs.Common.{◌≡◌, ◌++◌, ◌+◌, [], length, arith, a
 use Rattle.std.proofs.lemmas.Grind.{common_steps}
 use Rattle.std.specs.Option.{option_and_then}
 use Rattle.std.specs.Ordering.{nat_cmp}
-use Rattle.indexset.specs.Words.{by_key, replay, IsNumberedFrom}
+use Rattle.indexset.specs.Words.{by_key, pair, replay, IsNumberedFrom}
 use Rattle.indexset_uses.proofs.follower.set_and_keep.Goals as goal
 
 pub returns-clause-replayed : goal.returns-clause-replayed
@@ -20,3 +20,8 @@ returns-clause-numbered c =
     let whole : c.append-appended.new.self.items ≡ kept ++ added = grind (arith, common_steps) in
     let after : IsNumberedFrom (0 + length kept) added = λ i inside d. grind (arith, c.in_ok-added.ensures.told.numbered i inside d, c.requires.counted) in
     subst (λ events. IsNumberedFrom 0 events) (sym whole) (c.numbered_in_parts.ensures 0 kept added c.requires.numbered after)
+
+pub returns-in_err-added-clause-memory : goal.returns-in_err-added-clause-memory
+returns-in_err-added-clause-memory c =
+    let few = c.three_events.ensures.put c.args.map.now.size c.args.map.now.nodes (pair c.args.account c.args.balance) in
+    grind (arith, common_steps, few)
