@@ -172,6 +172,18 @@ module _ {N X : Type 0} (answer : X → Ordering) (held : N → List X) where
   pub node_ends : (vs : List N) (k : ℕ) (v : N) (x : X) → k < length vs → v ≡ get_or vs k v → 1 ≤ length (held v) → x ≡ get_or (held v) (length (held v) - 1) x → (d : List X) → ends_less answer (get_or (map held vs) k d) ≡ is_lt (answer x)
   node_ends vs k v x h e some is d = ap (λ n. ends_less answer n) (node_read held vs k v h e d) ∙ (ends_last answer (held v) x some ∙ ap (λ y. is_lt (answer y)) (sym is))
 
+-- the node that a search ends in, as the code reads it
+pub searched : {N X : Type 0} (answer : X → Ordering) (held : N → List X) (vs : List N) (k : ℕ) (v : N) → 1 ≤ length vs → k ≡ node_for answer (map held vs) → v ≡ get_or vs k v → (k < length (map held vs)) × (held v ≡ node_at (map held vs) k)
+searched answer held vs k v some at is =
+    let long = length-held held vs in
+    let inside : k < length vs = omega (arith, some, at, long) in
+    (omega (arith, inside, long), sym (node_read held vs k v inside is []))
+
+-- a node of nodes that hold no more than the size
+pub small_at : {X : Type 0} (ns : List (List X)) (size k : ℕ) → k < length ns → All (λ n. n ≤ size) (node_lengths ns) → length (node_at ns k) ≤ size
+small_at ns size k lt small =
+    omega (arith, get_or-map (λ n. length n) ns k [] 0 lt, small k 0 (omega (arith, lt, length-map ns (λ n. length n))))
+
 -- what is read at a position tells whether the item there is answered Equal
 pub equal_read : {X : Type 0} (answer : X → Ordering) (l : List X) (i : ℕ) (x : X) → slice_get l i ≡ Some x → equal_at answer l i ≡ is_eq (answer x)
 equal_read answer l i x e = rw e refl

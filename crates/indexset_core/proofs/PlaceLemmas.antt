@@ -2,7 +2,7 @@
 use Rattle.std.proofs.Common.{◌≡◌, ℕ, zero, suc, ◌+◌, ◌<◌, ◌≤◌, List, [], ◌∷◌, ◌++◌, length, take, drop, sym, ap, ◌∙◌, arith, append_assoc, add-one, length-append, inl, inr}
 use Rattle.std.proofs.Math.Seq.{take-append-add, drop-append-add}
 use Rattle.std.proofs.lemmas.Bool.{cases_lt}
-use Rattle.std.proofs.lemmas.List.{take-append-le, drop-append-le, take-take, get_or-take, length-take-le}
+use Rattle.std.proofs.lemmas.List.{take-append-le, drop-append-le, take-take, take_all, get_or-take, length-take-le}
 use Rattle.std.proofs.lemmas.Slice.{between_is}
 use Rattle.std.specs.List.{between}
 use Rattle.indexset_core.specs.Nodes.{joined, node_at}
@@ -57,3 +57,7 @@ module _ {X : Type 0} where
     | inl below ↦ absurd (omega (arith, length-joined-more ns l lt, length-joined-mono ns (l + 1) k (omega arith)))
     | inr above ↦ above
   ]
+
+  -- the place behind the last item
+  pub last_before : (ns : List (List X)) (k o : ℕ) → k + 1 ≡ length ns → o ≡ length (node_at ns k) → length (joined (take k ns)) + o ≡ length (joined ns)
+  last_before ns k o last end = omega (arith, length-joined-more ns k (omega arith), ap (λ (l : List (List X)). length (joined l)) (take_all (k + 1) ns (omega arith)))

@@ -1,6 +1,8 @@
--- Places between the items of nodes.
-use Rattle.std.specs.Prelude.{ℕ, ◌+◌, ◌<◌, ◌≤◌, max, length, List, take}
-use Rattle.indexset_core.specs.Nodes.{joined, node_at}
+-- Places between the items of nodes, and where a search ends.
+use Rattle.std.specs.Prelude.{ℕ, ◌+◌, ◌<◌, ◌≤◌, max, length, List, take, Result, Ok, Err, if◌then◌else◌}
+use Rattle.std.specs.declared.cmp.Ordering.{Ordering}
+use Rattle.indexset_core.specs.Nodes.{joined, node_at, node_for, equal_at}
+use Rattle.indexset_core.specs.Parted.{less_count}
 
 module _ {T : Type 0} where
   -- the node is there, and the offset is at most its length: (0, 0) where there is no node
@@ -11,3 +13,10 @@ module _ {T : Type 0} where
   -- how many items stand before the place
   abbrev pub items_before : List (List T) → ℕ × ℕ → ℕ
   items_before ns p = length (joined (take p.0 ns)) + p.1
+
+  -- the node and the offset of the first item not answered Less, and whether it is answered Equal: a place behind all stands in the last node
+  abbrev pub located : (T → Ordering) → List (List T) → Result (ℕ × ℕ) (ℕ × ℕ)
+  located answer ns =
+      let node = node_for answer ns in
+      let offset = less_count answer (node_at ns node) in
+      if equal_at answer (node_at ns node) offset then Ok (node, offset) else Err (node, offset)

@@ -3,11 +3,11 @@
 //! [`probe::Probe`] is a comparator with a counter: it compares an item with what is sought, and
 //! counts the comparisons; [`search::first_not_less`] and [`search::first_greater`] make at most as
 //! many as the length of a slice has binary digits. [`node::NodeLike`] is an ascending list of
-//! bounded length: a `Vec`, or an [`array_node::ArrayNode`], which never allocates. [`walk::Walk`]
-//! iterates over the items of nodes, from both ends. [`pair::Pair`] and [`multipair::MultiPair`] are
-//! what maps hold. [`refusal::Refusal`] names every error of a call, and [`refusal::Refused`] hands
-//! back what the call was given. Begin with `node` and `search`; `moves` and `halve` move items by
-//! blocks for all layers above.
+//! bounded length: a `Vec`, or an [`array_node::ArrayNode`], which never allocates. [`locate`]
+//! searches a list of nodes, and [`walk::Walk`] iterates over their items, from both ends.
+//! [`pair::Pair`] and [`multipair::MultiPair`] are what maps hold. [`refusal::Refusal`] names every
+//! error of a call, and [`refusal::Refused`] hands back what the call was given. Begin with `node`
+//! and `search`; `moves` and `halve` move items by blocks for all layers above.
 #![tactic(auto)]
 
 pub mod array_node;
@@ -15,6 +15,7 @@ pub mod bounds;
 pub mod constants;
 pub mod halve;
 pub mod laws;
+pub mod locate;
 pub mod moves;
 pub mod multipair;
 pub mod node;

@@ -1,0 +1,63 @@
+use Rattle.std.proofs.Common.{◌≡◌, ℕ, ◌≤◌, ◌<◌, ◌+◌, ◌∙◌, true, false, List, Ordering, Ok, Err, length, map, refl, sym, arith}
+use Rattle.std.specs.List.{All}
+use Rattle.std.proofs.lemmas.Grind.{common_steps}
+use Rattle.indexset_core.specs.Digits.{digits}
+use Rattle.indexset_core.specs.Nodes.{equal_at, node_at, node_for, node_lengths}
+use Rattle.indexset_core.specs.Parted.{less_count}
+use Rattle.indexset_core.specs.Places.{located}
+use Rattle.indexset_core.proofs.DigitsLemmas.{digits-mono}
+use Rattle.indexset_core.proofs.LocateLemmas.{parted_node, searched, small_at}
+use Rattle.indexset_core.proofs.locate.locate_by.Given.{Over}
+use Rattle.indexset_core.proofs.locate.locate_by.Goals.{After-items_of-items, After-is_equal_at}
+use Rattle.indexset_core.proofs.locate.locate_by.Goals as goal
+
+-- where the search ends
+told : {X : Type 0} (answer : X → Ordering) (ns : List (List X)) (k i : ℕ) → k ≡ node_for answer ns → i ≡ less_count answer (node_at ns k) → equal_at answer (node_at ns k) i ≡ true → Ok (k, i) ≡ located answer ns
+told answer ns k i at offset here = rw (← at, ← offset, here) refl
+
+untold : {X : Type 0} (answer : X → Ordering) (ns : List (List X)) (k i : ℕ) → k ≡ node_for answer ns → i ≡ less_count answer (node_at ns k) → equal_at answer (node_at ns k) i ≡ false → Err (k, i) ≡ located answer ns
+untold answer ns k i at offset other = rw (← at, ← offset, other) refl
+
+-- the node that the search reads
+read : (g : Over) (c : After-items_of-items g) → let ns = map g.R.ReadNode.list c.args.nodes.now in (c.node_by-node.result < length ns) × (c.items_of-items.result.now ≡ node_at ns c.node_by-node.result)
+read g c =
+    let some : 1 ≤ length c.args.nodes.now = grind (arith, common_steps) in
+    let r = searched (g.P.Probe.answer c.args.probe.now) g.R.ReadNode.list c.args.nodes.now c.node_by-node.result c.index-nodes-node.result some c.node_by-node.ensures.node c.index-nodes-node.is in
+    (r.0, c.items_of-items.ensures ∙ r.1)
+
+pub first_not_less-offset-requires : goal.first_not_less-offset-requires
+first_not_less-offset-requires g c =
+    let r = read g (goal.at.first_not_less-offset-requires g c).After-items_of-items in
+    rw (c.node_by-node.ensures.fixed, r.1) (parted_node (g.P.Probe.answer c.args.probe.now) (map g.R.ReadNode.list c.args.nodes.now) c.node_by-node.result r.0 c.requires.parted)
+
+-- what it asks of the item there, and how often it asks
+module _ (g : Over) (c : After-is_equal_at g) where
+  r : (c.node_by-node.result < length (map g.R.ReadNode.list c.args.nodes.now)) × (c.items_of-items.result.now ≡ node_at (map g.R.ReadNode.list c.args.nodes.now) c.node_by-node.result)
+  r = read g c.before.before.before.before
+
+  offset : c.first_not_less-offset.result ≡ less_count (g.P.Probe.answer c.args.probe.now) (node_at (map g.R.ReadNode.list c.args.nodes.now) c.node_by-node.result)
+  offset = rw (c.node_by-node.ensures.fixed, r.1) at c.first_not_less-offset.ensures.count
+
+  equal : c.is_equal_at.result ≡ equal_at (g.P.Probe.answer c.args.probe.now) (node_at (map g.R.ReadNode.list c.args.nodes.now) c.node_by-node.result) c.first_not_less-offset.result
+  equal = rw (c.first_not_less-offset.ensures.fixed, c.node_by-node.ensures.fixed, r.1) at c.is_equal_at.ensures.found
+
+  few : (size : ℕ) → All (λ n. n ≤ size) (node_lengths (map g.R.ReadNode.list c.args.nodes.now)) → g.P.Probe.asked c.is_equal_at.new.probe ≤ g.P.Probe.asked c.args.probe.now + (digits (length c.args.nodes.now) + digits size + 1)
+  few size small =
+      let short : length c.items_of-items.result.now ≤ size = rw r.1 (small_at (map g.R.ReadNode.list c.args.nodes.now) size c.node_by-node.result r.0 small) in
+      omega (arith, c.node_by-node.ensures.few, c.first_not_less-offset.ensures.few, c.is_equal_at.ensures.few, digits-mono _ _ short)
+
+pub returns-then-is_equal_at-clause-place : goal.returns-then-is_equal_at-clause-place
+returns-then-is_equal_at-clause-place g c =
+    let e = (goal.at.returns-then-is_equal_at-clause-place g c).After-is_equal_at in
+    told (g.P.Probe.answer c.args.probe.now) (map g.R.ReadNode.list c.args.nodes.now) _ _ c.node_by-node.ensures.node (offset g e) (sym (equal g e) ∙ c.if-is_equal_at.true)
+
+pub returns-else-is_equal_at-clause-place : goal.returns-else-is_equal_at-clause-place
+returns-else-is_equal_at-clause-place g c =
+    let e = (goal.at.returns-else-is_equal_at-clause-place g c).After-is_equal_at in
+    untold (g.P.Probe.answer c.args.probe.now) (map g.R.ReadNode.list c.args.nodes.now) _ _ c.node_by-node.ensures.node (offset g e) (sym (equal g e) ∙ c.if-is_equal_at.false)
+
+pub returns-then-is_equal_at-clause-few : goal.returns-then-is_equal_at-clause-few
+returns-then-is_equal_at-clause-few g c = few g (goal.at.returns-then-is_equal_at-clause-few g c).After-is_equal_at
+
+pub returns-else-is_equal_at-clause-few : goal.returns-else-is_equal_at-clause-few
+returns-else-is_equal_at-clause-few g c = few g (goal.at.returns-else-is_equal_at-clause-few g c).After-is_equal_at

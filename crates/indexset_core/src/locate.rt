@@ -1,0 +1,152 @@
+//! Searches of a list of nodes, however a node is read.
+ghost use Rattle.std.specs.Prelude.{◌≡◌, ℕ, ◌+◌, ◌≤◌, length, map};
+ghost use Rattle.std.specs.List.{All, count_by};
+ghost use Rattle.indexset_core.specs.Bounds.{IfBounded, is_before, is_up_to_end};
+ghost use Rattle.indexset_core.specs.Digits.{digits};
+ghost use Rattle.indexset_core.specs.Nodes.{joined, node_lengths, node_for};
+ghost use Rattle.indexset_core.specs.Parted.{IsParted, less_count};
+ghost use Rattle.indexset_core.specs.Places.{IsPlace, items_before, located};
+
+use crate::probe::{Past, Probe};
+use crate::search;
+use crate::walk::ReadNode;
+use std::ops::Bound;
+
+/// Returns the place of the first node whose last item is not found Less, else of the last node, by
+/// one binary search over the nodes' last items. There must be a node, and none may be empty but an
+/// only one; the probe must find the items in order.
+pub fn node_by<T, Node, R: ReadNode<T, Node>, P: Probe<T>>(nodes: &[Node], probe: &mut P) -> usize
+    requires some { 1 ≤ length nodes.now }
+    requires filled { 2 ≤ length nodes.now → All (λ n. 1 ≤ n)
+        (node_lengths (map R.list nodes.now)) }
+    requires parted { IsParted (P.answer probe.old) (joined (map R.list nodes.now)) }
+    ensures node { result ≡ node_for (P.answer probe.old) (map R.list nodes.now) }
+    ensures fixed { P.answer probe.new ≡ P.answer probe.old }
+    ensures few { P.asked probe.new ≤ P.asked probe.old + digits (length nodes.now) }
+{
+    let mut low = 0;
+    let mut high = nodes.len() - 1;
+    while low < high {
+        let middle = low + (high - low) / 2;
+        let node = R::items_of(&nodes[middle]);
+        if probe.place(&node[node.len() - 1]).is_lt() {
+            low = middle + 1;
+        } else {
+            high = middle;
+        }
+    }
+    low
+}
+
+/// Returns the place before the first item that is not found Less, by two binary searches: one among
+/// the nodes and one in a node, or by none where there is no node. With `near` the search in the node
+/// takes no branch on a comparison: faster where the items are in the cache.
+pub fn place_by<T, Node, R: ReadNode<T, Node>, P: Probe<T>>(
+    nodes: &[Node],
+    probe: &mut P,
+    near: bool,
+) -> (usize, usize)
+    requires filled { 2 ≤ length nodes.now → All (λ n. 1 ≤ n)
+        (node_lengths (map R.list nodes.now)) }
+    requires parted { IsParted (P.answer probe.old) (joined (map R.list nodes.now)) }
+    ensures place { IsPlace (map R.list nodes.now) result }
+    ensures before { items_before (map R.list nodes.now) result
+        ≡ less_count (P.answer probe.old) (joined (map R.list nodes.now)) }
+{
+    if nodes.is_empty() {
+        return (0, 0);
+    }
+    let node = node_by::<T, Node, R, P>(nodes, probe);
+    let items = R::items_of(&nodes[node]);
+    let offset = search::less_len(items, probe, near);
+    (node, offset)
+}
+
+/// Returns the place after the items before the start, as `place_by` finds it, or by no comparison
+/// where it is unbounded.
+pub fn place_from<T, Node, R: ReadNode<T, Node>, P: Probe<T> + Drop>(
+    nodes: &[Node],
+    start: Bound<P>,
+    near: bool,
+) -> (usize, usize)
+    requires filled { 2 ≤ length nodes.now → All (λ n. 1 ≤ n)
+        (node_lengths (map R.list nodes.now)) }
+    requires parted { IfBounded (λ p. IsParted (P.answer p) (joined (map R.list nodes.now))) start }
+    ensures place { IsPlace (map R.list nodes.now) result }
+    ensures before { items_before (map R.list nodes.now) result
+        ≡ count_by (is_before (λ x p. P.answer p x) start) (joined (map R.list nodes.now)) }
+{
+    match start {
+        Bound::Included(mut probe) => place_by::<T, Node, R, P>(nodes, &mut probe, near),
+        Bound::Excluded(probe) => {
+            place_by::<T, Node, R, Past<P>>(nodes, &mut Past::new(probe), near)
+        }
+        Bound::Unbounded => (0, 0),
+    }
+}
+
+/// Returns the place after the items that are not past the end, as `place_by` finds it, or by no
+/// comparison where it is unbounded.
+pub fn place_to<T, Node, R: ReadNode<T, Node>, P: Probe<T> + Drop>(
+    nodes: &[Node],
+    end: Bound<P>,
+    near: bool,
+) -> (usize, usize)
+    requires filled { 2 ≤ length nodes.now → All (λ n. 1 ≤ n)
+        (node_lengths (map R.list nodes.now)) }
+    requires parted { IfBounded (λ p. IsParted (P.answer p) (joined (map R.list nodes.now))) end }
+    ensures place { IsPlace (map R.list nodes.now) result }
+    ensures before { items_before (map R.list nodes.now) result
+        ≡ count_by (is_up_to_end (λ x p. P.answer p x) end) (joined (map R.list nodes.now)) }
+{
+    match end {
+        Bound::Included(probe) => {
+            place_by::<T, Node, R, Past<P>>(nodes, &mut Past::new(probe), near)
+        }
+        Bound::Excluded(mut probe) => place_by::<T, Node, R, P>(nodes, &mut probe, near),
+        Bound::Unbounded => last_place::<T, Node, R>(nodes),
+    }
+}
+
+/// Returns the place after all items.
+pub fn last_place<T, Node, R: ReadNode<T, Node>>(nodes: &[Node]) -> (usize, usize)
+    ensures place { IsPlace (map R.list nodes.now) result }
+    ensures before { items_before (map R.list nodes.now) result
+        ≡ length (joined (map R.list nodes.now)) }
+{
+    if nodes.is_empty() {
+        return (0, 0);
+    }
+    let last = nodes.len() - 1;
+    let items = R::items_of(&nodes[last]);
+    (last, items.len())
+}
+
+/// Returns where the probe finds what it seeks, by two binary searches: the node and the offset in
+/// it. It makes no comparison where there is no node.
+pub fn locate_by<T, Node, R: ReadNode<T, Node>, P: Probe<T>>(
+    nodes: &[Node],
+    probe: &mut P,
+) -> Result<(usize, usize), (usize, usize)>
+    requires filled { 2 ≤ length nodes.now → All (λ n. 1 ≤ n)
+        (node_lengths (map R.list nodes.now)) }
+    requires parted { IsParted (P.answer probe.old) (joined (map R.list nodes.now)) }
+    ensures place { result ≡ located (P.answer probe.old) (map R.list nodes.now) }
+    ensures fixed { P.answer probe.new ≡ P.answer probe.old }
+    ensures few { (size : ℕ) → All (λ n. n ≤ size) (node_lengths (map R.list nodes.now))
+        → P.asked probe.new ≤ P.asked probe.old
+        + (digits (length nodes.now) + digits size + 1) }
+    ensures unasked { length nodes.now ≡ 0 → P.asked probe.new ≡ P.asked probe.old }
+{
+    if nodes.is_empty() {
+        return Err((0, 0));
+    }
+    let node = node_by::<T, Node, R, P>(nodes, probe);
+    let items = R::items_of(&nodes[node]);
+    let offset = search::first_not_less(items, probe);
+    if search::is_equal_at(items, offset, probe) {
+        Ok((node, offset))
+    } else {
+        Err((node, offset))
+    }
+}
