@@ -3,9 +3,11 @@
 ghost use Rattle.std.specs.Prelude.{◌≡◌, ◌==◌};
 ghost use Rattle.std.specs.List.{position};
 
+use memchr::memchr;
+
 /// Returns where a byte stands first.
 pub fn first_place(bytes: &[u8], sought: u8) -> Option<usize>
     ensures { result ≡ position (λ b. b == sought) bytes.now }
 {
-    bytes.iter().position(|b| *b == sought)
+    memchr(sought, bytes)
 }
