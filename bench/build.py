@@ -18,7 +18,7 @@ sys.dont_write_bytecode = True
 sys.path.insert(0, str(TOP / "tools"))
 import lay  # noqa: E402
 
-CRATES = ["core", "spine", "set", "map", "log", "multi", "replica", "bench"]
+CRATES = ["core", "spine", "set", "map", "events", "log", "multi", "replica", "bench"]
 
 
 def ran(*words: str, folder: pathlib.Path | None = None) -> bool:
@@ -41,7 +41,7 @@ def ours() -> pathlib.Path | str:
     for source in (OUT / "crates/indexset_speed/src").glob("*.rt.in"):
         source.rename(source.with_suffix(""))
     with open(OUT / "crates.txt", "a", encoding="utf-8") as crates:
-        crates.write("indexset_speed: indexset_core indexset_set indexset_map indexset_log indexset_replica indexset_bench\n")
+        crates.write("indexset_speed: indexset_core indexset_set indexset_map indexset_events indexset_log indexset_replica indexset_bench\n")
     crate = OUT / "crates/indexset_speed"
     return crate / "out/indexset_speed" if ran("rt", "run", folder=crate) else "did not build"
 

@@ -49,12 +49,12 @@ pub use Rattle.indexset_set.specs.SetRanges.{not_below, upper_element}
 pub use Rattle.indexset_map.specs.Contents.{with_entry, with_pairs, without_at, without_entry}
 pub use Rattle.indexset_map.specs.Walk.{HasWritten, walk_back, walk_front, written}
 pub use Rattle.indexset_core.specs.Nodes.{joined, vec_items, IsNodeList}
-pub use Rattle.indexset_log.specs.Clones.{IsEventClone}
-pub use Rattle.indexset_log.specs.declared.change.ChangeEvent.{ChangeEvent}
-pub use Rattle.indexset_log.specs.Keys.{key_removal_events}
+pub use Rattle.indexset_events.specs.Clones.{IsEventClone}
+pub use Rattle.indexset_events.specs.declared.change.ChangeEvent.{ChangeEvent}
+pub use Rattle.indexset_events.specs.Keys.{key_removal_events}
+pub use Rattle.indexset_events.specs.Table.{put_events, checked_put_events, removal_events}
+pub use Rattle.indexset_events.specs.Replay.{IsNumberedFrom, numbered_from, replay, step, unassigned}
 pub use Rattle.indexset_log.specs.Tree.{Tree, refusal_for}
-pub use Rattle.indexset_log.specs.Table.{put_events, checked_put_events, removal_events}
-pub use Rattle.indexset_log.specs.Replay.{IsNumberedFrom, numbered_from, replay, step, unassigned}
 pub use Rattle.indexset_multi.specs.Keys.{entries, equal_pair, has_pair_of, pairs_of, without_first}
 pub use Rattle.indexset_multi.specs.Tree.{MultiTree, inserted_pair, insertion_refusal, pair_removal_events}
 pub use Rattle.indexset_replica.specs.Copies.{AreClonesEqual, AreCopies, IsCopy, LeadsToCopies}

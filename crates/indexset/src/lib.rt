@@ -44,7 +44,7 @@ pub mod concurrent {
 
 /// The events of a tree's changes, and laws on lists of them.
 pub mod cdc {
-    pub use indexset_log::{change, laws};
+    pub use indexset_events::{change, laws};
 }
 
 /// Comparators by which sets and maps look a `&str` up among text keys. (They are not in the Rust crate.)

@@ -4,9 +4,9 @@ use Rattle.std.specs.Prelude.{◌||◌}
 use Rattle.std.specs.Option.{unwrap_or}
 use Rattle.indexset_core.specs.MultiPairs.{by_number}
 use Rattle.indexset_core.specs.declared.multipair.MultiPair.{MultiPair}
-use Rattle.indexset_log.specs.Replay.{replay, numbered_from}
+use Rattle.indexset_events.specs.Replay.{replay, numbered_from}
 use Rattle.indexset_log.specs.Tree.{Tree}
-use Rattle.indexset_log.specs.declared.change.ChangeEventUnassigned.{ChangeEventUnassigned}
+use Rattle.indexset_events.specs.declared.change.ChangeEventUnassigned.{ChangeEventUnassigned}
 use Rattle.indexset_multi.specs.Tree.{MultiTree}
 use Rattle.indexset_bench.specs.LoggedMulti.{MultiState}
 use Rattle.indexset_bench.specs.Told.{nodes_after, tree_after}

@@ -5,13 +5,13 @@ use Rattle.std.proofs.lemmas.List.Sums.{fold-append}
 use Rattle.std.specs.Cmp.{IsTotalOrder}
 use Rattle.std.specs.List.{AllZip, AppendsClones, fold}
 use Rattle.std.proofs.lemmas.List.Elements.{length_all_zip}
-use Rattle.indexset_log.specs.Clones.{IsEventClone}
-use Rattle.indexset_log.specs.declared.change.ChangeEvent.{ChangeEvent}
-use Rattle.indexset_log.specs.declared.change.ChangeEventUnassigned.{ChangeEventUnassigned}
-use Rattle.indexset_log.specs.Replay.{replay, numbered_from, assigned, IsNumberedFrom}
-use Rattle.indexset_log.proofs.CallerLemmas.{clones_numbered, few_nodes, length-numbered, replay-append, zip_on}
+use Rattle.indexset_events.specs.Clones.{IsEventClone}
+use Rattle.indexset_events.specs.declared.change.ChangeEvent.{ChangeEvent}
+use Rattle.indexset_events.specs.declared.change.ChangeEventUnassigned.{ChangeEventUnassigned}
+use Rattle.indexset_events.specs.Replay.{replay, numbered_from, assigned, IsNumberedFrom}
+use Rattle.indexset_events.proofs.CallerLemmas.{clones_numbered, few_nodes, length-numbered, replay-append, zip_on}
 use Rattle.indexset_core.specs.Nodes.{joined}
-use Rattle.indexset_log.specs.Joining.{IsSpaced}
+use Rattle.indexset_events.specs.Joining.{IsSpaced}
 use Rattle.indexset_replica.specs.Copies.{AreClonesEqual, LeadsToCopies}
 use Rattle.indexset_replica.proofs.CallerLemmas.{copies_itself, replay_copies}
 use Rattle.indexset_bench.specs.Told.{events_in_turn}

@@ -3,8 +3,8 @@ use Rattle.std.proofs.Common.{None, Some, ◌≡◌, ◌≢◌, ℕ, ◌+◌, �
 use Rattle.std.specs.Option.{option_map_or}
 use Rattle.indexset_core.specs.Nodes.{node_at}
 use Rattle.indexset_core.specs.Order.{has_equal, rank}
-use Rattle.indexset_log.specs.Nodes.{is_filled}
-use Rattle.indexset_log.specs.Table.{halving_events, node_events, part_for, put_events, replace_events, target, target_events}
+use Rattle.indexset_events.specs.Nodes.{is_filled}
+use Rattle.indexset_events.specs.Table.{halving_events, node_events, part_for, put_events, replace_events, target, target_events}
 use Rattle.indexset_bench.specs.Command.{meaning}
 use Rattle.indexset_bench.specs.PairCommand.{pair_meaning}
 use Rattle.indexset_bench.specs.Pairs.{PairTree, pair_reply, pairs_after, reply_ended}

@@ -5,10 +5,10 @@ use Rattle.std.specs.declared.cmp.Ordering.{Ordering}
 use Rattle.indexset_core.specs.Order.{put, keep}
 use Rattle.indexset_core.specs.Pairs.{by_key, entry_of, has_key, pair, pair_of, value_of, without_key}
 use Rattle.indexset_core.specs.declared.pair.Pair.{Pair}
-use Rattle.indexset_log.specs.Keys.{key_removal_events}
-use Rattle.indexset_log.specs.Table.{put_events, checked_put_events}
+use Rattle.indexset_events.specs.Keys.{key_removal_events}
+use Rattle.indexset_events.specs.Table.{put_events, checked_put_events}
 use Rattle.indexset_log.specs.Tree.{Tree}
-use Rattle.indexset_log.specs.declared.change.ChangeEventUnassigned.{ChangeEventUnassigned}
+use Rattle.indexset_events.specs.declared.change.ChangeEventUnassigned.{ChangeEventUnassigned}
 use Rattle.indexset_bench.specs.declared.logged.map.LoggedMapCommand.{LoggedMapCommand}
 use Rattle.indexset_bench.specs.declared.logged.map.LoggedMapCommand.TheVariants.{Insert, CheckedInsert, Remove}
 use Rattle.indexset_bench.specs.declared.logged.map.LoggedMapReply.{LoggedMapReply}

@@ -6,7 +6,7 @@ use Rattle.indexset_core.specs.MultiPairs.{by_number, numbered_pair}
 use Rattle.indexset_core.specs.Nodes.{joined}
 use Rattle.indexset_core.specs.Order.{put}
 use Rattle.indexset_core.specs.declared.multipair.MultiPair.{MultiPair}
-use Rattle.indexset_log.specs.declared.change.ChangeEventUnassigned.{ChangeEventUnassigned}
+use Rattle.indexset_events.specs.declared.change.ChangeEventUnassigned.{ChangeEventUnassigned}
 use Rattle.indexset_multi.specs.Keys.{equal_pair, first_pair, kept_number, key_and_value, without_named}
 use Rattle.indexset_multi.specs.Tree.{MultiTree, insertion_events, lacks_number, pair_removal_events}
 use Rattle.indexset_bench.specs.declared.logged.multimap.LoggedMultiCommand.{LoggedMultiCommand}

@@ -2,9 +2,9 @@
 use Rattle.std.specs.Prelude.{not, List}
 use Rattle.std.specs.declared.cmp.Ordering.{Ordering}
 use Rattle.indexset_core.specs.Order.{has_equal, equal_element, put, keep, without}
-use Rattle.indexset_log.specs.Table.{put_events, checked_put_events, removal_events}
+use Rattle.indexset_events.specs.Table.{put_events, checked_put_events, removal_events}
 use Rattle.indexset_log.specs.Tree.{Tree}
-use Rattle.indexset_log.specs.declared.change.ChangeEventUnassigned.{ChangeEventUnassigned}
+use Rattle.indexset_events.specs.declared.change.ChangeEventUnassigned.{ChangeEventUnassigned}
 use Rattle.indexset_bench.specs.declared.logged.set.LoggedSetCommand.{LoggedSetCommand}
 use Rattle.indexset_bench.specs.declared.logged.set.LoggedSetCommand.TheVariants.{Put, PutChecked, Remove}
 use Rattle.indexset_bench.specs.declared.logged.set.LoggedSetReply.{LoggedSetReply}

@@ -1,9 +1,9 @@
 -- What commands make of a logged tree, told by their events.
 use Rattle.std.specs.Prelude.{ℕ, ◌+◌, List, [], ◌∷◌, ◌++◌, length, unwrap_or}
 use Rattle.std.specs.declared.cmp.Ordering.{Ordering}
-use Rattle.indexset_log.specs.Replay.{replay, numbered_from}
+use Rattle.indexset_events.specs.Replay.{replay, numbered_from}
 use Rattle.indexset_log.specs.Tree.{Tree}
-use Rattle.indexset_log.specs.declared.change.ChangeEventUnassigned.{ChangeEventUnassigned}
+use Rattle.indexset_events.specs.declared.change.ChangeEventUnassigned.{ChangeEventUnassigned}
 
 -- the nodes that the events lead to, numbered from s on
 abbrev pub nodes_after : {T : Type 0} → (T → T → Ordering) → List (List T) → ℕ → List (ChangeEventUnassigned T) → List (List T)

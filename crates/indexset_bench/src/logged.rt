@@ -1,17 +1,17 @@
 //! Logged trees, as a list of commands meets them.
 ghost use Rattle.std.specs.Prelude.{◌≡◌, ◌+◌, ◌/◌, ◌≤◌, ℕ, List, Bool, false, Some, IfOk, OnOk, IfErr, OnErr, if◌then◌else◌, length};
 ghost use Rattle.std.specs.List.{AllZip};
-ghost use Rattle.indexset_log.specs.Clones.{IsEventClone};
-ghost use Rattle.indexset_log.specs.Joining.{IsSpaced};
-ghost use Rattle.indexset_log.specs.Replay.{replay, numbered_from};
-ghost use Rattle.indexset_log.specs.declared.change.ChangeEventUnassigned.{ChangeEventUnassigned};
+ghost use Rattle.indexset_events.specs.Clones.{IsEventClone};
+ghost use Rattle.indexset_events.specs.Joining.{IsSpaced};
+ghost use Rattle.indexset_events.specs.Replay.{replay, numbered_from};
+ghost use Rattle.indexset_events.specs.declared.change.ChangeEventUnassigned.{ChangeEventUnassigned};
 
 pub mod map;
 pub mod multimap;
 pub mod set;
 
 use indexset_core::refusal::Refusal;
-use indexset_log::change::ChangeEvent;
+use indexset_events::change::ChangeEvent;
 
 /// A tree whose changes come out as events.
 pub trait Logged {

@@ -3,14 +3,14 @@ ghost use Rattle.std.specs.Prelude.{◌≡◌, ◌≢◌, ◌+◌, ◌-◌, ◌*
 ghost use Rattle.std.specs.List.{AllZip, AppendsClones, fold, scan};
 ghost use Rattle.indexset_bench.specs.Told.{events_in_turn};
 ghost use Rattle.indexset_core.specs.Nodes.{joined};
-ghost use Rattle.indexset_log.specs.Clones.{IsEventClone};
-ghost use Rattle.indexset_log.specs.Joining.{IsSpaced};
-ghost use Rattle.indexset_log.specs.Replay.{replay, numbered_from, IsNumberedFrom};
+ghost use Rattle.indexset_events.specs.Clones.{IsEventClone};
+ghost use Rattle.indexset_events.specs.Joining.{IsSpaced};
+ghost use Rattle.indexset_events.specs.Replay.{replay, numbered_from, IsNumberedFrom};
 ghost use Rattle.indexset_replica.specs.Copies.{AreClonesEqual, LeadsToCopies};
 
 use crate::logged::Logged;
 use indexset_core::refusal::Refusal;
-use indexset_log::change::ChangeEvent;
+use indexset_events::change::ChangeEvent;
 use std::alloc::Global;
 
 /// The replies to a list of commands, and the events of its changes.

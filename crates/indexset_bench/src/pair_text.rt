@@ -4,7 +4,7 @@ ghost use Rattle.std.specs.Prelude.{Some};
 ghost use Rattle.indexset_bench.specs.PairText.{event_text, pair_text};
 
 use indexset_core::pair::Pair;
-use indexset_log::change::ChangeEvent;
+use indexset_events::change::ChangeEvent;
 use std::fmt;
 
 /// A pair, as it is written.

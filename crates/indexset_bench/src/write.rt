@@ -9,8 +9,8 @@ use crate::pair_text::{EventText, PairText};
 use crate::pairs::Pairs;
 use crate::reply::Reply;
 use indexset_core::pair::Pair;
+use indexset_events::change::ChangeEvent;
 use indexset_lines::RunFault;
-use indexset_log::change::ChangeEvent;
 use std::io::Write;
 
 /// Writes a reply as a line.

@@ -3,10 +3,10 @@ ghost use Rattle.std.specs.Prelude.{◌≡◌, ◌≢◌, ◌+◌, ◌<◌, ◌�
 ghost use Rattle.std.specs.Ordering.{nat_cmp};
 ghost use Rattle.indexset_core.specs.Pairs.{by_key, pair, value_of, without_key};
 ghost use Rattle.indexset_core.specs.declared.refusal.Refusal.TheVariants as refusals;
-ghost use Rattle.indexset_log.specs.Edits.{with_put};
-ghost use Rattle.indexset_log.specs.Keys.{key_removal_events};
-ghost use Rattle.indexset_log.specs.Replay.{numbered_from, replay};
-ghost use Rattle.indexset_log.specs.Table.{put_events};
+ghost use Rattle.indexset_events.specs.Edits.{with_put};
+ghost use Rattle.indexset_events.specs.Keys.{key_removal_events};
+ghost use Rattle.indexset_events.specs.Replay.{numbered_from, replay};
+ghost use Rattle.indexset_events.specs.Table.{put_events};
 ghost use Rattle.indexset_log.specs.Tree.{refusal_for};
 ghost use Rattle.indexset_handle.specs.Elements.{logged_pairs, written};
 ghost use Rattle.indexset_handle.specs.Events.{record_of};

@@ -6,7 +6,7 @@ use Rattle.std.specs.Option.{option_map_or}
 use Rattle.indexset_lines.specs.Run.{left_by}
 use Rattle.indexset_bench.specs.PairText.{event_text}
 use Rattle.indexset_bench.specs.Text.{no_stores, stores_of}
-use Rattle.indexset_log.proofs.CallerLemmas.{Each, all_each, each_all}
+use Rattle.indexset_events.proofs.CallerLemmas.{Each, all_each, each_all}
 use Rattle.indexset_replica.specs.Delivery.{IsSubsequence}
 use Rattle.indexset_follow.specs.Drawn.{HoldsFirst, IsDrawn}
 use Rattle.indexset_follow.specs.EventLine.{Event, event_of}

@@ -12,8 +12,8 @@ use Rattle.indexset_lines.specs.Run.{left_by}
 use Rattle.indexset_bench.specs.PairText.{event_text}
 use Rattle.indexset_core.specs.Pairs.{by_key}
 use Rattle.indexset_core.specs.declared.pair.Pair.{Pair}
-use Rattle.indexset_log.specs.Replay.{event_number, replay, step}
-use Rattle.indexset_log.proofs.CallerLemmas.{replay-append}
+use Rattle.indexset_events.specs.Replay.{event_number, replay, step}
+use Rattle.indexset_events.proofs.CallerLemmas.{replay-append}
 use Rattle.indexset_replica.specs.Delivery.{IsSubsequence, delivered}
 use Rattle.indexset_follow.specs.Drawn.{HoldsFirst, IsDrawn, IsFeedOfPairs}
 use Rattle.indexset_follow.specs.EventLine.{Event, EventFits, event_of}

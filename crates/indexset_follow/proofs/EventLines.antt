@@ -7,8 +7,8 @@ use Rattle.std.specs.Option.{option_and_then, option_map}
 use Rattle.std.specs.Str.{bytes_eq}
 use Rattle.indexset_bench.specs.PairText.{event_text, pair_text}
 use Rattle.indexset_core.specs.declared.pair.Pair.{Pair}
-use Rattle.indexset_log.specs.declared.change.ChangeEvent.TheVariants.{InsertAt, RemoveAt, CreateNode, RemoveNode, SplitNode, MergeNodes}
-use Rattle.indexset_log.specs.declared.change.Id.{Id}
+use Rattle.indexset_events.specs.declared.change.ChangeEvent.TheVariants.{InsertAt, RemoveAt, CreateNode, RemoveNode, SplitNode, MergeNodes}
+use Rattle.indexset_events.specs.declared.change.Id.{Id}
 use Rattle.indexset_follow.specs.EventLine.{Event, EventFits, event_of, named_event, placed_event, word_event}
 use Rattle.indexset_follow.specs.Numbers.{PairFits, cut_at, number_of, pair_of}
 use Rattle.indexset_follow.proofs.Readings.{Lacks, cut_sound, cut_told, lacks_tested, map_some, none_some, number_lacks, number_sound, number_told, pair_lacks, pair_sound, pair_told, some_inj, space_apart, then_some}

@@ -10,13 +10,13 @@ use Rattle.indexset_core.specs.Nodes.{joined, node_at}
 use Rattle.indexset_core.specs.Order.{has_equal, rank}
 use Rattle.indexset_core.specs.Pairs.{by_key, pair_of}
 use Rattle.indexset_core.specs.declared.pair.Pair.{Pair}
-use Rattle.indexset_log.specs.Joining.{item_removed, join_after}
-use Rattle.indexset_log.specs.Keys.{key_removal_events}
-use Rattle.indexset_log.specs.Nodes.{is_filled, last_of}
-use Rattle.indexset_log.specs.Table.{half_of, halving_events, is_past, joining_event, node_events, part_for, put_events, removal_events, replace_events, taking_events, target, target_events}
-use Rattle.indexset_log.specs.declared.change.ChangeEventUnassigned.{ChangeEventUnassigned}
-use Rattle.indexset_log.specs.declared.change.ChangeEventUnassigned.TheVariants.{InsertAt, RemoveAt, CreateNode, RemoveNode, SplitNode, MergeNodes}
-use Rattle.indexset_log.proofs.CallerLemmas.{Each, each-append, each-left, each-right}
+use Rattle.indexset_events.specs.Joining.{item_removed, join_after}
+use Rattle.indexset_events.specs.Keys.{key_removal_events}
+use Rattle.indexset_events.specs.Nodes.{is_filled, last_of}
+use Rattle.indexset_events.specs.Table.{half_of, halving_events, is_past, joining_event, node_events, part_for, put_events, removal_events, replace_events, taking_events, target, target_events}
+use Rattle.indexset_events.specs.declared.change.ChangeEventUnassigned.{ChangeEventUnassigned}
+use Rattle.indexset_events.specs.declared.change.ChangeEventUnassigned.TheVariants.{InsertAt, RemoveAt, CreateNode, RemoveNode, SplitNode, MergeNodes}
+use Rattle.indexset_events.proofs.CallerLemmas.{Each, each-append, each-left, each-right}
 use Rattle.indexset_follow.specs.Numbers.{PairFits}
 
 -- ---- lists

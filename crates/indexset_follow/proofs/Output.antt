@@ -28,10 +28,10 @@ use Rattle.indexset_core.specs.Nodes.{joined}
 use Rattle.indexset_core.specs.Order.{above, below, has_equal, keep, put, without}
 use Rattle.indexset_core.specs.Pairs.{pair_of}
 use Rattle.indexset_core.specs.declared.pair.Pair.{Pair}
-use Rattle.indexset_log.specs.Nodes.{is_filled}
-use Rattle.indexset_log.specs.declared.change.ChangeEvent.TheVariants as change
-use Rattle.indexset_log.specs.declared.change.Id.{Id}
-use Rattle.indexset_log.proofs.CallerLemmas.{Each, each-append, each_all}
+use Rattle.indexset_events.specs.Nodes.{is_filled}
+use Rattle.indexset_events.specs.declared.change.ChangeEvent.TheVariants as change
+use Rattle.indexset_events.specs.declared.change.Id.{Id}
+use Rattle.indexset_events.proofs.CallerLemmas.{Each, each-append, each_all}
 use Rattle.indexset_follow.specs.EventLine.{Event, EventFits, event_of}
 use Rattle.indexset_follow.specs.Follow.{State, after_line}
 use Rattle.indexset_follow.specs.Numbers.{PairFits, cut_at}

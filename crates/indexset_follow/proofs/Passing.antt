@@ -17,7 +17,7 @@ use Rattle.indexset_bench.specs.Reply.{reply_text}
 use Rattle.indexset_bench.specs.declared.reply.Reply.{Reply}
 use Rattle.indexset_bench.specs.declared.reply.Reply.TheVariants.{New, Old, OldValue, Gone, GoneValue, Yes, No, Count, Item, Nothing, Empty, Bad}
 use Rattle.indexset_core.specs.declared.pair.Pair.{Pair}
-use Rattle.indexset_log.proofs.CallerLemmas.{Each}
+use Rattle.indexset_events.proofs.CallerLemmas.{Each}
 use Rattle.indexset_follow.specs.EventLine.{event_of}
 use Rattle.indexset_follow.specs.NodeLine.{node_of}
 use Rattle.indexset_follow.specs.Numbers.{PairFits, cut_at, number_of}

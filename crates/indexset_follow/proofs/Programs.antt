@@ -23,10 +23,10 @@ use Rattle.indexset_core.specs.Nodes.{joined, IsLawful}
 use Rattle.indexset_core.specs.Pairs.{by_key, pair}
 use Rattle.indexset_core.specs.declared.pair.Pair.{Pair}
 use Rattle.indexset_core.proofs.CallerLemmas.{pairs_total}
-use Rattle.indexset_log.specs.Replay.{numbered_from, replay, IsNumberedFrom}
-use Rattle.indexset_log.specs.declared.change.ChangeEventUnassigned.{ChangeEventUnassigned}
-use Rattle.indexset_log.specs.declared.change.ChangeEventUnassigned.TheVariants.{InsertAt, RemoveAt, CreateNode, RemoveNode, SplitNode, MergeNodes}
-use Rattle.indexset_log.proofs.CallerLemmas.{Each, Leads, each-append, each_all, key_removal_leads, length-numbered, nodes_each, none_lawful, nothing_leads, numbered-append, numbered_is, put_leads, replay-append}
+use Rattle.indexset_events.specs.Replay.{numbered_from, replay, IsNumberedFrom}
+use Rattle.indexset_events.specs.declared.change.ChangeEventUnassigned.{ChangeEventUnassigned}
+use Rattle.indexset_events.specs.declared.change.ChangeEventUnassigned.TheVariants.{InsertAt, RemoveAt, CreateNode, RemoveNode, SplitNode, MergeNodes}
+use Rattle.indexset_events.proofs.CallerLemmas.{Each, Leads, each-append, each_all, key_removal_leads, length-numbered, nodes_each, none_lawful, nothing_leads, numbered-append, numbered_is, put_leads, replay-append}
 use Rattle.indexset_replica.specs.Delivery.{IsSubsequence}
 use Rattle.indexset_follow.specs.Drawn.{HoldsFirst, IsDrawn, IsFeedOfPairs}
 use Rattle.indexset_follow.specs.EventLine.{Event, EventFits}

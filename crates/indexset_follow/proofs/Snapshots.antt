@@ -16,9 +16,9 @@ use Rattle.indexset_core.proofs.CallerLemmas.{joined-append}
 use Rattle.indexset_core.specs.Nodes.{IsNodeList, joined}
 use Rattle.indexset_core.specs.Pairs.{by_key}
 use Rattle.indexset_core.specs.declared.pair.Pair.{Pair}
-use Rattle.indexset_log.proofs.CallerLemmas.{Each, Ruled, Up, each-left, each-right, nodes_ruled, not_refused, up-between, up-left, up-right, up_true}
-use Rattle.indexset_log.specs.Attach.{attach_index, attach_refusal, attached, lies_apart, lies_below}
-use Rattle.indexset_log.specs.Nodes.{is_filled}
+use Rattle.indexset_events.proofs.CallerLemmas.{Each, Ruled, Up, each-left, each-right, nodes_ruled, not_refused, up-between, up-left, up-right, up_true}
+use Rattle.indexset_events.specs.Attach.{attach_index, attach_refusal, attached, lies_apart, lies_below}
+use Rattle.indexset_events.specs.Nodes.{is_filled}
 use Rattle.indexset_follow.specs.EventLine.{event_of}
 use Rattle.indexset_follow.specs.Follow.{State, after_line, after_node, snapshot_text, state, state_after}
 use Rattle.indexset_follow.specs.NodeLine.{NodeFits, node_line, node_of}

@@ -13,7 +13,7 @@ use Rattle.indexset_core.specs.Pairs.{by_key, pair}
 use Rattle.indexset_core.specs.declared.pair.Pair.{Pair}
 use Rattle.indexset_core.specs.declared.refusal.Refusal.{Refusal}
 use Rattle.indexset_core.specs.declared.refusal.Refusal.TheVariants.{Gap, Memory, Numbers}
-use Rattle.indexset_log.specs.Replay.{event_number, step, unassigned}
+use Rattle.indexset_events.specs.Replay.{event_number, step, unassigned}
 use Rattle.indexset_replica.proofs.CallerLemmas.{misfit_refused, step_fits}
 use Rattle.indexset_replica.specs.Delivery.{delivered}
 use Rattle.indexset_replica.specs.Replica.{apply_refusal, misfit}

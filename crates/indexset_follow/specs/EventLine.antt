@@ -3,9 +3,9 @@ use Rattle.std.specs.Prelude.{ℕ, ◌^◌, ◌<◌, if◌then◌else◌, List, 
 use Rattle.std.specs.Option.{option_map, option_and_then}
 use Rattle.std.specs.Str.{bytes_eq}
 use Rattle.indexset_core.specs.declared.pair.Pair.{Pair}
-use Rattle.indexset_log.specs.declared.change.ChangeEvent.{ChangeEvent}
-use Rattle.indexset_log.specs.declared.change.ChangeEvent.TheVariants.{InsertAt, RemoveAt, CreateNode, RemoveNode, SplitNode, MergeNodes}
-use Rattle.indexset_log.specs.declared.change.Id.{Id}
+use Rattle.indexset_events.specs.declared.change.ChangeEvent.{ChangeEvent}
+use Rattle.indexset_events.specs.declared.change.ChangeEvent.TheVariants.{InsertAt, RemoveAt, CreateNode, RemoveNode, SplitNode, MergeNodes}
+use Rattle.indexset_events.specs.declared.change.Id.{Id}
 use Rattle.indexset_follow.specs.Numbers.{PairFits, cut_at, number_of, pair_of}
 
 -- an event whose items are pairs of numbers

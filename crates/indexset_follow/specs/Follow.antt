@@ -12,9 +12,9 @@ use Rattle.indexset_core.specs.Nodes.{joined}
 use Rattle.indexset_core.specs.Order.{equal_element}
 use Rattle.indexset_core.specs.Pairs.{by_key, pair}
 use Rattle.indexset_core.specs.declared.pair.Pair.{Pair}
-use Rattle.indexset_log.specs.Attach.{attach_refusal, attached}
-use Rattle.indexset_log.specs.Nodes.{is_filled}
-use Rattle.indexset_log.specs.Replay.{event_number}
+use Rattle.indexset_events.specs.Attach.{attach_refusal, attached}
+use Rattle.indexset_events.specs.Nodes.{is_filled}
+use Rattle.indexset_events.specs.Replay.{event_number}
 use Rattle.indexset_replica.specs.Delivery.{delivered}
 use Rattle.indexset_replica.specs.Replica.{ReplicaState, first_item, last_item}
 use Rattle.indexset_follow.specs.EventLine.{Event, event_of}

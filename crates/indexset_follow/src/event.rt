@@ -5,7 +5,7 @@ ghost use Rattle.indexset_follow.specs.EventLine.{event_of, named_event, word_ev
 
 use crate::numbers::{cut, read_number, read_pair};
 use indexset_core::pair::Pair;
-use indexset_log::change::{ChangeEvent, Id};
+use indexset_events::change::{ChangeEvent, Id};
 
 /// An event whose items are pairs of numbers.
 pub type Event = ChangeEvent<Pair<u64, u64>>;

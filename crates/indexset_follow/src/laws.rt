@@ -19,7 +19,7 @@ ghost use Rattle.indexset_follow.specs.Passed.{IsPassedOver, ReplyFits};
 ghost use Rattle.indexset_follow.specs.Request.{RequestFits, request_line, request_of};
 ghost use Rattle.indexset_follow.specs.Told.{IsAmong, event_lines, events_of_lines, output_lines};
 ghost use Rattle.indexset_follow.specs.declared.request.Request.{Request};
-ghost use Rattle.indexset_log.specs.Replay.{replay, IsNumberedFrom};
+ghost use Rattle.indexset_events.specs.Replay.{replay, IsNumberedFrom};
 ghost use Rattle.indexset_replica.specs.Delivery.{IsSubsequence};
 
 /// A line spells the event of which it is the text, and no other line spells one.

@@ -5,8 +5,8 @@ use Rattle.std.specs.Ordering.{nat_cmp}
 use Rattle.indexset_core.specs.declared.pair.Pair.{Pair}
 use Rattle.indexset_core.specs.Nodes.{joined}
 use Rattle.indexset_core.specs.Pairs.{by_key, pair_of}
-use Rattle.indexset_log.specs.Keys.{key_removal_events}
-use Rattle.indexset_log.specs.Table.{removal_events}
+use Rattle.indexset_events.specs.Keys.{key_removal_events}
+use Rattle.indexset_events.specs.Table.{removal_events}
 use Rattle.indexset_log.specs.Tree.{Tree}
 
 pub mapped_none : {X Y : Type 0} (f : X → Y) (o : Option X) → option_map f o ≡ None → o ≡ None

@@ -8,8 +8,8 @@ use Rattle.indexset_core.specs.declared.pair.Pair.{Pair}
 use Rattle.indexset_core.specs.declared.refusal.Refusal.{Refusal}
 use Rattle.indexset_core.specs.declared.refusal.Refusal.TheVariants as refusals
 use Rattle.indexset_core.specs.Pairs.{by_key}
-use Rattle.indexset_log.specs.declared.change.ChangeEvent.{ChangeEvent}
-use Rattle.indexset_log.specs.Replay.{event_number, step}
+use Rattle.indexset_events.specs.declared.change.ChangeEvent.{ChangeEvent}
+use Rattle.indexset_events.specs.Replay.{event_number, step}
 use Rattle.indexset_replica.specs.Replica.{ReplicaState, apply_refusal}
 use Rattle.indexset_replica.proofs.CallerLemmas.{passed_over, taken_in, turn_taken}
 use Rattle.indexset_handle.specs.declared.event.Event.{Event}

@@ -8,7 +8,7 @@ use Rattle.indexset_core.specs.declared.refusal.Refusal.TheVariants as refusals
 use Rattle.indexset_core.specs.Nodes.{joined}
 use Rattle.indexset_core.specs.Pairs.{by_key}
 use Rattle.indexset_core.specs.Refusal.{number_of}
-use Rattle.indexset_log.specs.Replay.{event_number}
+use Rattle.indexset_events.specs.Replay.{event_number}
 use Rattle.indexset_log.specs.Tree.{Tree}
 use Rattle.indexset_replica.specs.Delivery.{delivered}
 use Rattle.indexset_replica.specs.Replica.{ReplicaState, apply_refusal}

@@ -4,7 +4,7 @@ ghost use Rattle.indexset_handle.specs.Elements.{written};
 ghost use Rattle.indexset_handle.specs.Events.{event_of, record_of, record_with, unnumbered};
 
 use indexset_core::pair::Pair;
-use indexset_log::change::{ChangeEvent, ChangeEventUnassigned, Id};
+use indexset_events::change::{ChangeEvent, ChangeEventUnassigned, Id};
 
 /// In the node, the pair is put at the index.
 pub const INSERT: u32 = 1;

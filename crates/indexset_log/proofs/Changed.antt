@@ -10,26 +10,20 @@ use Rattle.indexset_core.specs.Order.{equal_element, has_equal, keep, put, witho
 use Rattle.indexset_core.specs.Pairs.{by_key}
 use Rattle.indexset_core.proofs.CallerLemmas.{found_has_equal, found_rank, has_put, parted_by_item}
 use Rattle.indexset_log.specs.Changed.{Change, Changed, Fits, ItemsTold, PairsTold, Told, checked_put_change, put_change, removal_change, taken_change}
-use Rattle.indexset_log.specs.Clones.{AreIdentical, IsEventClone, IsTold}
-use Rattle.indexset_log.specs.Edits.{after_put, after_removal, after_taken, with_taken}
-use Rattle.indexset_log.specs.Joining.{IsSpaced, item_removed, join_after, with_joined}
-use Rattle.indexset_log.specs.Keys.{IsPairClone}
-use Rattle.indexset_log.specs.Located.{located, IsFoundIn}
-use Rattle.indexset_log.specs.Replay.{numbered_from, replay}
-use Rattle.indexset_log.specs.Table.{put_events, removal_events, taking_count, taking_events}
+use Rattle.indexset_events.specs.Clones.{AreIdentical, IsEventClone, IsTold}
+use Rattle.indexset_events.specs.Edits.{with_taken}
+use Rattle.indexset_log.specs.Edits.{after_put, after_removal, after_taken}
+use Rattle.indexset_events.specs.Joining.{IsSpaced, item_removed, join_after, with_joined}
+use Rattle.indexset_events.specs.Keys.{IsPairClone}
+use Rattle.indexset_events.specs.Located.{located, IsFoundIn}
+use Rattle.indexset_events.specs.Replay.{numbered_from, replay}
+use Rattle.indexset_events.specs.Table.{put_events, removal_events, taking_count, taking_events}
 use Rattle.indexset_log.specs.Taking.{after_taking, events_from, item_from}
 use Rattle.indexset_log.specs.Tree.{IsTree, Tree}
-use Rattle.indexset_log.specs.declared.change.ChangeEvent.{ChangeEvent}
-use Rattle.indexset_log.specs.declared.change.ChangeEventUnassigned.{ChangeEventUnassigned}
+use Rattle.indexset_events.specs.declared.change.ChangeEvent.{ChangeEvent}
+use Rattle.indexset_events.specs.declared.change.ChangeEventUnassigned.{ChangeEventUnassigned}
 use Rattle.indexset_log.proofs.Checked.{absent_change, there_change}
-use Rattle.indexset_log.proofs.Clones.{clones_numbered, event_same, pair_same}
-use Rattle.indexset_log.proofs.Places.{found_at, gap_found}
-use Rattle.indexset_log.proofs.Puts.{put_contents, put_replayed}
-use Rattle.indexset_log.proofs.SpacedKept.{put_spaced, taken_spaced}
-use Rattle.indexset_log.proofs.Takes.{absent_contents, absent_events, absent_here, found_contents, found_events, some_read, taken_replay, taking_length, two_at_most}
-use Rattle.indexset_log.proofs.Theorem.{length-numbered, three_at_most, up_node}
-use Rattle.indexset_log.proofs.Ups.{ascends, lawful_ruled}
-use Rattle.indexset_log.proofs.Views.{lawful_filled, lawful_parted}
+use Rattle.indexset_events.proofs.CallerLemmas.{absent_contents, absent_events, absent_here, ascends, clones_numbered, event_same, found_at, found_contents, found_events, gap_found, lawful_filled, lawful_parted, lawful_ruled, length-numbered, pair_same, put_contents, put_replayed, put_spaced, some_read, taken_replay, taken_spaced, taking_length, three_at_most, two_at_most, up_node}
 
 -- what holds of a change also where there are no numbers for its events
 pub record Altered {T : Type 0} (cmp : T → T → Ordering) (old new : Tree T) (l : List T) (es : List (ChangeEventUnassigned T)) : Type 0 where
@@ -97,12 +91,12 @@ module _ {T : Type 0} {cmp : T → T → Ordering} {most len : ℕ} {old new : T
   pub put_changed : new ≡ after_put cmp old v → Fits old (put_change cmp old v) → Changed cmp old new (put_change cmp old v)
   put_changed e fits = record {
     tree = e;
-    contents = ap (λ t. joined t.nodes) e ∙ put_contents o t v;
+    contents = ap (λ t. joined t.nodes) e ∙ put_contents o t.two t.lawful v;
     nodes = ap (λ t. t.nodes) e;
     size = ap (λ t. t.size) e;
     next = ap (λ t. t.next) e;
     fits = fits;
-    table = put_replayed o t v old.next ∙ ap (λ t. Some t.nodes) (sym e);
+    table = put_replayed o t.two t.lawful v old.next ∙ ap (λ t. Some t.nodes) (sym e);
     few = three_at_most cmp old.size v old.nodes;
     spaced = λ s. subst (λ t. IsSpaced (t.size / 2) t.nodes) (sym e) (put_spaced cmp o old.size t.two old.nodes v t.lawful s);
   }

@@ -3,8 +3,9 @@ use Rattle.std.proofs.Common.{◌≡◌, ◌+◌, true, false, [], length, Order
 use Rattle.indexset_core.specs.Nodes.{joined}
 use Rattle.indexset_core.specs.Order.{has_equal, keep}
 use Rattle.indexset_log.specs.Changed.{checked_put_change, put_change}
-use Rattle.indexset_log.specs.Edits.{after_checked_put, after_put, with_checked_put}
-use Rattle.indexset_log.specs.Table.{checked_put_events, put_events}
+use Rattle.indexset_events.specs.Edits.{with_checked_put}
+use Rattle.indexset_log.specs.Edits.{after_checked_put, after_put}
+use Rattle.indexset_events.specs.Table.{checked_put_events, put_events}
 use Rattle.indexset_log.specs.Tree.{Tree}
 
 module _ {T : Type 0} (cmp : T → T → Ordering) (old : Tree T) (v : T) where

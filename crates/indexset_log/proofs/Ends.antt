@@ -15,15 +15,14 @@ use Rattle.indexset_core.specs.Nodes.{joined, node_at, IsLawful}
 use Rattle.indexset_core.specs.Order.{IsAscending, IsFoundAt, above, below, put, without}
 use Rattle.indexset_core.specs.Pairs.{pair_keys}
 use Rattle.indexset_core.proofs.CallerLemmas.{equal_read, found_put, found_without, get_in_node, length-joined-more, located_found, parted_by_item, rank-slice_get, slice_get-right}
-use Rattle.indexset_log.specs.Changed.{Change, Changed, Fits, first_removal, last_removal}
+use Rattle.indexset_log.specs.Changed.{Changed, Fits, first_removal, last_removal}
 use Rattle.indexset_log.specs.Edits.{after_removal}
-use Rattle.indexset_log.specs.Ends.{IsItemAt, after_removal_at, removal_events_at}
-use Rattle.indexset_log.specs.Table.{removal_events}
+use Rattle.indexset_events.specs.Ends.{IsItemAt, removal_events_at}
+use Rattle.indexset_log.specs.Ends.{after_removal_at}
+use Rattle.indexset_events.specs.Table.{removal_events}
 use Rattle.indexset_log.specs.Tree.{IsTree, Tree}
 use Rattle.indexset_log.proofs.Changed.{Goes, found_after, removal_changed, unchanged}
-use Rattle.indexset_log.proofs.PlaceTakes.{found_there, place_events}
-use Rattle.indexset_log.proofs.Takes.{removal_few, some_read}
-use Rattle.indexset_log.proofs.Views.{lawful_ascends}
+use Rattle.indexset_events.proofs.CallerLemmas.{found_there, lawful_ascends, place_events, some_read}
 
 module _ {T : Type 0} (cmp : T → T → Ordering) (o : IsTotalOrder cmp) (l : List T) (up : IsAscending cmp l) where
   module _ (i : ℕ) (x : T) (is : slice_get l i ≡ Some x) where
@@ -109,14 +108,6 @@ module _ {T : Type 0} {cmp : T → T → Ordering} {most len : ℕ} {old new : T
   last_changed e fits =
       let last = length (joined old.nodes) - 1 in
       subst (Popped cmp old new last) (remove_last (joined old.nodes) last refl) (popped last e fits)
-
-pub few_at : {T : Type 0} (cmp : T → T → Ordering) (size : ℕ) (ns : List (List T)) (i : ℕ) → length (removal_events_at cmp size ns i) ≤ 3
-unfolding removal_events_at
-few_at cmp size ns i =
-    elim (slice_get (joined ns) i) as (λ r. length (option_map_or (λ x. removal_events cmp size ns x) r []) ≤ 3) [
-      | None ↦ omega arith
-      | Some x ↦ removal_few cmp size ns x
-    ]
 
 -- the last item stands at the end of the last node
 pub last_there : {T : Type 0} (ns : List (List T)) (k o : ℕ) → k + 1 ≡ length ns → o + 1 ≡ length (node_at ns k) → IsItemAt ns (k, o) (length (joined ns) - 1)

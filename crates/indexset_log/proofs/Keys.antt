@@ -14,24 +14,16 @@ use Rattle.indexset_core.specs.Parted.{IsParted}
 use Rattle.indexset_core.specs.Pairs.{by_key, pair_of, without_key}
 use Rattle.indexset_core.proofs.CallerLemmas.{absent_without, equal_from, key_absent, pairs_total, parted_by_key}
 use Rattle.indexset_log.specs.Changed.{Changed, PairsTold, key_removal, taken_change}
-use Rattle.indexset_log.specs.Keys.{after_key_removal, key_removal_events}
-use Rattle.indexset_log.specs.Located.{located, IsFoundIn}
-use Rattle.indexset_log.specs.Edits.{after_taken, with_taken}
-use Rattle.indexset_log.specs.Table.{removal_events, taking_count, taking_events}
+use Rattle.indexset_events.specs.Keys.{key_removal_events}
+use Rattle.indexset_log.specs.Keys.{after_key_removal}
+use Rattle.indexset_events.specs.Located.{located, IsFoundIn}
+use Rattle.indexset_events.specs.Edits.{with_taken}
+use Rattle.indexset_log.specs.Edits.{after_taken}
+use Rattle.indexset_events.specs.Table.{taking_count, taking_events}
 use Rattle.indexset_log.specs.Tree.{Tree}
-use Rattle.indexset_log.specs.declared.change.ChangeEvent.{ChangeEvent}
+use Rattle.indexset_events.specs.declared.change.ChangeEvent.{ChangeEvent}
 use Rattle.indexset_log.proofs.Changed.{found_after, unchanged}
-use Rattle.indexset_log.proofs.Places.{IsEnd, found_at, end_at, end_found, end_offset, end_read, gap_found, gap_position}
-use Rattle.indexset_log.proofs.Takes.{found_events, removal_few, taken_contents, taking_length}
-use Rattle.indexset_log.proofs.Views.{lawful_ascends, lawful_filled}
-
-pub key_removal_few : {K V : Type 0} (cmp : K → K → Ordering) (size : ℕ) (ns : List (List (Pair K V))) (k : K) → length (key_removal_events cmp size ns k) ≤ 3
-unfolding key_removal_events
-key_removal_few cmp size ns k =
-    elim (pair_of cmp (joined ns) k) as (λ p. length (option_map_or (λ p. removal_events (by_key cmp) size ns p) p []) ≤ 3) [
-      | None ↦ omega arith
-      | Some p ↦ removal_few (by_key cmp) size ns p
-    ]
+use Rattle.indexset_events.proofs.CallerLemmas.{IsEnd, end_at, end_found, end_offset, end_read, found_at, found_events, gap_found, gap_position, lawful_ascends, lawful_filled, taken_contents, taking_length}
 
 module _ {K V : Type 0} {cmp : K → K → Ordering} {size : ℕ} {ns : List (List (Pair K V))} (o : IsTotalOrder cmp) (law : IsLawful (by_key cmp) size ns) (k : K) where
   abbrev answer : Pair K V → Ordering

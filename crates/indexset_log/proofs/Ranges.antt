@@ -7,9 +7,8 @@ use Rattle.indexset_core.specs.Nodes.{joined, IsLawful}
 use Rattle.std.proofs.lemmas.Bool.{ne_eqb}
 use Rattle.std.proofs.lemmas.List.{length-map, map-set, take_all, drop_all, append-nil}
 use Rattle.indexset_core.proofs.CallerLemmas.{length-joined-take}
-use Rattle.indexset_log.specs.Nodes.{is_filled}
-use Rattle.indexset_log.proofs.Views.{node_is}
-use Rattle.indexset_log.proofs.Ups.{Each, all_each, each_all, Up, lawful_from, lawful_ruled, lawful_bounded}
+use Rattle.indexset_events.specs.Nodes.{is_filled}
+use Rattle.indexset_events.proofs.CallerLemmas.{Each, Up, all_each, each_all, lawful_bounded, lawful_from, lawful_ruled, node_is}
 
 module _ {T : Type 0} (p : T → Bool) where
   filter_le : (l : List T) → length (filter p l) ≤ length l

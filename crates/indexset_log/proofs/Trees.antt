@@ -1,14 +1,18 @@
 -- A tree as its contract sees it, and as the code holds it.
-use Rattle.std.proofs.Common.{◌≡◌, ℕ, ◌+◌, ◌<◌, Option, List, map, length, get_or, take, Ordering, ap, subst, sym, ◌∙◌, arith}
+use Rattle.std.proofs.Common.{◌≡◌, ℕ, ◌+◌, ◌-◌, ◌<◌, Option, Some, None, List, cond, map, length, get_or, slice_get, take, Ordering, ap, subst, sym, ◌∙◌, arith}
+use Rattle.std.specs.Cmp.{IsTotalOrder}
 use Rattle.std.specs.Iterator.Runs.{ItemsAre, Run}
 use Rattle.std.proofs.lemmas.List.{get_or-take, length-take-le, same_lists}
 use Rattle.std.proofs.lemmas.Option.{same_Some}
-use Rattle.indexset_core.specs.Nodes.{node_at}
+use Rattle.indexset_core.specs.Nodes.{IsLawful, joined, node_at}
+use Rattle.indexset_core.specs.Order.{has_equal}
+use Rattle.indexset_events.specs.Attach.{attach_refusal, attached}
+use Rattle.indexset_events.specs.Edits.{with_put, with_taken}
 use Rattle.std.proofs.lemmas.Bool.Decides.{nat_tests}
 use Rattle.std.below.core.specs.declared.int.u64.TheConstants.{MAX}
 use Rattle.indexset_core.specs.declared.refusal.Refusal.TheVariants.{Numbers}
 use Rattle.indexset_log.specs.Tree.{Tree, IsTree, refusal_for}
-use Rattle.indexset_log.proofs.Views.{node_is, length_view}
+use Rattle.indexset_events.proofs.CallerLemmas.{added, length_view, node_is, put_counted, put_lawful, taken_counted, taken_lawful}
 
 -- where a call is refused for want of numbers, its events do not fit
 pub ran_out : (next count : ℕ) → Numbers ≡ refusal_for next count → MAX < next + count
@@ -42,3 +46,15 @@ module _ {T N : Type 0} {cmp : T → T → Ordering} {most size len next : ℕ} 
   -- the node at a place, as the code reads it
   pub node_held : {f : N → List T} {items : List N} {n : N} → Held cmp most f items size len next t → (k : ℕ) → k < length t.nodes → n ≡ get_or items k n → f n ≡ node_at t.nodes k
   node_held {f = f} {items = items} {n = n} h k lt is = node_is f items t.nodes k n h.same (omega (arith, lt, h.many)) is
+
+-- the rule of a tree after a put, after a removal, and with a node added
+pub put_tree : {T : Type 0} {cmp : T → T → Ordering} {most size len : ℕ} {ns : List (List T)} (o : IsTotalOrder cmp) → IsTree cmp most ns size len → (v : T) → IsTree cmp most (with_put cmp size ns v) size (len + cond (has_equal cmp (joined ns) v) 0 1)
+put_tree o t v = record { lawful = put_lawful o t.two t.lawful v; two = t.two; within = t.within; counted = omega (arith, t.counted, put_counted o t.two t.lawful v) }
+
+pub taken_tree : {T : Type 0} {cmp : T → T → Ordering} {size : ℕ} {ns : List (List T)} (o : IsTotalOrder cmp) (law : IsLawful cmp size ns) (k i : ℕ) {x : T} → k < length ns → slice_get (node_at ns k) i ≡ Some x → {most len : ℕ} → IsTree cmp most ns size len → IsTree cmp most (with_taken size ns k i) size (len - 1)
+taken_tree o law k i inside here t = record { lawful = taken_lawful o law k i inside here; two = t.two; within = t.within; counted = omega (arith, t.counted, taken_counted o law k i inside here) }
+
+pub attached_tree : {T : Type 0} (cmp : T → T → Ordering) (o : IsTotalOrder cmp) (size : ℕ) (ns : List (List T)) {most len : ℕ} (n : List T) → IsTree cmp most ns size len → attach_refusal cmp size ns n ≡ None → IsTree cmp most (attached cmp ns n) size (len + length n)
+attached_tree cmp o size ns n t h =
+    let d = added cmp o size ns n t.lawful h in
+    record { lawful = d.lawful; two = t.two; within = t.within; counted = omega (arith, t.counted, d.counted) }

@@ -4,7 +4,7 @@ use Rattle.std.specs.declared.cmp.Ordering.{Ordering}
 use Rattle.indexset_core.specs.Nodes.{node_at}
 use Rattle.indexset_core.specs.Order.{IsFoundAt, IsGapFor}
 use Rattle.indexset_log.specs.declared.aim.Aim.{Aim}
-use Rattle.indexset_log.specs.Table.{target, part_for, is_past}
+use Rattle.indexset_events.specs.Table.{target, part_for, is_past}
 
 -- v goes there
 pub record IsAim {T : Type 0} (cmp : T → T → Ordering) (size : ℕ) (ns : List (List T)) (v : T) (a : Aim) : Type 0 where

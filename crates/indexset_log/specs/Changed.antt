@@ -7,16 +7,19 @@ use Rattle.indexset_core.specs.declared.refusal.Refusal.{Refusal}
 use Rattle.indexset_core.specs.Nodes.{joined}
 use Rattle.indexset_core.specs.Order.{keep, put, without}
 use Rattle.indexset_core.specs.Pairs.{by_key, without_key}
-use Rattle.indexset_log.specs.Clones.{AreIdentical, IsTold}
-use Rattle.indexset_log.specs.Edits.{after_checked_put, after_put, after_removal, after_taken, with_taken}
-use Rattle.indexset_log.specs.Ends.{after_removal_at, removal_events_at}
-use Rattle.indexset_log.specs.Joining.{IsSpaced}
-use Rattle.indexset_log.specs.Keys.{IsPairClone, after_key_removal, key_removal_events}
-use Rattle.indexset_log.specs.Replay.{IsNumberedFrom, numbered_from, replay}
-use Rattle.indexset_log.specs.Table.{checked_put_events, put_events, removal_events, taking_events}
+use Rattle.indexset_events.specs.Clones.{AreIdentical, IsTold}
+use Rattle.indexset_events.specs.Edits.{with_taken}
+use Rattle.indexset_log.specs.Edits.{after_checked_put, after_put, after_removal, after_taken}
+use Rattle.indexset_events.specs.Ends.{removal_events_at}
+use Rattle.indexset_log.specs.Ends.{after_removal_at}
+use Rattle.indexset_events.specs.Joining.{IsSpaced}
+use Rattle.indexset_events.specs.Keys.{IsPairClone, key_removal_events}
+use Rattle.indexset_log.specs.Keys.{after_key_removal}
+use Rattle.indexset_events.specs.Replay.{IsNumberedFrom, numbered_from, replay}
+use Rattle.indexset_events.specs.Table.{checked_put_events, put_events, removal_events, taking_events}
 use Rattle.indexset_log.specs.Tree.{Tree, refusal_for}
-use Rattle.indexset_log.specs.declared.change.ChangeEvent.{ChangeEvent}
-use Rattle.indexset_log.specs.declared.change.ChangeEventUnassigned.{ChangeEventUnassigned}
+use Rattle.indexset_events.specs.declared.change.ChangeEvent.{ChangeEvent}
+use Rattle.indexset_events.specs.declared.change.ChangeEventUnassigned.{ChangeEventUnassigned}
 
 -- a change of a tree: the tree afterwards, its items, and the events that lead to it
 pub record Change (T : Type 0) : Type 0 where

@@ -1,25 +1,12 @@
--- The item at a position of all: where it stands, and what its removal tells and makes.
-use Rattle.std.specs.Prelude.{◌≡◌, ℕ, ◌<◌, length, List, [], slice_get}
+-- What the removal of the item at a position of all makes.
+use Rattle.std.specs.Prelude.{ℕ, slice_get}
 use Rattle.std.specs.Option.{option_map_or}
 use Rattle.std.specs.declared.cmp.Ordering.{Ordering}
-use Rattle.indexset_core.specs.Nodes.{joined, node_at}
-use Rattle.indexset_log.specs.declared.change.ChangeEventUnassigned.{ChangeEventUnassigned}
+use Rattle.indexset_core.specs.Nodes.{joined}
 use Rattle.indexset_log.specs.Edits.{after_removal}
-use Rattle.indexset_core.specs.Places.{items_before}
-use Rattle.indexset_log.specs.Table.{removal_events}
 use Rattle.indexset_log.specs.Tree.{Tree}
 
 module _ {T : Type 0} where
-  -- the place of the item at position i
-  pub record IsItemAt (ns : List (List T)) (p : ℕ × ℕ) (i : ℕ) : Type 0 where
-    pub node_in : p.0 < length ns
-    pub offset_in : p.1 < length (node_at ns p.0)
-    pub before : items_before ns p ≡ i
-
-  -- the events of the removal of the item at position i, where there is one
-  unfoldable pub removal_events_at : (T → T → Ordering) → ℕ → List (List T) → ℕ → List (ChangeEventUnassigned T)
-  removal_events_at cmp size ns i = option_map_or (λ x. removal_events cmp size ns x) (slice_get (joined ns) i) []
-
-  -- the tree after that removal
+  -- the tree after the removal of the item at position i, where there is one
   unfoldable pub after_removal_at : (T → T → Ordering) → Tree T → ℕ → Tree T
   after_removal_at cmp t i = option_map_or (after_removal cmp t) (slice_get (joined t.nodes) i) t

@@ -2,9 +2,9 @@
 use Rattle.std.specs.Prelude.{ℕ, List, [], slice_get, Option, Some, None}
 use Rattle.std.specs.Option.{option_map_or}
 use Rattle.indexset_core.specs.Nodes.{node_at}
-use Rattle.indexset_log.specs.declared.change.ChangeEventUnassigned.{ChangeEventUnassigned}
+use Rattle.indexset_events.specs.declared.change.ChangeEventUnassigned.{ChangeEventUnassigned}
 use Rattle.indexset_log.specs.Edits.{after_taken}
-use Rattle.indexset_log.specs.Table.{taking_events}
+use Rattle.indexset_events.specs.Table.{taking_events}
 use Rattle.indexset_log.specs.Tree.{Tree}
 
 module _ {T : Type 0} where

@@ -9,9 +9,9 @@ ghost use Rattle.indexset_core.specs.Order.{IsAscending};
 ghost use Rattle.indexset_core.specs.Parted.{IsParted};
 ghost use Rattle.indexset_core.specs.Pairs.{by_key, has_key, pair_of};
 ghost use Rattle.indexset_core.specs.declared.refusal.Refusal.TheVariants.{Memory};
-ghost use Rattle.indexset_log.specs.Attach.{attached, attach_refusal, nodes_refusal};
-ghost use Rattle.indexset_log.specs.Located.{located};
-ghost use Rattle.indexset_log.specs.Nodes.{AddsUp};
+ghost use Rattle.indexset_events.specs.Attach.{attached, attach_refusal, nodes_refusal};
+ghost use Rattle.indexset_events.specs.Located.{located};
+ghost use Rattle.indexset_events.specs.Nodes.{AddsUp};
 
 mod ends;
 pub mod iter;

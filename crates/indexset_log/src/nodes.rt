@@ -3,9 +3,9 @@ ghost use Rattle.std.specs.Prelude.{◌≡◌, ◌+◌, ◌/◌, ◌<◌, ◌≤
 ghost use Rattle.std.specs.List.{HoldsAt};
 ghost use Rattle.indexset_core.specs.Nodes.{joined, node_at};
 ghost use Rattle.indexset_core.specs.Order.{IsAscending, IsFoundAt, IsGapFor, put, equal_element};
-ghost use Rattle.indexset_log.specs.Edits.{with_halved};
-ghost use Rattle.indexset_log.specs.Joining.{with_joined};
-ghost use Rattle.indexset_log.specs.Table.{half_of};
+ghost use Rattle.indexset_events.specs.Edits.{with_halved};
+ghost use Rattle.indexset_events.specs.Joining.{with_joined};
+ghost use Rattle.indexset_events.specs.Table.{half_of};
 
 use crate::aim::Aim;
 use indexset_core::node::NodeLike;

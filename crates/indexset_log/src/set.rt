@@ -6,11 +6,11 @@ ghost use Rattle.indexset_core.specs.Nodes.{joined, IsLawful};
 ghost use Rattle.indexset_core.specs.Digits.{digits};
 ghost use Rattle.indexset_core.specs.Order.{has_equal, equal_element};
 ghost use Rattle.indexset_core.specs.Parted.{IsParted};
-ghost use Rattle.indexset_log.specs.Located.{located, IsFoundIn};
+ghost use Rattle.indexset_events.specs.Located.{located, IsFoundIn};
 
 mod attach;
 mod ends;
-pub mod from_nodes;
+mod from_nodes;
 pub mod iter;
 mod make;
 pub mod nodes;
@@ -21,10 +21,10 @@ mod remove;
 mod remove_range;
 mod traits;
 
-use crate::locate::node_by;
 use indexset_core::constants::DEFAULT_INNER_SIZE;
 use indexset_core::node::NodeLike;
 use indexset_core::probe::{ByItem, Probe};
+use indexset_events::locate::node_by;
 use std::alloc::Global;
 use std::marker::{Model, PhantomData};
 

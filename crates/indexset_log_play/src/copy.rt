@@ -6,7 +6,7 @@ use crate::node::{Whole, read_nodes, tell_nodes};
 use crate::order::{deliver, deliver_part};
 use crate::partial::Partial;
 use indexset_core::node::NodeLike;
-use indexset_log::change::ChangeEvent;
+use indexset_events::change::ChangeEvent;
 use indexset_log::set::nodes::Nodes;
 use indexset_play::script::{Stop, read, tell, tell_option};
 use indexset_replica::Replica;

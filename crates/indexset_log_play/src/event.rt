@@ -2,7 +2,7 @@
 //! `7 insert 5 4 0`, `7 remove 5 4 0`, `7 create 5`, `7 drop 5`, `7 split 5 2` or `7 merge 5 9`.
 
 use crate::item::{Item, Source};
-use indexset_log::change::{ChangeEvent, Id};
+use indexset_events::change::{ChangeEvent, Id};
 use indexset_play::script::{Stop, read, tell};
 use std::str::SplitWhitespace;
 

@@ -2,7 +2,7 @@
 
 use crate::event::read_event;
 use crate::item::{Item, Source};
-use indexset_log::change::ChangeEvent;
+use indexset_events::change::ChangeEvent;
 use indexset_play::player::Swept;
 use indexset_play::script::{Stop, Subject, read, tell};
 use std::alloc::Global;

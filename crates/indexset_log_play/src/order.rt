@@ -5,7 +5,7 @@ ghost use Rattle.std.specs.List.{All};
 use crate::item::Item;
 use crate::partial::Partial;
 use indexset_core::refusal::Refusal;
-use indexset_log::change::ChangeEvent;
+use indexset_events::change::ChangeEvent;
 use indexset_play::script::Stop;
 use indexset_replica::Replica;
 use std::alloc::Global;

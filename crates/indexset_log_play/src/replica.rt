@@ -11,7 +11,7 @@ use crate::order::{deliver, deliver_part};
 use crate::partial::Partial;
 use crate::text::tell_text;
 use indexset_core::bounds::bounds_are_ordered;
-use indexset_log::change::ChangeEvent;
+use indexset_events::change::ChangeEvent;
 use indexset_play::player::Swept;
 use indexset_play::script::{Stop, Subject, read, tell, tell_option};
 use indexset_replica::Replica;

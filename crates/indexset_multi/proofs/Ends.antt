@@ -7,7 +7,7 @@ use Rattle.indexset_core.specs.declared.multipair.MultiPair.{MultiPair}
 use Rattle.indexset_core.specs.MultiPairs.{by_number}
 use Rattle.indexset_core.specs.Nodes.{joined}
 use Rattle.indexset_core.specs.Pairs.{pair_keys}
-use Rattle.indexset_log.specs.Ends.{removal_events_at}
+use Rattle.indexset_events.specs.Ends.{removal_events_at}
 use Rattle.indexset_multi.specs.Keys.{entries}
 use Rattle.indexset_multi.specs.Tree.{MultiTree, pair_removal_events}
 

@@ -7,9 +7,9 @@ use Rattle.indexset_core.specs.declared.multipair.MultiPair.{MultiPair}
 use Rattle.indexset_core.specs.MultiPairs.{by_number, numbered_pair}
 use Rattle.indexset_core.specs.Nodes.{joined, IsLawful}
 use Rattle.indexset_core.specs.Order.{equal_element, put}
-use Rattle.indexset_log.specs.Edits.{with_put}
-use Rattle.indexset_log.specs.Table.{put_events}
-use Rattle.indexset_log.proofs.CallerLemmas.{lawful_ascends}
+use Rattle.indexset_events.specs.Edits.{with_put}
+use Rattle.indexset_events.specs.Table.{put_events}
+use Rattle.indexset_events.proofs.CallerLemmas.{lawful_ascends}
 use Rattle.indexset_multi.specs.Keys.{AreNumberedBelow, equal_pair, kept_number}
 use Rattle.indexset_multi.specs.Tree.{MultiTree, after_insertion, inserted_pair, pair_next_after}
 use Rattle.indexset_multi.proofs.Below.{below_more, below_put, kept_below}

@@ -16,7 +16,7 @@ use Rattle.indexset_core.specs.MultiPairs.{by_number}
 use Rattle.indexset_core.specs.Nodes.{joined, IsLawful}
 use Rattle.indexset_core.specs.Order.{IsAscending, put, without}
 use Rattle.indexset_core.proofs.CallerLemmas.{equal_from, is_some-find}
-use Rattle.indexset_log.proofs.CallerLemmas.{Each, all_each, around, each-map, lawful_ascends, parts-put, parts-without, rises}
+use Rattle.indexset_events.proofs.CallerLemmas.{Each, all_each, around, each-map, lawful_ascends, parts-put, parts-without, rises}
 use Rattle.indexset_multi.specs.Keys.{AreNumberedBelow, entries, equal_pair, first_pair, has_pair_of, kept_number, pairs_of, without_first, without_key, without_named}
 use Rattle.indexset_multi.specs.Tree.{MultiTree, inserted_pair, takes_number}
 use Rattle.indexset_multi.proofs.Numbers.{below_less, numbers_total}

@@ -12,13 +12,13 @@ use Rattle.std.proofs.lemmas.Option.{none-some}
 use Rattle.indexset_core.specs.declared.multipair.MultiPair.{MultiPair}
 use Rattle.indexset_core.specs.MultiPairs.{by_number}
 use Rattle.indexset_core.specs.Nodes.{joined}
-use Rattle.indexset_log.specs.declared.change.ChangeEvent.{ChangeEvent}
-use Rattle.indexset_log.specs.declared.change.ChangeEventUnassigned.{ChangeEventUnassigned}
-use Rattle.indexset_log.specs.Joining.{IsSpaced}
-use Rattle.indexset_log.specs.Clones.{IsEventClone, IsTold}
-use Rattle.indexset_log.specs.Replay.{assigned, replay, numbered_from}
+use Rattle.indexset_events.specs.declared.change.ChangeEvent.{ChangeEvent}
+use Rattle.indexset_events.specs.declared.change.ChangeEventUnassigned.{ChangeEventUnassigned}
+use Rattle.indexset_events.specs.Joining.{IsSpaced}
+use Rattle.indexset_events.specs.Clones.{IsEventClone, IsTold}
+use Rattle.indexset_events.specs.Replay.{assigned, replay, numbered_from}
 use Rattle.indexset_log.specs.Tree.{IsTree}
-use Rattle.indexset_log.proofs.CallerLemmas.{clones_numbered, event_same, lawful_ascends, length-numbered, numbered_is, numbered-append, replay-append, zip_on}
+use Rattle.indexset_events.proofs.CallerLemmas.{clones_numbered, event_same, lawful_ascends, length-numbered, numbered_is, numbered-append, replay-append, zip_on}
 use Rattle.indexset_multi.specs.Changed.{AreRemoved, RemovalsTold}
 use Rattle.indexset_multi.specs.Keys.{first_pair, pairs_of, without_key}
 use Rattle.indexset_multi.specs.Told.{IsToldOn}

@@ -9,8 +9,8 @@ use Rattle.indexset_core.specs.MultiPairs.{by_number}
 use Rattle.indexset_core.specs.Nodes.{joined, node_at, IsLawful}
 use Rattle.indexset_core.specs.Parted.{IsParted}
 use Rattle.indexset_core.proofs.CallerLemmas.{is_some-find}
-use Rattle.indexset_log.specs.Located.{located}
-use Rattle.indexset_log.proofs.CallerLemmas.{end_found, end_node, end_offset, gap_found, lawful_ascends, lawful_filled}
+use Rattle.indexset_events.specs.Located.{located}
+use Rattle.indexset_events.proofs.CallerLemmas.{end_found, end_node, end_offset, gap_found, lawful_ascends, lawful_filled}
 use Rattle.indexset_multi.specs.Places.{IsItemPlace, placed_item}
 use Rattle.indexset_multi.proofs.Numbers.{parted_keys}
 

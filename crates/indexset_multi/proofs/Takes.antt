@@ -5,16 +5,17 @@ use Rattle.std.specs.Option.{unwrap_or}
 use Rattle.indexset_core.specs.declared.multipair.MultiPair.{MultiPair}
 use Rattle.indexset_core.specs.MultiPairs.{by_number}
 use Rattle.indexset_core.specs.Nodes.{joined, node_at, IsLawful}
-use Rattle.indexset_log.specs.declared.change.ChangeEvent.{ChangeEvent}
-use Rattle.indexset_log.specs.declared.change.ChangeEventUnassigned.{ChangeEventUnassigned}
+use Rattle.indexset_events.specs.declared.change.ChangeEvent.{ChangeEvent}
+use Rattle.indexset_events.specs.declared.change.ChangeEventUnassigned.{ChangeEventUnassigned}
 use Rattle.indexset_log.specs.Changed.{Changed}
-use Rattle.indexset_log.specs.Clones.{IsTold}
+use Rattle.indexset_events.specs.Clones.{IsTold}
 use Rattle.indexset_log.specs.Edits.{after_taken}
 use Rattle.indexset_log.specs.Edits.{after_removal as after_item_removal}
-use Rattle.indexset_log.specs.Replay.{replay, numbered_from}
-use Rattle.indexset_log.specs.Table.{taking_count, taking_events}
+use Rattle.indexset_events.specs.Replay.{replay, numbered_from}
+use Rattle.indexset_events.specs.Table.{taking_count, taking_events}
 use Rattle.indexset_log.specs.Tree.{IsTree, Tree}
-use Rattle.indexset_log.proofs.CallerLemmas.{Altered, Leads, altered_nowhere, nothing_leads, on_ok_both, place_events, removal_altered, removal_few, removal_leads, taking_length, told_where}
+use Rattle.indexset_events.proofs.CallerLemmas.{Leads, nothing_leads, place_events, removal_few, removal_leads, taking_length}
+use Rattle.indexset_log.proofs.CallerLemmas.{Altered, altered_nowhere, on_ok_both, removal_altered, told_where}
 use Rattle.indexset_multi.specs.Changed.{Fits, MultiChange, MultiChanged, MultiTold, named_removal, set_change, set_tree}
 use Rattle.indexset_multi.specs.Keys.{AreNumberedBelow, without_named}
 use Rattle.indexset_multi.specs.Places.{IsItemPlace, placed_item}

@@ -9,7 +9,7 @@ use Rattle.indexset_core.specs.declared.refusal.Refusal.TheVariants.{PairNumber}
 use Rattle.indexset_core.specs.MultiPairs.{by_number}
 use Rattle.indexset_core.specs.Nodes.{joined}
 use Rattle.indexset_core.specs.Order.{IsAscending}
-use Rattle.indexset_log.specs.Attach.{attach_refusal, attached, nodes_refusal}
+use Rattle.indexset_events.specs.Attach.{attach_refusal, attached, nodes_refusal}
 use Rattle.indexset_multi.specs.Tree.{MultiTree}
 
 module _ {K V : Type 0} where

@@ -9,12 +9,12 @@ use Rattle.indexset_core.specs.MultiPairs.{by_number}
 use Rattle.indexset_core.specs.Nodes.{joined}
 use Rattle.indexset_core.specs.Order.{put}
 use Rattle.indexset_log.specs.Changed.{Change, Told}
-use Rattle.indexset_log.specs.Clones.{AreIdentical, IsTold}
-use Rattle.indexset_log.specs.Joining.{IsSpaced}
-use Rattle.indexset_log.specs.Replay.{IsNumberedFrom, numbered_from, replay}
+use Rattle.indexset_events.specs.Clones.{AreIdentical, IsTold}
+use Rattle.indexset_events.specs.Joining.{IsSpaced}
+use Rattle.indexset_events.specs.Replay.{IsNumberedFrom, numbered_from, replay}
 use Rattle.indexset_log.specs.Tree.{Tree, refusal_for}
-use Rattle.indexset_log.specs.declared.change.ChangeEvent.{ChangeEvent}
-use Rattle.indexset_log.specs.declared.change.ChangeEventUnassigned.{ChangeEventUnassigned}
+use Rattle.indexset_events.specs.declared.change.ChangeEvent.{ChangeEvent}
+use Rattle.indexset_events.specs.declared.change.ChangeEventUnassigned.{ChangeEventUnassigned}
 use Rattle.indexset_multi.specs.Keys.{equal_pair, first_pair, pairs_of, without_key, without_named}
 use Rattle.indexset_multi.specs.Tree.{IsLedBy, IsLedTo, IsPairClone, MultiTree, after_insertion, after_removal, after_removals, inserted_pair, insertion_events, key_events, pair_removal_events, takes_number}
 

@@ -8,11 +8,11 @@ use Rattle.indexset_core.specs.declared.refusal.Refusal.{Refusal}
 use Rattle.indexset_core.specs.declared.refusal.Refusal.TheVariants.{Numbers}
 use Rattle.indexset_core.specs.MultiPairs.{by_number, numbered_pair}
 use Rattle.indexset_core.specs.Nodes.{joined}
-use Rattle.indexset_log.specs.declared.change.ChangeEventUnassigned.{ChangeEventUnassigned}
-use Rattle.indexset_log.specs.declared.change.ChangeEvent.{ChangeEvent}
-use Rattle.indexset_log.specs.Edits.{with_put}
-use Rattle.indexset_log.specs.Replay.{replay, numbered_from, IsNumberedFrom}
-use Rattle.indexset_log.specs.Table.{put_events, removal_events}
+use Rattle.indexset_events.specs.declared.change.ChangeEventUnassigned.{ChangeEventUnassigned}
+use Rattle.indexset_events.specs.declared.change.ChangeEvent.{ChangeEvent}
+use Rattle.indexset_events.specs.Edits.{with_put}
+use Rattle.indexset_events.specs.Replay.{replay, numbered_from, IsNumberedFrom}
+use Rattle.indexset_events.specs.Table.{put_events, removal_events}
 use Rattle.indexset_log.specs.Tree.{refusal_for}
 use Rattle.indexset_multi.specs.Keys.{first_pair, kept_number, pairs_of}
 

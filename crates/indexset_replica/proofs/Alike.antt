@@ -9,12 +9,12 @@ use Rattle.std.proofs.lemmas.Bool.{false≢true}
 use Rattle.std.proofs.lemmas.Cmp.{alike_right}
 use Rattle.std.proofs.lemmas.List.Elements.{length_all_zip}
 use Rattle.indexset_core.specs.Nodes.{joined, node_at}
-use Rattle.indexset_log.specs.Joining.{with_joined}
-use Rattle.indexset_log.specs.Nodes.{are_nodes, is_ascending, is_filled, last_of}
-use Rattle.indexset_log.specs.Replay.{edit, has_name, node_named, reaches, step_plain}
-use Rattle.indexset_log.specs.declared.change.ChangeEventUnassigned.{ChangeEventUnassigned}
-use Rattle.indexset_log.specs.declared.change.ChangeEventUnassigned.TheVariants.{InsertAt, RemoveAt, CreateNode, RemoveNode, SplitNode, MergeNodes}
-use Rattle.indexset_log.proofs.CallerLemmas.{zip_on}
+use Rattle.indexset_events.specs.Joining.{with_joined}
+use Rattle.indexset_events.specs.Nodes.{are_nodes, is_ascending, is_filled, last_of}
+use Rattle.indexset_events.specs.Replay.{edit, has_name, node_named, reaches, step_plain}
+use Rattle.indexset_events.specs.declared.change.ChangeEventUnassigned.{ChangeEventUnassigned}
+use Rattle.indexset_events.specs.declared.change.ChangeEventUnassigned.TheVariants.{InsertAt, RemoveAt, CreateNode, RemoveNode, SplitNode, MergeNodes}
+use Rattle.indexset_events.proofs.CallerLemmas.{zip_on}
 use Rattle.indexset_replica.specs.Replica.{AddsClone, IsEqualClone}
 
 -- ---- lists and options, place by place

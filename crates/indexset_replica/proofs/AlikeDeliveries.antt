@@ -3,8 +3,8 @@ use Rattle.std.proofs.Common.{◌≡◌, ◌==◌, ℕ, ◌+◌, ◌<◌, List, 
 use Rattle.std.below.core.specs.declared.int.u64.TheConstants.{MAX}
 use Rattle.std.specs.Cmp.{IsTotalOrder}
 use Rattle.std.specs.Option.{IsSomeAnd}
-use Rattle.indexset_log.specs.Replay.{event_number, step, step_plain, unassigned}
-use Rattle.indexset_log.specs.declared.change.ChangeEvent.{ChangeEvent}
+use Rattle.indexset_events.specs.Replay.{event_number, step, step_plain, unassigned}
+use Rattle.indexset_events.specs.declared.change.ChangeEvent.{ChangeEvent}
 use Rattle.indexset_replica.specs.Copies.{AreCopies, IsCopy}
 use Rattle.indexset_replica.specs.Delivery.{IsAlike, IsAt, IsDelivery, IsFeed, IsFollowed, awaited, delivered, followed}
 use Rattle.indexset_replica.specs.Replica.{ReplicaState, apply_refusal}

@@ -2,8 +2,8 @@
 use Rattle.std.proofs.Common.{◌≡◌, ℕ, zero, suc, ◌+◌, ◌-◌, ◌≤◌, List, [], ◌∷◌, length, slice_get, Some, Ordering, inl, inr, ap, subst, refl, arith}
 use Rattle.std.specs.Cmp.{IsTotalOrder}
 use Rattle.std.proofs.lemmas.List.{take_all}
-use Rattle.indexset_log.specs.Replay.{replay}
-use Rattle.indexset_log.specs.declared.change.ChangeEvent.{ChangeEvent}
+use Rattle.indexset_events.specs.Replay.{replay}
+use Rattle.indexset_events.specs.declared.change.ChangeEvent.{ChangeEvent}
 use Rattle.indexset_replica.specs.Delivery.{CopiesAll, CopiesBeginning, HoldsAll, IsAt, IsBeginning, IsDelivery, IsFeed, IsFollowed, IsSubsequence, followed, numbers_from}
 use Rattle.indexset_replica.specs.Replica.{ReplicaState}
 use Rattle.indexset_replica.proofs.AlikeDeliveries.{alike_followed, some_at}

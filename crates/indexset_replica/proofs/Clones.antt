@@ -9,12 +9,12 @@ use Rattle.std.proofs.lemmas.Bool.{eqb-false}
 use Rattle.std.proofs.lemmas.Cmp.{alike_right}
 use Rattle.std.specs.declared.cmp.Ordering.TheVariants.{Equal}
 use Rattle.indexset_core.specs.Nodes.{ends_less, joined, node_at}
-use Rattle.indexset_log.specs.Nodes.{is_ascending}
-use Rattle.indexset_log.specs.Replay.{event_number, reaches, step_plain, unassigned}
-use Rattle.indexset_log.specs.declared.change.ChangeEvent.{ChangeEvent}
-use Rattle.indexset_log.specs.declared.change.ChangeEventUnassigned.{ChangeEventUnassigned}
-use Rattle.indexset_log.specs.declared.change.ChangeEventUnassigned.TheVariants.{InsertAt, RemoveAt, CreateNode, RemoveNode, SplitNode, MergeNodes}
-use Rattle.indexset_log.proofs.CallerLemmas.{Ruled}
+use Rattle.indexset_events.specs.Nodes.{is_ascending}
+use Rattle.indexset_events.specs.Replay.{event_number, reaches, step_plain, unassigned}
+use Rattle.indexset_events.specs.declared.change.ChangeEvent.{ChangeEvent}
+use Rattle.indexset_events.specs.declared.change.ChangeEventUnassigned.{ChangeEventUnassigned}
+use Rattle.indexset_events.specs.declared.change.ChangeEventUnassigned.TheVariants.{InsertAt, RemoveAt, CreateNode, RemoveNode, SplitNode, MergeNodes}
+use Rattle.indexset_events.proofs.CallerLemmas.{Ruled}
 use Rattle.indexset_replica.specs.Delivery.{IsDelivery, IsFollowed, delivered, followed}
 use Rattle.indexset_replica.specs.Replica.{AddsClone, IsClonedEdit, IsClonedStep, IsEdit, ReplicaState, apply_refusal, is_between, misfit}
 use Rattle.indexset_core.specs.declared.refusal.Refusal.TheVariants.{Gap, Numbers}

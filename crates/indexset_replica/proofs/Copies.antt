@@ -4,9 +4,9 @@ use Rattle.std.specs.Cmp.{IsTotalOrder}
 use Rattle.std.specs.List.{AllZip}
 use Rattle.std.specs.declared.cmp.Ordering.TheVariants.{Equal}
 use Rattle.std.proofs.lemmas.Cmp.{tied_back, tied_itself}
-use Rattle.indexset_log.specs.Clones.{IsEventClone}
-use Rattle.indexset_log.specs.Replay.{replay, step, unassigned}
-use Rattle.indexset_log.specs.declared.change.ChangeEvent.{ChangeEvent}
+use Rattle.indexset_events.specs.Clones.{IsEventClone}
+use Rattle.indexset_events.specs.Replay.{replay, step, unassigned}
+use Rattle.indexset_events.specs.declared.change.ChangeEvent.{ChangeEvent}
 use Rattle.indexset_replica.specs.Copies.{AreClonesEqual, AreCopies, IsCloneAfter, IsCopy, LeadsToCopies}
 use Rattle.indexset_replica.specs.Replica.{IsClonedStep, IsEqualClone}
 use Rattle.indexset_replica.proofs.Alike.{AreAlike, adds_alike, step_alike, zip_itself, zip_weaker}

@@ -5,9 +5,9 @@ use Rattle.std.specs.List.{fold}
 use Rattle.std.proofs.lemmas.Bool.{eqb-true, eqb-false, eq-eqb, ne_eqb, not-false}
 use Rattle.std.proofs.lemmas.List.{take-append-drop, take_more}
 use Rattle.indexset_core.specs.declared.refusal.Refusal.TheVariants.{Gap, Numbers}
-use Rattle.indexset_log.specs.Replay.{event_number, replay, step, unassigned}
-use Rattle.indexset_log.specs.declared.change.ChangeEvent.{ChangeEvent}
-use Rattle.indexset_log.proofs.CallerLemmas.{replay-append}
+use Rattle.indexset_events.specs.Replay.{event_number, replay, step, unassigned}
+use Rattle.indexset_events.specs.declared.change.ChangeEvent.{ChangeEvent}
+use Rattle.indexset_events.proofs.CallerLemmas.{replay-append}
 use Rattle.indexset_replica.proofs.ReplicaEdits.{some_inj}
 use Rattle.indexset_replica.proofs.ReplicaSteps.{else_none, map_some, misfit_refused, none_some, some_is, step_fits, then_some}
 use Rattle.indexset_replica.specs.Replica.{ReplicaState, apply_refusal, misfit}

@@ -3,10 +3,10 @@ use Rattle.std.proofs.Common.{◌≡◌, List, [], ◌∷◌, Option, Some, None
 use Rattle.std.specs.Cmp.{IsTotalOrder}
 use Rattle.std.specs.List.{AllZip}
 use Rattle.std.specs.declared.cmp.Ordering.TheVariants.{Equal}
-use Rattle.indexset_log.specs.Clones.{IsEventClone, event_items, event_shape}
-use Rattle.indexset_log.specs.Replay.{replay, step, step_plain, unassigned}
-use Rattle.indexset_log.specs.declared.change.ChangeEvent.{ChangeEvent}
-use Rattle.indexset_log.specs.declared.change.ChangeEvent.TheVariants as numbered
+use Rattle.indexset_events.specs.Clones.{IsEventClone, event_items, event_shape}
+use Rattle.indexset_events.specs.Replay.{replay, step, step_plain, unassigned}
+use Rattle.indexset_events.specs.declared.change.ChangeEvent.{ChangeEvent}
+use Rattle.indexset_events.specs.declared.change.ChangeEvent.TheVariants as numbered
 use Rattle.indexset_replica.proofs.Alike.{AreAlike, IsEventAlike, step_alike}
 use Rattle.indexset_replica.proofs.ReplicaEdits.{some_inj}
 use Rattle.indexset_replica.proofs.ReplicaSteps.{then_some}

@@ -6,10 +6,10 @@ use Rattle.std.specs.Option.{option_map_or}
 use Rattle.std.specs.Ordering.{is_lt}
 use Rattle.indexset_core.specs.Nodes.{joined, node_at, IsNodeList}
 use Rattle.indexset_core.specs.declared.refusal.Refusal.TheVariants.{Overlaps}
-use Rattle.indexset_log.specs.Attach.{attach_index, attach_refusal, lies_apart}
-use Rattle.indexset_log.specs.Nodes.{is_ascending, last_of}
-use Rattle.indexset_log.specs.Replay.{reaches}
-use Rattle.indexset_log.proofs.CallerLemmas.{Attaches, Ruled, attaches_node, filled_first, last_answer, last_any, not_refused, refused_overlap, ruled_nodes}
+use Rattle.indexset_events.specs.Attach.{attach_index, attach_refusal, lies_apart}
+use Rattle.indexset_events.specs.Nodes.{is_ascending, last_of}
+use Rattle.indexset_events.specs.Replay.{reaches}
+use Rattle.indexset_events.proofs.CallerLemmas.{Attaches, Ruled, attaches_node, filled_first, last_answer, last_any, not_refused, refused_overlap, ruled_nodes}
 use Rattle.indexset_replica.specs.Replica.{first_item}
 use Rattle.indexset_replica.proofs.ReplicaNodes.{next_is}
 

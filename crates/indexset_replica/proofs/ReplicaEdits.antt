@@ -8,11 +8,11 @@ use Rattle.std.specs.declared.cmp.Ordering.TheVariants.{Less, Equal, Greater}
 use Rattle.std.proofs.lemmas.Bool.{lt-ltb, le-ltb, le-leb, lt-leb, eq-eqb, ne_eqb, ltb-true, or_right}
 use Rattle.indexset_core.specs.Nodes.{joined, node_at}
 use Rattle.indexset_core.specs.declared.refusal.Refusal.TheVariants.{NoSuchNode, IndexOutside, ValueDiffers, WouldBeEmpty, OutOfOrder, BadSplit, NotNeighbours}
-use Rattle.indexset_log.specs.Joining.{with_joined}
-use Rattle.indexset_log.specs.Nodes.{is_ascending}
-use Rattle.indexset_log.specs.Replay.{has_name, node_named, reaches}
-use Rattle.indexset_log.specs.declared.change.ChangeEventUnassigned.TheVariants.{InsertAt, RemoveAt, CreateNode, RemoveNode, SplitNode, MergeNodes}
-use Rattle.indexset_log.proofs.CallerLemmas.{node_is}
+use Rattle.indexset_events.specs.Joining.{with_joined}
+use Rattle.indexset_events.specs.Nodes.{is_ascending}
+use Rattle.indexset_events.specs.Replay.{has_name, node_named, reaches}
+use Rattle.indexset_events.specs.declared.change.ChangeEventUnassigned.TheVariants.{InsertAt, RemoveAt, CreateNode, RemoveNode, SplitNode, MergeNodes}
+use Rattle.indexset_events.proofs.CallerLemmas.{node_is}
 use Rattle.indexset_replica.specs.Replica.{IsEdit, misfit}
 
 pub some_inj : {X : Type 0} {x y : X} → Some x ≡ Some y → x ≡ y

@@ -14,9 +14,9 @@ use Rattle.std.proofs.lemmas.List.Sums.{fails_before_first, position_or_len_is}
 use Rattle.std.proofs.Math.Seq.{drop-append_seam, get_or-append_seam, get_or-append_right}
 use Rattle.indexset_core.specs.Nodes.{joined, node_at, node_lengths}
 use Rattle.indexset_core.proofs.CallerLemmas.{joined-append, joined-splice, joined_around, less_from, slice_get-right}
-use Rattle.indexset_log.specs.Nodes.{is_filled, last_of, is_ascending}
-use Rattle.indexset_log.specs.Replay.{has_name, node_named, reaches}
-use Rattle.indexset_log.proofs.CallerLemmas.{Ruled, Each, Up, at_place, each-append, each-left, each-map, each-right, each_all, each_last, greater, last_some, node_is, length_filled, not_reaching, over_rest, place_none, position_at, reached, reaching, true_up, unnamed, up-between, up-left, up-right, up_put, up_true, upto_last, nodes_each}
+use Rattle.indexset_events.specs.Nodes.{is_filled, last_of, is_ascending}
+use Rattle.indexset_events.specs.Replay.{has_name, node_named, reaches}
+use Rattle.indexset_events.proofs.CallerLemmas.{Ruled, Each, Up, at_place, each-append, each-left, each-map, each-right, each_all, each_last, greater, last_some, node_is, length_filled, not_reaching, over_rest, place_none, position_at, reached, reaching, true_up, unnamed, up-between, up-left, up-right, up_put, up_true, upto_last, nodes_each}
 use Rattle.indexset_replica.specs.Replica.{first_item, is_between, last_item}
 
 pub filled_each : {T : Type 0} (ns : List (List T)) → All (λ n. 1 ≤ n) (node_lengths ns) → Each (λ n. is_filled n ≡ true) ns

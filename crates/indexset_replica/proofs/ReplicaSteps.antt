@@ -11,13 +11,13 @@ use Rattle.std.proofs.lemmas.Option.{slice_get-get_or}
 use Rattle.indexset_core.specs.Nodes.{joined, node_at}
 use Rattle.indexset_core.specs.declared.refusal.Refusal.{Refusal}
 use Rattle.indexset_core.specs.declared.refusal.Refusal.TheVariants.{BadSplit, Gap, IndexOutside, NoSuchNode, NotNeighbours, Numbers, OutOfOrder, ValueDiffers, WouldBeEmpty}
-use Rattle.indexset_log.specs.Joining.{with_joined}
-use Rattle.indexset_log.specs.Nodes.{is_filled, is_ascending, are_nodes}
-use Rattle.indexset_log.specs.Replay.{at_named, edit, event_number, node_named, reaches, step, step_plain, unassigned}
-use Rattle.indexset_log.specs.declared.change.ChangeEvent.{ChangeEvent}
-use Rattle.indexset_log.specs.declared.change.ChangeEventUnassigned.{ChangeEventUnassigned}
-use Rattle.indexset_log.specs.declared.change.ChangeEventUnassigned.TheVariants.{InsertAt, RemoveAt, CreateNode, RemoveNode, SplitNode, MergeNodes}
-use Rattle.indexset_log.proofs.CallerLemmas.{At, Ruled, Each, at_ruled, at_pair, at_place, ruled_at, each-append, each-left, each-right, edit_step, filled-append, joined_seam, length_filled, merge_step, remove_at, remove_node_step, remove_step, splice_at, split_step, tested_ruled, true_up, up_true}
+use Rattle.indexset_events.specs.Joining.{with_joined}
+use Rattle.indexset_events.specs.Nodes.{is_filled, is_ascending, are_nodes}
+use Rattle.indexset_events.specs.Replay.{at_named, edit, event_number, node_named, reaches, step, step_plain, unassigned}
+use Rattle.indexset_events.specs.declared.change.ChangeEvent.{ChangeEvent}
+use Rattle.indexset_events.specs.declared.change.ChangeEventUnassigned.{ChangeEventUnassigned}
+use Rattle.indexset_events.specs.declared.change.ChangeEventUnassigned.TheVariants.{InsertAt, RemoveAt, CreateNode, RemoveNode, SplitNode, MergeNodes}
+use Rattle.indexset_events.proofs.CallerLemmas.{At, Ruled, Each, at_ruled, at_pair, at_place, ruled_at, each-append, each-left, each-right, edit_step, filled-append, joined_seam, length_filled, merge_step, remove_at, remove_node_step, remove_step, splice_at, split_step, tested_ruled, true_up, up_true}
 use Rattle.indexset_replica.proofs.ReplicaEdits.{named_inside, some_inj}
 use Rattle.indexset_replica.specs.Replica.{IsEdit, apply_refusal, disorder, in_named, misfit}
 

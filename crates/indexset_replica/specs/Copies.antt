@@ -3,8 +3,8 @@ use Rattle.std.specs.Prelude.{◌≡◌, ℕ, zero, suc, List, Some}
 use Rattle.std.specs.List.{AllZip}
 use Rattle.std.specs.declared.cmp.Ordering.{Ordering}
 use Rattle.std.specs.declared.cmp.Ordering.TheVariants.{Equal}
-use Rattle.indexset_log.specs.Replay.{replay}
-use Rattle.indexset_log.specs.declared.change.ChangeEvent.{ChangeEvent}
+use Rattle.indexset_events.specs.Replay.{replay}
+use Rattle.indexset_events.specs.declared.change.ChangeEvent.{ChangeEvent}
 use Rattle.indexset_replica.specs.Replica.{IsEqualClone}
 
 module _ {T : Type 0} (cmp : T → T → Ordering) (C : T → T → Type 0) where

@@ -5,8 +5,8 @@ use Rattle.std.specs.Option.{option_map, option_and_then}
 use Rattle.std.specs.declared.cmp.Ordering.{Ordering}
 use Rattle.indexset_core.specs.declared.refusal.Refusal.{Refusal}
 use Rattle.indexset_core.specs.declared.refusal.Refusal.TheVariants.{Memory}
-use Rattle.indexset_log.specs.Replay.{event_number, replay, step, unassigned, IsNumberedFrom}
-use Rattle.indexset_log.specs.declared.change.ChangeEvent.{ChangeEvent}
+use Rattle.indexset_events.specs.Replay.{event_number, replay, step, unassigned, IsNumberedFrom}
+use Rattle.indexset_events.specs.declared.change.ChangeEvent.{ChangeEvent}
 use Rattle.indexset_replica.specs.Copies.{AreCopies}
 use Rattle.indexset_replica.specs.Replica.{IsClonedStep, ReplicaState, apply_refusal}
 

@@ -2,13 +2,13 @@
 ghost use Rattle.std.specs.Prelude.{◌≡◌, ◌<◌, [], ◌∷◌, IfOk, OnOk, IfErr, OnErr, unwrap_or, vec_len, vec_capacity};
 ghost use Rattle.indexset_core.specs.Nodes.{IsNodeList, vec_items};
 ghost use Rattle.indexset_replica.specs.Replica.{IsClonedEdit, IsEdit, IsEqualClone, misfit};
-ghost use Rattle.indexset_log.specs.Replay.{unassigned};
-ghost use Rattle.indexset_log.specs.declared.change.ChangeEventUnassigned.TheVariants.{InsertAt, RemoveAt, CreateNode, RemoveNode, SplitNode, MergeNodes};
+ghost use Rattle.indexset_events.specs.Replay.{unassigned};
+ghost use Rattle.indexset_events.specs.declared.change.ChangeEventUnassigned.TheVariants.{InsertAt, RemoveAt, CreateNode, RemoveNode, SplitNode, MergeNodes};
 
 use super::places::{first_reaching, fits_at, fits_before, place_named};
 use indexset_core::moves;
 use indexset_core::refusal::Refusal;
-use indexset_log::change::ChangeEvent;
+use indexset_events::change::ChangeEvent;
 
 /// Makes the event's change, whatever its number.
 pub(super) fn carry_out<T: Ord + Clone + Drop>(

@@ -3,11 +3,11 @@ ghost use Rattle.std.specs.Prelude.{◌≡◌, ◌<◌, ◌≤◌, ◌+◌, ◌-
 ghost use Rattle.std.specs.List.{All};
 ghost use Rattle.indexset_replica.specs.Delivery.{failure, followed, numbers_from, CopiesAll, CopiesBeginning, HasStopped, HoldsAll, IsAlike, IsAt, IsBeginning, IsDelivered, IsDelivery, IsFeed, IsFollowed, IsStopped, IsSubsequence};
 ghost use Rattle.indexset_replica.specs.Replica.{ReplicaState};
-ghost use Rattle.indexset_log.specs.Replay.{event_number, replay};
+ghost use Rattle.indexset_events.specs.Replay.{event_number, replay};
 
 use crate::Replica;
 use indexset_core::refusal::Refusal;
-use indexset_log::change::ChangeEvent;
+use indexset_events::change::ChangeEvent;
 
 impl<T: Ord + Clone + Drop> Replica<T> {
     /// Applies the events at these places of a list, one after the other, and passes over each whose

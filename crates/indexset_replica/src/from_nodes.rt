@@ -1,11 +1,11 @@
 //! Replicas made of a tree's nodes.
 ghost use Rattle.std.specs.Prelude.{◌≡◌, None, Some, OnOk, IfErr, IfOk, IsOk};
 ghost use Rattle.indexset_core.specs.Nodes.{IsNodeList, vec_items};
-ghost use Rattle.indexset_log.specs.Attach.{nodes_refusal};
+ghost use Rattle.indexset_events.specs.Attach.{nodes_refusal};
 
 use super::Replica;
 use indexset_core::refusal::Refused;
-use indexset_log::set::from_nodes::test_nodes;
+use indexset_events::nodes::test_nodes;
 
 impl<T: Ord + Clone + Drop> Replica<T> {
     /// Returns a replica of these nodes, whose first event is to have the number `next`: it follows a tree

@@ -7,9 +7,9 @@ ghost use Rattle.std.specs.declared.cmp.Ordering.TheVariants.{Equal};
 ghost use Rattle.indexset_replica.specs.Copies.{AreClonesEqual, AreCopies, LeadsToCopies};
 ghost use Rattle.indexset_replica.specs.Delivery.{awaited, numbers_from, IsReached, IsSubsequence};
 ghost use Rattle.indexset_replica.specs.Replica.{apply_refusal, IsClonedStep};
-ghost use Rattle.indexset_log.specs.Clones.{IsEventClone};
-ghost use Rattle.indexset_log.specs.Replay.{event_number, replay, step, unassigned};
-ghost use Rattle.indexset_log.specs.declared.change.ChangeEvent.{ChangeEvent};
+ghost use Rattle.indexset_events.specs.Clones.{IsEventClone};
+ghost use Rattle.indexset_events.specs.Replay.{event_number, replay, step, unassigned};
+ghost use Rattle.indexset_events.specs.declared.change.ChangeEvent.{ChangeEvent};
 
 pub mod clones;
 

@@ -15,8 +15,8 @@ ghost use Rattle.std.specs.Prelude.{◌≡◌, ◌+◌, [], length, None, Some, 
 ghost use Rattle.indexset_core.specs.Nodes.{joined, IsNodeList, vec_items};
 ghost use Rattle.indexset_core.specs.Order.{has_equal};
 ghost use Rattle.indexset_replica.specs.Replica.{apply_refusal, IsClonedStep};
-ghost use Rattle.indexset_log.specs.Attach.{attached, attach_refusal};
-ghost use Rattle.indexset_log.specs.Replay.{step, unassigned};
+ghost use Rattle.indexset_events.specs.Attach.{attached, attach_refusal};
+ghost use Rattle.indexset_events.specs.Replay.{step, unassigned};
 
 mod edits;
 mod follow;
@@ -29,7 +29,7 @@ mod range;
 mod text;
 
 use indexset_core::refusal::{Refusal, Refused};
-use indexset_log::change::ChangeEvent;
+use indexset_events::change::ChangeEvent;
 use std::alloc::Global;
 use std::marker::Model;
 

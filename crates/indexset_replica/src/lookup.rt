@@ -8,14 +8,14 @@ ghost use Rattle.indexset_core.specs.Nodes.{joined, node_lengths};
 ghost use Rattle.indexset_core.specs.Order.{equal_element};
 ghost use Rattle.indexset_core.specs.Parted.{IsParted};
 ghost use Rattle.indexset_replica.specs.Replica.{first_item, last_item};
-ghost use Rattle.indexset_log.specs.Replay.{event_number};
+ghost use Rattle.indexset_events.specs.Replay.{event_number};
 
 use super::Replica;
 use super::places::{item_before, item_from};
 use indexset_core::probe::{ByItem, Probe};
 use indexset_core::search;
-use indexset_log::change::ChangeEvent;
-use indexset_log::locate::node_by;
+use indexset_events::change::ChangeEvent;
+use indexset_events::locate::node_by;
 
 /// Whether an event is the one that a replica waits for.
 #[derive(Clone, Copy, Debug, PartialEq, Eq)]

@@ -4,9 +4,9 @@ ghost use Rattle.std.specs.Option.{option_copied};
 ghost use Rattle.std.specs.List.{All, position_or_len, splice};
 ghost use Rattle.indexset_core.specs.Nodes.{joined, node_at, node_lengths, IsNodeList, vec_items};
 ghost use Rattle.indexset_replica.specs.Replica.{first_item, is_between, last_item};
-ghost use Rattle.indexset_log.specs.Attach.{attach_index, attach_refusal};
-ghost use Rattle.indexset_log.specs.Nodes.{is_ascending};
-ghost use Rattle.indexset_log.specs.Replay.{has_name, node_named, reaches};
+ghost use Rattle.indexset_events.specs.Attach.{attach_index, attach_refusal};
+ghost use Rattle.indexset_events.specs.Nodes.{is_ascending};
+ghost use Rattle.indexset_events.specs.Replay.{has_name, node_named, reaches};
 
 use indexset_core::refusal::Refusal;
 

@@ -12,7 +12,7 @@ use super::Replica;
 use super::iter::Iter;
 use indexset_core::probe::{ByItem, Past, Probe};
 use indexset_core::search;
-use indexset_log::locate::node_by;
+use indexset_events::locate::node_by;
 use std::ops::Bound;
 
 impl<T: Ord + Clone + Drop> Replica<T> {

@@ -1,7 +1,7 @@
 //! Events without numbers, and numbers of events.
 
 use indexset_core::pair::Pair;
-use indexset_log::change::{ChangeEvent, ChangeEventUnassigned, Id};
+use indexset_events::change::{ChangeEvent, ChangeEventUnassigned, Id};
 use std::alloc::Global;
 use std::test::Fail;
 

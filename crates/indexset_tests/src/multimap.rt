@@ -3,7 +3,7 @@
 use indexset_core::multipair::MultiPair;
 use indexset_core::node::NodeLike;
 use indexset_core::pair::Pair;
-use indexset_log::change::{ChangeEvent, Id};
+use indexset_events::change::{ChangeEvent, Id};
 use std::test::Fail;
 
 type Letters = MultiPair<u64, char>;

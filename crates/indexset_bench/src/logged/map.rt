@@ -4,7 +4,7 @@ use super::Logged;
 use indexset_core::node::NodeLike;
 use indexset_core::pair::Pair;
 use indexset_core::refusal::Refusal;
-use indexset_log::change::ChangeEvent;
+use indexset_events::change::ChangeEvent;
 use indexset_log::map::BTreeMap;
 
 /// A command to a logged map. The reply is `OldValue`, `Added` or `Out`, as said at each.

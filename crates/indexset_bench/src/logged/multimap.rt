@@ -4,7 +4,7 @@ use super::Logged;
 use indexset_core::multipair::MultiPair;
 use indexset_core::node::NodeLike;
 use indexset_core::refusal::Refusal;
-use indexset_log::change::ChangeEvent;
+use indexset_events::change::ChangeEvent;
 use indexset_multi::multimap::BTreeMultiMap;
 
 /// A command to a multimap. The reply is `OldValue` or `Out`, as said at each.

@@ -3,7 +3,7 @@
 use super::Logged;
 use indexset_core::node::NodeLike;
 use indexset_core::refusal::Refusal;
-use indexset_log::change::ChangeEvent;
+use indexset_events::change::ChangeEvent;
 use indexset_log::set::BTreeSet;
 
 /// A command to a logged set. The reply is `Old` or `Added`, as said at each.

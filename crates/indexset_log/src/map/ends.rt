@@ -7,10 +7,10 @@ ghost use Rattle.indexset_core.specs.Pairs.{by_key, entry_of, pair_keys};
 ghost use Rattle.indexset_log.specs.Changed.{Changed, Fits, PairsTold, first_removal, last_removal, refusal_of};
 
 use super::BTreeMap;
-use crate::change::ChangeEvent;
 use indexset_core::node::NodeLike;
 use indexset_core::pair::Pair;
 use indexset_core::refusal::Refusal;
+use indexset_events::change::ChangeEvent;
 
 impl<K: Ord + Clone + Drop, V: Clone + Drop, Node: NodeLike<Pair<K, V>>> BTreeMap<K, V, Node> {
     /// Returns the least key and its value, or `None` where there is none, in constant time.

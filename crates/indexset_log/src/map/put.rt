@@ -7,10 +7,10 @@ ghost use Rattle.indexset_log.specs.Changed.{Changed, PairsTold, checked_put_cha
 ghost use Rattle.indexset_log.specs.Keys.{KeepsOthers};
 
 use super::BTreeMap;
-use crate::change::ChangeEvent;
 use indexset_core::node::NodeLike;
 use indexset_core::pair::Pair;
 use indexset_core::refusal::Refused;
+use indexset_events::change::ChangeEvent;
 
 impl<K: Ord + Clone + Drop, V: Clone + Drop, Node: NodeLike<Pair<K, V>>> BTreeMap<K, V, Node> {
     /// Inserts a pair, replaces that of an equal key and returns its value, and returns the events.

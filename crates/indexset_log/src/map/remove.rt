@@ -7,10 +7,10 @@ ghost use Rattle.indexset_log.specs.Changed.{Changed, Fits, PairsTold, key_remov
 ghost use Rattle.indexset_log.specs.Keys.{KeepsOthers};
 
 use super::BTreeMap;
-use crate::change::ChangeEvent;
 use indexset_core::node::NodeLike;
 use indexset_core::pair::Pair;
 use indexset_core::refusal::Refusal;
+use indexset_events::change::ChangeEvent;
 
 impl<K: Ord + Clone + Drop, V: Clone + Drop, Node: NodeLike<Pair<K, V>>> BTreeMap<K, V, Node> {
     /// Removes the pair of a key, if any, and returns it with the events. A node that is left small is

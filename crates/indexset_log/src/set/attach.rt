@@ -5,15 +5,16 @@ ghost use Rattle.std.specs.Option.{option_map_or, unwrap_or};
 ghost use Rattle.std.specs.Ordering.{is_lt};
 ghost use Rattle.indexset_core.specs.Nodes.{joined, node_at};
 ghost use Rattle.indexset_core.specs.Order.{IsAscending};
-ghost use Rattle.indexset_log.specs.Attach.{attach_index, attached, attach_refusal};
-ghost use Rattle.indexset_log.specs.Nodes.{is_ascending};
-ghost use Rattle.indexset_log.specs.Replay.{reaches};
+ghost use Rattle.indexset_events.specs.Attach.{attach_index, attached, attach_refusal};
+ghost use Rattle.indexset_events.specs.Nodes.{is_ascending};
+ghost use Rattle.indexset_events.specs.Replay.{reaches};
 
 use super::BTreeSet;
-use crate::locate::node_by;
 use indexset_core::node::NodeLike;
 use indexset_core::probe::ByItem;
 use indexset_core::refusal::{Refusal, Refused};
+use indexset_events::locate::node_by;
+use indexset_events::nodes::is_ascending;
 
 impl<T: Ord + Clone + Drop, Node: NodeLike<T>> BTreeSet<T, Node> {
     /// Inserts a whole node in its place among the others. It gives no event and consumes no event
@@ -110,11 +111,4 @@ impl<T: Ord + Clone + Drop, Node: NodeLike<T>> BTreeSet<T, Node> {
             _ => node,
         }
     }
-}
-
-// Returns whether each item is below the next.
-pub(super) fn is_ascending<T: Ord>(items: &[T]) -> bool
-    ensures { result ≡ is_ascending T.cmp items.now }
-{
-    items.is_sorted_by(|item, next| item.cmp(next).is_lt())
 }

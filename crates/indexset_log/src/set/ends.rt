@@ -4,12 +4,12 @@ ghost use Rattle.std.specs.Option.{option_copied};
 ghost use Rattle.indexset_core.specs.Nodes.{joined};
 ghost use Rattle.indexset_core.specs.Order.{above, below};
 ghost use Rattle.indexset_log.specs.Changed.{Changed, Fits, ItemsTold, first_removal, last_removal, refusal_of};
-ghost use Rattle.indexset_log.specs.Ends.{IsItemAt};
+ghost use Rattle.indexset_events.specs.Ends.{IsItemAt};
 
 use super::BTreeSet;
-use crate::change::ChangeEvent;
 use indexset_core::node::NodeLike;
 use indexset_core::refusal::Refusal;
+use indexset_events::change::ChangeEvent;
 
 impl<T: Ord + Clone + Drop, Node: NodeLike<T>> BTreeSet<T, Node> {
     /// Returns the least item, or `None` where there is none, in constant time.

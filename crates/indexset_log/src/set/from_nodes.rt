@@ -1,15 +1,13 @@
-//! Sets made of nodes, and the test of nodes that are given.
-ghost use Rattle.std.specs.Prelude.{◌≡◌, ◌≤◌, ◌<◌, true, length, map, slice_get, ◌-◌, None, Some, MatchOption, IsOk, IfOk, OnOk, IfErr};
-ghost use Rattle.std.specs.Option.{option_map_or, unwrap_or};
-ghost use Rattle.std.specs.Ordering.{is_lt};
+//! Sets made of nodes.
+ghost use Rattle.std.specs.Prelude.{◌≡◌, ◌≤◌, ◌<◌, length, map, None, Some, MatchOption, IsOk, IfOk, OnOk, IfErr};
+ghost use Rattle.std.specs.Option.{unwrap_or};
 ghost use Rattle.indexset_core.specs.Nodes.{joined, IsLawful};
-ghost use Rattle.indexset_log.specs.Attach.{follow_refusal, nodes_refusal};
-ghost use Rattle.indexset_log.specs.Nodes.{is_ascending};
+ghost use Rattle.indexset_events.specs.Attach.{nodes_refusal};
 
 use super::BTreeSet;
-use super::attach::is_ascending;
 use indexset_core::node::NodeLike;
 use indexset_core::refusal::{Refusal, Refused};
+use indexset_events::nodes::test_nodes;
 use std::marker::PhantomData;
 
 impl<T: Ord + Clone + Drop, Node: NodeLike<T>> BTreeSet<T, Node> {
@@ -80,62 +78,4 @@ fn count<T: Ord + Drop, Node: NodeLike<T>>(nodes: &[Node]) -> Option<usize>
         len = len.checked_add(node.len())?;
     }
     Some(len)
-}
-
-/// Tests whether the nodes may be those of a tree whose nodes hold at most `size` items each, and
-/// allocates nothing: it compares neighbouring items once, those of two neighbouring nodes too.
-/// Fails at the first node that is `Empty`, `TooLarge`, `Unsorted`, or `Overlaps` the one before,
-/// by the first of these that holds; `TooLarge` is impossible where `size` is `usize::MAX`.
-pub fn test_nodes<'a, T: Ord + Drop + 'a, Node: NodeLike<T>>(
-    nodes: &'a [Node],
-    size: usize,
-) -> Result<(), Refusal>
-    ensures good { OnOk result (nodes_refusal T.cmp size (map Node.list nodes.now) ≡ None) }
-    ensures refusal { IfErr result (λ e. nodes_refusal T.cmp size (map Node.list nodes.now)
-        ≡ Some e) }
-    ensures lawful { OnOk result (IsLawful T.cmp size (map Node.list nodes.now)) }
-    ensures taken { IsLawful T.cmp size (map Node.list nodes.now) → IsOk result }
-    ensures large { IfErr result (λ e. e ≡ Refusal.TooLarge → size < usize.MAX) }
-{
-    let mut before: &'a [T] = &[];
-    for node in nodes {
-        let items = node.iter().as_slice();
-        test_node(before, items, size)?;
-        before = items;
-    }
-    Ok(())
-}
-
-// Returns whether a node may follow another.
-fn test_node<T: Ord>(before: &[T], items: &[T], size: usize) -> Result<(), Refusal>
-    requires { is_ascending T.cmp before.now ≡ true }
-    ensures good { OnOk result (follow_refusal T.cmp size before.now items.now ≡ None) }
-    ensures ascending { OnOk result (is_ascending T.cmp items.now ≡ true) }
-    ensures refusal { IfErr result (λ e. follow_refusal T.cmp size before.now items.now ≡ Some e) }
-    ensures large { IfErr result (λ e. e ≡ Refusal.TooLarge → size < usize.MAX) }
-{
-    let Some(first) = items.first() else {
-        return Err(Refusal::Empty);
-    };
-    if items.len() > size {
-        return Err(Refusal::TooLarge);
-    }
-    if !is_ascending(items) {
-        return Err(Refusal::Unsorted);
-    }
-    if !ends_below(before, first) {
-        return Err(Refusal::Overlaps);
-    }
-    Ok(())
-}
-
-// Returns whether the last item, if there is one, is below a value.
-fn ends_below<T: Ord>(items: &[T], value: &T) -> bool
-    ensures { result ≡ option_map_or (λ x. is_lt (T.cmp x value.now))
-        (slice_get items.now (length items.now - 1)) true }
-{
-    match items.last() {
-        Some(last) => last.cmp(value).is_lt(),
-        None => true,
-    }
 }

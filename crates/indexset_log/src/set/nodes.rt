@@ -4,7 +4,7 @@ ghost use Rattle.std.specs.Iterator.{UpTo, at_most};
 ghost use Rattle.std.specs.Iterator.SizeHint.{IsWithinCount};
 ghost use Rattle.std.specs.Map.Iter.{TakesFirst, TakesLast, ShowsInOrder, ShowsInReverse, deref};
 ghost use Rattle.indexset_core.specs.Nodes.{joined};
-ghost use Rattle.indexset_log.specs.Nodes.{AddsUp};
+ghost use Rattle.indexset_events.specs.Nodes.{AddsUp};
 
 use super::BTreeSet;
 use crate::nodes::capacity_of;

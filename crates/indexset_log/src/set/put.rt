@@ -4,21 +4,21 @@ ghost use Rattle.indexset_core.specs.Nodes.{joined};
 ghost use Rattle.indexset_core.specs.Order.{equal_element, has_equal};
 ghost use Rattle.indexset_log.specs.Aim.{IsAim, IsAimed, count_for, is_present};
 ghost use Rattle.indexset_log.specs.Changed.{Changed, ItemsTold, checked_put_change, put_change, refusal_of};
-ghost use Rattle.indexset_log.specs.Clones.{IsTold};
+ghost use Rattle.indexset_events.specs.Clones.{IsTold};
 ghost use Rattle.indexset_log.specs.Edits.{after_put};
-ghost use Rattle.indexset_log.specs.Table.{put_events};
+ghost use Rattle.indexset_events.specs.Table.{put_events};
 ghost use Rattle.indexset_log.specs.Tree.{refusal_for};
 
 use super::BTreeSet;
 use crate::aim::{Aim, event_count, finds_equal};
-use crate::change::{ChangeEvent, ChangeEventUnassigned};
-use crate::locate::node_by;
 use crate::log::{Log, add_halving, add_put};
 use crate::nodes::{first_node, make_room, part_of, put_in};
 use indexset_core::node::NodeLike;
 use indexset_core::probe::ByItem;
 use indexset_core::refusal::{Refusal, Refused};
 use indexset_core::search;
+use indexset_events::change::{ChangeEvent, ChangeEventUnassigned};
+use indexset_events::locate::node_by;
 
 impl<T: Ord + Clone + Drop, Node: NodeLike<T>> BTreeSet<T, Node> {
     /// Inserts an item, replaces an equal one, and returns the events. A failed call returns the
@@ -51,7 +51,7 @@ impl<T: Ord + Clone + Drop, Node: NodeLike<T>> BTreeSet<T, Node> {
 
     /// Does the same where no equal item is present. If one is, returns `None`, drops the item,
     /// consumes no event number, allocates nothing and changes nothing.
-    #[tactic(auto, unfolding(indexset_core::specs::Order::keep, crate::specs::Edits::with_checked_put, crate::specs::Table::checked_put_events))]
+    #[tactic(auto, unfolding(indexset_core::specs::Order::keep, indexset_events::specs::Edits::with_checked_put, indexset_events::specs::Table::checked_put_events))]
     pub fn put_cdc_checked(&mut self, value: T) -> Result<Option<Vec<ChangeEvent<T>>>, Refused<T>>
         ensures answer { IfOk result (λ r. is_none r ≡ has_equal T.cmp
             (joined self.old.nodes) value) }
@@ -107,7 +107,7 @@ impl<T: Ord + Clone + Drop, Node: NodeLike<T>> BTreeSet<T, Node> {
     /// tree.insert(5)?;
     /// assert!(rt; tree.contains(&5) && tree.events_issued() == 1);
     /// ```
-    #[tactic(auto, unfolding(indexset_core::specs::Order::keep, crate::specs::Edits::with_checked_put, crate::specs::Table::checked_put_events))]
+    #[tactic(auto, unfolding(indexset_core::specs::Order::keep, indexset_events::specs::Edits::with_checked_put, indexset_events::specs::Table::checked_put_events))]
     pub fn insert(&mut self, value: T) -> Result<bool, Refused<T>>
         ensures answer { IfOk result (λ r. r ≡ not (has_equal T.cmp
             (joined self.old.nodes) value)) }
@@ -311,7 +311,7 @@ impl<T: Ord + Clone + Drop, Node: NodeLike<T>> BTreeSet<T, Node> {
     }
 
     // Inserts the first item. A failed call returns it in the error and changes nothing.
-    #[tactic(auto, unfolding(crate::specs::Edits::with_put, crate::specs::Table::put_events))]
+    #[tactic(auto, unfolding(indexset_events::specs::Edits::with_put, indexset_events::specs::Table::put_events))]
     fn put_first(&mut self, next: u64, value: T) -> Result<Option<T>, Refused<T>>
         requires none { self.old.nodes ≡ [] }
         requires next { next ≡ self.old.next + 1 }
@@ -335,7 +335,7 @@ impl<T: Ord + Clone + Drop, Node: NodeLike<T>> BTreeSet<T, Node> {
     }
 
     // Returns the event of the first item.
-    #[tactic(auto, unfolding(crate::specs::Table::put_events))]
+    #[tactic(auto, unfolding(indexset_events::specs::Table::put_events))]
     fn first_log(&self, value: &T) -> Result<Vec<ChangeEvent<T>>, Refusal>
         requires none { self.now.nodes ≡ [] }
         requires fits { self.now.next + 1 ≤ u64.MAX }

@@ -13,10 +13,11 @@ ghost use Rattle.indexset_core.specs.Places.{IsPlace, items_before};
 
 use super::BTreeSet;
 use super::iter::Iter;
-use crate::locate::{last_started, node_by, run_end};
+use crate::locate::{last_started, run_end};
 use indexset_core::node::NodeLike;
 use indexset_core::probe::{ByItem, Past, Probe};
 use indexset_core::search::first_not_less_near;
+use indexset_events::locate::node_by;
 use std::iter::FusedIterator;
 use std::marker::Model;
 use std::ops::Bound;

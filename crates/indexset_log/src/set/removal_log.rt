@@ -1,17 +1,17 @@
 //! The events of a removal.
 ghost use Rattle.std.specs.Prelude.{◌≡◌, ℕ, ◌+◌, ◌<◌, ◌≤◌, length, remove, slice_get, Some, IfOk, IfErr, IfSome};
 ghost use Rattle.indexset_core.specs.Nodes.{node_at};
-ghost use Rattle.indexset_log.specs.Clones.{IsEventClone, IsTold};
-ghost use Rattle.indexset_log.specs.Joining.{join_after, item_removed};
-ghost use Rattle.indexset_log.specs.Nodes.{last_of};
-ghost use Rattle.indexset_log.specs.Replay.{assigned};
-ghost use Rattle.indexset_log.specs.Table.{count_with, joining_event, taking_event, taking_events};
+ghost use Rattle.indexset_events.specs.Clones.{IsEventClone, IsTold};
+ghost use Rattle.indexset_events.specs.Joining.{join_after, item_removed};
+ghost use Rattle.indexset_events.specs.Nodes.{last_of};
+ghost use Rattle.indexset_events.specs.Replay.{assigned};
+ghost use Rattle.indexset_events.specs.Table.{count_with, joining_event, taking_event, taking_events};
 
 use super::BTreeSet;
-use crate::change::{ChangeEvent, ChangeEventUnassigned};
 use crate::log::Log;
 use indexset_core::node::NodeLike;
 use indexset_core::refusal::Refusal;
+use indexset_events::change::{ChangeEvent, ChangeEventUnassigned};
 
 impl<T: Ord + Clone + Drop, Node: NodeLike<T>> BTreeSet<T, Node> {
     // Returns the events of a removal.

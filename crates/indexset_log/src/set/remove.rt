@@ -3,18 +3,18 @@ ghost use Rattle.std.specs.Prelude.{◌≡◌, ℕ, ◌+◌, ◌/◌, ◌<◌, �
 ghost use Rattle.indexset_core.specs.Nodes.{joined, node_at};
 ghost use Rattle.indexset_core.specs.Order.{equal_element, has_equal};
 ghost use Rattle.indexset_log.specs.Changed.{Changed, Fits, ItemsTold, refusal_of, removal_change, taken_change};
-ghost use Rattle.indexset_log.specs.Clones.{IsTold};
+ghost use Rattle.indexset_events.specs.Clones.{IsTold};
 ghost use Rattle.indexset_log.specs.Edits.{after_taken};
-ghost use Rattle.indexset_log.specs.Joining.{are_small, join_after};
-ghost use Rattle.indexset_log.specs.Table.{count_with, taking_count};
+ghost use Rattle.indexset_events.specs.Joining.{are_small, join_after};
+ghost use Rattle.indexset_events.specs.Table.{count_with, taking_count};
 ghost use Rattle.indexset_log.specs.Taking.{after_taking, events_from, item_from};
 ghost use Rattle.indexset_log.specs.Tree.{refusal_for};
 
 use super::BTreeSet;
-use crate::change::ChangeEvent;
 use crate::nodes::{fit_together, take_and_join};
 use indexset_core::node::NodeLike;
 use indexset_core::refusal::Refusal;
+use indexset_events::change::ChangeEvent;
 
 impl<T: Ord + Clone + Drop, Node: NodeLike<T>> BTreeSet<T, Node> {
     /// Removes the equal item, if any, and returns it with the events. A node that is left small is

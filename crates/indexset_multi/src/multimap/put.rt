@@ -10,7 +10,7 @@ use super::BTreeMultiMap;
 use indexset_core::multipair::MultiPair;
 use indexset_core::node::NodeLike;
 use indexset_core::refusal::{Refusal, Refused};
-use indexset_log::change::ChangeEvent;
+use indexset_events::change::ChangeEvent;
 
 impl<K: Ord + Clone + Drop, V: Eq + Clone + Drop, Node: NodeLike<MultiPair<K, V>>> BTreeMultiMap<
     K,

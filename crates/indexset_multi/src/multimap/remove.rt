@@ -3,7 +3,7 @@ ghost use Rattle.std.specs.Prelude.{◌≡◌, ◌+◌, ◌<◌, ◌≤◌, [], 
 ghost use Rattle.std.specs.Option.{option_map};
 ghost use Rattle.indexset_core.specs.MultiPairs.{by_number};
 ghost use Rattle.indexset_core.specs.Nodes.{joined};
-ghost use Rattle.indexset_log.specs.Clones.{IsTold};
+ghost use Rattle.indexset_events.specs.Clones.{IsTold};
 ghost use Rattle.indexset_log.specs.Tree.{IsTree, refusal_for};
 ghost use Rattle.indexset_multi.specs.Changed.{Fits, KeepsOthers, MultiChanged, MultiTold, equal_removal, refusal_of, some_removal};
 ghost use Rattle.indexset_multi.specs.Keys.{equal_pair, first_pair, key_and_value, pairs_of, without_first};
@@ -14,7 +14,7 @@ use super::BTreeMultiMap;
 use indexset_core::multipair::MultiPair;
 use indexset_core::node::NodeLike;
 use indexset_core::refusal::Refusal;
-use indexset_log::change::ChangeEvent;
+use indexset_events::change::ChangeEvent;
 use indexset_log::set::range::Range;
 
 impl<K: Ord + Clone + Drop, V: Eq + Clone + Drop, Node: NodeLike<MultiPair<K, V>>> BTreeMultiMap<

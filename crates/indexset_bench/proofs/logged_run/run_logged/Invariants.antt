@@ -2,7 +2,7 @@
 use Rattle.std.proofs.Common.{◌≡◌, ◌/◌, length}
 use Rattle.std.specs.Vec.Iter.{into_iter_items, into_iter_len}
 use Rattle.indexset_bench.proofs.LoggedRuns.{LogSoFar}
-use Rattle.indexset_log.specs.Joining.{IsSpaced}
+use Rattle.indexset_events.specs.Joining.{IsSpaced}
 use Rattle.indexset_bench.proofs.CommandRuns.{SoFar}
 use Rattle.indexset_bench.proofs.logged_run.run_logged.Given as goal
 

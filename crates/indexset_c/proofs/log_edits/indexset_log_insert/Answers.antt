@@ -3,7 +3,7 @@ use Rattle.std.proofs.lemmas.Bool.{leb-true}
 use Rattle.std.proofs.lemmas.Option.{none-some}
 use Rattle.std.specs.Ordering.{nat_cmp}
 use Rattle.indexset_core.specs.Pairs.{by_key, pair}
-use Rattle.indexset_log.specs.Table.{put_events}
+use Rattle.indexset_events.specs.Table.{put_events}
 use Rattle.indexset_log.specs.Tree.{refusal_for}
 use Rattle.indexset_handle.specs.declared.status.TheConstants.{NO, YES, MEMORY, NONE, HELD, NUMBERS, UNFIT}
 use Rattle.indexset_c.proofs.StatusLemmas.{IsRefused, for_events, is_refused, not_at, not_least, not_most, refused_not_done, refused_not_no, refused_not_none, refused_not_unfit, refused_not_yes, refused_status}

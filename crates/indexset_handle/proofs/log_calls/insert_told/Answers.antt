@@ -1,9 +1,9 @@
 use Rattle.std.proofs.Common.{◌≡◌, length, map, ap, ◌∙◌}
 use Rattle.std.specs.Ordering.{nat_cmp}
 use Rattle.indexset_core.specs.Pairs.{by_key, pair}
-use Rattle.indexset_log.proofs.CallerLemmas.{length-numbered}
-use Rattle.indexset_log.specs.Replay.{numbered_from}
-use Rattle.indexset_log.specs.Table.{put_events}
+use Rattle.indexset_events.proofs.CallerLemmas.{length-numbered}
+use Rattle.indexset_events.specs.Replay.{numbered_from}
+use Rattle.indexset_events.specs.Table.{put_events}
 use Rattle.indexset_handle.specs.Elements.{written}
 use Rattle.indexset_handle.specs.Events.{record_of}
 use Rattle.indexset_handle.proofs.log_calls.insert_told.Goals as goal

@@ -3,9 +3,9 @@ use Rattle.std.proofs.lemmas.Option.{none-some, same_Some}
 use Rattle.std.specs.Ordering.{nat_cmp}
 use Rattle.indexset_core.specs.Nodes.{joined}
 use Rattle.indexset_core.specs.Pairs.{by_key, entry_of, pair_of}
-use Rattle.indexset_log.proofs.CallerLemmas.{length-numbered}
-use Rattle.indexset_log.specs.Keys.{key_removal_events}
-use Rattle.indexset_log.specs.Replay.{numbered_from, replay}
+use Rattle.indexset_events.proofs.CallerLemmas.{length-numbered}
+use Rattle.indexset_events.specs.Keys.{key_removal_events}
+use Rattle.indexset_events.specs.Replay.{numbered_from, replay}
 use Rattle.indexset_handle.specs.Elements.{written}
 use Rattle.indexset_handle.specs.Events.{record_of}
 use Rattle.indexset_handle.proofs.LogLemmas.{mapped_none, none_told, same_tree}

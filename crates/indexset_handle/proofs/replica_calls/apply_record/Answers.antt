@@ -1,5 +1,5 @@
 use Rattle.std.proofs.Common.{◌≡◌, ◌≤◌, unwrap_or, refl, ap, sym, ◌∙◌, arith}
-use Rattle.indexset_log.specs.Replay.{event_number}
+use Rattle.indexset_events.specs.Replay.{event_number}
 use Rattle.indexset_handle.specs.declared.status.TheConstants.{MEMORY}
 use Rattle.indexset_handle.specs.Replicas.{status_of}
 use Rattle.indexset_handle.proofs.ReplicaLemmas.{before_applied, before_refused, kind_unfit, not_none, turn_applied, turn_cause, turn_refused}

@@ -3,7 +3,7 @@ use Rattle.std.specs.Ordering.{is_gt}
 use Rattle.std.proofs.lemmas.List.{length-map}
 use Rattle.indexset_core.specs.Nodes.{node_at}
 use Rattle.indexset_log.proofs.Runs.{next_inside, no_first, starts, starts_not, stepped_back, stepped_first, stepped_on, whole_le}
-use Rattle.indexset_log.proofs.Views.{filled_here, view_at}
+use Rattle.indexset_events.proofs.CallerLemmas.{filled_here, view_at}
 use Rattle.indexset_log.proofs.locate.last_started.Given.{Over}
 use Rattle.indexset_log.proofs.locate.last_started.Goals.{After-next_step-at, In-Some}
 use Rattle.indexset_log.proofs.locate.last_started.Goals as goal

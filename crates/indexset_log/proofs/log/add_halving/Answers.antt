@@ -1,8 +1,8 @@
 use Rattle.std.proofs.Common.{◌-◌, length, arith, refl}
 use Rattle.std.proofs.lemmas.Bool.{eq-eqb}
 use Rattle.indexset_core.proofs.CallerLemmas.{read_item}
-use Rattle.indexset_log.specs.Nodes.{last_of}
-use Rattle.indexset_log.proofs.Theorem.{last_some}
+use Rattle.indexset_events.specs.Nodes.{last_of}
+use Rattle.indexset_events.proofs.CallerLemmas.{last_some}
 use Rattle.indexset_log.proofs.log.add_halving.Goals as goal
 
 pub add-requires : goal.add-requires

@@ -1,9 +1,8 @@
 use Rattle.std.proofs.Common.{◌≡◌, ◌<◌, ◌-◌, length, get_or, cond, arith, ap, refl, ◌∙◌, slice_get, Some}
 use Rattle.std.proofs.lemmas.List.{get_or_default}
 use Rattle.indexset_core.proofs.CallerLemmas.{read_item, found_has_equal}
-use Rattle.indexset_log.specs.Nodes.{last_of}
-use Rattle.indexset_log.proofs.Puts.{gap_written, only_replaced, last_replaced, inner_replaced, node_count}
-use Rattle.indexset_log.proofs.Theorem.{last_some, on_ok_map}
+use Rattle.indexset_events.specs.Nodes.{last_of}
+use Rattle.indexset_events.proofs.CallerLemmas.{gap_written, inner_replaced, last_replaced, last_some, node_count, on_ok_map, only_replaced}
 use Rattle.indexset_log.proofs.log.add_put.Goals as goal
 use Rattle.indexset_log.proofs.log.add_put.Goals.{then-index-last, else-index-last}
 

@@ -3,8 +3,7 @@ use Rattle.std.proofs.lemmas.Option.{slice_get-get_or}
 use Rattle.std.proofs.Math.Seq.{map-set_same}
 use Rattle.indexset_core.specs.Nodes.{node_at}
 use Rattle.indexset_core.proofs.CallerLemmas.{on_err}
-use Rattle.indexset_log.proofs.Puts.{halved_view}
-use Rattle.indexset_log.proofs.Views.{node_is}
+use Rattle.indexset_events.proofs.CallerLemmas.{halved_view, node_is}
 use Rattle.indexset_log.proofs.nodes.halve_at.Goals as goal
 
 pub returns-in_err-right-clause-unchanged : goal.returns-in_err-right-clause-unchanged

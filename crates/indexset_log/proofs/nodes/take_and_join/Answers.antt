@@ -5,8 +5,7 @@ use Rattle.std.proofs.lemmas.List.Edits.{length-remove}
 use Rattle.indexset_core.specs.Nodes.{node_at}
 use Rattle.indexset_core.specs.Order.{IsAscending}
 use Rattle.indexset_core.proofs.CallerLemmas.{on_err}
-use Rattle.indexset_log.proofs.Joins.{first_list, left_joined, next_list, right_joined, two_seen}
-use Rattle.indexset_log.proofs.Views.{node_is}
+use Rattle.indexset_events.proofs.CallerLemmas.{first_list, left_joined, next_list, node_is, right_joined, two_seen}
 use Rattle.indexset_log.proofs.nodes.take_and_join.Goals as goal
 use Rattle.indexset_log.proofs.nodes.take_and_join.Goals.{then-node-left, else-node-left}
 

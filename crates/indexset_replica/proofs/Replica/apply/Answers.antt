@@ -1,7 +1,7 @@
 use Rattle.std.proofs.Common.{◌≡◌, ap, sym, refl, ◌∙◌}
 use Rattle.std.proofs.lemmas.Result.{err_from_is_err_and}
-use Rattle.indexset_log.specs.Replay.{event_number}
-use Rattle.indexset_log.proofs.CallerLemmas.{nodes_ruled, ruled_nodes}
+use Rattle.indexset_events.specs.Replay.{event_number}
+use Rattle.indexset_events.proofs.CallerLemmas.{nodes_ruled, ruled_nodes}
 use Rattle.indexset_replica.proofs.Clones.{step_same}
 use Rattle.indexset_replica.proofs.ReplicaSteps.{edited_ruled, edited_step, gap_refused, last_refused, misfit_refused}
 use Rattle.indexset_replica.proofs.Replica.apply.Goals as goal

@@ -1,5 +1,5 @@
 use Rattle.std.proofs.Common.{refl, ap}
-use Rattle.indexset_log.proofs.CallerLemmas.{map_insert}
+use Rattle.indexset_events.proofs.CallerLemmas.{map_insert}
 use Rattle.indexset_replica.proofs.Replica.attach.Goals as goal
 use Rattle.indexset_replica.proofs.Replica.attach.Goals.{in-Ok-insert, in-Err-insert}
 

@@ -1,5 +1,5 @@
 use Rattle.std.proofs.Common.{◌≡◌, ap, sym, refl, inl, ◌∙◌}
-use Rattle.indexset_log.specs.Replay.{event_number}
+use Rattle.indexset_events.specs.Replay.{event_number}
 use Rattle.indexset_replica.proofs.Clones.{delivery_where_ok}
 use Rattle.indexset_replica.proofs.Replica.deliver.Goals as goal
 

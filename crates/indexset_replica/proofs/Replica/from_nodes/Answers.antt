@@ -1,7 +1,7 @@
 use Rattle.std.proofs.Common.{arith}
 use Rattle.std.below.core.specs.declared.int.usize.TheConstants.{MAX}
 use Rattle.indexset_core.specs.Nodes.{vec_items}
-use Rattle.indexset_log.proofs.CallerLemmas.{only_large}
+use Rattle.indexset_events.proofs.CallerLemmas.{only_large}
 use Rattle.indexset_replica.proofs.Replica.from_nodes.Goals as goal
 
 pub returns-in-Err-clause-lawful : goal.returns-in-Err-clause-lawful

@@ -7,8 +7,8 @@ use Rattle.indexset_core.specs.Digits.{digits}
 use Rattle.indexset_core.specs.Nodes.{node_at, node_for, node_lengths, equal_at, vec_items}
 use Rattle.indexset_core.specs.Parted.{less_count}
 use Rattle.indexset_core.proofs.CallerLemmas.{digits-mono, equal_inside, parted_node}
-use Rattle.indexset_log.specs.Located.{located}
-use Rattle.indexset_log.proofs.CallerLemmas.{end_found, gap_found, length_view, node_is}
+use Rattle.indexset_events.specs.Located.{located}
+use Rattle.indexset_events.proofs.CallerLemmas.{end_found, gap_found, length_view, node_is}
 use Rattle.indexset_replica.proofs.Replica.get_by.Given.{Over}
 use Rattle.indexset_replica.proofs.Replica.get_by.Goals.{After-as_slice-node, After-is_equal_at}
 use Rattle.indexset_replica.proofs.Replica.get_by.Goals as goal

@@ -1,4 +1,4 @@
-use Rattle.indexset_log.proofs.CallerLemmas.{on_ok_map}
+use Rattle.indexset_events.proofs.CallerLemmas.{on_ok_map}
 use Rattle.indexset_replica.proofs.Clones.{kept_merge, kept_remove, kept_remove_node, kept_split}
 use Rattle.indexset_replica.proofs.edits.carry_out.Goals as goal
 

@@ -1,7 +1,7 @@
 use Rattle.std.proofs.Common.{[], ◌∷◌, map, insert, refl, sym, ◌∙◌}
 use Rattle.std.proofs.lemmas.Result.{err_from_is_err_and}
-use Rattle.indexset_log.specs.declared.change.ChangeEventUnassigned.TheVariants.{CreateNode}
-use Rattle.indexset_log.proofs.CallerLemmas.{map_insert, nodes_ruled}
+use Rattle.indexset_events.specs.declared.change.ChangeEventUnassigned.TheVariants.{CreateNode}
+use Rattle.indexset_events.proofs.CallerLemmas.{map_insert, nodes_ruled}
 use Rattle.indexset_replica.proofs.Clones.{created_same, reaching_same}
 use Rattle.indexset_replica.specs.Replica.{IsEdit}
 use Rattle.indexset_replica.proofs.ReplicaEdits.{create_disorder, create_edit}

@@ -3,9 +3,9 @@ use Rattle.std.proofs.lemmas.List.{set-get_or}
 use Rattle.std.proofs.lemmas.Result.{err_from_is_err_and}
 use Rattle.std.proofs.Math.Seq.{map-set_same}
 use Rattle.indexset_core.specs.Nodes.{node_at}
-use Rattle.indexset_log.specs.Joining.{with_joined}
-use Rattle.indexset_log.specs.declared.change.ChangeEventUnassigned.TheVariants.{MergeNodes}
-use Rattle.indexset_log.proofs.CallerLemmas.{first_list, next_list, two_seen}
+use Rattle.indexset_events.specs.Joining.{with_joined}
+use Rattle.indexset_events.specs.declared.change.ChangeEventUnassigned.TheVariants.{MergeNodes}
+use Rattle.indexset_events.proofs.CallerLemmas.{first_list, next_list, two_seen}
 use Rattle.indexset_replica.specs.Replica.{IsEdit}
 use Rattle.indexset_replica.proofs.ReplicaEdits.{absent_first, absent_next, held_inside, merge_apart, merge_edit}
 use Rattle.indexset_replica.proofs.edits.merge_nodes.Given.{Over}

@@ -1,6 +1,6 @@
 use Rattle.std.proofs.Common.{◌∙◌}
 use Rattle.std.proofs.lemmas.Result.{err_from_is_err_and}
-use Rattle.indexset_log.proofs.CallerLemmas.{map_remove}
+use Rattle.indexset_events.proofs.CallerLemmas.{map_remove}
 use Rattle.indexset_replica.proofs.ReplicaEdits.{absent_remove_node, remove_node_edit}
 use Rattle.indexset_replica.proofs.edits.remove_node.Goals as goal
 

@@ -1,8 +1,8 @@
 use Rattle.std.proofs.Common.{◌≡◌, ◌+◌, [], ◌∷◌, map, take, drop, refl, arith, sym, ◌∙◌}
 use Rattle.std.specs.List.{splice}
 use Rattle.std.proofs.lemmas.Result.{err_from_is_err_and}
-use Rattle.indexset_log.specs.declared.change.ChangeEventUnassigned.TheVariants.{SplitNode}
-use Rattle.indexset_log.proofs.CallerLemmas.{halved_view}
+use Rattle.indexset_events.specs.declared.change.ChangeEventUnassigned.TheVariants.{SplitNode}
+use Rattle.indexset_events.proofs.CallerLemmas.{halved_view}
 use Rattle.indexset_replica.specs.Replica.{IsEdit}
 use Rattle.indexset_replica.proofs.ReplicaEdits.{absent_split, held, held_at, split_edit, split_past, split_start}
 use Rattle.indexset_replica.proofs.edits.split_node.Given.{Over}

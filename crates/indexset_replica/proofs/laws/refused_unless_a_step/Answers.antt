@@ -1,4 +1,4 @@
-use Rattle.indexset_log.proofs.CallerLemmas.{nodes_ruled}
+use Rattle.indexset_events.proofs.CallerLemmas.{nodes_ruled}
 use Rattle.indexset_replica.proofs.ReplicaSteps.{refusal_law}
 use Rattle.indexset_replica.proofs.laws.refused_unless_a_step.Goals as goal
 

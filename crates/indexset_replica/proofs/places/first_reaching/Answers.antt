@@ -1,7 +1,7 @@
 use Rattle.std.proofs.Common.{not, sym, rules}
 use Rattle.std.proofs.lemmas.List.Sorted.{IsPartitionPoint-from_clause}
-use Rattle.indexset_log.specs.Replay.{reaches}
-use Rattle.indexset_log.proofs.CallerLemmas.{nodes_ruled}
+use Rattle.indexset_events.specs.Replay.{reaches}
+use Rattle.indexset_events.proofs.CallerLemmas.{nodes_ruled}
 use Rattle.indexset_replica.proofs.ReplicaNodes.{nodes_parted, place_is}
 use Rattle.indexset_replica.proofs.places.first_reaching.Goals as goal
 

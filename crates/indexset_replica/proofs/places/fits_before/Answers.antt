@@ -1,5 +1,5 @@
 use Rattle.std.proofs.Common.{map, sym, ◌∙◌}
-use Rattle.indexset_log.proofs.CallerLemmas.{nodes_ruled}
+use Rattle.indexset_events.proofs.CallerLemmas.{nodes_ruled}
 use Rattle.indexset_replica.proofs.ReplicaNodes.{fits_alone}
 use Rattle.indexset_replica.proofs.places.fits_before.Goals as goal
 

@@ -1,5 +1,5 @@
 use Rattle.std.proofs.Common.{sym, ◌∙◌}
-use Rattle.indexset_log.proofs.CallerLemmas.{nodes_ruled}
+use Rattle.indexset_events.proofs.CallerLemmas.{nodes_ruled}
 use Rattle.indexset_replica.proofs.ReplicaNodes.{named_when, unnamed_past, unnamed_when}
 use Rattle.indexset_replica.proofs.places.place_named.Goals as goal
 use Rattle.indexset_replica.proofs.places.place_named.Goals.{else-place-nodes-via-then-place-nodes+else-is_named, else-place-nodes-via-else-place-nodes}

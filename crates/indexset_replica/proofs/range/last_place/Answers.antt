@@ -1,7 +1,7 @@
 use Rattle.std.proofs.Common.{◌-◌, ◌≤◌, length, refl, ap, arith}
 use Rattle.std.proofs.lemmas.Grind.{common_steps}
 use Rattle.indexset_core.specs.Nodes.{vec_items}
-use Rattle.indexset_log.proofs.CallerLemmas.{last_before, length_view, node_is}
+use Rattle.indexset_events.proofs.CallerLemmas.{last_before, length_view, node_is}
 use Rattle.indexset_replica.proofs.range.last_place.Goals as goal
 
 pub returns-clause-before : goal.returns-clause-before

@@ -3,7 +3,7 @@ use Rattle.std.proofs.lemmas.Grind.{common_steps}
 use Rattle.indexset_core.specs.Nodes.{joined, node_at, vec_items}
 use Rattle.indexset_core.specs.Parted.{less_count}
 use Rattle.indexset_core.proofs.CallerLemmas.{parted_node, place_for}
-use Rattle.indexset_log.proofs.CallerLemmas.{length_view, node_is}
+use Rattle.indexset_events.proofs.CallerLemmas.{length_view, node_is}
 use Rattle.indexset_replica.proofs.range.place_by.Given.{Over}
 use Rattle.indexset_replica.proofs.range.place_by.Goals.{After-index-nodes-node}
 use Rattle.indexset_replica.proofs.range.place_by.Goals as goal

@@ -7,7 +7,7 @@ use Rattle.indexset_core.specs.Pairs.{by_key, pair_shown, pairs_within}
 use Rattle.indexset_core.proofs.CallerLemmas.{each_bounded, key_range_is, key_range_order, probed_before, probed_up_to}
 use Rattle.indexset_core.specs.Places.{items_before}
 use Rattle.indexset_log.proofs.Keys.{parted_keys}
-use Rattle.indexset_log.proofs.Views.{lawful_ascends}
+use Rattle.indexset_events.proofs.CallerLemmas.{lawful_ascends}
 use Rattle.indexset_log.proofs.map.BTreeMap.range.Given.{Over}
 use Rattle.indexset_log.proofs.map.BTreeMap.range.Goals.{After-place_to-to}
 use Rattle.indexset_log.proofs.map.BTreeMap.range.Goals as goal

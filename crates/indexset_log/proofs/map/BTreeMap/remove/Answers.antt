@@ -4,11 +4,11 @@ use Rattle.std.proofs.lemmas.Bool.{false≢true}
 use Rattle.indexset_core.specs.Nodes.{joined}
 use Rattle.indexset_core.specs.Pairs.{has_key}
 use Rattle.indexset_core.proofs.CallerLemmas.{key_gone}
-use Rattle.indexset_log.specs.Table.{taking_count}
+use Rattle.indexset_events.specs.Table.{taking_count}
 use Rattle.indexset_log.specs.Tree.{refusal_for}
 use Rattle.indexset_log.proofs.Beside.{others_removed}
 use Rattle.indexset_log.proofs.Keys.{key_changed, key_count, key_taken, no_key, no_key_changed}
-use Rattle.indexset_log.proofs.Takes.{some_taken}
+use Rattle.indexset_events.proofs.CallerLemmas.{some_taken}
 use Rattle.indexset_log.proofs.map.BTreeMap.remove.Goals as goal
 
 pub returns-in_err-pair-in-Ok-clause-refusal : goal.returns-in_err-pair-in-Ok-clause-refusal

@@ -3,12 +3,9 @@ use Rattle.std.proofs.lemmas.Bool.{eq-eqb, ne_eqb}
 use Rattle.std.specs.Ordering.{is_gt}
 use Rattle.indexset_core.specs.Nodes.{node_at, node_for}
 use Rattle.indexset_core.specs.Order.{IsFoundAt, IsGapFor}
-use Rattle.indexset_log.specs.Nodes.{last_of}
-use Rattle.indexset_log.specs.Table.{part_for, is_past}
-use Rattle.indexset_log.proofs.Puts.{half_up, half_and, last_of_take}
-use Rattle.indexset_log.proofs.Theorem.{up_node}
-use Rattle.indexset_log.proofs.Ups.{ascends, lawful_ruled}
-use Rattle.indexset_log.proofs.Views.{lawful_filled, lawful_parted}
+use Rattle.indexset_events.specs.Nodes.{last_of}
+use Rattle.indexset_events.specs.Table.{part_for, is_past}
+use Rattle.indexset_events.proofs.CallerLemmas.{ascends, half_and, half_up, last_of_take, lawful_filled, lawful_parted, lawful_ruled, up_node}
 use Rattle.indexset_log.proofs.set.BTreeSet.aim_in_target.Goals as goal
 use Rattle.indexset_log.proofs.Trees.{held, node_held}
 use Rattle.indexset_log.proofs.set.BTreeSet.aim_in_target.Given.{Over}

@@ -1,7 +1,6 @@
 use Rattle.std.proofs.Common.{map, arith, ap, refl, ◌∙◌}
-use Rattle.indexset_log.proofs.Attaches.{attached_tree, attach_index_le, map_insert}
-use Rattle.indexset_log.proofs.Trees.{held}
-use Rattle.indexset_log.proofs.Views.{lawful_ascends}
+use Rattle.indexset_events.proofs.CallerLemmas.{attach_index_le, lawful_ascends, map_insert}
+use Rattle.indexset_log.proofs.Trees.{attached_tree, held}
 use Rattle.indexset_log.proofs.set.BTreeSet.attach_node.Goals as goal
 
 pub insert-requires : goal.insert-requires

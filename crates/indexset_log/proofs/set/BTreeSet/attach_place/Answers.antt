@@ -1,10 +1,9 @@
 use Rattle.std.proofs.Common.{◌≡◌, ◌≤◌, ◌∙◌, true, false, not, if◌then◌else◌, length, slice_get, Some, None, arith, ap, sym, refl}
 use Rattle.indexset_core.specs.declared.refusal.Refusal.TheVariants.{Overlaps}
-use Rattle.indexset_log.specs.Attach.{attach_index, attach_refusal}
-use Rattle.indexset_log.specs.Nodes.{is_ascending, is_filled}
-use Rattle.indexset_log.proofs.Attaches.{attach_told, refused_empty, refused_large, refused_unsorted, filled_first}
+use Rattle.indexset_events.specs.Attach.{attach_index, attach_refusal}
+use Rattle.indexset_events.specs.Nodes.{is_ascending, is_filled}
+use Rattle.indexset_events.proofs.CallerLemmas.{attach_told, filled_first, lawful_ruled, refused_empty, refused_large, refused_unsorted}
 use Rattle.indexset_log.proofs.Trees.{held}
-use Rattle.indexset_log.proofs.Ups.{lawful_ruled}
 use Rattle.indexset_log.proofs.set.BTreeSet.attach_place.Given.{Over}
 use Rattle.indexset_log.proofs.set.BTreeSet.attach_place.Goals.{In-Some, After-starts_above}
 use Rattle.indexset_log.proofs.set.BTreeSet.attach_place.Goals as goal

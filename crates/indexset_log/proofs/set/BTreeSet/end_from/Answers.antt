@@ -4,7 +4,7 @@ use Rattle.indexset_core.specs.Parted.{not_greater_count}
 use Rattle.indexset_core.proofs.CallerLemmas.{parted_node}
 use Rattle.indexset_log.proofs.Runs.{at_most_all, before, ends_here, ends_inside, few_far, few_near, reaches, whole}
 use Rattle.indexset_log.proofs.Trees.{held, node_held}
-use Rattle.indexset_log.proofs.Views.{lawful_filled, node_some}
+use Rattle.indexset_events.proofs.CallerLemmas.{lawful_filled, node_some}
 use Rattle.indexset_log.proofs.set.BTreeSet.end_from.Given.{Over}
 use Rattle.indexset_log.proofs.set.BTreeSet.end_from.Goals.{After-as_slice-2, After-as_slice-items, After-last_started-last, After-run_end, After-run_end-end}
 use Rattle.indexset_log.proofs.set.BTreeSet.end_from.Goals as goal

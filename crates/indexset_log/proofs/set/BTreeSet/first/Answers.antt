@@ -1,6 +1,6 @@
 use Rattle.indexset_log.proofs.Ends.{first_least}
 use Rattle.indexset_log.proofs.Trees.{held}
-use Rattle.indexset_log.proofs.Views.{lawful_ascends}
+use Rattle.indexset_events.proofs.CallerLemmas.{lawful_ascends}
 use Rattle.indexset_log.proofs.set.BTreeSet.first.Goals as goal
 
 pub returns-clause-least : goal.returns-clause-least

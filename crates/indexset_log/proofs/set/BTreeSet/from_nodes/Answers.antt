@@ -1,5 +1,5 @@
 use Rattle.std.proofs.Common.{map, arith}
-use Rattle.indexset_log.proofs.Follows.{follow_lawful, lawful_taken}
+use Rattle.indexset_events.proofs.CallerLemmas.{follow_lawful, lawful_taken}
 use Rattle.indexset_log.proofs.set.BTreeSet.from_nodes.Goals as goal
 
 pub invariant_of-result : goal.invariant_of-result

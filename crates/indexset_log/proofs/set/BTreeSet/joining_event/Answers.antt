@@ -1,5 +1,5 @@
 use Rattle.std.proofs.Common.{arith, refl}
-use Rattle.indexset_log.proofs.Joins.{after_from, next_inside, two_held}
+use Rattle.indexset_events.proofs.CallerLemmas.{after_from, next_inside, two_held}
 use Rattle.indexset_log.proofs.Trees.{held}
 use Rattle.indexset_log.proofs.set.BTreeSet.joining_event.Goals as goal
 

@@ -1,6 +1,6 @@
 use Rattle.indexset_log.proofs.Ends.{last_greatest}
 use Rattle.indexset_log.proofs.Trees.{held}
-use Rattle.indexset_log.proofs.Views.{lawful_ascends}
+use Rattle.indexset_events.proofs.CallerLemmas.{lawful_ascends}
 use Rattle.indexset_log.proofs.set.BTreeSet.last.Goals as goal
 
 pub returns-clause-greatest : goal.returns-clause-greatest

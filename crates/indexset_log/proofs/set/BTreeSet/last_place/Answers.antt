@@ -1,8 +1,7 @@
 use Rattle.std.proofs.Common.{◌≡◌, ◌-◌, ◌≤◌, length, map, ap, ◌∙◌, arith}
 use Rattle.std.proofs.lemmas.Grind.{common_steps}
 use Rattle.indexset_core.specs.Nodes.{node_at}
-use Rattle.indexset_log.proofs.Places.{last_before}
-use Rattle.indexset_log.proofs.Views.{node_is, length_view}
+use Rattle.indexset_events.proofs.CallerLemmas.{last_before, length_view, node_is}
 use Rattle.indexset_log.proofs.set.BTreeSet.last_place.Goals as goal
 
 pub returns-clause-before : goal.returns-clause-before

@@ -3,7 +3,7 @@ use Rattle.std.proofs.lemmas.List.{get_or-set_same}
 use Rattle.std.proofs.lemmas.List.Edits.{length-remove}
 use Rattle.indexset_core.specs.Nodes.{node_at}
 use Rattle.indexset_log.proofs.Trees.{held, node_held}
-use Rattle.indexset_log.proofs.Views.{node_some}
+use Rattle.indexset_events.proofs.CallerLemmas.{node_some}
 use Rattle.indexset_log.proofs.set.BTreeSet.length_without.Goals as goal
 
 pub overflow_sub-result : goal.overflow_sub-result

@@ -4,7 +4,7 @@ use Rattle.indexset_core.specs.Digits.{digits}
 use Rattle.indexset_core.specs.Nodes.{node_at, node_for}
 use Rattle.indexset_core.proofs.CallerLemmas.{digits-mono, parted_node}
 use Rattle.indexset_log.proofs.Trees.{held, node_held}
-use Rattle.indexset_log.proofs.Views.{lawful_filled, lawful_small}
+use Rattle.indexset_events.proofs.CallerLemmas.{lawful_filled, lawful_small}
 use Rattle.indexset_log.proofs.set.BTreeSet.locate_by.Given.{Over}
 use Rattle.indexset_log.proofs.set.BTreeSet.locate_by.Goals.{After-index-items}
 use Rattle.indexset_log.proofs.set.BTreeSet.locate_by.Goals as goal

@@ -1,6 +1,5 @@
-use Rattle.indexset_log.proofs.Places.{end_at, gap_at}
+use Rattle.indexset_events.proofs.CallerLemmas.{end_at, gap_at, lawful_filled}
 use Rattle.indexset_log.proofs.Trees.{held}
-use Rattle.indexset_log.proofs.Views.{lawful_filled}
 use Rattle.indexset_log.proofs.set.BTreeSet.place_by.Goals as goal
 
 pub returns-in-Ok-clause-before : goal.returns-in-Ok-clause-before

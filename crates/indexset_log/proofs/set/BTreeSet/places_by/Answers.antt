@@ -9,7 +9,7 @@ use Rattle.indexset_core.proofs.CallerLemmas.{digits-mono, equal_inside, parted_
 use Rattle.indexset_core.specs.Places.{IsPlace, items_before}
 use Rattle.indexset_log.proofs.Runs.{equal_goes_on, none_equal}
 use Rattle.indexset_log.proofs.Trees.{held, node_held}
-use Rattle.indexset_log.proofs.Views.{equal_joined, lawful_filled, lawful_small}
+use Rattle.indexset_events.proofs.CallerLemmas.{equal_joined, lawful_filled, lawful_small}
 use Rattle.indexset_log.proofs.set.BTreeSet.places_by.Given.{Over}
 use Rattle.indexset_log.proofs.set.BTreeSet.places_by.Goals.{After-as_slice-2, After-first_not_less_near-offset, Then-is_empty}
 use Rattle.indexset_log.proofs.set.BTreeSet.places_by.Goals as goal

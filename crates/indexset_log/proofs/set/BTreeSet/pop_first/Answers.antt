@@ -1,7 +1,7 @@
 use Rattle.std.proofs.Common.{◌∙◌}
 use Rattle.indexset_log.proofs.Changed.{on_ok_both}
 use Rattle.indexset_log.proofs.Ends.{first_changed, position_goes}
-use Rattle.indexset_log.proofs.Theorem.{on_ok_map}
+use Rattle.indexset_events.proofs.CallerLemmas.{on_ok_map}
 use Rattle.indexset_log.proofs.Trees.{held}
 use Rattle.indexset_log.proofs.set.BTreeSet.pop_first.Goals as goal
 

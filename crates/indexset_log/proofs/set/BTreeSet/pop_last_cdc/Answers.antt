@@ -2,7 +2,7 @@ use Rattle.std.proofs.Common.{◌-◌, length, ◌∙◌}
 use Rattle.indexset_core.specs.Nodes.{joined}
 use Rattle.indexset_log.proofs.Changed.{if_ok_map, on_ok_both, told}
 use Rattle.indexset_log.proofs.Ends.{last_changed, position_goes}
-use Rattle.indexset_log.proofs.Theorem.{on_ok_map}
+use Rattle.indexset_events.proofs.CallerLemmas.{on_ok_map}
 use Rattle.indexset_log.proofs.Trees.{held}
 use Rattle.indexset_log.proofs.set.BTreeSet.pop_last_cdc.Goals as goal
 

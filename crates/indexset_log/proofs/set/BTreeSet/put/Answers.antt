@@ -1,6 +1,6 @@
 use Rattle.indexset_core.specs.Nodes.{joined}
 use Rattle.indexset_log.proofs.Changed.{on_ok_both, put_changed, put_there}
-use Rattle.indexset_log.proofs.Theorem.{on_ok_map}
+use Rattle.indexset_events.proofs.CallerLemmas.{on_ok_map}
 use Rattle.indexset_log.proofs.Trees.{held}
 use Rattle.indexset_log.proofs.set.BTreeSet.put.Goals as goal
 

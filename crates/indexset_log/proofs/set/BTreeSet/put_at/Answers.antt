@@ -1,5 +1,5 @@
 use Rattle.indexset_log.proofs.Puts.{count_aimed}
-use Rattle.indexset_log.proofs.Theorem.{on_ok_map}
+use Rattle.indexset_events.proofs.CallerLemmas.{on_ok_map}
 use Rattle.indexset_log.proofs.Trees.{held}
 use Rattle.indexset_log.proofs.set.BTreeSet.put_at.Goals as goal
 

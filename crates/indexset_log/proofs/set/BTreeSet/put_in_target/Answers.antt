@@ -1,7 +1,7 @@
 use Rattle.std.proofs.Common.{◌≡◌, ◌+◌, length, arith, refl, ◌∙◌}
-use Rattle.indexset_log.specs.Table.{put_events}
-use Rattle.indexset_log.proofs.Puts.{element_is, equal_is, events_count, part_up, put_tree, spot, whole_room}
-use Rattle.indexset_log.proofs.Trees.{held}
+use Rattle.indexset_events.specs.Table.{put_events}
+use Rattle.indexset_log.proofs.Puts.{element_is, equal_is, events_count, part_up, spot, whole_room}
+use Rattle.indexset_log.proofs.Trees.{held, put_tree}
 use Rattle.indexset_log.proofs.set.BTreeSet.put_in_target.Goals as goal
 
 pub make_room-requires-clause-most : goal.make_room-requires-clause-most

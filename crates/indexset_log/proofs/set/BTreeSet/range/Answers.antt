@@ -6,7 +6,7 @@ use Rattle.indexset_core.specs.Nodes.{joined}
 use Rattle.indexset_core.proofs.CallerLemmas.{each_bounded, probed_before, probed_up_to, range_order, range_is}
 use Rattle.indexset_core.specs.Places.{items_before}
 use Rattle.indexset_log.proofs.Trees.{held}
-use Rattle.indexset_log.proofs.Views.{lawful_ascends, lawful_parted}
+use Rattle.indexset_events.proofs.CallerLemmas.{lawful_ascends, lawful_parted}
 use Rattle.indexset_log.proofs.set.BTreeSet.range.Given.{Over}
 use Rattle.indexset_log.proofs.set.BTreeSet.range.Goals.{After-place_to-to}
 use Rattle.indexset_log.proofs.set.BTreeSet.range.Goals as goal

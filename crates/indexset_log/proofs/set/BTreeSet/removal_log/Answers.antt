@@ -1,7 +1,6 @@
 use Rattle.std.proofs.Common.{◌+◌, ◌∙◌, arith, sym}
 use Rattle.indexset_core.specs.Nodes.{node_at}
-use Rattle.indexset_log.proofs.Clones.{both_cloned, one_cloned}
-use Rattle.indexset_log.proofs.Takes.{some_read, some_taken}
+use Rattle.indexset_events.proofs.CallerLemmas.{both_cloned, one_cloned, some_read, some_taken}
 use Rattle.indexset_log.proofs.Trees.{held}
 use Rattle.indexset_log.proofs.set.BTreeSet.removal_log.Goals as goal
 

@@ -3,7 +3,7 @@ use Rattle.indexset_core.specs.Nodes.{joined}
 use Rattle.indexset_core.specs.Order.{has_equal}
 use Rattle.indexset_core.proofs.CallerLemmas.{has_none}
 use Rattle.indexset_log.proofs.Changed.{if_ok_map, on_ok_both, removal_changed, told, value_goes}
-use Rattle.indexset_log.proofs.Theorem.{on_ok_map}
+use Rattle.indexset_events.proofs.CallerLemmas.{on_ok_map}
 use Rattle.indexset_log.proofs.Trees.{held}
 use Rattle.indexset_log.proofs.set.BTreeSet.remove_cdc.Goals as goal
 

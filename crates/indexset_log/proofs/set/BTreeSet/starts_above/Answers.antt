@@ -4,7 +4,7 @@ use Rattle.std.proofs.lemmas.List.{get_or_past}
 use Rattle.indexset_core.specs.Nodes.{node_at}
 use Rattle.indexset_core.proofs.CallerLemmas.{read_item}
 use Rattle.indexset_log.proofs.Trees.{held, node_held}
-use Rattle.indexset_log.proofs.Views.{node_some}
+use Rattle.indexset_events.proofs.CallerLemmas.{node_some}
 use Rattle.indexset_log.proofs.set.BTreeSet.starts_above.Given.{Over}
 use Rattle.indexset_log.proofs.set.BTreeSet.starts_above.Goals.{After-as_slice-items}
 use Rattle.indexset_log.proofs.set.BTreeSet.starts_above.Goals as goal

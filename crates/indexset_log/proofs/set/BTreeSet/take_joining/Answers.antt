@@ -1,9 +1,8 @@
 use Rattle.std.proofs.Common.{ap, arith}
 use Rattle.indexset_core.specs.Nodes.{node_at}
 use Rattle.indexset_log.proofs.Changed.{joined_after}
-use Rattle.indexset_log.proofs.Joins.{after_from, few_before}
-use Rattle.indexset_log.proofs.Takes.{join_up, some_joined, some_read, taken_tree}
-use Rattle.indexset_log.proofs.Trees.{held}
+use Rattle.indexset_events.proofs.CallerLemmas.{after_from, few_before, join_up, some_joined, some_read}
+use Rattle.indexset_log.proofs.Trees.{held, taken_tree}
 use Rattle.indexset_log.proofs.set.BTreeSet.take_joining.Goals as goal
 
 pub take_and_join-requires-clause-most : goal.take_and_join-requires-clause-most

@@ -2,9 +2,8 @@ use Rattle.std.proofs.Common.{length, remove, arith, ap, ◌∙◌}
 use Rattle.std.proofs.lemmas.Bool.{eq-eqb, ne_eqb}
 use Rattle.indexset_core.specs.Nodes.{node_at}
 use Rattle.indexset_log.proofs.Changed.{lone_after}
-use Rattle.indexset_log.proofs.Takes.{map_remove, some_joined, taken_tree}
-use Rattle.indexset_log.proofs.Theorem.{set_view}
-use Rattle.indexset_log.proofs.Trees.{held, node_held}
+use Rattle.indexset_events.proofs.CallerLemmas.{map_remove, set_view, some_joined}
+use Rattle.indexset_log.proofs.Trees.{held, node_held, taken_tree}
 use Rattle.indexset_log.proofs.set.BTreeSet.take_out.Goals as goal
 
 pub overflow_sub-self : goal.overflow_sub-self

@@ -2,7 +2,7 @@ use Rattle.std.proofs.Common.{◌≡◌, ◌-◌, length, arith, refl, ◌∙◌
 use Rattle.std.proofs.lemmas.Bool.{ne_eqb}
 use Rattle.indexset_core.specs.Nodes.{node_at}
 use Rattle.indexset_core.proofs.CallerLemmas.{read_item}
-use Rattle.indexset_log.proofs.Theorem.{last_some}
+use Rattle.indexset_events.proofs.CallerLemmas.{last_some}
 use Rattle.indexset_log.proofs.Trees.{held, node_held}
 use Rattle.indexset_log.proofs.set.BTreeSet.taking_event.Goals as goal
 

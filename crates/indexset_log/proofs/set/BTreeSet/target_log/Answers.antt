@@ -1,10 +1,9 @@
 use Rattle.std.proofs.Common.{◌≡◌, arith, ◌∙◌}
 use Rattle.indexset_core.specs.Nodes.{node_at}
-use Rattle.indexset_log.specs.Table.{part_for}
-use Rattle.indexset_log.proofs.Clones.{zip_on}
+use Rattle.indexset_events.specs.Table.{part_for}
+use Rattle.indexset_events.proofs.CallerLemmas.{node_some, zip_on}
 use Rattle.indexset_log.proofs.Puts.{events_count, events_numbered, half_is, part_some, part_up, parts_length}
 use Rattle.indexset_log.proofs.Trees.{held, node_held}
-use Rattle.indexset_log.proofs.Views.{node_some}
 use Rattle.indexset_log.proofs.set.BTreeSet.target_log.Given.{Over}
 use Rattle.indexset_log.proofs.set.BTreeSet.target_log.Goals.{After-as_slice-items, After-part_of}
 use Rattle.indexset_log.proofs.set.BTreeSet.target_log.Goals as goal

@@ -1,4 +1,4 @@
-use Rattle.indexset_log.proofs.Takes.{last_end, last_stays}
+use Rattle.indexset_events.proofs.CallerLemmas.{last_end, last_stays}
 use Rattle.indexset_log.proofs.set.removal_log.last_but.Goals as goal
 
 pub returns-then-index-last : goal.returns-then-index-last

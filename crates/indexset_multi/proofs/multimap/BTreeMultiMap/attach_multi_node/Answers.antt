@@ -4,7 +4,7 @@ use Rattle.std.proofs.lemmas.Grind.{common_steps}
 use Rattle.indexset_core.specs.declared.refusal.Refusal.TheVariants.{PairNumber}
 use Rattle.indexset_core.specs.MultiPairs.{by_number}
 use Rattle.indexset_core.specs.Nodes.{joined}
-use Rattle.indexset_log.specs.Attach.{attach_index, attached}
+use Rattle.indexset_events.specs.Attach.{attach_index, attached}
 use Rattle.indexset_multi.specs.Attach.{free_number, has_greatest, pairs_refusal}
 use Rattle.indexset_multi.proofs.Below.{below_free, below_insert, below_more}
 use Rattle.indexset_multi.proofs.multimap.BTreeMultiMap.attach_multi_node.Goals as goal

@@ -5,8 +5,8 @@ use Rattle.indexset_core.specs.MultiPairs.{by_number}
 use Rattle.indexset_core.specs.Nodes.{joined}
 use Rattle.indexset_core.specs.Order.{equal_element, put}
 use Rattle.indexset_log.specs.Changed.{Changed, put_change}
-use Rattle.indexset_log.specs.Clones.{IsTold}
-use Rattle.indexset_log.specs.Table.{put_events}
+use Rattle.indexset_events.specs.Clones.{IsTold}
+use Rattle.indexset_events.specs.Table.{put_events}
 use Rattle.indexset_log.specs.Tree.{refusal_for}
 use Rattle.indexset_multi.specs.Changed.{insertion, set_tree}
 use Rattle.indexset_multi.specs.Tree.{IsPairClone}

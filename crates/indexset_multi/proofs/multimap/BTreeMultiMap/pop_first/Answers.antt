@@ -7,7 +7,7 @@ use Rattle.indexset_core.specs.MultiPairs.{by_number}
 use Rattle.indexset_core.specs.Nodes.{joined}
 use Rattle.indexset_log.specs.Changed.{Changed}
 use Rattle.indexset_log.specs.Changed.{first_removal as first_item_removal}
-use Rattle.indexset_log.specs.Replay.{numbered_from, replay}
+use Rattle.indexset_events.specs.Replay.{numbered_from, replay}
 use Rattle.indexset_log.specs.Tree.{refusal_for}
 use Rattle.indexset_multi.specs.Changed.{first_removal, set_tree}
 use Rattle.indexset_multi.specs.Keys.{AreNumberedBelow, key_and_value}

@@ -7,9 +7,9 @@ use Rattle.indexset_core.specs.MultiPairs.{by_number}
 use Rattle.indexset_core.specs.Nodes.{joined}
 use Rattle.indexset_log.specs.Changed.{Changed}
 use Rattle.indexset_log.specs.Changed.{last_removal as last_item_removal}
-use Rattle.indexset_log.specs.Clones.{IsTold}
-use Rattle.indexset_log.specs.Ends.{removal_events_at}
-use Rattle.indexset_log.specs.Replay.{numbered_from, replay}
+use Rattle.indexset_events.specs.Clones.{IsTold}
+use Rattle.indexset_events.specs.Ends.{removal_events_at}
+use Rattle.indexset_events.specs.Replay.{numbered_from, replay}
 use Rattle.indexset_log.specs.Tree.{refusal_for}
 use Rattle.indexset_multi.specs.Changed.{last_removal, set_tree}
 use Rattle.indexset_multi.specs.Keys.{AreNumberedBelow, key_and_value}

@@ -1,7 +1,7 @@
 use Rattle.std.proofs.Common.{ap, ◌∙◌}
 use Rattle.indexset_core.specs.MultiPairs.{by_number}
 use Rattle.indexset_core.specs.Nodes.{joined}
-use Rattle.indexset_log.proofs.CallerLemmas.{lawful_ascends, on_ok_map}
+use Rattle.indexset_events.proofs.CallerLemmas.{lawful_ascends, on_ok_map}
 use Rattle.indexset_multi.specs.Keys.{equal_pair, pairs_of}
 use Rattle.indexset_multi.proofs.Lists.{others_left, pair_gone}
 use Rattle.indexset_multi.proofs.Takes.{removed}

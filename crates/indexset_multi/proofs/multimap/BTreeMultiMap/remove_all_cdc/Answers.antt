@@ -1,6 +1,6 @@
 use Rattle.std.proofs.Common.{◌≡◌, ◌+◌, ◌-◌, ◌<◌, true, false, is_some, length, refl, ap, sym, subst, ◌∙◌, arith}
 use Rattle.indexset_core.specs.Nodes.{joined}
-use Rattle.indexset_log.specs.Clones.{IsTold}
+use Rattle.indexset_events.specs.Clones.{IsTold}
 use Rattle.indexset_multi.specs.Keys.{first_pair, pairs_of}
 use Rattle.indexset_multi.specs.Tree.{IsPairClone, removals_events}
 use Rattle.indexset_multi.proofs.Removals.{all_kept, all_removed, are_removed, more_left, none_left, one_more, removals_told, removed_fit, stays, told_more}

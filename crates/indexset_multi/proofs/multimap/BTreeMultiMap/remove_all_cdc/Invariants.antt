@@ -1,6 +1,6 @@
 use Rattle.std.proofs.Common.{◌≡◌, ◌-◌, ◌≤◌, length}
 use Rattle.indexset_core.specs.Nodes.{joined}
-use Rattle.indexset_log.specs.Clones.{IsTold}
+use Rattle.indexset_events.specs.Clones.{IsTold}
 use Rattle.indexset_multi.specs.Keys.{pairs_of}
 use Rattle.indexset_multi.specs.Tree.{IsPairClone, after_removals, removals_events}
 use Rattle.indexset_multi.proofs.multimap.BTreeMultiMap.remove_all_cdc.Given as goal

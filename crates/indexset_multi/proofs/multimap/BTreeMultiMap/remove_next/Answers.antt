@@ -1,8 +1,8 @@
 use Rattle.std.proofs.Common.{◌≡◌, ◌≤◌, Some, is_some, length, ap, sym, ◌∙◌, arith}
 use Rattle.std.proofs.lemmas.Slice.Zip.{AllZip-long}
-use Rattle.indexset_log.specs.Replay.{numbered_from}
+use Rattle.indexset_events.specs.Replay.{numbered_from}
 use Rattle.indexset_log.specs.Tree.{refusal_for}
-use Rattle.indexset_log.proofs.CallerLemmas.{length-numbered}
+use Rattle.indexset_events.proofs.CallerLemmas.{length-numbered}
 use Rattle.indexset_multi.specs.Places.{placed_item}
 use Rattle.indexset_multi.specs.Tree.{first_events, pair_removal_events}
 use Rattle.indexset_multi.proofs.Takes.{item_there, pair_removal_few, taken_count}

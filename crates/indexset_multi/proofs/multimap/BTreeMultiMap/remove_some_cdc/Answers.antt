@@ -1,7 +1,8 @@
 use Rattle.std.proofs.Common.{ap, ◌∙◌}
 use Rattle.indexset_core.specs.MultiPairs.{by_number}
 use Rattle.indexset_core.specs.Nodes.{joined}
-use Rattle.indexset_log.proofs.CallerLemmas.{if_ok_map, lawful_ascends, on_ok_map}
+use Rattle.indexset_events.proofs.CallerLemmas.{lawful_ascends, on_ok_map}
+use Rattle.indexset_log.proofs.CallerLemmas.{if_ok_map}
 use Rattle.indexset_multi.specs.Keys.{first_pair, pairs_of}
 use Rattle.indexset_multi.proofs.Lists.{first_pair_gone, others_left_first}
 use Rattle.indexset_multi.proofs.Takes.{multi_told, removed}

@@ -1,6 +1,6 @@
 use Rattle.std.proofs.Common.{rules, ◌≡◌, ◌+◌, IfErr, None, length, refl, ap, subst, arith}
 use Rattle.indexset_core.specs.Nodes.{joined}
-use Rattle.indexset_log.proofs.CallerLemmas.{some_taken}
+use Rattle.indexset_events.proofs.CallerLemmas.{some_taken}
 use Rattle.indexset_multi.specs.Keys.{AreNumberedBelow}
 use Rattle.indexset_multi.specs.Places.{placed_item}
 use Rattle.indexset_multi.proofs.Takes.{pair_below, removal_tree, taken, taken_count}

@@ -3,7 +3,7 @@ use Rattle.std.below.core.specs.declared.int.u64.TheConstants.{MAX}
 use Rattle.std.proofs.lemmas.Bool.{le-ltb}
 use Rattle.indexset_core.specs.Nodes.{joined}
 use Rattle.indexset_core.specs.declared.refusal.Refusal.TheVariants.{Memory, Numbers}
-use Rattle.indexset_log.specs.Joining.{IsSpaced}
+use Rattle.indexset_events.specs.Joining.{IsSpaced}
 use Rattle.indexset_multi.specs.Keys.{equal_pair, first_pair}
 use Rattle.indexset_multi.specs.Tree.{insertion_events, lacks_number, pair_next_after, pair_removal_events}
 use Rattle.indexset_bench.specs.declared.logged.multimap.LoggedMultiReply.TheVariants.{OldValue, Out}

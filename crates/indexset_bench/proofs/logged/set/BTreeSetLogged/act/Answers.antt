@@ -3,7 +3,7 @@ use Rattle.std.below.core.specs.declared.int.u64.TheConstants.{MAX}
 use Rattle.std.proofs.lemmas.Bool.{le-ltb}
 use Rattle.indexset_core.specs.Nodes.{joined}
 use Rattle.indexset_core.specs.Order.{has_equal}
-use Rattle.indexset_log.specs.Table.{checked_put_events, put_events, removal_events}
+use Rattle.indexset_events.specs.Table.{checked_put_events, put_events, removal_events}
 use Rattle.indexset_log.proofs.CallerLemmas.{same_spaced}
 use Rattle.indexset_bench.specs.declared.logged.set.LoggedSetReply.TheVariants.{Old, Added}
 use Rattle.indexset_bench.proofs.Acts.{tree_led}

@@ -5,7 +5,7 @@ use Rattle.std.specs.Range.Bound.{bound_map}
 use Rattle.indexset_core.specs.Bounds.{is_within}
 use Rattle.indexset_core.specs.Nodes.{joined}
 use Rattle.indexset_log.specs.Made.{outside, without_range}
-use Rattle.indexset_log.specs.Nodes.{is_filled}
+use Rattle.indexset_events.specs.Nodes.{is_filled}
 use Rattle.indexset_log.proofs.Ranges.{has_items, filled-map, joined_filled, joined-filter, ranged_lawful}
 use Rattle.indexset_log.proofs.set.remove_range.BTreeSet+T+Vec+T.remove_range.Given.{Over}
 use Rattle.indexset_log.proofs.set.remove_range.BTreeSet+T+Vec+T.remove_range.Goals.{After-retain}

@@ -1,0 +1,78 @@
+-- What a search finds in lawful nodes, and the nodes as the code holds them.
+use Rattle.std.proofs.Common.{◌≡◌, ℕ, ◌-◌, ◌<◌, ◌≤◌, true, List, [], length, map, get_or, slice_get, Some, None, Ordering, refl, ap, sym, ◌∙◌, arith, inl, inr}
+use Rattle.std.specs.Cmp.{IsTotalOrder}
+use Rattle.std.specs.List.{All}
+use Rattle.std.specs.Ordering.{is_lt}
+use Rattle.std.proofs.lemmas.Bool.{cases_lt}
+use Rattle.std.proofs.lemmas.List.{get_or-map, length-map}
+use Rattle.std.proofs.lemmas.Option.{slice_get_past}
+use Rattle.indexset_core.specs.Nodes.{joined, node_lengths, node_at, node_for, ends_less, equal_at, IsLawful, IsNodeList}
+use Rattle.indexset_core.specs.Order.{IsAscending}
+use Rattle.indexset_core.specs.Parted.{IsParted, less_count}
+use Rattle.indexset_core.proofs.CallerLemmas.{get_in_node, place_for, ends_for, parted_by_item}
+use Rattle.indexset_events.specs.Nodes.{is_filled}
+use Rattle.indexset_events.proofs.Ups.{each_all, lawful_ruled, filled_length, length_filled, lawful_bounded}
+use Rattle.indexset_events.proofs.Theorem.{no_last}
+
+-- the nodes as the code holds them: f tells the list of each
+module _ {T N : Type 0} (f : N → List T) (ns : List N) (k : ℕ) (n : N) (lt : k < length ns) (is : n ≡ get_or ns k n) where
+  pub view_at : (d : List T) → get_or (map f ns) k d ≡ f n
+  view_at d = get_or-map f ns k n d lt ∙ ap f (sym is)
+
+  pub ends_at : (answer : T → Ordering) (x : T) → slice_get (f n) (length (f n) - 1) ≡ Some x → (d : List T) → ends_less answer (get_or (map f ns) k d) ≡ is_lt (answer x)
+  ends_at answer x e d = ap (λ n. ends_less answer n) (view_at d) ∙ rw e refl
+
+  pub filled_here : All (λ n. 1 ≤ n) (node_lengths (map f ns)) → 1 ≤ length (f n)
+  filled_here filled =
+      let len : List T → ℕ = λ n. length n in
+      let within : k < length (map f ns) = rw (length-map ns f) lt in
+      let here : get_or (node_lengths (map f ns)) k 0 ≡ length (f n) = get_or-map len (map f ns) k [] 0 within ∙ ap len (view_at []) in
+      omega (arith, here, filled k 0 (rw (length-map (map f ns) len) within))
+
+  pub never_none : All (λ n. 1 ≤ n) (node_lengths (map f ns)) → slice_get (f n) (length (f n) - 1) ≡ None → ⊥
+  never_none filled none = no_last (f n) (length_filled (f n) (filled_here filled)) none
+
+-- the node at a place that the code reads
+pub node_is : {T N : Type 0} (f : N → List T) (items : List N) (nodes : List (List T)) (k : ℕ) (n : N) → map f items ≡ nodes → k < length items → n ≡ get_or items k n → f n ≡ node_at nodes k
+node_is f items nodes k n same lt is = sym (view_at f items k n lt is []) ∙ ap (λ q. node_at q k) same
+
+pub length_view : {T N : Type 0} (f : N → List T) (items : List N) (nodes : List (List T)) → map f items ≡ nodes → length nodes ≡ length items
+length_view f items nodes same = ap (λ q. length q) (sym same) ∙ length-map items f
+
+module _ {T : Type 0} (cmp : T → T → Ordering) where
+  module _ (size : ℕ) (ns : List (List T)) (law : IsLawful cmp size ns) where
+    pub lawful_filled : All (λ n. 1 ≤ n) (node_lengths ns)
+    lawful_filled = let nodes : IsNodeList cmp ns = law.nodes in nodes.filled
+
+    pub lawful_small : (k : ℕ) → k < length ns → length (node_at ns k) ≤ size
+    lawful_small k lt = each_all _ ns (lawful_bounded cmp size ns law) k [] lt
+
+    pub node_some : (k : ℕ) → k < length ns → 1 ≤ length (node_at ns k)
+    node_some k lt = let rule = lawful_ruled cmp size ns law in filled_length _ (each_all (λ n. is_filled n ≡ true) ns rule.filled k [] lt)
+
+    pub lawful_ascends : IsAscending cmp (joined ns)
+    lawful_ascends = let nodes : IsNodeList cmp ns = law.nodes in nodes.ascending
+
+    pub lawful_parted : IsTotalOrder cmp → (v : T) → IsParted (λ x. cmp x v) (joined ns)
+    lawful_parted o v = parted_by_item cmp o (joined ns) lawful_ascends v
+
+-- a search of the whole list asks the same as one of the node
+module _ {T : Type 0} (answer : T → Ordering) (ns : List (List T)) (some : 1 ≤ length ns) (filled : All (λ n. 1 ≤ n) (node_lengths ns)) (parted : IsParted answer (joined ns)) where
+  pub node_inside : node_for answer ns < length ns
+  node_inside = omega (arith, some)
+
+  pub read_joined : slice_get (joined ns) (less_count answer (joined ns)) ≡ slice_get (node_at ns (node_for answer ns)) (less_count answer (node_at ns (node_for answer ns)))
+  read_joined =
+      let k = node_for answer ns in
+      let n = node_at ns k in
+      let o = less_count answer n in
+      let place = place_for answer ns some (λ _. filled) parted in
+      elim (cases_lt o (length n)) [
+        | inl lt ↦ rw (← place) (get_in_node ns k o node_inside lt)
+        | inr ge ↦
+            let past = ends_for answer ns some (λ _. filled) parted ge in
+            slice_get_past (joined ns) _ (omega (arith, place, past)) ∙ sym (slice_get_past n o ge)
+      ]
+
+  pub equal_joined : equal_at answer (joined ns) (less_count answer (joined ns)) ≡ equal_at answer (node_at ns (node_for answer ns)) (less_count answer (node_at ns (node_for answer ns)))
+  equal_joined = rw read_joined refl

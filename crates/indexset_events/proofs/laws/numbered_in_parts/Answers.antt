@@ -1,0 +1,5 @@
+use Rattle.indexset_events.proofs.Theorem.{numbered-append}
+use Rattle.indexset_events.proofs.laws.numbered_in_parts.Goals as goal
+
+pub returns : goal.returns
+returns g c = numbered-append

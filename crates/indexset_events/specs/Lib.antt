@@ -1,0 +1,12 @@
+pub mod Attach
+pub mod Clones
+pub mod Edits
+pub mod Ends
+pub mod Joining
+pub mod Keys
+pub mod Located
+pub mod Nodes
+pub mod Pairs
+pub mod Replay
+pub mod Table
+pub mod Text

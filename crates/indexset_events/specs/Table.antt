@@ -1,0 +1,84 @@
+-- The events of a change, without numbers.
+use Rattle.std.specs.Prelude.{ℕ, ◌+◌, ◌-◌, ◌/◌, length, Bool, List, [], ◌∷◌, ◌++◌, if◌then◌else◌, ◌==◌, get_or, take, drop, Option, Some, None}
+use Rattle.std.specs.declared.cmp.Ordering.{Ordering}
+use Rattle.std.specs.Ordering.{is_gt}
+use Rattle.std.specs.Option.{option_map_or}
+use Rattle.indexset_core.specs.Order.{rank, has_equal}
+use Rattle.indexset_events.specs.declared.change.ChangeEventUnassigned.{ChangeEventUnassigned}
+use Rattle.indexset_events.specs.declared.change.ChangeEventUnassigned.TheVariants.{InsertAt, RemoveAt, CreateNode, RemoveNode, SplitNode, MergeNodes}
+use Rattle.indexset_core.specs.Nodes.{joined, node_at, node_for}
+use Rattle.indexset_events.specs.Joining.{item_removed, join_after}
+use Rattle.indexset_events.specs.Nodes.{is_filled, last_of}
+
+-- the place of the first node whose last item is not below v, else of the last node
+abbrev pub target : {T : Type 0} → (T → T → Ordering) → List (List T) → T → ℕ
+target cmp ns v = node_for (λ x. cmp x v) ns
+
+-- replacing an only item, a last item, an inner item: v in the place of the equal item
+unfoldable pub replace_events : {T : Type 0} → (T → T → Ordering) → List T → T → List (ChangeEventUnassigned T)
+replace_events cmp n v =
+    let i = rank cmp n v in
+    let old = get_or n i v in
+    if length n == 1 then RemoveNode old ∷ CreateNode v ∷ []
+    else if i + 1 == length n then RemoveAt (last_of n v) old i ∷ InsertAt (get_or n (i - 1) v) v i ∷ []
+    else RemoveAt (last_of n v) old i ∷ InsertAt (last_of n v) v i ∷ []
+
+-- a plain insert, or one of these
+unfoldable pub node_events : {T : Type 0} → (T → T → Ordering) → List T → T → List (ChangeEventUnassigned T)
+node_events cmp n v = if has_equal cmp n v then replace_events cmp n v else InsertAt (last_of n v) v (rank cmp n v) ∷ []
+
+-- v is above the last item
+abbrev pub is_past : {T : Type 0} → (T → T → Ordering) → List T → T → Bool
+is_past cmp n v = is_gt (cmp v (last_of n v))
+
+-- a node that stays whole, or the half of a full one
+abbrev pub half_of : {T : Type 0} → Bool → Bool → List T → List T
+half_of full right n = if full then (if right then drop (length n / 2) n else take (length n / 2) n) else n
+
+-- the part of the target that v goes into: a full node is halved first
+abbrev pub part_for : {T : Type 0} → (T → T → Ordering) → ℕ → List T → T → List T
+part_for cmp size n v = half_of (length n == size) (is_past cmp (take (length n / 2) n) v) n
+
+-- a put into a full node: the node is halved first
+abbrev pub halving_events : {T : Type 0} → ℕ → List T → T → List (ChangeEventUnassigned T)
+halving_events size n v = if length n == size then SplitNode (last_of n v) (length n / 2) ∷ [] else []
+
+-- a put where there are nodes
+unfoldable pub target_events : {T : Type 0} → (T → T → Ordering) → ℕ → List T → T → List (ChangeEventUnassigned T)
+target_events cmp size n v = halving_events size n v ++ node_events cmp (part_for cmp size n v) v
+
+-- a put: the first one makes a node
+unfoldable pub put_events : {T : Type 0} → (T → T → Ordering) → ℕ → List (List T) → T → List (ChangeEventUnassigned T)
+put_events cmp size ns v = if is_filled ns then target_events cmp size (node_at ns (target cmp ns v)) v else CreateNode v ∷ []
+
+-- a checked put: nothing changes where an equal item is there
+unfoldable pub checked_put_events : {T : Type 0} → (T → T → Ordering) → ℕ → List (List T) → T → List (ChangeEventUnassigned T)
+checked_put_events cmp size ns v = if has_equal cmp (joined ns) v then [] else put_events cmp size ns v
+
+-- removal, removal of an only item: the item x at place i of the node n goes
+abbrev pub taking_event : {T : Type 0} → List T → ℕ → T → ChangeEventUnassigned T
+taking_event n i x = if length n == 1 then RemoveNode x else RemoveAt (last_of n x) x i
+
+-- a merge: the node at place j and the one after it become one, each named by its last item
+abbrev pub joining_event : {T : Type 0} → List (List T) → T → ℕ → ChangeEventUnassigned T
+joining_event ns d j = MergeNodes (last_of (node_at ns j) d) (last_of (node_at ns (j + 1)) d)
+
+-- the item x at place i of the node at place k is removed, and small neighbours are merged
+abbrev pub taking_events : {T : Type 0} → ℕ → List (List T) → ℕ → ℕ → T → List (ChangeEventUnassigned T)
+taking_events size ns k i x = taking_event (node_at ns k) i x ∷ option_map_or (λ j. joining_event (item_removed ns k i) x j ∷ []) (join_after size ns k i) []
+
+-- how many events that gives, by where nodes are merged
+abbrev pub count_with : Option ℕ → ℕ
+count_with None = 1
+count_with (Some j) = 2
+
+abbrev pub taking_count : {T : Type 0} → ℕ → List (List T) → ℕ → ℕ → ℕ
+taking_count size ns k i = count_with (join_after size ns k i)
+
+-- a removal: nothing changes where no item equals v
+unfoldable pub removal_events : {T : Type 0} → (T → T → Ordering) → ℕ → List (List T) → T → List (ChangeEventUnassigned T)
+removal_events cmp size ns v =
+    let k = target cmp ns v in
+    let n = node_at ns k in
+    let i = rank cmp n v in
+    if has_equal cmp n v then taking_events size ns k i (get_or n i v) else []

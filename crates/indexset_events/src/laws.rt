@@ -1,0 +1,151 @@
+//! Laws over the definitions that the contracts of this crate cite. Each function does nothing; its
+//! contract is the law, for all values, and so holds of the calls that cite the same definitions.
+ghost use Rattle.std.specs.Prelude.{◌≡◌, ℕ, ◌+◌, ◌-◌, ◌*◌, ◌/◌, ◌<◌, ◌≤◌, true, false, List, [], ◌∷◌, ◌++◌, length, map, Some, None};
+ghost use Rattle.std.specs.List.{All, list_any};
+ghost use Rattle.std.specs.Option.{option_and_then};
+ghost use Rattle.std.specs.Ordering.{nat_cmp};
+ghost use Rattle.indexset_core.specs.declared.pair.Pair.{Pair};
+ghost use Rattle.indexset_core.specs.Nodes.{joined, node_at, node_lengths, IsLawful, IsNodeList};
+ghost use Rattle.indexset_events.specs.Edits.{with_put, with_taken};
+ghost use Rattle.indexset_events.specs.Ends.{removal_events_at};
+ghost use Rattle.indexset_events.specs.Joining.{IsSpaced, join_after};
+ghost use Rattle.indexset_events.specs.Keys.{key_removal_events};
+ghost use Rattle.indexset_events.specs.Nodes.{are_nodes};
+ghost use Rattle.indexset_events.specs.Replay.{earlier_replay, is_joining, step, step_plain, replay, numbered_from, unassigned, IsNumberedFrom};
+ghost use Rattle.indexset_events.specs.Table.{checked_put_events, put_events, removal_events, taking_count};
+ghost use Rattle.indexset_events.specs.declared.change.ChangeEvent.{ChangeEvent};
+ghost use Rattle.indexset_events.specs.declared.change.ChangeEventUnassigned.{ChangeEventUnassigned};
+ghost use Rattle.indexset_events.specs.declared.change.ChangeEventUnassigned.TheVariants.{InsertAt, RemoveAt, CreateNode, RemoveNode, SplitNode, MergeNodes};
+
+/// Events replayed in two parts lead where they lead in one.
+pub fn replay_in_parts<T: Ord>()
+    ensures { (ns : List (List T)) (first rest : List (ChangeEvent T))
+        → replay T.cmp ns (first ++ rest) ≡ option_and_then (λ middle. replay T.cmp middle rest)
+        (replay T.cmp ns first) }
+{}
+
+/// Events among which none merges nodes lead where they led before nodes were merged.
+pub fn earlier_events_replayed<T: Ord>()
+    ensures { (ns : List (List T)) (events : List (ChangeEvent T))
+        → list_any is_joining events ≡ false → earlier_replay T.cmp ns events
+        ≡ replay T.cmp ns events }
+{}
+
+/// Events numbered from s, and then others numbered from the number after theirs, are numbered from s.
+pub fn numbered_in_parts<T>()
+    ensures { (s : ℕ) (first rest : List (ChangeEvent T)) → IsNumberedFrom s first
+        → IsNumberedFrom (s + length first) rest → IsNumberedFrom s (first ++ rest) }
+{}
+
+/// `numbered_from s` gives the event at place i the number s + i, and changes nothing else.
+pub fn numbered_by_place<T>()
+    ensures numbers { (s : ℕ) (events : List (ChangeEventUnassigned T))
+        → IsNumberedFrom s (numbered_from s events) }
+    ensures same { (s : ℕ) (events : List (ChangeEventUnassigned T))
+        → map unassigned (numbered_from s events) ≡ events }
+    ensures count { (s : ℕ) (events : List (ChangeEventUnassigned T))
+        → length (numbered_from s events) ≡ length events }
+{}
+
+/// The test of nodes holds just where no node is empty and the items of all ascend, and a step leads
+/// to nothing else.
+pub fn steps_lead_to_nodes<T: Ord>()
+    ensures passed { (ns : List (List T)) → are_nodes T.cmp ns ≡ true → IsNodeList T.cmp ns }
+    ensures passes { (ns : List (List T)) → IsNodeList T.cmp ns → are_nodes T.cmp ns ≡ true }
+    ensures step { (ns after : List (List T)) (event : ChangeEvent T)
+        → step T.cmp ns event ≡ Some after → IsNodeList T.cmp after }
+{}
+
+/// The table of events, at numbers.
+#[tactic(auto, unfolding(crate::specs::Nodes::are_nodes, crate::specs::Replay::step_plain, crate::specs::Table::put_events, crate::specs::Table::target_events, crate::specs::Table::node_events, crate::specs::Table::replace_events, crate::specs::Table::removal_events))]
+pub fn events_at_numbers()
+    ensures first { put_events nat_cmp 4 [] 7 ≡ CreateNode 7 ∷ [] }
+    ensures halved_then_inserted { put_events nat_cmp 2 ((5 ∷ 6 ∷ []) ∷ []) 7
+        ≡ SplitNode 6 1 ∷ InsertAt 6 7 1 ∷ [] }
+    ensures halved_then_only { put_events nat_cmp 2 ((5 ∷ 6 ∷ []) ∷ []) 5
+        ≡ SplitNode 6 1 ∷ RemoveNode 5 ∷ CreateNode 5 ∷ [] }
+    ensures halved_then_last { put_events nat_cmp 4 ((0 ∷ 1 ∷ 2 ∷ 3 ∷ []) ∷ []) 1
+        ≡ SplitNode 3 2 ∷ RemoveAt 1 1 1 ∷ InsertAt 0 1 1 ∷ [] }
+    ensures inner { put_events nat_cmp 4 ((0 ∷ 1 ∷ 2 ∷ []) ∷ []) 1
+        ≡ RemoveAt 2 1 1 ∷ InsertAt 2 1 1 ∷ [] }
+    ensures removed { removal_events nat_cmp 4 ((0 ∷ 1 ∷ []) ∷ (2 ∷ 3 ∷ []) ∷ []) 3
+        ≡ RemoveAt 3 3 1 ∷ [] }
+    ensures removed_only { removal_events nat_cmp 4 ((7 ∷ []) ∷ []) 7 ≡ RemoveNode 7 ∷ [] }
+    ensures absent { removal_events nat_cmp 4 ((7 ∷ []) ∷ []) 9 ≡ [] }
+    ensures split { step_plain nat_cmp ((5 ∷ 6 ∷ []) ∷ []) (SplitNode 6 1)
+        ≡ Some ((5 ∷ []) ∷ (6 ∷ []) ∷ []) }
+    ensures replaced { step_plain nat_cmp ((0 ∷ 1 ∷ []) ∷ (2 ∷ 3 ∷ []) ∷ []) (RemoveAt 1 1 1)
+        ≡ Some ((0 ∷ []) ∷ (2 ∷ 3 ∷ []) ∷ []) }
+    ensures out_of_order { step_plain nat_cmp ((0 ∷ 1 ∷ []) ∷ []) (InsertAt 1 9 0) ≡ None }
+    ensures no_such_node { step_plain nat_cmp ((0 ∷ 1 ∷ []) ∷ []) (RemoveAt 5 1 1) ≡ None }
+{}
+
+/// What is merged after a removal, and what a merge makes of nodes, at numbers.
+#[tactic(auto, unfolding(crate::specs::Nodes::are_nodes, crate::specs::Replay::step_plain, crate::specs::Table::removal_events))]
+pub fn joins_at_numbers()
+    ensures both_too_large { removal_events nat_cmp 4 ((0 ∷ 1 ∷ []) ∷ (2 ∷ 3 ∷ []) ∷
+        (4 ∷ 5 ∷ []) ∷ []) 3 ≡ RemoveAt 3 3 1 ∷ [] }
+    ensures with_the_next { removal_events nat_cmp 4 ((0 ∷ 1 ∷ []) ∷ (2 ∷ []) ∷ (4 ∷ 5 ∷ []) ∷ []) 1
+        ≡ RemoveAt 1 1 1 ∷ MergeNodes 0 2 ∷ [] }
+    ensures next_made_one { with_taken {T = ℕ} 4 ((0 ∷ 1 ∷ []) ∷ (2 ∷ []) ∷ (4 ∷ 5 ∷ []) ∷ []) 0 1
+        ≡ (0 ∷ 2 ∷ []) ∷ (4 ∷ 5 ∷ []) ∷ [] }
+    ensures with_the_one_before { removal_events nat_cmp 4
+        ((2 ∷ 3 ∷ []) ∷ (4 ∷ []) ∷ (6 ∷ 7 ∷ []) ∷ []) 7 ≡ RemoveAt 7 7 1 ∷ MergeNodes 4 6 ∷ [] }
+    ensures one_before_made_one { with_taken {T = ℕ} 4 ((2 ∷ 3 ∷ []) ∷ (4 ∷ []) ∷
+        (6 ∷ 7 ∷ []) ∷ []) 2 1 ≡ (2 ∷ 3 ∷ []) ∷ (4 ∷ 6 ∷ []) ∷ [] }
+    ensures next_first { removal_events nat_cmp 4 ((1 ∷ []) ∷ (2 ∷ 3 ∷ []) ∷ (4 ∷ []) ∷ []) 2
+        ≡ RemoveAt 3 2 0 ∷ MergeNodes 3 4 ∷ [] }
+    ensures emptied_joins_nothing { removal_events nat_cmp 4 ((0 ∷ []) ∷ (2 ∷ []) ∷ (4 ∷ []) ∷ []) 2
+        ≡ RemoveNode 2 ∷ [] }
+    ensures never_of_size_three { removal_events nat_cmp 3 ((0 ∷ 1 ∷ []) ∷ (2 ∷ []) ∷ []) 1
+        ≡ RemoveAt 1 1 1 ∷ [] }
+    ensures merged { step_plain nat_cmp ((0 ∷ 1 ∷ []) ∷ (2 ∷ []) ∷ (5 ∷ []) ∷ []) (MergeNodes 1 2)
+        ≡ Some ((0 ∷ 1 ∷ 2 ∷ []) ∷ (5 ∷ []) ∷ []) }
+    ensures no_second_node { step_plain nat_cmp ((0 ∷ 1 ∷ []) ∷ (2 ∷ []) ∷ (5 ∷ []) ∷ [])
+        (MergeNodes 1 4) ≡ None }
+    ensures not_neighbours { step_plain nat_cmp ((0 ∷ 1 ∷ []) ∷ (2 ∷ []) ∷ (5 ∷ []) ∷ [])
+        (MergeNodes 1 5) ≡ None }
+    ensures not_backwards { step_plain nat_cmp ((0 ∷ 1 ∷ []) ∷ (2 ∷ []) ∷ (5 ∷ []) ∷ [])
+        (MergeNodes 2 1) ≡ None }
+{}
+
+/// Where any two neighbours hold more than h items together, there are few nodes for the items.
+pub fn few_nodes_where_spaced<T>()
+    ensures { (h : ℕ) (ns : List (List T)) → IsSpaced h ns
+        → (length ns - 1) * (h + 1) ≤ 2 * length (joined ns) }
+{}
+
+/// Puts and removals keep neighbours that hold more than half the node size together.
+pub fn spaced_kept<T: Ord>()
+    ensures put { (size : ℕ) (ns : List (List T)) (v : T) → 2 ≤ size → IsLawful T.cmp size ns
+        → IsSpaced (size / 2) ns → IsSpaced (size / 2) (with_put T.cmp size ns v) }
+    ensures removal { (size : ℕ) (ns : List (List T)) (k i : ℕ) → 2 ≤ size → IsLawful T.cmp size ns
+        → k < length ns → i < length (node_at ns k) → IsSpaced (size / 2) ns
+        → IsSpaced (size / 2) (with_taken size ns k i) }
+{}
+
+/// Nodes of at most two or three items are never merged.
+pub fn small_sizes_join_nothing<T>()
+    ensures { (size : ℕ) (ns : List (List T)) (k i : ℕ) → size < 4
+        → All (λ n. 1 ≤ n) (node_lengths ns) → i < length (node_at ns k)
+        → join_after size ns k i ≡ None }
+{}
+
+/// No put and no removal gives more than three events.
+pub fn three_events<T: Ord>()
+    ensures put { (size : ℕ) (ns : List (List T)) (v : T)
+        → length (put_events T.cmp size ns v) ≤ 3 }
+    ensures checked_put { (size : ℕ) (ns : List (List T)) (v : T) →
+        length (checked_put_events T.cmp size ns v) ≤ 3 }
+    ensures removal { (size : ℕ) (ns : List (List T)) (v : T) →
+        length (removal_events T.cmp size ns v) ≤ 3 }
+    ensures removal_at { (size : ℕ) (ns : List (List T)) (i : ℕ) →
+        length (removal_events_at T.cmp size ns i) ≤ 3 }
+    ensures taking { (size : ℕ) (ns : List (List T)) (k i : ℕ) → taking_count size ns k i ≤ 3 }
+{}
+
+/// No removal by key gives more than three events.
+pub fn three_events_by_key<K: Ord, V>()
+    ensures { (size : ℕ) (ns : List (List (Pair K V))) (k : K) →
+        length (key_removal_events K.cmp size ns k) ≤ 3 }
+{}

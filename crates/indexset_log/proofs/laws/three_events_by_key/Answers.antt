@@ -1,5 +1,0 @@
-use Rattle.indexset_log.proofs.Keys.{key_removal_few}
-use Rattle.indexset_log.proofs.laws.three_events_by_key.Goals as goal
-
-pub returns : goal.returns
-returns g c = key_removal_few g.K.Ord.cmp
