@@ -1,20 +1,21 @@
 //! Calls that change a logged map and tell the changes.
-ghost use Rattle.std.specs.Prelude.{◌≡◌, ◌≢◌, ◌+◌, ◌<◌, ◌≤◌, ◌↔◌, length, map, IfSome, None, Some};
+ghost use Rattle.std.specs.Prelude.{◌≡◌, ◌≢◌, ◌+◌, ◌<◌, ◌≤◌, ◌↔◌, length, IfSome, None, Some};
 ghost use Rattle.std.specs.Ordering.{nat_cmp};
 ghost use Rattle.indexset_core.specs.Pairs.{by_key, pair, value_of, without_key};
-ghost use Rattle.indexset_core.specs.declared.refusal.Refusal.TheVariants as refusals;
-ghost use Rattle.indexset_events.specs.Edits.{with_put};
+ghost use Rattle.indexset_log.specs.Changed.{Changed, key_removal};
+ghost use Rattle.indexset_log.specs.Edits.{with_put};
 ghost use Rattle.indexset_events.specs.Keys.{key_removal_events};
 ghost use Rattle.indexset_events.specs.Replay.{numbered_from, replay};
 ghost use Rattle.indexset_events.specs.Table.{put_events};
 ghost use Rattle.indexset_log.specs.Tree.{refusal_for};
-ghost use Rattle.indexset_handle.specs.Elements.{logged_pairs, written};
-ghost use Rattle.indexset_handle.specs.Events.{record_of};
+ghost use Rattle.indexset_handle.specs.Elements.{logged_pairs};
+ghost use Rattle.indexset_handle.specs.Events.{IsWritten};
+ghost use Rattle.indexset_handle.specs.Statuses.{IsToldAs};
 
 use indexset_handle::event::Event;
 use indexset_handle::log_calls::{insert_told, remove_told};
 use indexset_handle::log_handle::LogHandle;
-use indexset_handle::status::{HELD, MEMORY, NO, NONE, NUMBERS, UNFIT, YES, of_refusal};
+use indexset_handle::status::{HELD, MEMORY, NO, NONE, UNFIT, YES, of_refusal};
 use indexset_handle::write::write;
 use std::alloc::Global;
 
@@ -30,38 +31,31 @@ pub extern "C" fn indexset_log_insert(
     events: &mut [Event],
     told: &mut usize,
 ) -> u32
-    ensures added { result ≡ YES → value_of nat_cmp (logged_pairs log.old.slot.value) key ≡ None }
-    ensures replaced { result ≡ NO → value_of nat_cmp (logged_pairs log.old.slot.value) key
-        ≡ Some before.new }
+    ensures before { (result ≡ YES
+        → value_of nat_cmp (logged_pairs log.old.slot.value) key ≡ None)
+        × (result ≡ NO
+        → value_of nat_cmp (logged_pairs log.old.slot.value) key ≡ Some before.new) }
     ensures ok { result ≤ YES → IfSome log.old.slot.value
         (λ m. log.new.slot.value ≡ Some (record {
           nodes = with_put (by_key nat_cmp) m.size m.nodes (pair key value);
           size = m.size;
           next = m.next + told.new;
         })) }
-    ensures told { result ≤ YES → IfSome log.old.slot.value
-        (λ m. told.new ≡ length (put_events (by_key nat_cmp) m.size m.nodes (pair key value))) }
-    ensures events { result ≤ YES → IfSome log.old.slot.value
-        (λ m. events.new ≡ written told.new
-        (map record_of (numbered_from m.next
-        (put_events (by_key nat_cmp) m.size m.nodes (pair key value)))) events.old) }
+    ensures told { result ≤ YES → IfSome log.old.slot.value (λ m. IsWritten m
+        (put_events (by_key nat_cmp) m.size m.nodes (pair key value)) told.new events.old
+        events.new) }
     ensures led { result ≤ YES → IfSome log.old.slot.value (λ m. IfSome log.new.slot.value (λ n.
         replay (by_key nat_cmp) m.nodes (numbered_from m.next
         (put_events (by_key nat_cmp) m.size m.nodes (pair key value))) ≡ Some n.nodes)) }
     ensures few { told.new ≤ 3 }
     ensures unwritten { result ≢ NO → before.new ≡ before.old }
-    ensures untold { MEMORY ≤ result → told.new ≡ 0 }
-    ensures no_events { MEMORY ≤ result → events.new ≡ events.old }
-    ensures same { MEMORY ≤ result → log.new.slot.value ≡ log.old.slot.value }
-    ensures none { result ≡ NONE ↔ (log.old.slot.value ≡ None) }
-    ensures unfit { result ≡ UNFIT ↔ ((log.old.slot.value ≢ None) × (length events.old < 3)) }
-    ensures memory { result ≡ MEMORY → IfSome log.old.slot.value
-        (λ m. refusal_for m.next (length (put_events (by_key nat_cmp) m.size m.nodes
-        (pair key value))) ≡ refusals.Memory) }
-    ensures numbers { result ≡ NUMBERS → IfSome log.old.slot.value
-        (λ m. refusal_for m.next (length (put_events (by_key nat_cmp) m.size m.nodes
-        (pair key value))) ≡ refusals.Numbers) }
-    ensures status { (result ≤ UNFIT) × (result ≢ HELD) }
+    ensures same { MEMORY ≤ result → (told.new ≡ 0) × (events.new ≡ events.old)
+        × (log.new.slot.value ≡ log.old.slot.value) }
+    ensures cause { IfSome log.old.slot.value (λ m. IsToldAs result (refusal_for m.next
+        (length (put_events (by_key nat_cmp) m.size m.nodes (pair key value))))) }
+    ensures status { (result ≡ NONE ↔ (log.old.slot.value ≡ None))
+        × (result ≡ UNFIT ↔ ((log.old.slot.value ≢ None) × (length events.old < 3)))
+        × (result ≤ UNFIT) × (result ≢ HELD) }
 {
     *told = 0;
     let Some(mut held) = log.take(alloc) else {
@@ -94,36 +88,23 @@ pub extern "C" fn indexset_log_remove(
     events: &mut [Event],
     told: &mut usize,
 ) -> u32
-    ensures found { result ≡ YES → value_of nat_cmp (logged_pairs log.old.slot.value) key
-        ≡ Some out.new }
-    ensures absent { result ≡ NO → value_of nat_cmp (logged_pairs log.old.slot.value) key ≡ None }
+    ensures found { (result ≡ YES
+        → value_of nat_cmp (logged_pairs log.old.slot.value) key ≡ Some out.new)
+        × (result ≡ NO → value_of nat_cmp (logged_pairs log.old.slot.value) key ≡ None) }
     ensures rest { result ≤ YES → logged_pairs log.new.slot.value
         ≡ without_key nat_cmp (logged_pairs log.old.slot.value) key }
-    ensures nodes { result ≡ YES → IfSome log.old.slot.value
-        (λ m. IfSome log.new.slot.value (λ n. replay (by_key nat_cmp) m.nodes
-        (numbered_from m.next (key_removal_events nat_cmp m.size m.nodes key)) ≡ Some n.nodes)) }
-    ensures next { result ≡ YES → IfSome log.old.slot.value
-        (λ m. IfSome log.new.slot.value (λ n. (n.size ≡ m.size) × (n.next ≡ m.next + told.new))) }
+    ensures changed { result ≡ YES → IfSome log.old.slot.value (λ m. IfSome log.new.slot.value
+        (λ n. Changed (by_key nat_cmp) m n (key_removal nat_cmp m key))) }
     ensures there { (log.new.slot.value ≡ None) ↔ (log.old.slot.value ≡ None) }
-    ensures told { result ≤ YES → IfSome log.old.slot.value
-        (λ m. told.new ≡ length (key_removal_events nat_cmp m.size m.nodes key)) }
-    ensures events { result ≤ YES → IfSome log.old.slot.value
-        (λ m. events.new ≡ written told.new
-        (map record_of (numbered_from m.next (key_removal_events nat_cmp m.size m.nodes key)))
-        events.old) }
+    ensures told { result ≤ YES → IfSome log.old.slot.value (λ m. IsWritten m
+        (key_removal_events nat_cmp m.size m.nodes key) told.new events.old events.new) }
     ensures few { told.new ≤ 3 }
-    ensures unwritten { result ≢ YES → out.new ≡ out.old }
-    ensures untold { result ≢ YES → told.new ≡ 0 }
-    ensures no_events { result ≢ YES → events.new ≡ events.old }
-    ensures same { result ≢ YES → log.new.slot.value ≡ log.old.slot.value }
-    ensures unfit { result ≡ UNFIT ↔ ((log.old.slot.value ≢ None) × (length events.old < 3)) }
-    ensures memory { result ≡ MEMORY → IfSome log.old.slot.value
-        (λ m. refusal_for m.next (length (key_removal_events nat_cmp m.size m.nodes key))
-        ≡ refusals.Memory) }
-    ensures numbers { result ≡ NUMBERS → IfSome log.old.slot.value
-        (λ m. refusal_for m.next (length (key_removal_events nat_cmp m.size m.nodes key))
-        ≡ refusals.Numbers) }
-    ensures status { (result ≤ UNFIT) × (result ≢ NONE) × (result ≢ HELD) }
+    ensures same { result ≢ YES → (out.new ≡ out.old) × (told.new ≡ 0) × (events.new ≡ events.old)
+        × (log.new.slot.value ≡ log.old.slot.value) }
+    ensures cause { IfSome log.old.slot.value (λ m. IsToldAs result (refusal_for m.next
+        (length (key_removal_events nat_cmp m.size m.nodes key)))) }
+    ensures status { (result ≡ UNFIT ↔ ((log.old.slot.value ≢ None) × (length events.old < 3)))
+        × (result ≤ UNFIT) × (result ≢ NONE) × (result ≢ HELD) }
 {
     *told = 0;
     let Some(mut held) = log.take(alloc) else {

@@ -5,15 +5,15 @@ ghost use Rattle.std.specs.Option.{option_map};
 ghost use Rattle.indexset_core.specs.MultiPairs.{by_number, numbered_pair};
 ghost use Rattle.indexset_core.specs.Nodes.{joined};
 ghost use Rattle.indexset_core.specs.Order.{put};
-ghost use Rattle.indexset_core.specs.declared.refusal.Refusal.TheVariants as refusals;
 ghost use Rattle.indexset_multi.specs.Keys.{equal_pair, first_pair, pairs_of, without_first, without_named};
 ghost use Rattle.indexset_multi.specs.Tree.{after_insertion, after_removal, insertion_refusal, pair_removal_events};
 ghost use Rattle.indexset_log.specs.Tree.{refusal_for};
 ghost use Rattle.indexset_handle.specs.Elements.{numbered_pairs, values_of};
+ghost use Rattle.indexset_handle.specs.Statuses.{IsToldAs};
 
 use indexset_handle::multi_calls::{has_pair, insert_new};
 use indexset_handle::multi_handle::MultiHandle;
-use indexset_handle::status::{HELD, MEMORY, NO, NONE, NUMBERS, YES, of_refusal};
+use indexset_handle::status::{HELD, NO, NONE, NUMBERS, YES, of_refusal};
 use std::alloc::Global;
 
 /// Adds a value to those of a key, as the last. A value that the key has stays.
@@ -36,10 +36,8 @@ pub extern "C" fn indexset_multi_insert(
         ≡ pairs_of nat_cmp (numbered_pairs multi.old.slot.value) other }
     ensures same { result ≢ YES → multi.new.slot.value ≡ multi.old.slot.value }
     ensures none { result ≡ NONE ↔ (multi.old.slot.value ≡ None) }
-    ensures memory { result ≡ MEMORY → IfSome multi.old.slot.value
-        (λ m. insertion_refusal nat_cmp nat_eq m key value ≡ refusals.Memory) }
-    ensures numbers { result ≡ NUMBERS → IfSome multi.old.slot.value
-        (λ m. insertion_refusal nat_cmp nat_eq m key value ≡ refusals.Numbers) }
+    ensures cause { IfSome multi.old.slot.value
+        (λ m. IsToldAs result (insertion_refusal nat_cmp nat_eq m key value)) }
     ensures tree { result ≡ YES → IfSome multi.old.slot.value (λ m. multi.new.slot.value
         ≡ Some (after_insertion nat_cmp nat_eq m key value)) }
     ensures status { (result ≤ NUMBERS) × (result ≢ HELD) }
@@ -79,12 +77,9 @@ pub extern "C" fn indexset_multi_remove(
         → pairs_of nat_cmp (numbered_pairs multi.new.slot.value) other
         ≡ pairs_of nat_cmp (numbered_pairs multi.old.slot.value) other }
     ensures same { result ≢ YES → multi.new.slot.value ≡ multi.old.slot.value }
-    ensures memory { result ≡ MEMORY → IfSome multi.old.slot.value
-        (λ m. refusal_for m.next (length (pair_removal_events nat_cmp m.size m.nodes
-        (equal_pair nat_cmp nat_eq (joined m.nodes) key value))) ≡ refusals.Memory) }
-    ensures numbers { result ≡ NUMBERS → IfSome multi.old.slot.value
-        (λ m. refusal_for m.next (length (pair_removal_events nat_cmp m.size m.nodes
-        (equal_pair nat_cmp nat_eq (joined m.nodes) key value))) ≡ refusals.Numbers) }
+    ensures cause { IfSome multi.old.slot.value (λ m. IsToldAs result (refusal_for m.next
+        (length (pair_removal_events nat_cmp m.size m.nodes
+        (equal_pair nat_cmp nat_eq (joined m.nodes) key value))))) }
     ensures tree { result ≡ YES → IfSome multi.old.slot.value (λ m. multi.new.slot.value
         ≡ Some (after_removal nat_cmp m (equal_pair nat_cmp nat_eq (joined m.nodes) key value))) }
     ensures status { (result ≤ NUMBERS) × (result ≢ NONE) × (result ≢ HELD) }
@@ -121,14 +116,11 @@ pub extern "C" fn indexset_multi_remove_first(
     ensures others { result ≡ YES → (other : ℕ) → is_eq (nat_cmp other key) ≡ false
         → pairs_of nat_cmp (numbered_pairs multi.new.slot.value) other
         ≡ pairs_of nat_cmp (numbered_pairs multi.old.slot.value) other }
-    ensures unwritten { result ≢ YES → out.new ≡ out.old }
-    ensures same { result ≢ YES → multi.new.slot.value ≡ multi.old.slot.value }
-    ensures memory { result ≡ MEMORY → IfSome multi.old.slot.value
-        (λ m. refusal_for m.next (length (pair_removal_events nat_cmp m.size m.nodes
-        (first_pair nat_cmp (joined m.nodes) key))) ≡ refusals.Memory) }
-    ensures numbers { result ≡ NUMBERS → IfSome multi.old.slot.value
-        (λ m. refusal_for m.next (length (pair_removal_events nat_cmp m.size m.nodes
-        (first_pair nat_cmp (joined m.nodes) key))) ≡ refusals.Numbers) }
+    ensures same { result ≢ YES
+        → (out.new ≡ out.old) × (multi.new.slot.value ≡ multi.old.slot.value) }
+    ensures cause { IfSome multi.old.slot.value (λ m. IsToldAs result (refusal_for m.next
+        (length (pair_removal_events nat_cmp m.size m.nodes
+        (first_pair nat_cmp (joined m.nodes) key))))) }
     ensures tree { result ≡ YES → IfSome multi.old.slot.value (λ m. multi.new.slot.value
         ≡ Some (after_removal nat_cmp m (first_pair nat_cmp (joined m.nodes) key))) }
     ensures status { (result ≤ NUMBERS) × (result ≢ NONE) × (result ≢ HELD) }

@@ -1,5 +1,5 @@
 -- Changes of a logged map and their records.
-use Rattle.std.specs.Prelude.{ℕ, ◌==◌, if◌then◌else◌, Option, Some, None}
+use Rattle.std.specs.Prelude.{◌≡◌, ℕ, ◌==◌, if◌then◌else◌, length, List, map, Option, Some, None}
 use Rattle.std.specs.Option.{option_map}
 use Rattle.indexset_core.specs.declared.pair.Pair.{Pair}
 use Rattle.indexset_core.specs.Pairs.{pair}
@@ -7,8 +7,10 @@ use Rattle.indexset_events.specs.declared.change.ChangeEvent.{ChangeEvent}
 use Rattle.indexset_events.specs.declared.change.ChangeEvent.TheVariants.{InsertAt, RemoveAt, CreateNode, RemoveNode, SplitNode, MergeNodes}
 use Rattle.indexset_events.specs.declared.change.ChangeEventUnassigned.{ChangeEventUnassigned}
 use Rattle.indexset_events.specs.declared.change.ChangeEventUnassigned.TheVariants as plain
-use Rattle.indexset_events.specs.Replay.{assigned}
+use Rattle.indexset_events.specs.Replay.{assigned, numbered_from}
+use Rattle.indexset_log.specs.Tree.{Tree}
 use Rattle.indexset_handle.specs.declared.event.Event.{Event}
+use Rattle.indexset_handle.specs.Elements.{written}
 use Rattle.indexset_handle.specs.declared.event.TheConstants.{INSERT, REMOVE, CREATE, DROP, SPLIT, MERGE}
 
 -- a record of this kind
@@ -39,3 +41,8 @@ unnumbered r =
 -- the change of a record
 abbrev pub event_of : Event → Option (ChangeEvent (Pair ℕ ℕ))
 event_of r = option_map (assigned r.number) (unnumbered r)
+
+-- the events of a change of the map m were written over the first places of a slice, and counted
+pub record IsWritten (m : Tree (Pair ℕ ℕ)) (made : List (ChangeEventUnassigned (Pair ℕ ℕ))) (count : ℕ) (before after : List Event) : Type 0 where
+  pub told : count ≡ length made
+  pub events : after ≡ written count (map record_of (numbered_from m.next made)) before

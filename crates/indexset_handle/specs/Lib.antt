@@ -3,4 +3,5 @@ pub mod Events
 pub mod Holds
 pub mod Replicas
 pub mod Slots
+pub mod Statuses
 pub mod Text

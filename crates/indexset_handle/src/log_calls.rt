@@ -2,8 +2,9 @@
 ghost use Rattle.std.specs.Prelude.{◌≡◌, ◌+◌, ◌<◌, ◌≤◌, length, map, IfOk, OnOk, IfErr, OnErr, None, Some, min};
 ghost use Rattle.std.specs.Ordering.{nat_cmp};
 ghost use Rattle.indexset_core.specs.Nodes.{joined, node_lengths, vec_items};
-ghost use Rattle.indexset_core.specs.Pairs.{by_key, pair, value_of, without_key, pair_keys, pair_values};
-ghost use Rattle.indexset_events.specs.Edits.{with_put};
+ghost use Rattle.indexset_core.specs.Pairs.{by_key, pair, value_of, pair_keys, pair_values};
+ghost use Rattle.indexset_log.specs.Changed.{Changed, key_removal};
+ghost use Rattle.indexset_log.specs.Edits.{with_put};
 ghost use Rattle.indexset_events.specs.Keys.{key_removal_events};
 ghost use Rattle.indexset_events.specs.Replay.{numbered_from, replay};
 ghost use Rattle.indexset_events.specs.Table.{put_events};
@@ -66,14 +67,8 @@ pub fn remove_told(
     ensures told { IfOk result (λ r. r.1 ≡ length
         (key_removal_events nat_cmp log.old.size log.old.nodes key)) }
     ensures few { IfOk result (λ r. r.1 ≤ 3) }
-    ensures rest { OnOk result (joined log.new.nodes
-        ≡ without_key nat_cmp (joined log.old.nodes) key) }
-    ensures nodes { OnOk result (replay (by_key nat_cmp) log.old.nodes
-        (numbered_from log.old.next (key_removal_events nat_cmp log.old.size log.old.nodes key))
-        ≡ Some log.new.nodes) }
-    ensures size { OnOk result (log.new.size ≡ log.old.size) }
-    ensures next { OnOk result (log.new.next
-        ≡ log.old.next + length (key_removal_events nat_cmp log.old.size log.old.nodes key)) }
+    ensures changed { OnOk result (Changed (by_key nat_cmp) log.old log.new
+        (key_removal nat_cmp log.old key)) }
     ensures events { OnOk result (events.new
         ≡ written (length (key_removal_events nat_cmp log.old.size log.old.nodes key))
         (map record_of (numbered_from log.old.next

@@ -14,44 +14,30 @@ pub returns-in_default : goal.returns-in_default
 returns-in_default c =
     let none : None ≡ c.args.log.now.slot.value = c.in_default.ensures.taken in
     rw (← none) record {
-      added = λ h. not_at 3 NONE YES refl refl h;
-      replaced = λ h. not_at 3 NONE NO refl refl h;
+      before = (λ h. not_at 3 NONE YES refl refl h, λ h. not_at 3 NONE NO refl refl h);
       ok = λ h. tt;
       told = λ h. tt;
-      events = λ h. tt;
       led = λ h. tt;
       few = leb-true 0 3 refl;
       unwritten = λ h. refl;
-      untold = λ h. refl;
-      no_events = λ h. refl;
-      same = λ h. c.in_default.ensures.left;
-      none = (λ h. refl, λ h. refl);
-      unfit = (λ h. not_at 3 NONE UNFIT refl refl h, λ h. absurd (h.0 refl));
-      memory = λ h. tt;
-      numbers = λ h. tt;
-      status = (leb-true NONE UNFIT refl, λ h. not_at 3 NONE HELD refl refl h);
+      same = λ h. (refl, refl, c.in_default.ensures.left);
+      cause = tt;
+      status = ((λ h. refl, λ h. refl), (λ h. not_at 3 NONE UNFIT refl refl h, λ h. absurd (h.0 refl)), leb-true NONE UNFIT refl, λ h. not_at 3 NONE HELD refl refl h);
     }
 
 pub returns-then-events-lt3 : goal.returns-then-events-lt3
 returns-then-events-lt3 c =
     let was : Some c.in-Some.held.value ≡ c.args.log.now.slot.value = c.in-Some.ensures.taken in
     rw (← was) record {
-      added = λ h. not_at 6 UNFIT YES refl refl h;
-      replaced = λ h. not_at 6 UNFIT NO refl refl h;
+      before = (λ h. not_at 6 UNFIT YES refl refl h, λ h. not_at 6 UNFIT NO refl refl h);
       ok = λ h. not_most 6 UNFIT YES refl refl h;
       told = λ h. not_most 6 UNFIT YES refl refl h;
-      events = λ h. not_most 6 UNFIT YES refl refl h;
       led = λ h. not_most 6 UNFIT YES refl refl h;
       few = leb-true 0 3 refl;
       unwritten = λ h. refl;
-      untold = λ h. refl;
-      no_events = λ h. refl;
-      same = λ h. c.put.ensures;
-      none = (λ h. not_at 6 UNFIT NONE refl refl h, λ h. absurd (none-some _ (sym h)));
-      unfit = (λ h. ((λ e. absurd (none-some _ (sym e))), c.if-events-lt3.true), λ h. refl);
-      memory = λ h. not_at 6 UNFIT MEMORY refl refl h;
-      numbers = λ h. not_at 6 UNFIT NUMBERS refl refl h;
-      status = (leb-true 6 UNFIT refl, λ h. not_at 6 UNFIT HELD refl refl h);
+      same = λ h. (refl, refl, c.put.ensures);
+      cause = record { memory = λ h. not_at 6 UNFIT MEMORY refl refl h; numbers = λ h. not_at 6 UNFIT NUMBERS refl refl h };
+      status = ((λ h. not_at 6 UNFIT NONE refl refl h, λ h. absurd (none-some _ (sym h))), (λ h. ((λ e. absurd (none-some _ (sym e))), c.if-events-lt3.true), λ h. refl), leb-true 6 UNFIT refl, λ h. not_at 6 UNFIT HELD refl refl h);
     }
 
 pub returns : goal.returns
@@ -63,62 +49,41 @@ returns c =
       | in-Ok+then-write w ↦
           let e = w.in-Ok.ensures in let told : c.match-insert_told.told ≡ n = w.told-is ∙ e.told in
           record {
-            added = λ h. not_at s NO YES w.status-is refl h;
-            replaced = λ h. sym e.before ∙ w.write.ensures.found w.if-write.true ∙ ap Some (sym w.before-is);
+            before = (λ h. not_at s NO YES w.status-is refl h, λ h. sym e.before ∙ w.write.ensures.found w.if-write.true ∙ ap Some (sym w.before-is));
             ok = λ h. rw told (new ∙ ap Some e.ok);
-            told = λ h. told;
-            events = λ h. rw told e.events;
+            told = λ h. record { told = told; events = rw told e.events };
             led = λ h. rw new e.led;
             few = rw w.told-is e.few;
             unwritten = λ h. absurd (h w.status-is);
-            untold = λ h. not_least s NO MEMORY w.status-is refl h;
-            no_events = λ h. not_least s NO MEMORY w.status-is refl h;
             same = λ h. not_least s NO MEMORY w.status-is refl h;
-            none = (λ h. not_at s NO NONE w.status-is refl h, λ h. absurd (none-some _ (sym h)));
-            unfit = (λ h. not_at s NO UNFIT w.status-is refl h, λ h. absurd (omega (arith, c.if-events-lt3.false, h.1)));
-            memory = λ h. not_at s NO MEMORY w.status-is refl h;
-            numbers = λ h. not_at s NO NUMBERS w.status-is refl h;
-            status = (rw w.status-is (leb-true NO UNFIT refl), λ h. not_at s NO HELD w.status-is refl h);
+            cause = record { memory = λ h. not_at s NO MEMORY w.status-is refl h; numbers = λ h. not_at s NO NUMBERS w.status-is refl h };
+            status = ((λ h. not_at s NO NONE w.status-is refl h, λ h. absurd (none-some _ (sym h))), (λ h. not_at s NO UNFIT w.status-is refl h, λ h. absurd (omega (arith, c.if-events-lt3.false, h.1))), rw w.status-is (leb-true NO UNFIT refl), λ h. not_at s NO HELD w.status-is refl h);
           }
       | in-Ok+else-write w ↦
           let e = w.in-Ok.ensures in let told : c.match-insert_told.told ≡ n = w.told-is ∙ e.told in
           record {
-            added = λ h. sym e.before ∙ w.write.ensures.absent w.if-write.false;
-            replaced = λ h. not_at s YES NO w.status-is refl h;
+            before = (λ h. sym e.before ∙ w.write.ensures.absent w.if-write.false, λ h. not_at s YES NO w.status-is refl h);
             ok = λ h. rw told (new ∙ ap Some e.ok);
-            told = λ h. told;
-            events = λ h. rw told e.events;
+            told = λ h. record { told = told; events = rw told e.events };
             led = λ h. rw new e.led;
             few = rw w.told-is e.few;
             unwritten = λ h. w.before-is ∙ w.write.ensures.unwritten w.if-write.false;
-            untold = λ h. not_least s YES MEMORY w.status-is refl h;
-            no_events = λ h. not_least s YES MEMORY w.status-is refl h;
             same = λ h. not_least s YES MEMORY w.status-is refl h;
-            none = (λ h. not_at s YES NONE w.status-is refl h, λ h. absurd (none-some _ (sym h)));
-            unfit = (λ h. not_at s YES UNFIT w.status-is refl h, λ h. absurd (omega (arith, c.if-events-lt3.false, h.1)));
-            memory = λ h. not_at s YES MEMORY w.status-is refl h;
-            numbers = λ h. not_at s YES NUMBERS w.status-is refl h;
-            status = (rw w.status-is (leb-true YES UNFIT refl), λ h. not_at s YES HELD w.status-is refl h);
+            cause = record { memory = λ h. not_at s YES MEMORY w.status-is refl h; numbers = λ h. not_at s YES NUMBERS w.status-is refl h };
+            status = ((λ h. not_at s YES NONE w.status-is refl h, λ h. absurd (none-some _ (sym h))), (λ h. not_at s YES UNFIT w.status-is refl h, λ h. absurd (omega (arith, c.if-events-lt3.false, h.1))), rw w.status-is (leb-true YES UNFIT refl), λ h. not_at s YES HELD w.status-is refl h);
           }
       | in-Err w ↦
           let e = w.in-Err.ensures in
           let r : IsRefused s (refusal_for m.next n) = is_refused s w.of_refusal-status.result w.in-Err.cause (refusal_for m.next n) w.status-is e.refusal (for_events m.next n) w.of_refusal-status.ensures.memory w.of_refusal-status.ensures.numbers in
           record {
-            added = λ h. refused_not_yes s _ r h;
-            replaced = λ h. refused_not_no s _ r h;
+            before = (λ h. refused_not_yes s _ r h, λ h. refused_not_no s _ r h);
             ok = λ h. refused_not_done s _ r h;
             told = λ h. refused_not_done s _ r h;
-            events = λ h. refused_not_done s _ r h;
             led = λ h. refused_not_done s _ r h;
             few = rw w.told-is (leb-true 0 3 refl);
             unwritten = λ h. w.before-is;
-            untold = λ h. w.told-is;
-            no_events = λ h. e.unwritten;
-            same = λ h. new ∙ ap Some e.unchanged;
-            none = (λ h. refused_not_none s _ r h, λ h. absurd (none-some _ (sym h)));
-            unfit = (λ h. refused_not_unfit s _ r h, λ h. absurd (omega (arith, c.if-events-lt3.false, h.1)));
-            memory = r.memory;
-            numbers = r.numbers;
-            status = (refused_status s _ r, r.not_held);
+            same = λ h. (w.told-is, e.unwritten, (new ∙ ap Some e.unchanged));
+            cause = record { memory = r.memory; numbers = r.numbers };
+            status = ((λ h. refused_not_none s _ r h, λ h. absurd (none-some _ (sym h))), (λ h. refused_not_unfit s _ r h, λ h. absurd (omega (arith, c.if-events-lt3.false, h.1))), refused_status s _ r, r.not_held);
           }
     ])

@@ -22,8 +22,7 @@ returns-in_default c =
       others = λ h. not_at 3 NONE YES refl refl h;
       same = λ h. c.in_default.ensures.left;
       none = (λ h. refl, λ h. refl);
-      memory = λ h. tt;
-      numbers = λ h. tt;
+      cause = tt;
       tree = λ h. tt;
       status = (leb-true NONE NUMBERS refl, λ h. not_at 3 NONE HELD refl refl h);
     }
@@ -38,8 +37,7 @@ returns-then-has_pair c =
       others = λ h. not_at 0 NO YES refl refl h;
       same = λ h. c.put.ensures ∙ ap Some (sym c.deref.ensures);
       none = (λ h. not_at 0 NO NONE refl refl h, λ h. absurd (none-some _ (sym h)));
-      memory = λ h. not_at 0 NO MEMORY refl refl h;
-      numbers = λ h. not_at 0 NO NUMBERS refl refl h;
+      cause = record { memory = λ h. not_at 0 NO MEMORY refl refl h; numbers = λ h. not_at 0 NO NUMBERS refl refl h };
       tree = λ h. not_at 0 NO YES refl refl h;
       status = (leb-true 0 NUMBERS refl, λ h. not_at 0 NO HELD refl refl h);
     }
@@ -60,8 +58,7 @@ returns c =
             others = λ h other apart. ap (λ (o : Option (MultiTree ℕ ℕ)). pairs_of nat_cmp (numbered_pairs o) other) new ∙ e.others other apart;
             same = λ h. absurd (h w.status-is);
             none = (λ h. not_at s YES NONE w.status-is refl h, λ h. absurd (none-some _ (sym h)));
-            memory = λ h. not_at s YES MEMORY w.status-is refl h;
-            numbers = λ h. not_at s YES NUMBERS w.status-is refl h;
+            cause = record { memory = λ h. not_at s YES MEMORY w.status-is refl h; numbers = λ h. not_at s YES NUMBERS w.status-is refl h };
             tree = λ h. new ∙ ap Some e.tree;
             status = (rw w.status-is (leb-true YES NUMBERS refl), λ h. not_at s YES HELD w.status-is refl h);
           }
@@ -75,8 +72,7 @@ returns c =
             others = λ h. refused_not_yes s _ r h;
             same = λ h. new ∙ ap Some e.same;
             none = (λ h. refused_not_none s _ r h, λ h. absurd (none-some _ (sym h)));
-            memory = r.memory;
-            numbers = r.numbers;
+            cause = record { memory = r.memory; numbers = r.numbers };
             tree = λ h. refused_not_yes s _ r h;
             status = (r.most, r.not_held);
           }

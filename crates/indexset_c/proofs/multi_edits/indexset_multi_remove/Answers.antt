@@ -21,8 +21,7 @@ returns-in_default c =
       gone = λ h. not_at 0 NO YES refl refl h;
       others = λ h. not_at 0 NO YES refl refl h;
       same = λ h. c.in_default.ensures.left;
-      memory = λ h. tt;
-      numbers = λ h. tt;
+      cause = tt;
       tree = λ h. not_at 0 NO YES refl refl h;
       status = (leb-true 0 NUMBERS refl, (λ h. not_at 0 NO NONE refl refl h), (λ h. not_at 0 NO HELD refl refl h));
     }
@@ -41,8 +40,7 @@ returns c =
             gone = λ h. ap (λ (o : Option (MultiTree ℕ ℕ)). pairs_of nat_cmp (numbered_pairs o) c.args.key) new ∙ e.gone;
             others = λ h other apart. ap (λ (o : Option (MultiTree ℕ ℕ)). pairs_of nat_cmp (numbered_pairs o) other) new ∙ e.others other apart;
             same = λ h. absurd (h w.status-is);
-            memory = λ h. not_at s YES MEMORY w.status-is refl h;
-            numbers = λ h. not_at s YES NUMBERS w.status-is refl h;
+            cause = record { memory = λ h. not_at s YES MEMORY w.status-is refl h; numbers = λ h. not_at s YES NUMBERS w.status-is refl h };
             tree = λ h. new ∙ ap Some e.changed.tree;
             status = (rw w.status-is (leb-true YES NUMBERS refl), (λ h. not_at s YES NONE w.status-is refl h), (λ h. not_at s YES HELD w.status-is refl h));
           }
@@ -54,8 +52,7 @@ returns c =
             gone = λ h. not_at s NO YES w.status-is refl h;
             others = λ h. not_at s NO YES w.status-is refl h;
             same = λ h. new ∙ ap Some (e.changed.tree ∙ none_removed m p (no_pair p answer));
-            memory = λ h. not_at s NO MEMORY w.status-is refl h;
-            numbers = λ h. not_at s NO NUMBERS w.status-is refl h;
+            cause = record { memory = λ h. not_at s NO MEMORY w.status-is refl h; numbers = λ h. not_at s NO NUMBERS w.status-is refl h };
             tree = λ h. not_at s NO YES w.status-is refl h;
             status = (rw w.status-is (leb-true NO NUMBERS refl), (λ h. not_at s NO NONE w.status-is refl h), (λ h. not_at s NO HELD w.status-is refl h));
           }
@@ -68,8 +65,7 @@ returns c =
             gone = λ h. refused_not_yes s _ r h;
             others = λ h. refused_not_yes s _ r h;
             same = λ h. new ∙ ap Some e.unchanged;
-            memory = r.memory;
-            numbers = r.numbers;
+            cause = record { memory = r.memory; numbers = r.numbers };
             tree = λ h. refused_not_yes s _ r h;
             status = (r.most, r.not_none, r.not_held);
           }

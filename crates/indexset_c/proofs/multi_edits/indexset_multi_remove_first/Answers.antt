@@ -21,10 +21,8 @@ returns-in_default c =
       ok = λ h. not_at 0 NO YES refl refl h;
       gone = λ h. not_at 0 NO YES refl refl h;
       others = λ h. not_at 0 NO YES refl refl h;
-      unwritten = λ h. refl;
-      same = λ h. c.in_default.ensures.left;
-      memory = λ h. tt;
-      numbers = λ h. tt;
+      same = λ h. (refl, c.in_default.ensures.left);
+      cause = tt;
       tree = λ h. not_at 0 NO YES refl refl h;
       status = (leb-true 0 NUMBERS refl, (λ h. not_at 0 NO NONE refl refl h), (λ h. not_at 0 NO HELD refl refl h));
     }
@@ -43,10 +41,8 @@ returns c =
             ok = λ h. ap numbered_pairs new ∙ e.changed.contents;
             gone = λ h. ap (λ (o : Option (MultiTree ℕ ℕ)). pairs_of nat_cmp (numbered_pairs o) c.args.key) new ∙ e.gone;
             others = λ h other apart. ap (λ (o : Option (MultiTree ℕ ℕ)). pairs_of nat_cmp (numbered_pairs o) other) new ∙ e.others other apart;
-            unwritten = λ h. absurd (h w.status-is);
             same = λ h. absurd (h w.status-is);
-            memory = λ h. not_at s YES MEMORY w.status-is refl h;
-            numbers = λ h. not_at s YES NUMBERS w.status-is refl h;
+            cause = record { memory = λ h. not_at s YES MEMORY w.status-is refl h; numbers = λ h. not_at s YES NUMBERS w.status-is refl h };
             tree = λ h. new ∙ ap Some e.changed.tree;
             status = (rw w.status-is (leb-true YES NUMBERS refl), (λ h. not_at s YES NONE w.status-is refl h), (λ h. not_at s YES HELD w.status-is refl h));
           }
@@ -58,10 +54,8 @@ returns c =
             ok = λ h. not_at s NO YES w.status-is refl h;
             gone = λ h. not_at s NO YES w.status-is refl h;
             others = λ h. not_at s NO YES w.status-is refl h;
-            unwritten = λ h. w.out-is;
-            same = λ h. new ∙ ap Some (e.changed.tree ∙ none_removed m p (no_pair p answer));
-            memory = λ h. not_at s NO MEMORY w.status-is refl h;
-            numbers = λ h. not_at s NO NUMBERS w.status-is refl h;
+            same = λ h. (w.out-is, (new ∙ ap Some (e.changed.tree ∙ none_removed m p (no_pair p answer))));
+            cause = record { memory = λ h. not_at s NO MEMORY w.status-is refl h; numbers = λ h. not_at s NO NUMBERS w.status-is refl h };
             tree = λ h. not_at s NO YES w.status-is refl h;
             status = (rw w.status-is (leb-true NO NUMBERS refl), (λ h. not_at s NO NONE w.status-is refl h), (λ h. not_at s NO HELD w.status-is refl h));
           }
@@ -74,10 +68,8 @@ returns c =
             ok = λ h. refused_not_yes s _ r h;
             gone = λ h. refused_not_yes s _ r h;
             others = λ h. refused_not_yes s _ r h;
-            unwritten = λ h. w.out-is;
-            same = λ h. new ∙ ap Some e.unchanged;
-            memory = r.memory;
-            numbers = r.numbers;
+            same = λ h. (w.out-is, (new ∙ ap Some e.unchanged));
+            cause = record { memory = r.memory; numbers = r.numbers };
             tree = λ h. refused_not_yes s _ r h;
             status = (r.most, r.not_none, r.not_held);
           }
