@@ -3,7 +3,7 @@ use Rattle.std.proofs.Common.{Option, Result, Ok, Err, OnOk, ◌≡◌, ℕ, ◌
 use Rattle.std.specs.Io.KnownBytes.{Appends}
 use Rattle.std.specs.List.{join_with_byte}
 use Rattle.std.proofs.KnownBytes.{Appends-trans}
-use Rattle.std.proofs.lemmas.List.{take_more}
+use Rattle.std.proofs.lemmas.List.{map_push, take_more}
 use Rattle.indexset_bench.specs.PairText.{ended, lines_for}
 
 -- what stands before the next thing in a row
@@ -47,17 +47,13 @@ module _ {X : Type 0} (text : X → List ℕ) where
 
 -- the same, where the things are read one by one
 module _ {R X : Type 0} (text : X → List ℕ) (read : R → X) where
-  map-push : (done : List R) (y : R) → map read (done ++ y ∷ []) ≡ map read done ++ read y ∷ []
-  map-push [] y = refl
-  map-push (d ∷ done) y = ap (λ l. read d ∷ l) (map-push done y)
-
   module _ (done : List R) (y : R) where
     pub one_read : (rest rest' all : List X) → map read done ++ rest ≡ all → rest ≡ read y ∷ rest' → map read (done ++ y ∷ []) ++ rest' ≡ all
-    one_read rest rest' all given next = ap (λ l. l ++ rest') (map-push done y) ∙ append_assoc (map read done) (read y ∷ []) rest' ∙ ap (λ l. map read done ++ l) (sym next) ∙ given
+    one_read rest rest' all given next = ap (λ l. l ++ rest') (map_push read done y) ∙ append_assoc (map read done) (read y ∷ []) rest' ∙ ap (λ l. map read done ++ l) (sym next) ∙ given
 
     pub one_line : (w w1 w2 : Option (List ℕ)) → Appends w w1 (lines_for text (map read done)) → Appends w1 w2 (ended (text (read y))) → Appends w w2 (lines_for text (map read (done ++ y ∷ [])))
     one_line w w1 w2 far told =
-        subst (Appends w w2) (sym (ap (lines_for text) (map-push done y) ∙ lines-push text (map read done) (read y))) (Appends-trans w w1 w2 (lines_for text (map read done)) (ended (text (read y))) far told)
+        subst (Appends w w2) (sym (ap (lines_for text) (map_push read done y) ∙ lines-push text (map read done) (read y))) (Appends-trans w w1 w2 (lines_for text (map read done)) (ended (text (read y))) far told)
 
 pub on_ok_given : {T E : Type 0} (P : Type 0) (r : Result T E) (v : T) → OnOk r P → r ≡ Ok v → P
 on_ok_given P (Ok w) v told e = told

@@ -13,5 +13,5 @@ pub use Rattle.indexset_core.proofs.PartedLemmas.{Parts, count_parted, count_par
 pub use Rattle.indexset_core.proofs.PlaceLemmas.{between_across, between_in, last_before, places_order}
 pub use Rattle.indexset_core.proofs.ProbeLemmas.{each_bounded, probed_before, probed_up_to}
 pub use Rattle.indexset_core.proofs.RangeLemmas.{count_each, count_no, found_not_above, gap_not_above, keyed_range_is, keyed_range_order, not_before, range_is, range_order}
-pub use Rattle.indexset_core.proofs.ResultLemmas.{on_err}
+pub use Rattle.indexset_core.proofs.ResultLemmas.{on_err, some_held}
 pub use Rattle.indexset_core.proofs.WalkLemmas.{back_turn, between_le}

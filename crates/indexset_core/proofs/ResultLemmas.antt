@@ -1,8 +1,13 @@
--- What holds of a call however it ends.
-use Rattle.std.proofs.Common.{Result, Ok, Err}
+-- What holds of a call however it ends, and what an option holds.
+use Rattle.std.proofs.Common.{◌≡◌, true, is_some, Option, Some, None, Result, Ok, Err, refl}
 use Rattle.std.specs.Result.{OnErr}
 
 -- what holds in any case
 pub on_err : {T E P : Type 0} (r : Result T E) → P → OnErr r P
 on_err (Ok x) p = tt
 on_err (Err e) p = p
+
+-- what an option holds that has something
+pub some_held : {X : Type 0} (o : Option X) → is_some o ≡ true → (x : X) × (o ≡ Some x)
+some_held None e = absurd (cc)
+some_held (Some x) e = (x, refl)

@@ -12,6 +12,7 @@ use Rattle.indexset_lines.specs.Run.{left_by}
 use Rattle.indexset_bench.specs.PairText.{event_text}
 use Rattle.indexset_core.specs.Pairs.{by_key}
 use Rattle.indexset_core.specs.declared.pair.Pair.{Pair}
+use Rattle.indexset_core.proofs.CallerLemmas.{some_held}
 use Rattle.indexset_events.specs.Replay.{event_number, replay, step}
 use Rattle.indexset_events.proofs.CallerLemmas.{replay-append}
 use Rattle.indexset_replica.specs.Delivery.{IsSubsequence, delivered}
@@ -27,10 +28,6 @@ read_at : {X : Type 0} (xs : List X) (i : ℕ) (x : X) → slice_get xs i ≡ So
 read_at [] i x e = none_some x e
 read_at (y ∷ xs) zero x e = (omega arith, some_inj y x e)
 read_at (y ∷ xs) (suc i) x e = let r = read_at xs i x e in (omega (arith, r.0), r.1)
-
-some_is : {X : Type 0} (o : Option X) → is_some o ≡ true → (x : X) × (o ≡ Some x)
-some_is None e = absurd (cc)
-some_is (Some x) e = (x, refl)
 
 and_then_some : {X : Type 0} (o : Option X) → option_and_then (λ x. Some x) o ≡ o
 and_then_some None = refl
@@ -75,7 +72,7 @@ module _ (s : ℕ) (ns : List (List (Pair ℕ ℕ))) (es : List Event) (feed : I
   -- the awaited event makes a step
   step_made : (j : ℕ) (r : State) (e : Event) → HoldsFirst s ns es j r → slice_get es j ≡ Some e → (after : List (List (Pair ℕ ℕ))) × (step (by_key nat_cmp) r.nodes e ≡ Some after)
   step_made j r e at told =
-      let all = some_is (replay (by_key nat_cmp) ns es) feed.defined in
+      let all = some_held (replay (by_key nat_cmp) ns es) feed.defined in
       let parts = ap (replay (by_key nat_cmp) ns) (take-append-drop (j + 1) es) ∙ all.1 in
       let halves = then_some (replay (by_key nat_cmp) ns (take (j + 1) es)) (λ m. replay (by_key nat_cmp) m (drop (j + 1) es)) all.0 (sym (replay-append (by_key nat_cmp) ns (take (j + 1) es) (drop (j + 1) es)) ∙ parts) in
       (halves.0, sym (step_at j r e at told) ∙ halves.1)

@@ -3,7 +3,7 @@ use Rattle.std.proofs.Common.{Option, ◌≡◌, ◌≢◌, ℕ, ◌+◌, ◌<�
 use lib.Chars.{codes}
 use Rattle.std.specs.Io.KnownBytes.{Appends}
 use Rattle.std.proofs.KnownBytes.{Appends-trans}
-use Rattle.std.proofs.lemmas.List.{take_more}
+use Rattle.std.proofs.lemmas.List.{map_push, take_more}
 use Rattle.indexset_bench.specs.PairText.{ended, lines_for, node_text}
 use Rattle.indexset_core.specs.declared.pair.Pair.{Pair}
 use Rattle.indexset_bench.proofs.CallerLemmas.{lead_after}
@@ -27,10 +27,6 @@ module _ {R X : Type 0} (text : X → List ℕ) (read : R → X) where
 
 -- the same, where the things are read one by one, and written in a row
 module _ {R X : Type 0} (text : X → List ℕ) (read : R → X) where
-  map_push : (done : List R) (y : R) → map read (done ++ y ∷ []) ≡ map read done ++ read y ∷ []
-  map_push [] y = refl
-  map_push (d ∷ done) y = ap (λ l. read d ∷ l) (map_push done y)
-
   join_push : (xs : List X) (x : X) → join_with_byte 32 (map text (xs ++ x ∷ [])) ≡ join_with_byte 32 (map text xs) ++ (lead_after xs ++ text x)
   join_push [] x = refl
   join_push (y ∷ []) x = refl
@@ -41,11 +37,11 @@ module _ {R X : Type 0} (text : X → List ℕ) (read : R → X) where
         → Appends w w2 (join_with_byte 32 (map text (map read (done ++ y ∷ []))))
     one_joined lead w w1 w2 led far told =
         let now = subst (λ l. Appends w1 w2 (l ++ text (read y))) led told in
-        subst (Appends w w2) (sym (ap (λ l. join_with_byte 32 (map text l)) (map_push done y) ∙ join_push (map read done) (read y)))
+        subst (Appends w w2) (sym (ap (λ l. join_with_byte 32 (map text l)) (map_push read done y) ∙ join_push (map read done) (read y)))
         (Appends-trans w w1 w2 (join_with_byte 32 (map text (map read done))) (lead_after (map read done) ++ text (read y)) far now)
 
     pub lead_now : 32 ∷ [] ≡ lead_after (map read (done ++ y ∷ []))
-    lead_now = sym (ap lead_after (map_push done y) ∙ after (map read done))
+    lead_now = sym (ap lead_after (map_push read done y) ∙ after (map read done))
       where
         after : (ys : List X) → lead_after (ys ++ read y ∷ []) ≡ 32 ∷ []
         after [] = refl

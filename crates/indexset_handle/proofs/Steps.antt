@@ -49,10 +49,6 @@ ptr_typed (block_ptr b o) = (tt, tt)
 ptr_typed null_ptr = (tt, record { fits = lit< tt })
 
 -- what stands where something does
-pub the_some : {X : Type 0} (m : Option X) → is_some m ≡ true → (x : X) × (m ≡ Some x)
-the_some None h = absurd (subst T (sym h) tt)
-the_some (Some x) h = (x, refl)
-
 abbrev pub parts_row : Bx → RattleType
 parts_row E = parts.the_row (R E) (P E) E.al.g
 

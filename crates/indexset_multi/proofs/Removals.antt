@@ -9,6 +9,7 @@ use Rattle.std.proofs.lemmas.List.{length-drop}
 use Rattle.std.proofs.lemmas.List.Elements.{same_from_all_zip}
 use Rattle.std.proofs.lemmas.List.Sums.{count_by-le-length, length-filter}
 use Rattle.std.proofs.lemmas.Option.{none-some}
+use Rattle.indexset_core.proofs.CallerLemmas.{some_held}
 use Rattle.indexset_core.specs.declared.multipair.MultiPair.{MultiPair}
 use Rattle.indexset_core.specs.MultiPairs.{by_number}
 use Rattle.indexset_core.specs.Nodes.{joined}
@@ -69,10 +70,6 @@ drop_one [] zero = refl
 drop_one [] (suc n) = refl
 drop_one (x ∷ l) zero = refl
 drop_one (x ∷ l) (suc n) = drop_one l n
-
-some_from : {A : Type 0} (o : Option A) → is_some o ≡ true → (x : A) × (o ≡ Some x)
-some_from None e = absurd (false≢true e)
-some_from (Some x) e = (x, refl)
 
 none_from : {A : Type 0} (o : Option A) → is_some o ≡ false → o ≡ None
 none_from None e = refl
@@ -164,7 +161,7 @@ module _ {K V : Type 0} {cmp : K → K → Ordering} (o : IsTotalOrder cmp) (old
     pub more_left : is_some (first_pair cmp (joined now.nodes) k) ≡ true → n + 1 ≤ length (pairs_of cmp (joined old.nodes) k)
     more_left found =
         let g = now_gone in
-        let x = some_from (first_pair cmp (joined now.nodes) k) found in
+        let x = some_held (first_pair cmp (joined now.nodes) k) found in
         omega (arith, some_found (λ p. is_eq (cmp p.key k)) (joined now.nodes) x.0 x.1, ap (λ l. length l) g.gone, length-drop n (pairs_of cmp (joined old.nodes) k))
 
     -- where the key had no pair, a removal tells nothing

@@ -3,6 +3,7 @@ use Rattle.std.proofs.Common.{◌≡◌, ◌==◌, ℕ, ◌+◌, ◌<◌, List, 
 use Rattle.std.below.core.specs.declared.int.u64.TheConstants.{MAX}
 use Rattle.std.specs.Cmp.{IsTotalOrder}
 use Rattle.std.specs.Option.{IsSomeAnd}
+use Rattle.indexset_core.proofs.CallerLemmas.{some_held}
 use Rattle.indexset_events.specs.Replay.{event_number, step, step_plain, unassigned}
 use Rattle.indexset_events.specs.declared.change.ChangeEvent.{ChangeEvent}
 use Rattle.indexset_replica.specs.Copies.{AreCopies, IsCopy}
@@ -11,7 +12,7 @@ use Rattle.indexset_replica.specs.Replica.{ReplicaState, apply_refusal}
 use Rattle.indexset_replica.proofs.Alike.{AreAlike, adds_alike, event_itself, step_alike}
 use Rattle.indexset_replica.proofs.Copies.{copies_itself, copy_equal, copy_itself, copy_on}
 use Rattle.indexset_replica.proofs.Deliveries.{at_more, nothing_fatal, number_at, passed_over, read_at, steps_on, taken_in}
-use Rattle.indexset_replica.proofs.ReplicaSteps.{misfit_refused, some_is, step_fits}
+use Rattle.indexset_replica.proofs.ReplicaSteps.{misfit_refused, step_fits}
 
 pub some_at : {X : Type 0} {Q : X → Type 0} (o : Option X) → IsSomeAnd o Q → (x : X) × (o ≡ Some x) × Q x
 some_at None h = absurd h
@@ -36,7 +37,7 @@ module _ {T : Type 0} (cmp : T → T → Ordering) (o : IsTotalOrder cmp) (C : T
     stepped : (j : ℕ) (x : ReplicaState T) (p : ℕ) (e : ChangeEvent T) → IsAt cmp s ns es j x → slice_get es p ≡ Some e → event_number e ≡ x.next → (after : List (List T)) × (step cmp x.nodes e ≡ Some after)
     stepped j x p e at told number =
         let same : p ≡ j = omega (arith, number_at cmp s ns es feed p e told, number, at.next) in
-        some_is (step cmp x.nodes e) (steps_on cmp s ns es feed j x e at (subst (λ i. slice_get es i ≡ Some e) same told))
+        some_held (step cmp x.nodes e) (steps_on cmp s ns es feed j x e at (subst (λ i. slice_get es i ≡ Some e) same told))
 
     pub alike_fits : (j : ℕ) (x r : ReplicaState T) (p : ℕ) (e : ChangeEvent T) → IsAt cmp s ns es j x → IsAlike cmp C x r → slice_get es p ≡ Some e → event_number e ≡ r.next → apply_refusal cmp r.nodes r.next e ≡ None
     alike_fits j x r p e at like told number =

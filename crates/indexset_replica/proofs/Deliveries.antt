@@ -4,12 +4,13 @@ use Rattle.std.below.core.specs.declared.int.u64.TheConstants.{MAX}
 use Rattle.std.specs.List.{fold}
 use Rattle.std.proofs.lemmas.Bool.{eqb-true, eqb-false, eq-eqb, ne_eqb, not-false}
 use Rattle.std.proofs.lemmas.List.{take-append-drop, take_more}
+use Rattle.indexset_core.proofs.CallerLemmas.{some_held}
 use Rattle.indexset_core.specs.declared.refusal.Refusal.TheVariants.{Gap, Numbers}
 use Rattle.indexset_events.specs.Replay.{event_number, replay, step, unassigned}
 use Rattle.indexset_events.specs.declared.change.ChangeEvent.{ChangeEvent}
 use Rattle.indexset_events.proofs.CallerLemmas.{replay-append}
 use Rattle.indexset_replica.proofs.ReplicaEdits.{some_inj}
-use Rattle.indexset_replica.proofs.ReplicaSteps.{else_none, map_some, misfit_refused, none_some, some_is, step_fits, then_some}
+use Rattle.indexset_replica.proofs.ReplicaSteps.{else_none, map_some, misfit_refused, none_some, step_fits, then_some}
 use Rattle.indexset_replica.specs.Replica.{ReplicaState, apply_refusal, misfit}
 use Rattle.indexset_replica.specs.Delivery.{IsAt, IsDelivered, IsFeed, IsReached, IsSubsequence, awaited, delivered, followed, numbers_from}
 
@@ -148,7 +149,7 @@ module _ {T : Type 0} (cmp : T → T → Ordering) where
 
     pub steps_on : (j : ℕ) (r : ReplicaState T) (e : ChangeEvent T) → IsAt cmp s ns es j r → slice_get es j ≡ Some e → is_some (step cmp r.nodes e) ≡ true
     steps_on j r e at told =
-        let all = some_is (replay cmp ns es) feed.defined in
+        let all = some_held (replay cmp ns es) feed.defined in
         let parts = ap (replay cmp ns) (take-append-drop (j + 1) es) ∙ all.1 in
         let halves = then_some (replay cmp ns (take (j + 1) es)) (λ m. replay cmp m (drop (j + 1) es)) all.0 (sym (replay-append cmp ns (take (j + 1) es) (drop (j + 1) es)) ∙ parts) in
         ap is_some (sym (step_at j r e at told) ∙ halves.1)
@@ -157,7 +158,7 @@ module _ {T : Type 0} (cmp : T → T → Ordering) where
     nothing_fatal j r p e at told number =
         let read = read_at es p e told in
         let same : p ≡ j = omega (arith, number_at p e told, number, at.next) in
-        let made = some_is (step cmp r.nodes e) (steps_on j r e at (subst (λ i. slice_get es i ≡ Some e) same told)) in
+        let made = some_held (step cmp r.nodes e) (steps_on j r e at (subst (λ i. slice_get es i ≡ Some e) same told)) in
         let more : r.next < MAX = omega (arith, at.next, feed.fits, read.0, same) in
         misfit_refused cmp r.nodes r.next e number (λ last. omega (arith, last, more)) ∙ step_fits cmp r.nodes (unassigned e) made.0 made.1
 

@@ -8,6 +8,7 @@ use Rattle.std.specs.Ordering.{is_eq}
 use Rattle.std.proofs.lemmas.Bool.{false≢true, and_parts, eqb-true, leb-true, ltb-true, le-ltb, lt-leb, eq-eqb, le-leb, lt-ltb, ne_eqb, not-false, ltb-false, leb-false, eqb-false, or_parts}
 use Rattle.std.proofs.lemmas.List.{take-append-drop, length-append, length-take, length-drop}
 use Rattle.std.proofs.lemmas.Option.{slice_get-get_or}
+use Rattle.indexset_core.proofs.CallerLemmas.{some_held}
 use Rattle.indexset_core.specs.Nodes.{joined, node_at}
 use Rattle.indexset_core.specs.declared.refusal.Refusal.{Refusal}
 use Rattle.indexset_core.specs.declared.refusal.Refusal.TheVariants.{BadSplit, Gap, IndexOutside, NoSuchNode, NotNeighbours, Numbers, OutOfOrder, ValueDiffers, WouldBeEmpty}
@@ -40,10 +41,6 @@ map_some (Some x) f y e = (x, refl, some_inj e)
 if_some : {X : Type 0} (b : Bool) (x y : X) → (if b then Some x else None) ≡ Some y → (b ≡ true) × (x ≡ y)
 if_some true x y e = (refl, some_inj e)
 if_some false x y e = none_some e
-
-pub some_is : {X : Type 0} (o : Option X) → is_some o ≡ true → (x : X) × (o ≡ Some x)
-some_is None e = absurd (false≢true e)
-some_is (Some x) e = (x, refl)
 
 pub else_none : {X : Type 0} (b : Bool) (x : X) (o : Option X) → (if b then Some x else o) ≡ None → (b ≡ false) × (o ≡ None)
 else_none true x o e = some_none e
@@ -296,6 +293,6 @@ module _ {T : Type 0} (cmp : T → T → Ordering) (ns : List (List T)) (next : 
         let stepped = edited_step cmp o ns (unassigned e) made.0 rule (record { fits = last.1; edited = made.1 }) in
         (eqb-true (event_number e) next (not-false _ number.0), eqb-false next MAX last.0, rw stepped refl),
     λ h.
-        let made = some_is (step cmp ns e) h.2 in
+        let made = some_held (step cmp ns e) h.2 in
         misfit_refused h.0 h.1 ∙ step_fits cmp ns (unassigned e) made.0 made.1,
   )
