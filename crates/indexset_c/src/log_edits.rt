@@ -3,7 +3,7 @@ ghost use Rattle.std.specs.Prelude.{◌≡◌, ◌≢◌, ◌+◌, ◌<◌, ◌�
 ghost use Rattle.std.specs.Ordering.{nat_cmp};
 ghost use Rattle.indexset_core.specs.Pairs.{by_key, pair, value_of, without_key};
 ghost use Rattle.indexset_log.specs.Changed.{Changed, key_removal};
-ghost use Rattle.indexset_log.specs.Edits.{with_put};
+ghost use Rattle.indexset_events.specs.Edits.{with_put};
 ghost use Rattle.indexset_events.specs.Keys.{key_removal_events};
 ghost use Rattle.indexset_events.specs.Replay.{numbered_from, replay};
 ghost use Rattle.indexset_events.specs.Table.{put_events};

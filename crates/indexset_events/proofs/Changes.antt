@@ -6,18 +6,21 @@ use Rattle.indexset_core.specs.Nodes.{joined, node_at, IsLawful}
 use Rattle.indexset_core.specs.Order.{above, below, put, without}
 use Rattle.indexset_core.specs.Pairs.{by_key, pair_of}
 use Rattle.indexset_core.specs.declared.pair.Pair.{Pair}
-use Rattle.indexset_core.proofs.CallerLemmas.{pairs_total}
 use Rattle.indexset_events.specs.declared.change.ChangeEventUnassigned.{ChangeEventUnassigned}
 use Rattle.indexset_events.specs.Edits.{with_put, with_taken}
 use Rattle.indexset_events.specs.Keys.{key_removal_events}
-use Rattle.indexset_events.specs.Located.{located, IsFoundIn}
+use Rattle.indexset_events.specs.Located.{IsFoundIn}
 use Rattle.indexset_events.specs.Replay.{replay, numbered_from}
 use Rattle.indexset_events.specs.Table.{put_events, removal_events}
-use Rattle.indexset_events.proofs.Places.{found_at, gap_found}
+use Rattle.indexset_events.proofs.Places.{found_at}
 use Rattle.indexset_events.proofs.Puts.{put_contents, put_lawful, put_replayed}
 use Rattle.indexset_events.proofs.Takes.{absent_events, found_contents, found_events, some_read, taken_lawful, taken_replay}
 use Rattle.indexset_events.proofs.Ups.{Each, each-append}
 use Rattle.indexset_events.proofs.Views.{lawful_filled, lawful_parted}
+use Rattle.indexset_core.proofs.CallerLemmas.{pairs_total, gap_found}
+use Rattle.indexset_core.specs.Places.{located}
+use Rattle.indexset_events.specs.Located.{IsFoundIn}
+use Rattle.indexset_events.proofs.Places.{found_at}
 
 each_filter : {T : Type 0} (P : T → Type 0) (q : T → Bool) (xs : List T) → Each P xs → Each P (filter q xs)
 each_filter P q [] h = tt

@@ -7,15 +7,17 @@ use Rattle.std.proofs.lemmas.Option.{slice_get_within}
 use Rattle.indexset_core.specs.Nodes.{joined, node_at, IsLawful}
 use Rattle.indexset_core.specs.Order.{without}
 use Rattle.indexset_core.specs.Parted.{less_count}
-use Rattle.indexset_core.proofs.CallerLemmas.{equal_read, get_in_node, places_order, rank-slice_get}
 use Rattle.indexset_events.specs.Edits.{with_taken}
-use Rattle.indexset_events.specs.Located.{located, IsFoundIn}
-use Rattle.indexset_core.specs.Places.{items_before}
+use Rattle.indexset_events.specs.Located.{IsFoundIn}
 use Rattle.indexset_events.specs.Replay.{replay, numbered_from}
 use Rattle.indexset_events.specs.Table.{taking_events, removal_events}
-use Rattle.indexset_events.proofs.Places.{end_at, end_node, end_offset, found_at, gap_at}
+use Rattle.indexset_events.proofs.Places.{found_at}
 use Rattle.indexset_events.proofs.Takes.{found_contents, found_events, taken_replay}
 use Rattle.indexset_events.proofs.Views.{lawful_ascends, lawful_filled, lawful_parted}
+use Rattle.indexset_core.proofs.CallerLemmas.{equal_read, get_in_node, places_order, rank-slice_get, end_at, end_gap, end_node, end_offset}
+use Rattle.indexset_events.specs.Located.{IsFoundIn}
+use Rattle.indexset_core.specs.Places.{items_before, located}
+use Rattle.indexset_events.proofs.Places.{found_at}
 
 -- two items before which as many stand are one
 module _ {T : Type 0} (ns : List (List T)) (p q : ℕ × ℕ) (p_node : p.0 < length ns) (p_in : p.1 < length (node_at ns p.0)) (q_node : q.0 < length ns) (q_in : q.1 < length (node_at ns q.0)) (same : items_before ns p ≡ items_before ns q) where
@@ -52,7 +54,7 @@ module _ {T : Type 0} (cmp : T → T → Ordering) (o : IsTotalOrder cmp) (size 
             let same : items_before ns p ≡ items_before ns q = sym before_it ∙ sym at.before in
             subst (λ i. IsFoundIn cmp ns x p.0 i) (same_offset ns p q node_in offset_in q_node q_in same) (subst (λ k. IsFoundIn cmp ns x k q.1) (same_node ns p q node_in offset_in q_node q_in same) found)
         | Err q ↦ λ e.
-            let at = gap_at answer ns filled parted (Err q) e q refl in
+            let at = end_gap answer ns filled parted (Err q) e q refl in
             absurd (false≢true (sym at.equal ∙ (equal_read answer (joined ns) _ x (rw before_it in_all) ∙ rw (tied_itself o x) refl)))
       ] refl
 

@@ -1,18 +1,16 @@
--- What a search finds in lawful nodes, and the nodes as the code holds them.
-use Rattle.std.proofs.Common.{◌≡◌, ℕ, ◌-◌, ◌<◌, ◌≤◌, true, List, [], length, map, get_or, slice_get, Some, None, Ordering, refl, ap, sym, ◌∙◌, arith, inl, inr}
+-- Lawful nodes, and the nodes as the code holds them.
 use Rattle.std.specs.Cmp.{IsTotalOrder}
 use Rattle.std.specs.List.{All}
 use Rattle.std.specs.Ordering.{is_lt}
-use Rattle.std.proofs.lemmas.Bool.{cases_lt}
 use Rattle.std.proofs.lemmas.List.{get_or-map, length-map}
-use Rattle.std.proofs.lemmas.Option.{slice_get_past}
-use Rattle.indexset_core.specs.Nodes.{joined, node_lengths, node_at, node_for, ends_less, equal_at, IsLawful, IsNodeList}
 use Rattle.indexset_core.specs.Order.{IsAscending}
-use Rattle.indexset_core.specs.Parted.{IsParted, less_count}
-use Rattle.indexset_core.proofs.CallerLemmas.{get_in_node, place_for, ends_for, parted_by_item}
 use Rattle.indexset_events.specs.Nodes.{is_filled}
 use Rattle.indexset_events.proofs.Ups.{each_all, lawful_ruled, filled_length, length_filled, lawful_bounded}
 use Rattle.indexset_events.proofs.Theorem.{no_last}
+use Rattle.std.proofs.Common.{◌≡◌, ℕ, ◌-◌, ◌<◌, ◌≤◌, true, List, [], length, map, get_or, slice_get, Some, None, Ordering, refl, ap, sym, ◌∙◌, arith}
+use Rattle.indexset_core.specs.Nodes.{joined, node_lengths, node_at, ends_less, IsLawful, IsNodeList}
+use Rattle.indexset_core.specs.Parted.{IsParted}
+use Rattle.indexset_core.proofs.CallerLemmas.{parted_by_item}
 
 -- the nodes as the code holds them: f tells the list of each
 module _ {T N : Type 0} (f : N → List T) (ns : List N) (k : ℕ) (n : N) (lt : k < length ns) (is : n ≡ get_or ns k n) where
@@ -55,24 +53,3 @@ module _ {T : Type 0} (cmp : T → T → Ordering) where
 
     pub lawful_parted : IsTotalOrder cmp → (v : T) → IsParted (λ x. cmp x v) (joined ns)
     lawful_parted o v = parted_by_item cmp o (joined ns) lawful_ascends v
-
--- a search of the whole list asks the same as one of the node
-module _ {T : Type 0} (answer : T → Ordering) (ns : List (List T)) (some : 1 ≤ length ns) (filled : All (λ n. 1 ≤ n) (node_lengths ns)) (parted : IsParted answer (joined ns)) where
-  pub node_inside : node_for answer ns < length ns
-  node_inside = omega (arith, some)
-
-  pub read_joined : slice_get (joined ns) (less_count answer (joined ns)) ≡ slice_get (node_at ns (node_for answer ns)) (less_count answer (node_at ns (node_for answer ns)))
-  read_joined =
-      let k = node_for answer ns in
-      let n = node_at ns k in
-      let o = less_count answer n in
-      let place = place_for answer ns some (λ _. filled) parted in
-      elim (cases_lt o (length n)) [
-        | inl lt ↦ rw (← place) (get_in_node ns k o node_inside lt)
-        | inr ge ↦
-            let past = ends_for answer ns some (λ _. filled) parted ge in
-            slice_get_past (joined ns) _ (omega (arith, place, past)) ∙ sym (slice_get_past n o ge)
-      ]
-
-  pub equal_joined : equal_at answer (joined ns) (less_count answer (joined ns)) ≡ equal_at answer (node_at ns (node_for answer ns)) (less_count answer (node_at ns (node_for answer ns)))
-  equal_joined = rw read_joined refl

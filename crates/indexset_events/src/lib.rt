@@ -4,11 +4,9 @@
 //! item. `specs/Table.antt` says which events a put and a removal give, `specs/Replay.antt` what an
 //! event does to a list of nodes, `specs/Joining.antt` when small neighbours are merged, and
 //! `specs/Attach.antt` which nodes may be added whole; [`nodes`] has that test. [`laws`] has what
-//! follows from these definitions: replay in parts, few nodes, examples at numbers. [`locate`] has
-//! the search among nodes, for crates that keep nodes of their own.
+//! follows from these definitions: replay in parts, few nodes, examples at numbers.
 #![tactic(auto)]
 
 pub mod change;
 pub mod laws;
-pub mod locate;
 pub mod nodes;

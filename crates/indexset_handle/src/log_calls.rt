@@ -4,7 +4,7 @@ ghost use Rattle.std.specs.Ordering.{nat_cmp};
 ghost use Rattle.indexset_core.specs.Nodes.{joined, node_lengths, vec_items};
 ghost use Rattle.indexset_core.specs.Pairs.{by_key, pair, value_of, pair_keys, pair_values};
 ghost use Rattle.indexset_log.specs.Changed.{Changed, key_removal};
-ghost use Rattle.indexset_log.specs.Edits.{with_put};
+ghost use Rattle.indexset_events.specs.Edits.{with_put};
 ghost use Rattle.indexset_events.specs.Keys.{key_removal_events};
 ghost use Rattle.indexset_events.specs.Replay.{numbered_from, replay};
 ghost use Rattle.indexset_events.specs.Table.{put_events};

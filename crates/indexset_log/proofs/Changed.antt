@@ -8,14 +8,13 @@ use Rattle.indexset_core.specs.declared.pair.Pair.{Pair}
 use Rattle.indexset_core.specs.Nodes.{joined, node_at, IsLawful}
 use Rattle.indexset_core.specs.Order.{equal_element, has_equal, keep, put, without}
 use Rattle.indexset_core.specs.Pairs.{by_key}
-use Rattle.indexset_core.proofs.CallerLemmas.{found_has_equal, found_rank, has_put, parted_by_item}
 use Rattle.indexset_log.specs.Changed.{Change, Changed, Fits, ItemsTold, PairsTold, Told, checked_put_change, put_change, removal_change, taken_change}
 use Rattle.indexset_events.specs.Clones.{AreIdentical, IsEventClone, IsTold}
 use Rattle.indexset_events.specs.Edits.{with_taken}
 use Rattle.indexset_log.specs.Edits.{after_put, after_removal, after_taken}
 use Rattle.indexset_events.specs.Joining.{IsSpaced, item_removed, join_after, with_joined}
 use Rattle.indexset_events.specs.Keys.{IsPairClone}
-use Rattle.indexset_events.specs.Located.{located, IsFoundIn}
+use Rattle.indexset_events.specs.Located.{IsFoundIn}
 use Rattle.indexset_events.specs.Replay.{numbered_from, replay}
 use Rattle.indexset_events.specs.Table.{put_events, removal_events, taking_count, taking_events}
 use Rattle.indexset_log.specs.Taking.{after_taking, events_from, item_from}
@@ -23,7 +22,11 @@ use Rattle.indexset_log.specs.Tree.{IsTree, Tree}
 use Rattle.indexset_events.specs.declared.change.ChangeEvent.{ChangeEvent}
 use Rattle.indexset_events.specs.declared.change.ChangeEventUnassigned.{ChangeEventUnassigned}
 use Rattle.indexset_log.proofs.Checked.{absent_change, there_change}
-use Rattle.indexset_events.proofs.CallerLemmas.{absent_contents, absent_events, absent_here, ascends, clones_numbered, event_same, found_at, found_contents, found_events, gap_found, lawful_filled, lawful_parted, lawful_ruled, length-numbered, pair_same, put_contents, put_replayed, put_spaced, some_read, taken_replay, taken_spaced, taking_length, three_at_most, two_at_most, up_node}
+use Rattle.indexset_events.proofs.CallerLemmas.{absent_contents, absent_events, absent_here, ascends, clones_numbered, event_same, found_at, found_contents, found_events, lawful_filled, lawful_parted, lawful_ruled, length-numbered, pair_same, put_contents, put_replayed, put_spaced, some_read, taken_replay, taken_spaced, taking_length, three_at_most, two_at_most, up_node}
+use Rattle.indexset_core.proofs.CallerLemmas.{found_has_equal, found_rank, has_put, parted_by_item, gap_found}
+use Rattle.indexset_core.specs.Places.{located}
+use Rattle.indexset_events.specs.Located.{IsFoundIn}
+use Rattle.indexset_events.proofs.Places.{found_at}
 
 -- what holds of a change also where there are no numbers for its events
 pub record Altered {T : Type 0} (cmp : T → T → Ordering) (old new : Tree T) (l : List T) (es : List (ChangeEventUnassigned T)) : Type 0 where

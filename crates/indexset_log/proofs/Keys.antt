@@ -12,18 +12,21 @@ use Rattle.indexset_core.specs.declared.pair.Pair.{Pair}
 use Rattle.indexset_core.specs.Nodes.{joined, node_at, node_lengths, IsLawful}
 use Rattle.indexset_core.specs.Parted.{IsParted}
 use Rattle.indexset_core.specs.Pairs.{by_key, pair_of, without_key}
-use Rattle.indexset_core.proofs.CallerLemmas.{absent_without, equal_from, key_absent, pairs_total, parted_by_key}
 use Rattle.indexset_log.specs.Changed.{Changed, PairsTold, key_removal, taken_change}
 use Rattle.indexset_events.specs.Keys.{key_removal_events}
 use Rattle.indexset_log.specs.Keys.{after_key_removal}
-use Rattle.indexset_events.specs.Located.{located, IsFoundIn}
+use Rattle.indexset_events.specs.Located.{IsFoundIn}
 use Rattle.indexset_events.specs.Edits.{with_taken}
 use Rattle.indexset_log.specs.Edits.{after_taken}
 use Rattle.indexset_events.specs.Table.{taking_count, taking_events}
 use Rattle.indexset_log.specs.Tree.{Tree}
 use Rattle.indexset_events.specs.declared.change.ChangeEvent.{ChangeEvent}
 use Rattle.indexset_log.proofs.Changed.{found_after, unchanged}
-use Rattle.indexset_events.proofs.CallerLemmas.{IsEnd, end_at, end_found, end_offset, end_read, found_at, found_events, gap_found, gap_position, lawful_ascends, lawful_filled, taken_contents, taking_length}
+use Rattle.indexset_events.proofs.CallerLemmas.{found_at, found_events, lawful_ascends, lawful_filled, taken_contents, taking_length}
+use Rattle.indexset_core.proofs.CallerLemmas.{absent_without, equal_from, key_absent, pairs_total, parted_by_key, IsEnd, end_at, end_found, end_offset, end_read, gap_found, gap_position}
+use Rattle.indexset_core.specs.Places.{located}
+use Rattle.indexset_events.specs.Located.{IsFoundIn}
+use Rattle.indexset_events.proofs.Places.{found_at}
 
 module _ {K V : Type 0} {cmp : K → K → Ordering} {size : ℕ} {ns : List (List (Pair K V))} (o : IsTotalOrder cmp) (law : IsLawful (by_key cmp) size ns) (k : K) where
   abbrev answer : Pair K V → Ordering

@@ -10,8 +10,8 @@ ghost use Rattle.indexset_core.specs.Parted.{IsParted};
 ghost use Rattle.indexset_core.specs.Pairs.{by_key, has_key, pair_of};
 ghost use Rattle.indexset_core.specs.declared.refusal.Refusal.TheVariants.{Memory};
 ghost use Rattle.indexset_events.specs.Attach.{attached, attach_refusal, nodes_refusal};
-ghost use Rattle.indexset_events.specs.Located.{located};
 ghost use Rattle.indexset_events.specs.Nodes.{AddsUp};
+ghost use Rattle.indexset_core.specs.Places.{located};
 
 mod ends;
 pub mod iter;

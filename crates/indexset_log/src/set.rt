@@ -6,7 +6,9 @@ ghost use Rattle.indexset_core.specs.Nodes.{joined, IsLawful};
 ghost use Rattle.indexset_core.specs.Digits.{digits};
 ghost use Rattle.indexset_core.specs.Order.{has_equal, equal_element};
 ghost use Rattle.indexset_core.specs.Parted.{IsParted};
-ghost use Rattle.indexset_events.specs.Located.{located, IsFoundIn};
+ghost use Rattle.indexset_events.specs.Located.{IsFoundIn};
+ghost use Rattle.indexset_core.specs.Places.{located};
+ghost use Rattle.indexset_events.specs.Located.{IsFoundIn};
 
 mod attach;
 mod ends;
@@ -22,9 +24,10 @@ mod remove_range;
 mod traits;
 
 use indexset_core::constants::DEFAULT_INNER_SIZE;
+use indexset_core::locate::locate_by;
 use indexset_core::node::NodeLike;
 use indexset_core::probe::{ByItem, Probe};
-use indexset_events::locate::node_by;
+use indexset_core::walk::ReadAny;
 use std::alloc::Global;
 use std::marker::{Model, PhantomData};
 
@@ -153,16 +156,7 @@ impl<T: Ord + Clone + Drop, Node: NodeLike<T>> BTreeSet<T, Node> {
             (digits (length self.now.nodes) + digits self.now.size + 1) }
         ensures unasked { self.now.nodes ≡ [] → P.asked probe.new ≡ P.asked probe.old }
     {
-        if self.nodes.is_empty() {
-            return Err((0, 0));
-        }
-        let node = node_by(self.nodes.as_slice(), probe);
-        let items = &self.nodes[node];
-        let offset = items.first_not_less(probe);
-        match items.get_ith(offset) {
-            Some(item) if probe.place(item).is_eq() => Ok((node, offset)),
-            _ => Err((node, offset)),
-        }
+        locate_by::<T, Node, ReadAny, P>(self.nodes.as_slice(), probe)
     }
 
     // Returns where the equal item is: its node, and the offset in it.

@@ -8,11 +8,12 @@ use Rattle.indexset_core.specs.declared.multipair.MultiPair.{MultiPair}
 use Rattle.indexset_core.specs.MultiPairs.{by_number}
 use Rattle.indexset_core.specs.Nodes.{joined, node_at, IsLawful}
 use Rattle.indexset_core.specs.Parted.{IsParted}
-use Rattle.indexset_core.proofs.CallerLemmas.{is_some-find}
-use Rattle.indexset_events.specs.Located.{located}
-use Rattle.indexset_events.proofs.CallerLemmas.{end_found, end_node, end_offset, gap_found, lawful_ascends, lawful_filled}
+use Rattle.indexset_events.proofs.CallerLemmas.{lawful_ascends, lawful_filled}
 use Rattle.indexset_multi.specs.Places.{IsItemPlace, placed_item}
 use Rattle.indexset_multi.proofs.Numbers.{parted_keys}
+use Rattle.indexset_core.proofs.CallerLemmas.{is_some-find, end_found, end_node, end_offset, gap_found}
+use Rattle.indexset_core.specs.Places.{located}
+use Rattle.indexset_events.proofs.CallerLemmas.{lawful_ascends, lawful_filled}
 
 module _ {T : Type 0} (cmp : T → T → Ordering) (size : ℕ) (ns : List (List T)) (law : IsLawful cmp size ns) (answer : T → Ordering) (parted : IsParted answer (joined ns)) (r : Result (ℕ × ℕ) (ℕ × ℕ)) (e : r ≡ located answer ns) where
   -- it stands at an item where it has found one

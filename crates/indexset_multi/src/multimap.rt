@@ -4,9 +4,9 @@ ghost use Rattle.std.specs.Map.Iter.{ShowsInOrder, ShowsInReverse, deref};
 ghost use Rattle.indexset_core.specs.MultiPairs.{by_number};
 ghost use Rattle.indexset_core.specs.Nodes.{joined, IsLawful};
 ghost use Rattle.indexset_events.specs.Nodes.{AddsUp};
-ghost use Rattle.indexset_events.specs.Located.{located};
 ghost use Rattle.indexset_log.specs.Tree.{IsTree};
 ghost use Rattle.indexset_multi.specs.Keys.{AreNumberedBelow, has_pair_of};
+ghost use Rattle.indexset_core.specs.Places.{located};
 
 mod attach;
 mod ends;

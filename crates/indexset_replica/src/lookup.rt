@@ -12,10 +12,10 @@ ghost use Rattle.indexset_events.specs.Replay.{event_number};
 
 use super::Replica;
 use super::places::{item_before, item_from};
+use indexset_core::locate::locate_by;
 use indexset_core::probe::{ByItem, Probe};
-use indexset_core::search;
+use indexset_core::walk::ReadVec;
 use indexset_events::change::ChangeEvent;
-use indexset_events::locate::node_by;
 
 /// Whether an event is the one that a replica waits for.
 #[derive(Clone, Copy, Debug, PartialEq, Eq)]
@@ -50,16 +50,12 @@ impl<T: Ord + Clone + Drop> Replica<T> {
             → P.asked probe.new ≤ P.asked probe.old
             + (digits (length self.now.nodes) + digits size + 1) }
     {
-        if self.nodes.is_empty() {
-            return None;
-        }
-        let place = node_by(self.nodes.as_slice(), probe);
-        let node = self.nodes[place].as_slice();
-        let index = search::first_not_less(node, probe);
-        if search::is_equal_at(node, index, probe) {
-            Some(&node[index])
-        } else {
-            None
+        match locate_by::<T, Vec<T>, ReadVec, P>(self.nodes.as_slice(), probe) {
+            Ok((node, offset)) => {
+                let items = self.nodes[node].as_slice();
+                Some(&items[offset])
+            }
+            Err(_) => None,
         }
     }
 

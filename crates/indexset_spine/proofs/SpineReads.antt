@@ -14,14 +14,6 @@ use Rattle.indexset_core.proofs.CallerLemmas.{count_parted, ends_for, equal_none
 use Rattle.indexset_spine.specs.Cut.{Cut, cut, IsCut, items}
 use Rattle.indexset_spine.proofs.VecNodes.{length-vec_items, node_read}
 
--- a node that the search reads, where none is empty
-module _ {X Z : Type 0} (answer : X → Ordering) (vs : List (Vec X Z)) (k : ℕ) (v : Vec X Z) (lt : k < length vs) (at : v ≡ get_or vs k v) (filled : All (λ n. 1 ≤ n) (node_lengths (vec_items vs))) where
-  pub node_some : 1 ≤ length v.items
-  node_some = nodes.node_some answer (λ v. v.items) vs k v lt at filled
-
-  pub node_ends : (x : X) → x ≡ get_or v.items (length v.items - 1) x → (d : List X) → ends_less answer (get_or (vec_items vs) k d) ≡ is_lt (answer x)
-  node_ends x is = nodes.node_ends answer (λ v. v.items) vs k v x lt at node_some is
-
 -- n is the node of the spine s that the answers name, the k-th
 pub record NodeFound {X : Type 0} (answer : X → Ordering) (s : Cut X) (k : ℕ) (n : List X) : Type 0 where
   pub cut : IsCut (node_lengths s.nodes) s.size

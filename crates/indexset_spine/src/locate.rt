@@ -1,4 +1,4 @@
-//! Searches in two steps: for a node, by the nodes' last items, and within it.
+//! Searches within a node, and whether a node is the one that a search ends in.
 ghost use Rattle.std.specs.Prelude.{◌≡◌, ◌+◌, ◌<◌, ◌≤◌, IsTrue, length};
 ghost use Rattle.std.specs.List.{All};
 ghost use Rattle.indexset_core.specs.Digits.{digits};
@@ -10,30 +10,7 @@ use indexset_core::search;
 
 // Up to how many items a search within a node does without branches: more would not stay in the
 // cache, and a predicted branch fetches ahead.
-const NEAR: usize = 1 << 20;
-
-/// Returns the first node whose last item is not found Less, else the last node.
-pub(crate) fn node_by<T, P: Probe<T>>(nodes: &[Vec<T>], probe: &mut P) -> usize
-    requires some { 1 ≤ length nodes.now }
-    requires filled { 2 ≤ length nodes.now → All (λ n. 1 ≤ n) (node_lengths (vec_items nodes.now)) }
-    requires parted { IsParted (P.answer probe.old) (joined (vec_items nodes.now)) }
-    ensures node { result ≡ node_for (P.answer probe.old) (vec_items nodes.now) }
-    ensures fixed { P.answer probe.new ≡ P.answer probe.old }
-    ensures few { P.asked probe.new ≤ P.asked probe.old + digits (length nodes.now) }
-{
-    let mut low = 0;
-    let mut high = nodes.len() - 1;
-    while low < high {
-        let middle = low + (high - low) / 2;
-        let node = nodes[middle].as_slice();
-        if probe.place(&node[node.len() - 1]).is_lt() {
-            low = middle + 1;
-        } else {
-            high = middle;
-        }
-    }
-    low
-}
+pub(crate) const NEAR: usize = 1 << 20;
 
 /// Returns whether the node k is the one that `node_by` answers, by at most two comparisons: false
 /// of a node that is not there.

@@ -25,8 +25,9 @@ use crate::into_iter::IntoIter;
 use crate::iter::{Iter, walk_between};
 use crate::spot::Spot;
 use crate::{lengths, locate};
+use indexset_core::locate::node_by;
 use indexset_core::probe::Probe;
-use indexset_core::walk::Walk;
+use indexset_core::walk::{ReadVec, Walk};
 use indexset_index::fenwick::Fenwick;
 use std::alloc::Global;
 use std::marker::Model;
@@ -179,7 +180,7 @@ impl<T> Spine<T> {
         ensures few { P.asked probe.new ≤ P.asked probe.old
             + (digits (length self.now.nodes) + digits self.now.size + 1) }
     {
-        let node = locate::node_by(self.nodes.as_slice(), probe);
+        let node = node_by::<T, Vec<T>, ReadVec, P>(self.nodes.as_slice(), probe);
         self.locate_in(node, probe, len)
     }
 

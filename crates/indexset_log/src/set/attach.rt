@@ -10,10 +10,11 @@ ghost use Rattle.indexset_events.specs.Nodes.{is_ascending};
 ghost use Rattle.indexset_events.specs.Replay.{reaches};
 
 use super::BTreeSet;
+use indexset_core::locate::node_by;
 use indexset_core::node::NodeLike;
 use indexset_core::probe::ByItem;
 use indexset_core::refusal::{Refusal, Refused};
-use indexset_events::locate::node_by;
+use indexset_core::walk::ReadAny;
 use indexset_events::nodes::is_ascending;
 
 impl<T: Ord + Clone + Drop, Node: NodeLike<T>> BTreeSet<T, Node> {
@@ -105,7 +106,10 @@ impl<T: Ord + Clone + Drop, Node: NodeLike<T>> BTreeSet<T, Node> {
         if self.nodes.is_empty() {
             return 0;
         }
-        let node = node_by(self.nodes.as_slice(), &mut ByItem::new(value));
+        let node = node_by::<T, Node, ReadAny, ByItem<'_, T>>(
+            self.nodes.as_slice(),
+            &mut ByItem::new(value),
+        );
         match self.nodes[node].max() {
             Some(last) if last.cmp(value).is_lt() => node + 1,
             _ => node,

@@ -13,12 +13,13 @@ use super::BTreeSet;
 use crate::aim::{Aim, event_count, finds_equal};
 use crate::log::{Log, add_halving, add_put};
 use crate::nodes::{first_node, make_room, part_of, put_in};
+use indexset_core::locate::node_by;
 use indexset_core::node::NodeLike;
 use indexset_core::probe::ByItem;
 use indexset_core::refusal::{Refusal, Refused};
 use indexset_core::search;
+use indexset_core::walk::ReadAny;
 use indexset_events::change::{ChangeEvent, ChangeEventUnassigned};
-use indexset_events::locate::node_by;
 
 impl<T: Ord + Clone + Drop, Node: NodeLike<T>> BTreeSet<T, Node> {
     /// Inserts an item, replaces an equal one, and returns the events. A failed call returns the
@@ -251,7 +252,10 @@ impl<T: Ord + Clone + Drop, Node: NodeLike<T>> BTreeSet<T, Node> {
         requires { 1 ≤ length self.now.nodes }
         ensures { IsAim T.cmp self.now.size self.now.nodes value.now result }
     {
-        let node = node_by(self.nodes.as_slice(), &mut ByItem::new(value));
+        let node = node_by::<T, Node, ReadAny, ByItem<'_, T>>(
+            self.nodes.as_slice(),
+            &mut ByItem::new(value),
+        );
         let items = self.nodes[node].iter().as_slice();
         let full = items.len() == self.size;
         let right = full && value.cmp(&items[items.len() / 2 - 1]).is_gt();

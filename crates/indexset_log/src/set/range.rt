@@ -14,10 +14,11 @@ ghost use Rattle.indexset_core.specs.Places.{IsPlace, items_before};
 use super::BTreeSet;
 use super::iter::Iter;
 use crate::locate::{last_started, run_end};
+use indexset_core::locate::{node_by, place_from, place_to};
 use indexset_core::node::NodeLike;
-use indexset_core::probe::{ByItem, Past, Probe};
+use indexset_core::probe::{ByItem, Probe};
 use indexset_core::search::first_not_less_near;
-use indexset_events::locate::node_by;
+use indexset_core::walk::ReadAny;
 use std::iter::FusedIterator;
 use std::marker::Model;
 use std::ops::Bound;
@@ -141,11 +142,7 @@ impl<T: Ord + Clone + Drop, Node: NodeLike<T>> BTreeSet<T, Node> {
         ensures before { items_before self.now.nodes result
             ≡ count_by (is_before (λ x p. P.answer p x) start) (joined self.now.nodes) }
     {
-        match start {
-            Bound::Included(mut probe) => self.place_by(&mut probe),
-            Bound::Excluded(probe) => self.place_by(&mut Past::new(probe)),
-            Bound::Unbounded => (0, 0),
-        }
+        place_from::<T, Node, ReadAny, P>(self.nodes.as_slice(), start, false)
     }
 
     /// Returns the place after the items that are not past the end, by two binary searches, or none
@@ -156,11 +153,7 @@ impl<T: Ord + Clone + Drop, Node: NodeLike<T>> BTreeSet<T, Node> {
         ensures before { items_before self.now.nodes result
             ≡ count_by (is_up_to_end (λ x p. P.answer p x) end) (joined self.now.nodes) }
     {
-        match end {
-            Bound::Included(probe) => self.place_by(&mut Past::new(probe)),
-            Bound::Excluded(mut probe) => self.place_by(&mut probe),
-            Bound::Unbounded => self.last_place(),
-        }
+        place_to::<T, Node, ReadAny, P>(self.nodes.as_slice(), end, false)
     }
 
     /// Returns the places before and after the items that the comparator finds Equal, which must find
@@ -183,7 +176,7 @@ impl<T: Ord + Clone + Drop, Node: NodeLike<T>> BTreeSet<T, Node> {
         if self.nodes.is_empty() {
             return ((0, 0), (0, 0));
         }
-        let node = node_by(self.nodes.as_slice(), probe);
+        let node = node_by::<T, Node, ReadAny, P>(self.nodes.as_slice(), probe);
         let (offset, found) = first_not_less_near(self.nodes[node].iter().as_slice(), probe);
         let from = (node, offset);
         if found {
@@ -239,32 +232,5 @@ impl<T: Ord + Clone + Drop, Node: NodeLike<T>> BTreeSet<T, Node> {
             offset = 0;
         }
         (node, offset + left)
-    }
-
-    // Returns the place before the first item that the probe does not place below what it seeks.
-    fn place_by<P: Probe<T>>(&self, probe: &mut P) -> (usize, usize)
-        requires { IsParted (P.answer probe.old) (joined self.now.nodes) }
-        ensures place { IsPlace self.now.nodes result }
-        ensures before { items_before self.now.nodes result
-            ≡ less_count (P.answer probe.old) (joined self.now.nodes) }
-    {
-        // The nodes are lawful, so the search ends at a place.
-        let _nodes = &self.nodes;
-        match self.locate_by(probe) {
-            Ok(place) => place,
-            Err(place) => place,
-        }
-    }
-
-    // Returns the place behind all items.
-    fn last_place(&self) -> (usize, usize)
-        ensures place { IsPlace self.now.nodes result }
-        ensures before { items_before self.now.nodes result ≡ length (joined self.now.nodes) }
-    {
-        if self.nodes.is_empty() {
-            return (0, 0);
-        }
-        let last = self.nodes.len() - 1;
-        (last, self.nodes[last].len())
     }
 }

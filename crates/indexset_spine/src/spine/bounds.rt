@@ -1,13 +1,16 @@
 //! Bounds as spots, each by one search.
-ghost use Rattle.std.specs.Prelude.{◌≡◌};
+ghost use Rattle.std.specs.Prelude.{◌≡◌, false};
 ghost use Rattle.std.specs.List.{count_by};
 ghost use Rattle.indexset_core.specs.Bounds.{IfBounded, is_before, is_up_to_end};
 ghost use Rattle.indexset_core.specs.Parted.{IsParted};
 ghost use Rattle.indexset_spine.specs.Cut.{items, IsSpot, position_of};
 
 use super::Spine;
+use crate::locate::NEAR;
 use crate::spot::Spot;
-use indexset_core::probe::{Past, Probe};
+use indexset_core::locate::{place_from, place_to};
+use indexset_core::probe::Probe;
+use indexset_core::walk::ReadVec;
 use std::ops::Bound;
 
 impl<T> Spine<T> {
@@ -18,11 +21,9 @@ impl<T> Spine<T> {
         ensures position { position_of self.now.nodes result
             ≡ count_by (is_before (λ x p. P.answer p x) start) (items self.now) }
     {
-        match start {
-            Bound::Included(mut probe) => self.locate_by(&mut probe),
-            Bound::Excluded(probe) => self.locate_by(&mut Past::new(probe)),
-            Bound::Unbounded => self.start(),
-        }
+        let near = self.len <= NEAR;
+        let place = place_from::<T, Vec<T>, ReadVec, P>(self.nodes.as_slice(), start, near);
+        spot_at(place)
     }
 
     /// Returns the spot after the items that are not past the end.
@@ -32,10 +33,19 @@ impl<T> Spine<T> {
         ensures position { position_of self.now.nodes result
             ≡ count_by (is_up_to_end (λ x p. P.answer p x) end) (items self.now) }
     {
-        match end {
-            Bound::Included(probe) => self.locate_by(&mut Past::new(probe)),
-            Bound::Excluded(mut probe) => self.locate_by(&mut probe),
-            Bound::Unbounded => self.end(),
-        }
+        let near = self.len <= NEAR;
+        let place = place_to::<T, Vec<T>, ReadVec, P>(self.nodes.as_slice(), end, near);
+        spot_at(place)
+    }
+}
+
+// Returns the spot at a place between items.
+fn spot_at(place: (usize, usize)) -> Spot
+    ensures { result ≡ record { node = place.0; offset = place.1; found = false } }
+{
+    Spot {
+        node: place.0,
+        offset: place.1,
+        found: false,
     }
 }

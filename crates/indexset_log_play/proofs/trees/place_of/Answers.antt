@@ -1,9 +1,8 @@
 use Rattle.std.proofs.Common.{◌≡◌, ℕ, zero, suc, ◌<◌, Result, Ok, Err, IfOk, List, [], ◌∷◌, length, Ordering, true, refl, arith}
 use Rattle.indexset_core.specs.Nodes.{joined, node_at}
-use Rattle.indexset_core.proofs.CallerLemmas.{parted_by_item}
-use Rattle.indexset_events.specs.Located.{located}
-use Rattle.indexset_events.proofs.CallerLemmas.{IsEnd, located_end}
 use Rattle.indexset_log_play.proofs.trees.place_of.Goals as goal
+use Rattle.indexset_core.specs.Places.{located}
+use Rattle.indexset_core.proofs.CallerLemmas.{IsEnd, located_end, parted_by_item}
 
 if_ok_map : {A E : Type 0} (r : Result A E) {P : A → Type 0} (Q : A → Type 0) → IfOk r P → ((x : A) → P x → Q x) → IfOk r Q
 if_ok_map (Ok x) Q p f = f x p

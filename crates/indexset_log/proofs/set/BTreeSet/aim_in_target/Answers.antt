@@ -12,7 +12,7 @@ use Rattle.indexset_log.proofs.set.BTreeSet.aim_in_target.Given.{Over}
 use Rattle.indexset_log.proofs.set.BTreeSet.aim_in_target.Goals.{After-as_slice-items, then-full, else-full}
 
 pub node_by-node-requires-clause-filled : goal.node_by-node-requires-clause-filled
-node_by-node-requires-clause-filled g c = rw c.as_slice.ensures.value (lawful_filled g.T.Ord.cmp c.self.inside.size _ c.self.invariant.lawful)
+node_by-node-requires-clause-filled g c = rw c.as_slice.ensures.value (λ _. lawful_filled g.T.Ord.cmp c.self.inside.size _ c.self.invariant.lawful)
 
 pub node_by-node-requires-clause-parted : goal.node_by-node-requires-clause-parted
 node_by-node-requires-clause-parted g c = rw (c.new.ensures, c.as_slice.ensures.value) (lawful_parted g.T.Ord.cmp c.self.inside.size _ c.self.invariant.lawful g.met.T.Ord.total c.args.value.now)

@@ -1,11 +1,21 @@
-use Rattle.indexset_core.specs.Nodes.{joined}
-use Rattle.indexset_core.proofs.CallerLemmas.{count_no, parted_past}
+use Rattle.indexset_log.proofs.Trees.{held}
+use Rattle.indexset_events.proofs.Views.{lawful_filled}
 use Rattle.indexset_log.proofs.set.BTreeSet.place_from.Goals as goal
 
-pub place_by-requires-in-Excluded : goal.place_by-requires-in-Excluded
-place_by-requires-in-Excluded g c =
-    let parted = rw c.in-Excluded.is at c.requires in
-    rw c.new.ensures (parted_past (g.P.Probe.answer c.in-Excluded.probe) (joined c.args.self.now.nodes) parted)
+pub place_from-requires-clause-filled : goal.place_from-requires-clause-filled
+place_from-requires-clause-filled g c = rw c.as_slice.ensures.value (λ _. lawful_filled g.T.Ord.cmp c.self.inside.size _ c.self.invariant.lawful)
 
-pub returns-in-Unbounded-clause-before : goal.returns-in-Unbounded-clause-before
-returns-in-Unbounded-clause-before g c = rw c.in-Unbounded.is (count_no (joined c.args.self.now.nodes))
+pub place_from-requires-clause-parted : goal.place_from-requires-clause-parted
+place_from-requires-clause-parted g c =
+    let t = held g.Node.NodeLike.list c.self.inside.nodes.items c.self.view_is c.self.invariant in
+    rw (c.as_slice.ensures.value, t.same) c.requires
+
+pub returns-clause-place : goal.returns-clause-place
+returns-clause-place g c =
+    let t = held g.Node.NodeLike.list c.self.inside.nodes.items c.self.view_is c.self.invariant in
+    rw (c.as_slice.ensures.value, t.same) at c.place_from.ensures.place
+
+pub returns-clause-before : goal.returns-clause-before
+returns-clause-before g c =
+    let t = held g.Node.NodeLike.list c.self.inside.nodes.items c.self.view_is c.self.invariant in
+    rw (c.as_slice.ensures.value, t.same) at c.place_from.ensures.before

@@ -1,12 +1,21 @@
-use Rattle.std.proofs.Common.{◌∙◌}
-use Rattle.indexset_core.specs.Nodes.{joined}
-use Rattle.indexset_core.proofs.CallerLemmas.{count_each, parted_past}
+use Rattle.indexset_log.proofs.Trees.{held}
+use Rattle.indexset_events.proofs.Views.{lawful_filled}
 use Rattle.indexset_log.proofs.set.BTreeSet.place_to.Goals as goal
 
-pub place_by-requires : goal.place_by-requires
-place_by-requires g c =
-    let parted = rw c.in-Included.is at c.requires in
-    rw c.new.ensures (parted_past (g.P.Probe.answer c.in-Included.probe) (joined c.args.self.now.nodes) parted)
+pub place_to-requires-clause-filled : goal.place_to-requires-clause-filled
+place_to-requires-clause-filled g c = rw c.as_slice.ensures.value (λ _. lawful_filled g.T.Ord.cmp c.self.inside.size _ c.self.invariant.lawful)
 
-pub returns-in-Unbounded-clause-before : goal.returns-in-Unbounded-clause-before
-returns-in-Unbounded-clause-before g c = rw c.in-Unbounded.is (c.last_place.ensures.before ∙ count_each (joined c.args.self.now.nodes))
+pub place_to-requires-clause-parted : goal.place_to-requires-clause-parted
+place_to-requires-clause-parted g c =
+    let t = held g.Node.NodeLike.list c.self.inside.nodes.items c.self.view_is c.self.invariant in
+    rw (c.as_slice.ensures.value, t.same) c.requires
+
+pub returns-clause-place : goal.returns-clause-place
+returns-clause-place g c =
+    let t = held g.Node.NodeLike.list c.self.inside.nodes.items c.self.view_is c.self.invariant in
+    rw (c.as_slice.ensures.value, t.same) at c.place_to.ensures.place
+
+pub returns-clause-before : goal.returns-clause-before
+returns-clause-before g c =
+    let t = held g.Node.NodeLike.list c.self.inside.nodes.items c.self.view_is c.self.invariant in
+    rw (c.as_slice.ensures.value, t.same) at c.place_to.ensures.before

@@ -5,14 +5,15 @@ use Rattle.std.specs.Ordering.{is_lt}
 use Rattle.indexset_core.specs.Digits.{digits}
 use Rattle.indexset_core.specs.Nodes.{equal_at, joined, node_at, node_for}
 use Rattle.indexset_core.specs.Parted.{less_count, not_greater_count}
-use Rattle.indexset_core.proofs.CallerLemmas.{digits-mono, equal_inside, parted_node, place_for}
 use Rattle.indexset_core.specs.Places.{IsPlace, items_before}
 use Rattle.indexset_log.proofs.Runs.{equal_goes_on, none_equal}
 use Rattle.indexset_log.proofs.Trees.{held, node_held}
-use Rattle.indexset_events.proofs.CallerLemmas.{equal_joined, lawful_filled, lawful_small}
+use Rattle.indexset_events.proofs.CallerLemmas.{lawful_filled, lawful_small}
 use Rattle.indexset_log.proofs.set.BTreeSet.places_by.Given.{Over}
 use Rattle.indexset_log.proofs.set.BTreeSet.places_by.Goals.{After-as_slice-2, After-first_not_less_near-offset, Then-is_empty}
 use Rattle.indexset_log.proofs.set.BTreeSet.places_by.Goals as goal
+use Rattle.indexset_core.proofs.CallerLemmas.{digits-mono, equal_inside, parted_node, place_for, equal_joined}
+use Rattle.indexset_events.proofs.Views.{lawful_filled, lawful_small}
 
 -- the node that the search reads
 record Read {T : Type 0} (answer : T → Ordering) (ns : List (List T)) (k : ℕ) (items : List T) : Type 0 where
@@ -63,7 +64,7 @@ found g c r =
     }
 
 pub node_by-node-requires-clause-filled : goal.node_by-node-requires-clause-filled
-node_by-node-requires-clause-filled g c = rw c.as_slice.ensures.value (lawful_filled g.T.Ord.cmp c.self.inside.size _ c.self.invariant.lawful)
+node_by-node-requires-clause-filled g c = rw c.as_slice.ensures.value (λ _. lawful_filled g.T.Ord.cmp c.self.inside.size _ c.self.invariant.lawful)
 
 pub node_by-node-requires-clause-parted : goal.node_by-node-requires-clause-parted
 node_by-node-requires-clause-parted g c =

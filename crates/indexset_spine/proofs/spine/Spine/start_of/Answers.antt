@@ -1,12 +1,13 @@
-use Rattle.std.proofs.Common.{◌∙◌}
-use Rattle.indexset_spine.specs.Cut.{items}
-use Rattle.indexset_core.proofs.CallerLemmas.{count_no, parted_past}
+use Rattle.std.proofs.Common.{◌≡◌, sym, subst}
+use Rattle.std.specs.List.{count_by}
+use Rattle.indexset_core.specs.Bounds.{IfBounded, is_before}
+use Rattle.indexset_core.specs.Parted.{IsParted}
+use Rattle.indexset_core.specs.Places.{items_before}
+use Rattle.indexset_spine.specs.Cut.{Cut, items}
 use Rattle.indexset_spine.proofs.spine.Spine.start_of.Goals as goal
 
-pub locate_by-requires-in-Excluded : goal.locate_by-requires-in-Excluded
-locate_by-requires-in-Excluded g c =
-    let parted = rw c.in-Excluded.is at c.requires in
-    rw c.new.ensures (parted_past (g.P.Probe.answer c.in-Excluded.probe) (items c.args.self.now) parted)
+pub place_from-place-requires-clause-parted : goal.place_from-place-requires-clause-parted
+place_from-place-requires-clause-parted g c = rw c.as_slice.ensures.value (subst (λ (t : Cut g.row.T.Denot). IfBounded (λ p. IsParted (g.P.Probe.answer p) (items t)) c.args.start) (sym c.self.view_is) c.requires)
 
-pub returns-in-Unbounded-clause-position : goal.returns-in-Unbounded-clause-position
-returns-in-Unbounded-clause-position g c = rw c.in-Unbounded.is (c.start.ensures.position ∙ count_no (items c.args.self.now))
+pub returns-clause-position : goal.returns-clause-position
+returns-clause-position g c = rw c.spot_at.ensures (subst (λ (t : Cut g.row.T.Denot). items_before t.nodes c.place_from-place.result ≡ count_by (is_before (λ x p. g.P.Probe.answer p x) c.args.start) (items t)) c.self.view_is (rw c.as_slice.ensures.value at c.place_from-place.ensures.before))
