@@ -7,13 +7,12 @@ use Rattle.std.specs.List.{All, fold, insert, splice}
 use Rattle.indexset_spine.specs.declared.spot.Spot.{Spot}
 use Rattle.std.specs.declared.vec.Vec.{Vec}
 use Rattle.indexset_core.specs.Nodes.{joined, node_at, node_lengths, vec_items}
-use Rattle.indexset_core.proofs.CallerLemmas.{joined-append, joined_around, length-joined}
+use Rattle.indexset_core.proofs.CallerLemmas.{joined-append, joined_around, last_before, length-joined}
 use Rattle.indexset_spine.specs.Cut.{IsCut, IsSpine, IsSpot, end_spot, position_of, with_last, with_inserted}
 use Rattle.indexset_spine.specs.Edits.{IsShortEnd, TakesSome, or_one_empty, with_halved, with_item_in, without_all_emptied}
 use Rattle.indexset_spine.proofs.EditSteps.{get_right, node_is, put_short}
 use Rattle.indexset_spine.proofs.CutEdits.{cut_inserted, joined_inserted, joined_set, node_bounded, spine_of}
 use Rattle.indexset_spine.proofs.IndexLemmas.{count-lengths, length-at}
-use Rattle.indexset_spine.proofs.PartLemmas.{last_place}
 use Rattle.indexset_spine.proofs.TakenLemmas.{takes_within}
 use Rattle.indexset_spine.proofs.VecNodes.{length-vec_items, vec_items-set}
 
@@ -94,7 +93,7 @@ module _ {X : Type 0} where
   end_in ns some = record { node_in = omega arith; offset_in = omega arith }
 
   pub end_position : (ns : List (List X)) → 1 ≤ length ns → position_of ns (end_spot ns) ≡ length (joined ns)
-  end_position ns some = last_place ns (length ns - 1) (length (node_at ns (length ns - 1))) (omega arith) refl
+  end_position ns some = last_before ns (length ns - 1) (length (node_at ns (length ns - 1))) (omega arith) refl
 
   pub cut_last : (size : ℕ) (ns : List (List X)) (v : X) → IsCut (node_lengths ns) size → IsCut (node_lengths (with_last size ns v)) size
   cut_last size ns v is = cut_inserted size ns (end_spot ns) v (end_in ns (omega (arith, is.some, count-lengths ns))) is
