@@ -51,6 +51,7 @@ pub use Rattle.indexset_map.specs.Walk.{HasWritten, walk_back, walk_front, writt
 pub use Rattle.indexset_core.specs.Nodes.{joined, vec_items, IsNodeList}
 pub use Rattle.indexset_events.specs.Clones.{IsEventClone}
 pub use Rattle.indexset_events.specs.declared.change.ChangeEvent.{ChangeEvent}
+pub use Rattle.indexset_events.specs.Attach.{nodes_refusal}
 pub use Rattle.indexset_events.specs.Keys.{key_removal_events}
 pub use Rattle.indexset_events.specs.Table.{put_events, checked_put_events, removal_events}
 pub use Rattle.indexset_events.specs.Replay.{IsNumberedFrom, numbered_from, replay, step, unassigned}
@@ -59,4 +60,4 @@ pub use Rattle.indexset_multi.specs.Keys.{entries, equal_pair, has_pair_of, pair
 pub use Rattle.indexset_multi.specs.Tree.{MultiTree, inserted_pair, insertion_refusal, pair_removal_events}
 pub use Rattle.indexset_replica.specs.Copies.{AreClonesEqual, AreCopies, IsCopy, LeadsToCopies}
 pub use Rattle.indexset_replica.specs.Delivery.{CopiesAll, CopiesBeginning, HasStopped, HoldsAll, IsAlike, IsAt, IsBeginning, IsDelivered, IsDelivery, IsFeed, IsFollowed, IsReached, IsSubsequence, numbers_from}
-pub use Rattle.indexset_replica.specs.Replica.{AddsClone, IsClonedStep, IsEqualClone}
+pub use Rattle.indexset_replica.specs.Replica.{apply_refusal, AddsClone, IsClonedStep, IsEqualClone}

@@ -1,7 +1,7 @@
 //! Copies of trees: the events of a call, applied in turn.
-ghost use Rattle.std.specs.Prelude.{◌≡◌, ◌+◌, ◌-◌, ◌<◌, ◌≤◌, List, length, take, Some, OnErr, OnOk};
+ghost use Rattle.std.specs.Prelude.{◌≡◌, ◌+◌, ◌-◌, ◌<◌, ◌≤◌, List, length, slice_get, take, unwrap_or, Some, IfErr, IfSome, OnErr, OnOk};
 ghost use Rattle.std.specs.List.{AllZip};
-ghost use Rattle.indexset.specs.Words.{replay, AreClonesEqual, AreCopies, IsEventClone};
+ghost use Rattle.indexset.specs.Words.{apply_refusal, replay, AreClonesEqual, AreCopies, IsEventClone};
 
 use indexset::base::refusal::Refusal;
 use indexset::cdc::change::ChangeEvent;
@@ -24,6 +24,9 @@ pub fn apply_all<T: Ord + Clone + Drop>(
     ensures next { OnOk result (copy.new.next ≡ copy.old.next + length events.now) }
     ensures onwards { copy.old.next ≤ copy.new.next }
     ensures stopped { OnErr result (copy.new.next < copy.old.next + length events.now) }
+    ensures refusal { IfErr result (λ e. IfSome
+        (slice_get events.now (copy.new.next - copy.old.next)) (λ event. e ≡ unwrap_or
+        (apply_refusal T.cmp copy.new.nodes copy.new.next event) Refusal.Memory)) }
     ensures copies { AreClonesEqual T.cmp T.is_clone → (ns after : List (List T)) (es : List _)
         → AreCopies T.cmp T.is_clone ns copy.old.nodes
         → AllZip (IsEventClone T.is_clone) es events.now → replay T.cmp ns es ≡ Some after

@@ -30,9 +30,10 @@ pub struct Primary {
 }
 
 impl Primary {
-    /// No account, and no event.
+    /// No account, and no event. A node holds up to 4 accounts.
     pub fn new(alloc: Global) -> Self
-        ensures { result.events.items ≡ [] }
+        ensures events { result.events.items ≡ [] }
+        ensures map { result.map ≡ record { nodes = []; size = 4; next = 0 } }
     {
         let map = BTreeMap::with_maximum_node_size(alloc, 4);
         let events = Vec::new(alloc);
@@ -57,6 +58,7 @@ impl Primary {
         ensures same { OnErr result (self.new.map ≡ self.old.map) }
         ensures no_event { OnErr result (self.new.events.items ≡ self.old.events.items) }
         ensures memory { IfErr result (λ refusal. refusal ≡ Refusal.Memory) }
+        ensures size { self.new.map.size ≡ self.old.map.size }
     {
         set_and_keep(&mut self.map, &mut self.events, account, balance)
     }
@@ -100,6 +102,7 @@ fn set_and_keep(
     ensures same { OnErr result (map.new ≡ map.old) }
     ensures no_event { OnErr result (events.new.items ≡ events.old.items) }
     ensures memory { IfErr result (λ refusal. refusal ≡ Refusal.Memory) }
+    ensures size { map.new.size ≡ map.old.size }
 {
     // With room for three events there are numbers for those of the call.
     laws::three_events::<Balance>();

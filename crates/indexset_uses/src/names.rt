@@ -1,9 +1,9 @@
 //! Texts by name, and a copy of them kept elsewhere: a logged map from texts to texts.
-ghost use Rattle.std.specs.Prelude.{◌≡◌, ◌⊎◌, false, Some, OnErr, OnOk};
+ghost use Rattle.std.specs.Prelude.{◌≡◌, ◌⊎◌, false, length, Some, IfErr, OnOk};
 ghost use Rattle.std.specs.Option.{option_copied};
 ghost use Rattle.std.specs.Ordering.{nat_cmp};
 ghost use Rattle.std.specs.Cmp.Lexicographic.{slice_cmp};
-ghost use Rattle.indexset.specs.Words.{by_key, has_key, joined, pair, put, value_of, without_key};
+ghost use Rattle.indexset.specs.Words.{by_key, has_key, joined, key_removal_events, pair, put, put_events, refusal_for, value_of, without_key};
 
 use crate::copies::apply_all;
 use bytes::ByteStr;
@@ -34,7 +34,9 @@ pub fn set_text(
         ≡ Some text) }
     ensures contents { OnOk result (joined names.new.nodes
         ≡ put (by_key (slice_cmp nat_cmp)) (joined names.old.nodes) (pair name text)) }
-    ensures refused { OnErr result (((names.new ≡ names.old) × (copy.new ≡ copy.old))
+    ensures refused { IfErr result (λ refusal. ((names.new ≡ names.old) × (copy.new ≡ copy.old)
+        × (refusal ≡ refusal_for names.old.next (length (put_events (by_key (slice_cmp nat_cmp))
+        names.old.size names.old.nodes (pair name text)))))
         ⊎ (joined names.new.nodes ≡ put (by_key (slice_cmp nat_cmp))
         (joined names.old.nodes) (pair name text))) }
 {
@@ -52,7 +54,9 @@ pub fn forget(names: &mut Names, copy: &mut Replica<Named>, name: &ByteStr) -> R
         ≡ false) }
     ensures contents { OnOk result (joined names.new.nodes
         ≡ without_key (slice_cmp nat_cmp) (joined names.old.nodes) name.now) }
-    ensures refused { OnErr result (((names.new ≡ names.old) × (copy.new ≡ copy.old))
+    ensures refused { IfErr result (λ refusal. ((names.new ≡ names.old) × (copy.new ≡ copy.old)
+        × (refusal ≡ refusal_for names.old.next (length (key_removal_events (slice_cmp nat_cmp)
+        names.old.size names.old.nodes name.now))))
         ⊎ (joined names.new.nodes ≡ without_key (slice_cmp nat_cmp)
         (joined names.old.nodes) name.now)) }
 {

@@ -25,6 +25,10 @@ pub fn add(levels: &mut Levels, price: u64, quantity: u64) -> Result<u64, Refuse
     ensures held { IfOk result (λ now. value_of nat_cmp levels.new.pairs price ≡ Some now) }
     ensures contents { IfOk result (λ now. levels.new ≡ with_entry nat_cmp levels.old price now) }
     ensures same { OnErr result (levels.new ≡ levels.old) }
+    ensures given_back { IfErr result (λ refused. refused.value ≡ (
+      price,
+      min (unwrap_or (value_of nat_cmp levels.old.pairs price) 0 + quantity) (2 ^ 64 - 1),
+    )) }
     ensures memory { IfErr result (λ refused. refused.cause ≡ Memory) }
 {
     let before = levels.get(&price).copied().unwrap_or(0);

@@ -1,7 +1,8 @@
 //! Prices: a map from items to what they cost.
-ghost use Rattle.std.specs.Prelude.{◌≡◌, ◌+◌, ◌-◌, ◌^◌, Some, None, IfOk, OnErr, length, min, unwrap_or};
+ghost use Rattle.std.specs.Prelude.{◌≡◌, ◌+◌, ◌-◌, ◌^◌, Some, None, IfErr, IfOk, OnErr, length, min, unwrap_or};
 ghost use Rattle.std.specs.Ordering.{nat_cmp};
 ghost use Rattle.std.specs.declared.ops.Bound.TheVariants.{Excluded, Unbounded};
+ghost use Rattle.indexset.specs.declared.base.refusal.Refusal.TheVariants.{Memory};
 ghost use Rattle.indexset.specs.Words.{pairs_within, value_of, with_entry, without_entry, written};
 
 use indexset::BTreeMap;
@@ -17,6 +18,8 @@ pub fn set_price(
     ensures now { IfOk result (λ now. now ≡ Some price) }
     ensures contents { IfOk result (λ _. prices.new ≡ with_entry nat_cmp prices.old item price) }
     ensures same { OnErr result (prices.new ≡ prices.old) }
+    ensures given_back { IfErr result (λ refused.
+        (refused.value ≡ (item, price)) × (refused.cause ≡ Memory)) }
 {
     prices.insert(item, price)?;
     Ok(prices.get(&item).copied())
@@ -41,6 +44,8 @@ pub fn price_or(
     ensures contents { IfOk result (λ price. prices.new
         ≡ with_entry nat_cmp prices.old item price) }
     ensures same { OnErr result (prices.new ≡ prices.old) }
+    ensures given_back { IfErr result (λ refused.
+        (refused.value ≡ (item, usual)) × (refused.cause ≡ Memory)) }
 {
     let price = prices.entry(item).or_insert(usual)?;
     Ok(*price)

@@ -1,8 +1,8 @@
 //! A stock of named things, and a copy of it kept elsewhere: a logged map whose keys are texts.
-ghost use Rattle.std.specs.Prelude.{◌≡◌, ◌⊎◌, Some, OnErr, OnOk};
+ghost use Rattle.std.specs.Prelude.{◌≡◌, ◌⊎◌, length, Some, IfErr, OnOk};
 ghost use Rattle.std.specs.Ordering.{nat_cmp};
 ghost use Rattle.std.specs.Cmp.Lexicographic.{slice_cmp};
-ghost use Rattle.indexset.specs.Words.{by_key, joined, pair, put, value_of, without_key};
+ghost use Rattle.indexset.specs.Words.{by_key, joined, key_removal_events, pair, put, put_events, refusal_for, value_of, without_key};
 
 use crate::copies::apply_all;
 use bytes::ByteStr;
@@ -33,7 +33,9 @@ pub fn set_count(
         ≡ Some count) }
     ensures contents { OnOk result (joined stock.new.nodes
         ≡ put (by_key (slice_cmp nat_cmp)) (joined stock.old.nodes) (pair name count)) }
-    ensures refused { OnErr result (((stock.new ≡ stock.old) × (copy.new ≡ copy.old))
+    ensures refused { IfErr result (λ refusal. ((stock.new ≡ stock.old) × (copy.new ≡ copy.old)
+        × (refusal ≡ refusal_for stock.old.next (length (put_events (by_key (slice_cmp nat_cmp))
+        stock.old.size stock.old.nodes (pair name count)))))
         ⊎ (joined stock.new.nodes ≡ put (by_key (slice_cmp nat_cmp))
         (joined stock.old.nodes) (pair name count))) }
 {
@@ -48,7 +50,9 @@ pub fn forget(stock: &mut Stock, copy: &mut Replica<Count>, name: &ByteStr) -> R
     ensures same { OnOk result (copy.new.nodes ≡ stock.new.nodes) }
     ensures contents { OnOk result (joined stock.new.nodes
         ≡ without_key (slice_cmp nat_cmp) (joined stock.old.nodes) name.now) }
-    ensures refused { OnErr result (((stock.new ≡ stock.old) × (copy.new ≡ copy.old))
+    ensures refused { IfErr result (λ refusal. ((stock.new ≡ stock.old) × (copy.new ≡ copy.old)
+        × (refusal ≡ refusal_for stock.old.next (length (key_removal_events (slice_cmp nat_cmp)
+        stock.old.size stock.old.nodes name.now))))
         ⊎ (joined stock.new.nodes ≡ without_key (slice_cmp nat_cmp)
         (joined stock.old.nodes) name.now)) }
 {

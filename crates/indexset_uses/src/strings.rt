@@ -1,9 +1,9 @@
 //! Maps whose keys are `String`s. Their clones are other values of the same bytes, so the contracts say
 //! what the map holds and which numbers the events have, and of the items of events that they are clones.
-ghost use Rattle.std.specs.Prelude.{◌≡◌, ◌+◌, ◌≤◌, ◌⊎◌, ℕ, List, length, false, map, Some, IfErr, IfOk, OnOk, OnErr, string_bytes};
+ghost use Rattle.std.specs.Prelude.{◌≡◌, ◌+◌, ◌≤◌, ◌⊎◌, ℕ, List, length, false, map, unwrap_or, None, Some, IfErr, IfOk, OnOk, OnErr, string_bytes};
 ghost use Rattle.std.specs.List.{AllZip};
 ghost use Rattle.std.specs.String.{string_cmp};
-ghost use Rattle.indexset.specs.Words.{by_key, has_key, joined, key_removal_events, numbered_from, pair, put, put_events, refusal_for, unassigned, value_of, without_key, AreCopies, IsClonedStep, IsEventClone, IsNumberedFrom};
+ghost use Rattle.indexset.specs.Words.{by_key, has_key, joined, key_removal_events, apply_refusal, numbered_from, pair, put, put_events, refusal_for, unassigned, value_of, without_key, AreCopies, IsClonedStep, IsEventClone, IsNumberedFrom};
 
 use crate::copies::apply_all;
 use bytes::ByteStr;
@@ -68,7 +68,9 @@ pub fn set_in_both(
     ensures same { OnOk result (map (map {B = List ℕ × ℕ} (λ p. (string_bytes p.key, p.value)))
         copy.new.nodes ≡ map (map {B = List ℕ × ℕ} (λ p. (string_bytes p.key, p.value)))
         counts.new.nodes) }
-    ensures refused { OnErr result (((counts.new ≡ counts.old) × (copy.new ≡ copy.old))
+    ensures refused { IfErr result (λ refusal. ((counts.new ≡ counts.old) × (copy.new ≡ copy.old)
+        × (refusal ≡ refusal_for counts.old.next (length (put_events (by_key string_cmp)
+        counts.old.size counts.old.nodes (pair name count)))))
         ⊎ (joined counts.new.nodes ≡ put (by_key string_cmp)
         (joined counts.old.nodes) (pair name count))) }
 {
@@ -108,7 +110,11 @@ pub fn follow(copy: &mut Replica<Count>, event: &ChangeEvent<Count>) -> Result<(
         (λ p q. (string_bytes q.key ≡ string_bytes p.key) × (q.value ≡ p.value)) copy.old.nodes
         (unassigned event.now) copy.new.nodes) }
     ensures next { OnOk result (copy.new.next ≡ copy.old.next + 1) }
+    ensures fits { OnOk result (apply_refusal (by_key string_cmp) copy.old.nodes copy.old.next
+        event.now ≡ None) }
     ensures same { OnErr result (copy.new ≡ copy.old) }
+    ensures cause { IfErr result (λ refusal. refusal ≡ unwrap_or (apply_refusal (by_key string_cmp)
+        copy.old.nodes copy.old.next event.now) Refusal.Memory) }
 {
     copy.apply(event)
 }

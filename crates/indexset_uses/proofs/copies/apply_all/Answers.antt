@@ -1,6 +1,8 @@
-use Rattle.std.proofs.Common.{◌≡◌, [], ◌∷◌, ◌+◌, ◌++◌, Some, drop, take, add-one, option_and_then, ap, sym, ◌∙◌, refl, subst, arith}
+use Rattle.std.proofs.Common.{◌≡◌, [], ◌∷◌, ◌+◌, ◌-◌, ◌++◌, Some, drop, length, slice_get, take, add-one, option_and_then, ap, sym, ◌∙◌, refl, subst, arith}
 use Rattle.std.proofs.Math.Seq.{take-suc}
+use Rattle.std.proofs.lemmas.Grind.{common_steps}
 use Rattle.std.proofs.lemmas.List.{at_drop_more, drop_all}
+use Rattle.std.proofs.lemmas.Option.{slice_get_read}
 use Rattle.indexset.specs.Words.{replay, step}
 use Rattle.indexset_uses.proofs.Copied.{IsOnTheWay, at_end, one_more}
 use Rattle.indexset_uses.proofs.copies.apply_all.Goals as goal
@@ -35,3 +37,13 @@ returns-clause-copies g c = λ equal ns after es copied cloned led.
     let events = c.args.events.now in
     let none : drop c.loop-event.event-index events ≡ [] = drop_all c.loop-event.event-index events (omega arith) in
     at_end g.T.Ord.cmp g.T.Clone.is_clone after c.loop-event.copy.nodes (subst (IsOnTheWay g.T.Ord.cmp g.T.Clone.is_clone after c.loop-event.copy.nodes) none (c.loop-event.invariant.copies equal ns after es copied cloned led))
+
+-- the copy awaits the event that it refused
+pub returns-in_err-apply-clause-refusal : goal.returns-in_err-apply-clause-refusal
+returns-in_err-apply-clause-refusal g c =
+    let events = c.args.events.now in
+    let i = c.loop-event.event-index in
+    let there : slice_get events i ≡ Some c.event-item.result = slice_get_read events (length events) i c.event-item.result refl c.loop-event-test.true c.event-item.is in
+    let counted = c.loop-event.invariant.counted in
+    let place : c.loop-event.copy.next - c.args.copy.now.next ≡ i = omega (arith, counted) in
+    rw (c.in_err-apply.ensures.unchanged, place, there, ← c.in_err-apply.ensures.refusal) (grind (arith, common_steps))
