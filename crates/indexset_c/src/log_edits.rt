@@ -90,7 +90,9 @@ pub extern "C" fn indexset_log_remove(
 ) -> u32
     ensures found { (result ≡ YES
         → value_of nat_cmp (logged_pairs log.old.slot.value) key ≡ Some out.new)
-        × (result ≡ NO → value_of nat_cmp (logged_pairs log.old.slot.value) key ≡ None) }
+        × (result ≡ NO → value_of nat_cmp (logged_pairs log.old.slot.value) key ≡ None)
+        × (value_of nat_cmp (logged_pairs log.old.slot.value) key ≡ None
+        → 3 ≤ length events.old → result ≡ NO) }
     ensures rest { result ≤ YES → logged_pairs log.new.slot.value
         ≡ without_key nat_cmp (logged_pairs log.old.slot.value) key }
     ensures changed { result ≡ YES → IfSome log.old.slot.value (λ m. IfSome log.new.slot.value

@@ -1,5 +1,5 @@
 //! What the calls of a logged map do with it.
-ghost use Rattle.std.specs.Prelude.{◌≡◌, ◌+◌, ◌<◌, ◌≤◌, length, map, IfOk, OnOk, IfErr, OnErr, None, Some, min};
+ghost use Rattle.std.specs.Prelude.{◌≡◌, ◌+◌, ◌<◌, ◌≤◌, length, map, IfOk, OnOk, IfErr, OnErr, IsOk, None, Some, min};
 ghost use Rattle.std.specs.Ordering.{nat_cmp};
 ghost use Rattle.indexset_core.specs.Nodes.{joined, node_lengths, vec_items};
 ghost use Rattle.indexset_core.specs.Pairs.{by_key, pair, value_of, pair_keys, pair_values};
@@ -77,8 +77,8 @@ pub fn remove_told(
         ≡ refusal_for log.old.next (length
         (key_removal_events nat_cmp log.old.size log.old.nodes key))) }
     ensures absent { IfOk result (λ r. r.0 ≡ None → (r.1 ≡ 0) × (log.new ≡ log.old)) }
-    ensures unchanged { OnErr result (log.new ≡ log.old) }
-    ensures unwritten { OnErr result (events.new ≡ events.old) }
+    ensures no_event { value_of nat_cmp (joined log.old.nodes) key ≡ None → IsOk result }
+    ensures unchanged { OnErr result ((log.new ≡ log.old) × (events.new ≡ events.old)) }
 {
     let (found, changes) = log.remove_cdc(&key)?;
     write_events(changes.as_slice(), events);

@@ -1,5 +1,5 @@
 use Rattle.std.proofs.Common.{◌≡◌, Some, None, length, refl, ap, sym, ◌∙◌, arith}
-use Rattle.std.proofs.lemmas.Bool.{leb-true}
+use Rattle.std.proofs.lemmas.Bool.{false≢true, leb-true}
 use Rattle.std.proofs.lemmas.Option.{none-some}
 use Rattle.std.specs.Ordering.{nat_cmp}
 use Rattle.indexset_core.specs.Pairs.{without_key}
@@ -15,7 +15,7 @@ unfolding without_key
 returns-in_default c =
     let none : None ≡ c.args.log.now.slot.value = c.in_default.ensures.taken in let left = c.in_default.ensures.left in
     rw (← none) record {
-      found = (λ h. not_at 0 NO YES refl refl h, λ h. refl);
+      found = (λ h. not_at 0 NO YES refl refl h, λ h. refl, λ none enough. refl);
       rest = λ h. rw left refl;
       changed = λ h. not_at 0 NO YES refl refl h;
       there = (λ h. refl, λ h. left);
@@ -30,7 +30,7 @@ pub returns-then-events-lt3 : goal.returns-then-events-lt3
 returns-then-events-lt3 c =
     let was : Some c.in-Some.held.value ≡ c.args.log.now.slot.value = c.in-Some.ensures.taken in let put = c.put.ensures in
     rw (← was) record {
-      found = (λ h. not_at 6 UNFIT YES refl refl h, λ h. not_at 6 UNFIT NO refl refl h);
+      found = (λ h. not_at 6 UNFIT YES refl refl h, λ h. not_at 6 UNFIT NO refl refl h, λ none enough. absurd (omega (arith, c.if-events-lt3.true, enough)));
       rest = λ h. not_most 6 UNFIT YES refl refl h;
       changed = λ h. not_at 6 UNFIT YES refl refl h;
       there = (λ h. absurd (none-some _ (sym h ∙ put)), λ h. absurd (none-some _ (sym h)));
@@ -50,7 +50,7 @@ returns c =
       | in-Ok+then-write w ↦
           let e = w.in-Ok.ensures in let told : c.match-remove_told.told ≡ n = w.told-is ∙ e.told in
           record {
-            found = (λ h. sym e.found ∙ w.write.ensures.found w.if-write.true ∙ ap Some (sym w.out-is), λ h. not_at s YES NO w.status-is refl h);
+            found = (λ h. sym e.found ∙ w.write.ensures.found w.if-write.true ∙ ap Some (sym w.out-is), λ h. not_at s YES NO w.status-is refl h, λ none enough. absurd (none-some _ (sym none ∙ (sym e.found ∙ w.write.ensures.found w.if-write.true))));
             rest = λ h. rw new e.changed.contents;
             changed = λ h. rw new e.changed;
             there = (λ h. absurd (none-some _ (sym h ∙ new)), λ h. absurd (none-some _ (sym h)));
@@ -64,7 +64,7 @@ returns c =
           let e = w.in-Ok.ensures in let told : c.match-remove_told.told ≡ n = w.told-is ∙ e.told in
           let gone = e.absent (w.write.ensures.absent w.if-write.false) in let zero : n ≡ 0 = sym e.told ∙ gone.0 in
           record {
-            found = (λ h. not_at s NO YES w.status-is refl h, λ h. sym e.found ∙ w.write.ensures.absent w.if-write.false);
+            found = (λ h. not_at s NO YES w.status-is refl h, λ h. sym e.found ∙ w.write.ensures.absent w.if-write.false, λ none enough. w.status-is);
             rest = λ h. rw new e.changed.contents;
             changed = λ h. not_at s NO YES w.status-is refl h;
             there = (λ h. absurd (none-some _ (sym h ∙ new)), λ h. absurd (none-some _ (sym h)));
@@ -78,13 +78,13 @@ returns c =
           let e = w.in-Err.ensures in
           let r : IsRefused s (refusal_for m.next n) = is_refused s w.of_refusal-status.result w.in-Err.cause (refusal_for m.next n) w.status-is e.refusal (for_events m.next n) w.of_refusal-status.ensures.memory w.of_refusal-status.ensures.numbers in
           record {
-            found = (λ h. refused_not_yes s _ r h, λ h. refused_not_no s _ r h);
+            found = (λ h. refused_not_yes s _ r h, λ h. refused_not_no s _ r h, λ none enough. absurd (false≢true (e.no_event none)));
             rest = λ h. refused_not_done s _ r h;
             changed = λ h. refused_not_yes s _ r h;
             there = (λ h. absurd (none-some _ (sym h ∙ new)), λ h. absurd (none-some _ (sym h)));
             told = λ h. refused_not_done s _ r h;
             few = rw w.told-is (leb-true 0 3 refl);
-            same = λ h. (w.out-is, w.told-is, e.unwritten, (new ∙ ap Some e.unchanged));
+            same = λ h. (w.out-is, w.told-is, e.unchanged.1, (new ∙ ap Some e.unchanged.0));
             cause = record { memory = r.memory; numbers = r.numbers };
             status = ((λ h. refused_not_unfit s _ r h, λ h. absurd (omega (arith, c.if-events-lt3.false, h.1))), refused_status s _ r, r.not_none, r.not_held);
           }

@@ -1,4 +1,5 @@
 use Rattle.std.proofs.Common.{◌≡◌, [], length, map, Some, None, ap, sym, ◌∙◌, arith}
+use Rattle.std.proofs.lemmas.Bool.{false≢true}
 use Rattle.std.proofs.lemmas.Option.{none-some, same_Some}
 use Rattle.std.specs.Ordering.{nat_cmp}
 use Rattle.indexset_core.specs.Nodes.{joined}
@@ -39,3 +40,9 @@ returns-clause-absent c none =
     let count = returns-clause-told c in let next = e.changed.next in
     let nodes : Some log.nodes ≡ Some new.nodes = sym (ap (λ l. replay (by_key nat_cmp) log.nodes (numbered_from log.next l)) empty) ∙ e.changed.table in
     (count ∙ zero, same_tree new log (sym (same_Some log.nodes new.nodes nodes)) e.changed.size (omega (arith, next, zero)))
+
+-- where the key is not there, there is no event, and such a removal does not fail
+pub returns-in_err-found-clause-no_event : goal.returns-in_err-found-clause-no_event
+returns-in_err-found-clause-no_event c none =
+    let log = c.args.log.now in let k = c.args.key in
+    absurd (false≢true (c.in_err-found.ensures.no_event (none_told log.size log.nodes k (mapped_none (λ p. p.value) (pair_of nat_cmp (joined log.nodes) k) none))))
