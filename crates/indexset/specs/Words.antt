@@ -19,6 +19,7 @@
 -- | event table | the definition of each call's events: `put_events`, `checked_put_events`, `removal_events` |
 -- | replay | the steps of events in turn; undefined from the first event that names no node, does not fit, or leaves no node list |
 -- | replica | a copy that holds a node list and the number of the event that it expects |
+-- | text of a value | of a type that is `Spelled`, the bytes that `{}` writes, of which the identical value is read, and no other; a `Word`'s texts may stand in that of a pair |
 -- | clone premise | that a clone is the same value as its source |
 -- | `clones`, `cloned` | clauses: events, or the nodes of a replica, with clones in the place of items; `cloned` of `Logged` says that an item is a clone of another |
 --
@@ -33,6 +34,9 @@
 -- | `cut nodes size` | what contracts see of a set: its nodes and node size; of a map it is `Contents`: pairs, node lengths, node size; of a logged tree `Tree`: nodes, node size, number of the next event; of a multimap `MultiTree`, with the number of the next new pair; of a replica `ReplicaState` |
 -- | `IsNodeList cmp ns`, `IsLawful cmp size ns` | no node is empty and the items of all ascend; besides, each is within the size |
 -- | `step cmp ns e`, `replay cmp ns es` | the nodes after an event; after events in turn |
+-- | `event_text text e`, `event_reading read line` | the text of an event, where that of an item is known; the event of which a line is the text |
+-- | `EventInRange P e` | its numbers are of 64 bits, and P holds of its items |
+-- | `is_item text`, `is_word text` | the text has no end of line, and no space but before a `#`; it has no end of line, no space and no colon |
 -- | `IsFeed`, `IsAt`, `IsDelivered` | events numbered in turn that lead from given nodes; a replica that holds what the first j lead to; one that holds what the longest beginning leads to whose events came in turn |
 -- | `IsBeginning`, `HoldsAll` | a replica that holds what some beginning of a feed leads to, and awaits the event after it; one that holds what all events lead to |
 -- | `IsCopy`, `AreCopies` | an item is another one, or an equal clone of it, or one of such a clone, and so on; nodes hold copies of the items of other nodes, one for each |
@@ -52,7 +56,9 @@ pub use Rattle.indexset_core.specs.Nodes.{joined, vec_items, IsNodeList}
 pub use Rattle.indexset_events.specs.Clones.{IsEventClone}
 pub use Rattle.indexset_events.specs.declared.change.ChangeEvent.{ChangeEvent}
 pub use Rattle.indexset_events.specs.Attach.{nodes_refusal}
+pub use Rattle.indexset_events.specs.EventText.{EventInRange, event_reading, event_text}
 pub use Rattle.indexset_events.specs.Keys.{key_removal_events}
+pub use Rattle.indexset_events.specs.Spelling.{is_item, is_word}
 pub use Rattle.indexset_events.specs.Table.{put_events, checked_put_events, removal_events}
 pub use Rattle.indexset_events.specs.Replay.{IsNumberedFrom, numbered_from, replay, step, unassigned}
 pub use Rattle.indexset_log.specs.Tree.{Tree, refusal_for}

@@ -42,9 +42,9 @@ pub mod concurrent {
     }
 }
 
-/// The events of a tree's changes, and laws on lists of them.
+/// The events of a tree's changes, laws on lists of them, and their texts.
 pub mod cdc {
-    pub use indexset_events::{change, laws};
+    pub use indexset_events::{change, laws, spelling};
 }
 
 /// Comparators by which sets and maps look a `&str` up among text keys. (They are not in the Rust crate.)

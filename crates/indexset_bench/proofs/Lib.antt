@@ -2,7 +2,6 @@ pub mod Acts
 pub mod CallerLemmas
 pub mod ClonedRuns
 pub mod CommandRuns
-pub mod Digits
 pub mod LoggedMaps
 pub mod LoggedRuns
 pub mod Meanings

@@ -1,8 +1,9 @@
 //! The commands, and what a line says.
 
-ghost use Rattle.std.specs.Prelude.{◌≡◌, ◌≢◌, ℕ, ◌^◌, ◌<◌, MatchOption};
-ghost use Rattle.std.specs.Fmt.{decimal};
+ghost use Rattle.std.specs.Prelude.{◌≡◌};
 ghost use Rattle.indexset_bench.specs.Command.{meaning};
+
+pub use indexset_events::parts::number;
 
 /// A command to the set.
 #[derive(Clone, Copy, Debug, PartialEq, Eq)]
@@ -19,27 +20,6 @@ pub enum Command {
     At(u64),
     /// Returns how many numbers there are.
     Len,
-}
-
-/// Returns the number of which this is the plain decimal text.
-pub fn number(text: &[u8]) -> Option<u64>
-    ensures { MatchOption result
-        ((n : ℕ) → n < 2 ^ 64 → text.now ≢ decimal n)
-        (λ n. (text.now ≡ decimal n) × (n < 2 ^ 64)) }
-{
-    if text.is_empty() {
-        return None;
-    }
-    if text[0] == b'+' {
-        return None;
-    }
-    if text[0] == b'0' && text.len() > 1 {
-        return None;
-    }
-    match std::str::from_utf8(text) {
-        Ok(digits) => digits.parse().ok(),
-        Err(_) => None,
-    }
 }
 
 /// Returns the command that the line spells, if it spells one.

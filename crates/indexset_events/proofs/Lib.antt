@@ -2,6 +2,8 @@ pub mod Attaches
 pub mod CallerLemmas
 pub mod Changes
 pub mod Clones
+pub mod Digits
+pub mod EventTexts
 pub mod Follows
 pub mod Joins
 pub mod Nodewise

@@ -15,7 +15,7 @@ use Rattle.indexset_follow.specs.Told.{IsAmong, event_lines, events_of_lines, ou
 use Rattle.indexset_follow.proofs.EventLines.{event_sound}
 use Rattle.indexset_follow.proofs.Output.{Known, events_in, output_known, output_tells}
 use Rattle.indexset_follow.proofs.Programs.{follower_begins, follower_ends, same_nodes}
-use Rattle.indexset_follow.proofs.Readings.{some_inj, none_some}
+use Rattle.indexset_events.specs.Spelling.Laws.{some_inj, none_some}
 
 -- ---- lists
 

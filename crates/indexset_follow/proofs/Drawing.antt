@@ -20,7 +20,7 @@ use Rattle.indexset_follow.specs.Drawn.{HoldsFirst, IsDrawn, IsFeedOfPairs}
 use Rattle.indexset_follow.specs.EventLine.{Event, EventFits, event_of}
 use Rattle.indexset_follow.specs.Follow.{State, after_event, after_line, state, state_after}
 use Rattle.indexset_follow.proofs.EventLines.{event_told}
-use Rattle.indexset_follow.proofs.Readings.{none_some, some_inj, then_some}
+use Rattle.indexset_events.specs.Spelling.Laws.{none_some, some_inj, then_some}
 
 -- ---- lists
 

@@ -10,8 +10,10 @@ use Rattle.indexset_core.specs.declared.pair.Pair.{Pair}
 use Rattle.indexset_events.specs.declared.change.ChangeEvent.TheVariants.{InsertAt, RemoveAt, CreateNode, RemoveNode, SplitNode, MergeNodes}
 use Rattle.indexset_events.specs.declared.change.Id.{Id}
 use Rattle.indexset_follow.specs.EventLine.{Event, EventFits, event_of, named_event, placed_event, word_event}
-use Rattle.indexset_follow.specs.Numbers.{PairFits, cut_at, number_of, pair_of}
-use Rattle.indexset_follow.proofs.Readings.{Lacks, cut_sound, cut_told, lacks_tested, map_some, none_some, number_lacks, number_sound, number_told, pair_lacks, pair_sound, pair_told, some_inj, space_apart, then_some}
+use Rattle.indexset_events.specs.Spelling.{cut_at, number_of}
+use Rattle.indexset_follow.specs.Numbers.{PairFits, pair_of}
+use Rattle.indexset_events.specs.Spelling.Laws.{Lacks, cut_sound, cut_told, lacks_tested, map_some, none_some, number_lacks, number_sound, number_told, some_inj, then_some}
+use Rattle.indexset_follow.proofs.Readings.{pair_lacks, pair_sound, pair_told, space_apart}
 
 -- ---- the texts, by their words
 

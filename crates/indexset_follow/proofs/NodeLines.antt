@@ -14,8 +14,10 @@ use Rattle.std.specs.Str.{bytes_eq}
 use Rattle.indexset_bench.specs.PairText.{node_text, pair_text}
 use Rattle.indexset_core.specs.declared.pair.Pair.{Pair}
 use Rattle.indexset_follow.specs.NodeLine.{NodeFits, node_line, node_of, pairs_of, words}
-use Rattle.indexset_follow.specs.Numbers.{PairFits, cut_at, pair_of}
-use Rattle.indexset_follow.proofs.Readings.{Lacks, cut_sound, cut_told, lacks_tested, map_some, none_some, pair_lacks, pair_sound, pair_told, some_inj, space_apart, then_some}
+use Rattle.indexset_events.specs.Spelling.{cut_at}
+use Rattle.indexset_follow.specs.Numbers.{PairFits, pair_of}
+use Rattle.indexset_events.specs.Spelling.Laws.{Lacks, cut_sound, cut_told, lacks_tested, map_some, none_some, some_inj, then_some}
+use Rattle.indexset_follow.proofs.Readings.{pair_lacks, pair_sound, pair_told, space_apart}
 
 -- ---- words
 

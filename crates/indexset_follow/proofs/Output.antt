@@ -34,14 +34,16 @@ use Rattle.indexset_events.specs.declared.change.Id.{Id}
 use Rattle.indexset_events.proofs.CallerLemmas.{Each, each-append, each_all}
 use Rattle.indexset_follow.specs.EventLine.{Event, EventFits, event_of}
 use Rattle.indexset_follow.specs.Follow.{State, after_line}
-use Rattle.indexset_follow.specs.Numbers.{PairFits, cut_at}
+use Rattle.indexset_events.specs.Spelling.{cut_at}
+use Rattle.indexset_follow.specs.Numbers.{PairFits}
 use Rattle.indexset_follow.specs.Passed.{IsPassedOver, ReplyFits}
 use Rattle.indexset_follow.specs.Told.{events_from, events_of_lines, line_events, output_lines}
 use Rattle.indexset_follow.proofs.EventLines.{event_told}
 use Rattle.indexset_follow.proofs.Fits.{each_apart, each_found}
 use Rattle.indexset_follow.proofs.Passing.{node_alone, node_passed, reply_passed, uncut}
 use Rattle.indexset_follow.proofs.Programs.{Good, line_onward, lines_onward, no_good}
-use Rattle.indexset_follow.proofs.Readings.{Lacks, cut_told, end_apart, lacks_tested, no_number, none_some, number_lacks, pair_lacks}
+use Rattle.indexset_events.specs.Spelling.Laws.{Lacks, cut_told, lacks_tested, none_some, number_lacks}
+use Rattle.indexset_follow.proofs.Readings.{end_apart, no_number, pair_lacks}
 use Rattle.indexset_follow.proofs.Snapshots.{first_line, row_lacks}
 
 -- ---- no text has a byte that ends a line

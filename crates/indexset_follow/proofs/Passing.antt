@@ -20,10 +20,12 @@ use Rattle.indexset_core.specs.declared.pair.Pair.{Pair}
 use Rattle.indexset_events.proofs.CallerLemmas.{Each}
 use Rattle.indexset_follow.specs.EventLine.{event_of}
 use Rattle.indexset_follow.specs.NodeLine.{node_of}
-use Rattle.indexset_follow.specs.Numbers.{PairFits, cut_at, number_of}
+use Rattle.indexset_events.specs.Spelling.{cut_at, number_of}
+use Rattle.indexset_follow.specs.Numbers.{PairFits}
 use Rattle.indexset_follow.specs.Passed.{IsPassedOver, ReplyFits}
 use Rattle.indexset_follow.specs.Request.{request_of}
-use Rattle.indexset_follow.proofs.Readings.{IsApart, Lacks, cut_told, lacks_tested, no_number, number_lacks, number_sound, pair_lacks, space_apart}
+use Rattle.indexset_events.specs.Spelling.Laws.{Lacks, cut_told, lacks_tested, number_lacks, number_sound}
+use Rattle.indexset_follow.proofs.Readings.{IsApart, no_number, pair_lacks, space_apart}
 
 -- what says nothing is passed over
 says_nothing : (line : List ℕ) → event_of line ≡ None → node_of line ≡ None → request_of line ≡ None → IsPassedOver line

@@ -34,7 +34,7 @@ use Rattle.indexset_follow.specs.Numbers.{PairFits}
 use Rattle.indexset_follow.specs.Follow.{start_state, state, state_after}
 use Rattle.indexset_follow.specs.Told.{events_from, events_of_lines, line_events}
 use Rattle.indexset_follow.proofs.Drawing.{beginning, whole}
-use Rattle.indexset_follow.proofs.Readings.{some_inj}
+use Rattle.indexset_events.specs.Spelling.Laws.{some_inj}
 use Rattle.indexset_follow.proofs.Fits.{PlainFits, key_removal_fit, put_fit}
 
 abbrev pub order : Pair ℕ ℕ → Pair ℕ ℕ → Ordering

@@ -22,11 +22,13 @@ use Rattle.indexset_events.specs.Nodes.{is_filled}
 use Rattle.indexset_follow.specs.EventLine.{event_of}
 use Rattle.indexset_follow.specs.Follow.{State, after_line, after_node, snapshot_text, state, state_after}
 use Rattle.indexset_follow.specs.NodeLine.{NodeFits, node_line, node_of}
-use Rattle.indexset_follow.specs.Numbers.{PairFits, cut_at}
+use Rattle.indexset_events.specs.Spelling.{cut_at}
+use Rattle.indexset_follow.specs.Numbers.{PairFits}
 use Rattle.indexset_follow.specs.Request.{request_of}
 use Rattle.indexset_follow.specs.declared.request.Request.TheVariants.{Start}
 use Rattle.indexset_follow.proofs.NodeLines.{node_told}
-use Rattle.indexset_follow.proofs.Readings.{Lacks, cut_told, end_apart, lacks_tested, no_number, number_lacks, number_told, pair_lacks}
+use Rattle.indexset_events.specs.Spelling.Laws.{Lacks, cut_told, lacks_tested, number_lacks, number_told}
+use Rattle.indexset_follow.proofs.Readings.{end_apart, no_number, pair_lacks}
 
 -- ---- nodes one after the other
 

@@ -6,7 +6,8 @@ use Rattle.indexset_core.specs.declared.pair.Pair.{Pair}
 use Rattle.indexset_events.specs.declared.change.ChangeEvent.{ChangeEvent}
 use Rattle.indexset_events.specs.declared.change.ChangeEvent.TheVariants.{InsertAt, RemoveAt, CreateNode, RemoveNode, SplitNode, MergeNodes}
 use Rattle.indexset_events.specs.declared.change.Id.{Id}
-use Rattle.indexset_follow.specs.Numbers.{PairFits, cut_at, number_of, pair_of}
+use Rattle.indexset_events.specs.Spelling.{cut_at, number_of}
+use Rattle.indexset_follow.specs.Numbers.{PairFits, pair_of}
 
 -- an event whose items are pairs of numbers
 abbrev pub Event : Type 0

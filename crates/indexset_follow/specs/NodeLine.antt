@@ -5,7 +5,8 @@ use Rattle.std.specs.Option.{option_map, option_and_then}
 use Rattle.std.specs.Str.{bytes_eq}
 use Rattle.indexset_bench.specs.PairText.{node_text}
 use Rattle.indexset_core.specs.declared.pair.Pair.{Pair}
-use Rattle.indexset_follow.specs.Numbers.{PairFits, cut_at, pair_of}
+use Rattle.indexset_events.specs.Spelling.{cut_at}
+use Rattle.indexset_follow.specs.Numbers.{PairFits, pair_of}
 
 -- the line that gives a node
 abbrev pub node_line : List (Pair ℕ ℕ) → List ℕ

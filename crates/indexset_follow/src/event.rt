@@ -3,9 +3,10 @@
 ghost use Rattle.std.specs.Prelude.{◌≡◌};
 ghost use Rattle.indexset_follow.specs.EventLine.{event_of, named_event, word_event};
 
-use crate::numbers::{cut, read_number, read_pair};
+use crate::numbers::read_pair;
 use indexset_core::pair::Pair;
 use indexset_events::change::{ChangeEvent, Id};
+use indexset_events::parts::{cut, read_number};
 
 /// An event whose items are pairs of numbers.
 pub type Event = ChangeEvent<Pair<u64, u64>>;

@@ -4,9 +4,10 @@ ghost use Rattle.std.specs.Prelude.{◌≡◌, [], ◌∷◌, ◌++◌, IfOk, On
 ghost use Rattle.std.specs.Option.{option_map};
 ghost use Rattle.indexset_follow.specs.NodeLine.{node_of, pairs_of, words};
 
-use crate::numbers::{cut, read_pair};
+use crate::numbers::read_pair;
 use indexset_bench::RunFault;
 use indexset_core::pair::Pair;
+use indexset_events::parts::cut;
 use std::alloc::Global;
 
 /// A whole node.

@@ -3,7 +3,7 @@
 ghost use Rattle.std.specs.Prelude.{◌≡◌};
 ghost use Rattle.indexset_follow.specs.Request.{numbered_request, range_of, request_of, word_request};
 
-use crate::numbers::{cut, read_number};
+use indexset_events::parts::{cut, read_number};
 
 /// A command to a follower.
 #[derive(Clone, Copy, Debug, PartialEq, Eq)]

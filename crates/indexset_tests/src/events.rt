@@ -1,7 +1,9 @@
 //! Events without numbers, and numbers of events.
 
+use indexset_core::multipair::MultiPair;
 use indexset_core::pair::Pair;
 use indexset_events::change::{ChangeEvent, ChangeEventUnassigned, Id};
+use indexset_events::spelling::Spelled;
 use std::alloc::Global;
 use std::test::Fail;
 
@@ -68,4 +70,50 @@ fn events_of_pairs_are_compared_by_keys(rt: HostRuntime) {
     let event = creation_of(1, 'a');
     let same = event == creation_of(1, 'b');
     assert!(rt; same && event != creation_of(2, 'a'));
+}
+
+/// Whether the text is read as an event that is written by it again.
+fn is_read<T: Spelled + Drop>(alloc: Global, text: &str) -> bool {
+    match text.parse::<ChangeEvent<T>>() {
+        Ok(event) => match format!(in alloc; "{event}") {
+            Ok(written) => written.as_str() == text,
+            Err(_) => false,
+        },
+        Err(_) => false,
+    }
+}
+
+#[test]
+fn texts_of_events_are_read(rt: HostRuntime) {
+    let alloc = rt.alloc();
+    assert!(rt; is_read::<u64>(alloc, "7 insert 5 at 2 in the node of 18446744073709551615"));
+    assert!(rt; is_read::<i8>(alloc, "0 remove -128 at 0 in the node of 127"));
+    assert!(rt; is_read::<u32>(alloc, "18446744073709551615 create the node of 4294967295"));
+    assert!(rt; is_read::<i64>(alloc, "1 drop the node of -9223372036854775808"));
+    assert!(rt; is_read::<Pair<u16, i32>>(alloc, "2 split the node of 65535:-1 at 128"));
+}
+
+#[test]
+fn texts_of_events_of_numbered_pairs_are_read(rt: HostRuntime) {
+    let alloc = rt.alloc();
+    let merge = "3 merge the node of 1:2 #0 with the node of 3:4 #5";
+    let insert = "4 insert 1:2 #7 at 1 in the node of 1:9 #3";
+    assert!(rt; is_read::<MultiPair<u64, u64>>(alloc, merge));
+    assert!(rt; is_read::<MultiPair<i16, usize>>(alloc, insert));
+    assert!(rt; !is_read::<Pair<u64, u64>>(alloc, merge));
+}
+
+#[test]
+fn texts_of_no_event_are_refused(rt: HostRuntime) {
+    let alloc = rt.alloc();
+    assert!(rt; !is_read::<u8>(alloc, "1 create the node of 256"));
+    assert!(rt; !is_read::<u8>(alloc, "1 create the node of +5"));
+    assert!(rt; !is_read::<u8>(alloc, "1 create the node of 05"));
+    assert!(rt; !is_read::<i8>(alloc, "1 create the node of -0"));
+    assert!(rt; !is_read::<i8>(alloc, "1 create the node of -129"));
+    assert!(rt; !is_read::<u64>(alloc, "18446744073709551616 create the node of 5"));
+    assert!(rt; !is_read::<u64>(alloc, "1 create the node of 5 "));
+    assert!(rt; !is_read::<u64>(alloc, "1 make the node of 5"));
+    assert!(rt; !is_read::<u64>(alloc, "1 insert 5 at 2 in the node of "));
+    assert!(rt; !is_read::<u64>(alloc, ""));
 }

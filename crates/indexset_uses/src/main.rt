@@ -23,6 +23,7 @@ mod strings;
 mod tags;
 mod takeover;
 mod window;
+mod wire;
 
 use anyhow::Result;
 use bytes::ByteStr;
@@ -38,6 +39,7 @@ fn main(rt: HostRuntime) -> Result<()> {
     show_changes(&rt)?;
     show_takeover(&rt)?;
     show_stock(&rt)?;
+    show_wire(&rt)?;
     programs::show(&rt)
 }
 
@@ -170,6 +172,17 @@ fn show_stock(rt: &HostRuntime) -> Result<()> {
     stock::forget(&mut stock, &mut copy, &ByteStr::from_static("plums"))?;
     for Pair { key, value } in copy.iter() {
         println!(rt; "{key}: {value}")?;
+    }
+    Ok(())
+}
+
+fn show_wire(rt: &HostRuntime) -> Result<()> {
+    let mut prices = wire::Prices::with_maximum_node_size(rt.alloc(), 4);
+    let (_, events) = prices.insert_cdc(wire::Side::Sell, -5)?;
+    for event in events.as_slice() {
+        println!(rt; "sent: {event}")?;
+        let read = wire::resent(rt.alloc(), event)?;
+        println!(rt; "read: {}", read.is_some())?;
     }
     Ok(())
 }

@@ -1,7 +1,8 @@
 use Rattle.std.proofs.Common.{rules, ◌≡◌, ◌∙◌, ◌∷◌, ◌++◌, [], None, Some, ap, sym}
 use Rattle.std.specs.Option.{option_map}
 use Rattle.indexset_follow.specs.NodeLine.{pairs_of, words}
-use Rattle.indexset_follow.specs.Numbers.{cut_at, pair_of}
+use Rattle.indexset_events.specs.Spelling.{cut_at}
+use Rattle.indexset_follow.specs.Numbers.{pair_of}
 use Rattle.indexset_follow.proofs.NodeLines.{cut_words, pairs_first, pairs_last, pairs_more, pairs_none, uncut_words}
 use Rattle.indexset_follow.proofs.node.read_pairs.Goals as goal
 

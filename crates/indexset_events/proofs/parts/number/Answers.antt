@@ -1,7 +1,7 @@
 use Rattle.std.proofs.Common.{rules, arith, ◌≡◌, ◌<◌, length, get_or}
-use Rattle.indexset_bench.proofs.Digits.{no_number-empty, no_number-plus, no_number-zero, no_number-utf8, parsed_text}
-use Rattle.indexset_bench.proofs.command.number.Goals as goal
-use Rattle.indexset_bench.proofs.command.number.Goals.{else-text-eq48-via-then-text-eq48+else-text-gt1, else-text-eq48-via-else-text-eq48}
+use Rattle.indexset_events.proofs.Digits.{no_number-empty, no_number-plus, no_number-zero, no_number-utf8, parsed_text}
+use Rattle.indexset_events.proofs.parts.number.Goals as goal
+use Rattle.indexset_events.proofs.parts.number.Goals.{else-text-eq48-via-then-text-eq48+else-text-gt1, else-text-eq48-via-else-text-eq48}
 
 pub returns-then-is_empty : goal.returns-then-is_empty
 returns-then-is_empty c n small e = no_number-empty c.args.text.now (search rules) n small e

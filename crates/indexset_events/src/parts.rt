@@ -1,0 +1,102 @@
+//! Numbers and parts of a text.
+ghost use Rattle.std.specs.Prelude.{◌≡◌, ◌≢◌, ℕ, ◌^◌, ◌<◌, ◌≤◌, ◌==◌, ℤ, None, Some, is_some, position, MatchOption};
+ghost use Rattle.std.specs.Fmt.{decimal};
+ghost use Rattle.std.specs.Option.{option_map};
+ghost use Rattle.indexset_events.specs.Spelling.{behind, cut_at, cut_item, number_of, signed_below};
+
+/// Returns the number of which this is the plain decimal text.
+pub fn number(text: &[u8]) -> Option<u64>
+    ensures { MatchOption result
+        ((n : ℕ) → n < 2 ^ 64 → text.now ≢ decimal n)
+        (λ n. (text.now ≡ decimal n) × (n < 2 ^ 64)) }
+{
+    if text.is_empty() {
+        return None;
+    }
+    if text[0] == b'+' {
+        return None;
+    }
+    if text[0] == b'0' && text.len() > 1 {
+        return None;
+    }
+    match std::str::from_utf8(text) {
+        Ok(digits) => digits.parse().ok(),
+        Err(_) => None,
+    }
+}
+
+/// Returns the number of which this is the plain decimal text.
+pub fn read_number(text: &[u8]) -> Option<u64>
+    ensures { result ≡ number_of text.now }
+{
+    number(text)
+}
+
+/// Returns the text where it is the plain decimal of a signed number, at least -half and below half.
+pub(crate) fn signed_text(text: &[u8], half: u64) -> Option<&str>
+    requires { half ≤ 2 ^ 63 }
+    ensures { MatchOption result (signed_below half text.now ≡ None) (λ s. (s.now ≡ text.now)
+        × ((z : ℤ) × (signed_below half text.now ≡ Some z))) }
+{
+    if !is_signed(text, half) {
+        return None;
+    }
+    match std::str::from_utf8(text) {
+        Ok(plain) => Some(plain),
+        Err(_) => None,
+    }
+}
+
+// Returns whether the text is the plain decimal of such a number.
+#[tactic(auto, unfolding(crate::specs::Spelling::signed_below))]
+fn is_signed(text: &[u8], half: u64) -> bool
+    ensures { result ≡ is_some (signed_below half text.now) }
+{
+    if text.is_empty() || text[0] != b'-' {
+        return match read_number(text) {
+            Some(number) => number < half,
+            None => false,
+        };
+    }
+    match read_number(&text[1..]) {
+        Some(number) => 0 < number && number <= half,
+        None => false,
+    }
+}
+
+/// Returns what stands before the first such byte, and what behind it.
+pub fn cut(text: &[u8], byte: u8) -> Option<(&[u8], &[u8])>
+    ensures { option_map (λ cut. (cut.0.now, cut.1.now)) result ≡ cut_at byte text.now }
+{
+    let place = first_place(text, byte)?;
+    Some((&text[..place], &text[place + 1..]))
+}
+
+// Returns where a byte stands first.
+fn first_place(text: &[u8], byte: u8) -> Option<usize>
+    ensures { result ≡ position (λ b. b == byte) text.now }
+{
+    text.iter().position(|b| *b == byte)
+}
+
+/// Returns what stands behind the front, where the text begins with it.
+pub(crate) fn after<'a>(text: &'a [u8], front: &[u8]) -> Option<&'a [u8]>
+    ensures { option_map (λ rest. rest.now) result ≡ behind front.now text.now }
+{
+    text.strip_prefix(front)
+}
+
+/// Returns the text of an item, and what stands behind it and a space.
+pub(crate) fn cut_off(text: &[u8]) -> Option<(&[u8], &[u8])>
+    ensures { option_map (λ cut. (cut.0.now, cut.1.now)) result ≡ cut_item text.now }
+{
+    let mut place = 0;
+    while place < text.len() {
+        let rest = &text[place + 1..];
+        if text[place] == b' ' && (rest.is_empty() || rest[0] != b'#') {
+            return Some((&text[..place], rest));
+        }
+        place += 1;
+    }
+    None
+}

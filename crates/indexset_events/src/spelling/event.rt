@@ -1,0 +1,254 @@
+//! The text of an event, read.
+ghost use Rattle.std.specs.Prelude.{◌≡◌};
+ghost use Rattle.std.specs.Fmt.{decimal};
+ghost use Rattle.std.specs.Option.{option_and_then};
+ghost use Rattle.std.specs.Result.{result_ok};
+ghost use Rattle.indexset_events.specs.EventText.{EventInRange, change_reading, event_reading, merge_reading, named_reading, node_reading, place_reading, rest_reading, word_reading};
+ghost use Rattle.indexset_events.specs.Spelling.{behind, number_of};
+
+use super::Spelled;
+use crate::change::{ChangeEvent, Id};
+use crate::parts::{after, cut, cut_off, read_number};
+use std::error::Error;
+use std::fmt;
+use std::str::FromStr;
+
+/// The text is that of no event.
+#[derive(Clone, Copy, Debug, PartialEq, Eq)]
+pub struct NoEvent;
+
+impl fmt::Display for NoEvent {
+    ghost use Rattle.std.specs.Prelude.{Some, codes};
+
+    ghost output = { λ e. Some (codes "the text of no event") };
+
+    fn fmt<W: fmt::Write>(&self, f: &mut fmt::Formatter<W>) -> fmt::Result {
+        f.write_str("the text of no event")
+    }
+}
+
+impl Error for NoEvent {}
+
+/// Reads what `{}` writes, as the identical event, and nothing else.
+impl<T: Spelled + Drop> FromStr for ChangeEvent<T> {
+    type Err = NoEvent;
+
+    ghost from_str_gives = { λ text r. result_ok r ≡ event_reading T.reading text };
+
+    fn from_str(text: &str) -> Result<ChangeEvent<T>, NoEvent> {
+        match read_event(text.as_bytes()) {
+            Some(event) => Ok(event),
+            None => Err(NoEvent),
+        }
+    }
+}
+
+/// Returns the event of which this is the text, or `None` where it is that of no event.
+#[tactic(auto, unfolding(crate::specs::EventText::event_reading))]
+pub fn read_event<T: Spelled + Drop>(text: &[u8]) -> Option<ChangeEvent<T>>
+    ensures { result ≡ event_reading T.reading text.now }
+{
+    let (digits, change) = cut(text, b' ')?;
+    let event_id = Id::from(read_number(digits)?);
+    read_change(event_id, change)
+}
+
+// Returns the event of a number, by what stands behind it.
+#[tactic(auto, unfolding(crate::specs::EventText::change_reading))]
+fn read_change<T: Spelled + Drop>(event_id: Id, text: &[u8]) -> Option<ChangeEvent<T>>
+    ensures { result ≡ change_reading T.reading event_id text.now }
+{
+    let (word, rest) = cut(text, b' ')?;
+    read_word(event_id, word, rest)
+}
+
+// Returns the event of a word, by what stands behind it.
+#[tactic(auto, unfolding(crate::specs::EventText::word_reading))]
+fn read_word<T: Spelled + Drop>(event_id: Id, word: &[u8], text: &[u8]) -> Option<ChangeEvent<T>>
+    ensures { result ≡ word_reading T.reading event_id word.now text.now }
+{
+    if word == b"insert".as_slice() {
+        let (value, index, max_value) = read_place(text)?;
+        return Some(ChangeEvent::InsertAt {
+            event_id,
+            max_value,
+            value,
+            index,
+        });
+    }
+    if word == b"remove".as_slice() {
+        let (value, index, max_value) = read_place(text)?;
+        return Some(ChangeEvent::RemoveAt {
+            event_id,
+            max_value,
+            value,
+            index,
+        });
+    }
+    read_named(event_id, word, text)
+}
+
+// Returns the event of a word, by what stands behind it and names a node.
+#[tactic(auto, unfolding(crate::specs::EventText::named_reading))]
+fn read_named<T: Spelled + Drop>(event_id: Id, word: &[u8], text: &[u8]) -> Option<ChangeEvent<T>>
+    ensures { result ≡ named_reading T.reading event_id word.now text.now }
+{
+    let name = after(text, b"the node of ")?;
+    read_node(event_id, word, name)
+}
+
+// Returns an item, its index and the name of its node.
+#[tactic(auto, unfolding(crate::specs::EventText::place_reading))]
+fn read_place<T: Spelled + Drop>(text: &[u8]) -> Option<(T, usize, T)>
+    ensures { result ≡ place_reading T.reading text.now }
+{
+    let (item, rest) = cut_off(text)?;
+    let value = T::read(item)?;
+    let (digits, rest) = cut(after(rest, b"at ")?, b' ')?;
+    let index = read_number(digits)? as usize;
+    let last = item_behind(rest, b"in the node of ")?;
+    Some((value, index, last))
+}
+
+// Returns the event of a word, by what stands behind `the node of `.
+#[tactic(auto, unfolding(crate::specs::EventText::node_reading))]
+fn read_node<T: Spelled + Drop>(event_id: Id, word: &[u8], text: &[u8]) -> Option<ChangeEvent<T>>
+    ensures { result ≡ node_reading T.reading event_id word.now text.now }
+{
+    if word == b"create".as_slice() {
+        let max_value = T::read(text)?;
+        return Some(ChangeEvent::CreateNode {
+            event_id,
+            max_value,
+        });
+    }
+    if word == b"drop".as_slice() {
+        let max_value = T::read(text)?;
+        return Some(ChangeEvent::RemoveNode {
+            event_id,
+            max_value,
+        });
+    }
+    let (name, rest) = cut_off(text)?;
+    read_rest(event_id, word, T::read(name)?, rest)
+}
+
+// Returns the event of a word, by its node and what stands behind that.
+#[tactic(auto, unfolding(crate::specs::EventText::rest_reading))]
+fn read_rest<T: Spelled + Drop>(
+    event_id: Id,
+    word: &[u8],
+    max_value: T,
+    rest: &[u8],
+) -> Option<ChangeEvent<T>>
+    ensures { result ≡ rest_reading T.reading event_id word.now max_value rest.now }
+{
+    if word == b"split".as_slice() {
+        let split_index = number_behind(rest, b"at ")? as usize;
+        return Some(ChangeEvent::SplitNode {
+            event_id,
+            max_value,
+            split_index,
+        });
+    }
+    read_merge(event_id, word, max_value, rest)
+}
+
+// Returns the event of a merge, by its node and what stands behind that.
+#[tactic(auto, unfolding(crate::specs::EventText::merge_reading))]
+fn read_merge<T: Spelled + Drop>(
+    event_id: Id,
+    word: &[u8],
+    max_value: T,
+    rest: &[u8],
+) -> Option<ChangeEvent<T>>
+    ensures { result ≡ merge_reading T.reading event_id word.now max_value rest.now }
+{
+    if word == b"merge".as_slice() {
+        let next_max_value = item_behind(rest, b"with the node of ")?;
+        return Some(ChangeEvent::MergeNodes {
+            event_id,
+            max_value,
+            next_max_value,
+        });
+    }
+    None
+}
+
+// Returns the number behind a front.
+fn number_behind(text: &[u8], front: &[u8]) -> Option<u64>
+    ensures { result ≡ option_and_then number_of (behind front.now text.now) }
+{
+    let digits = after(text, front)?;
+    read_number(digits)
+}
+
+// Returns the item behind a front.
+fn item_behind<T: Spelled>(text: &[u8], front: &[u8]) -> Option<T>
+    ensures { result ≡ option_and_then T.reading (behind front.now text.now) }
+{
+    let name = after(text, front)?;
+    T::read(name)
+}
+
+impl<T: Spelled> ChangeEvent<T> {
+    /// Does nothing. A caller's proof learns that the items and numbers of the event are in range,
+    /// so that its text is read as the identical event (`laws::texts_are_read`).
+    pub fn attest(&self)
+        ensures { EventInRange T.in_range self.now }
+    {
+        match self {
+            ChangeEvent::InsertAt {
+                event_id,
+                max_value,
+                value,
+                index,
+            } => {
+                let _numbers = (event_id.inner(), *index);
+                max_value.attest();
+                value.attest();
+            }
+            ChangeEvent::RemoveAt {
+                event_id,
+                max_value,
+                value,
+                index,
+            } => {
+                let _numbers = (event_id.inner(), *index);
+                max_value.attest();
+                value.attest();
+            }
+            ChangeEvent::CreateNode {
+                event_id,
+                max_value,
+            } => {
+                let _number = event_id.inner();
+                max_value.attest();
+            }
+            ChangeEvent::RemoveNode {
+                event_id,
+                max_value,
+            } => {
+                let _number = event_id.inner();
+                max_value.attest();
+            }
+            ChangeEvent::SplitNode {
+                event_id,
+                max_value,
+                split_index,
+            } => {
+                let _numbers = (event_id.inner(), *split_index);
+                max_value.attest();
+            }
+            ChangeEvent::MergeNodes {
+                event_id,
+                max_value,
+                next_max_value,
+            } => {
+                let _number = event_id.inner();
+                max_value.attest();
+                next_max_value.attest();
+            }
+        }
+    }
+}
