@@ -1,5 +1,5 @@
 -- What a line does, by the kind of its command.
-use Rattle.std.proofs.Common.{None, Some, ◌≡◌, ◌≢◌, ℕ, ◌+◌, ◌==◌, Bool, true, false, cond, List, [], ◌∷◌, ◌++◌, length, Ordering, ap}
+use Rattle.std.proofs.Common.{None, ◌≡◌, ◌≢◌, ℕ, ◌+◌, ◌==◌, Bool, true, false, cond, List, [], ◌∷◌, ◌++◌, length, Ordering, ap}
 use Rattle.std.specs.Option.{option_map_or}
 use Rattle.indexset_core.specs.Nodes.{node_at}
 use Rattle.indexset_core.specs.Order.{has_equal, rank}
@@ -10,7 +10,6 @@ use Rattle.indexset_bench.specs.PairCommand.{pair_meaning}
 use Rattle.indexset_bench.specs.Pairs.{PairTree, pair_reply, pairs_after, reply_ended}
 use Rattle.indexset_bench.specs.Reply.{AddsNew, contents_after, reply_to}
 use Rattle.indexset_bench.specs.Text.{Changes, reply_line, stores, stores_after}
-use Rattle.indexset_bench.specs.declared.pair_command.PairCommand.{PairCommand}
 
 -- ---- a put tells an event
 

@@ -19,7 +19,7 @@ pub use types.Run.{enter, stop, fld, lit, of_opd, and_then, no_more, first, bloc
 pub use types.Part.{whole, sub, agg}
 pub use types.Kit.{Item, ‵, raw, ◌⊛◌, some, later, prop, at_ret, ◌$◌, ◌∵◌, !, qed, move, drop, use1, split, split3, join, pick, rewrite, regoal, fsplit, fjoin, fpick, fpack, feq_l, feq_i, suffices, await, done}
 use types.Kit.{Goal, Seq, Step, step}
-use mathlib.Core.Path.{◌≡◌, refl, sym, subst, ◌∙◌}
+use mathlib.Core.Path.{◌≡◌, refl, ◌∙◌}
 use mathlib.Core.List.{List, [], ◌∷◌, ◌++◌}
 use lib.Dec.{T, lit<}
 use seplogic.Ra.Ura.{Ura}
@@ -32,7 +32,6 @@ use denote.Struct.Struct.{within}
 use denote.Struct.Owning.{shape}
 use Rattle.std.proofs.ResultValues.{and_tt}
 use Rattle.std.specs.declared.alloc.Allocator.{Ghosts}
-use Rattle.std.specs.Prelude.{Option, Some, None, is_some, true}
 use Rattle.indexset_handle.specs.Holds.{holds}
 use Rattle.indexset_handle.specs.contracts.Parts as parts
 
