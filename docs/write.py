@@ -246,14 +246,15 @@ def words_of(text: str) -> Iterator[Word]:
 
 def is_definition(line: str) -> bool:
     """Whether a line with `pub` defines a word here, at the margin or as another name."""
+    passed_on = line.strip().startswith(("pub use", "unfoldable pub use"))
     other = line.strip().startswith(("abbrev pub", "unfoldable pub"))
-    return other or (line.startswith("pub ") and not line.startswith("pub use"))
+    return not passed_on and (other or line.startswith("pub "))
 
 
 def passed_on_words() -> Iterator[str]:
     """The words that indexset passes on, by file, as lines."""
     text = (ROOT / "crates/indexset/specs/Words.antt").read_text(encoding="utf-8")
-    for crate, file, names in re.findall(r"^pub use Rattle\.(\w+)\.specs\.(\w+)\.\{(.*?)\}", text, re.M):
+    for crate, file, names in re.findall(r"^(?:unfoldable )?pub use Rattle\.(\w+)\.specs\.(\w+)\.\{(.*?)\}", text, re.M):
         listed = ", ".join(f"`{name.strip()}`" for name in names.split(","))
         yield f"- of `{crate}/specs/{file}.antt`: {listed}"
 

@@ -58,7 +58,7 @@ pub use Rattle.indexset_events.specs.declared.change.ChangeEvent.{ChangeEvent}
 pub use Rattle.indexset_events.specs.Attach.{nodes_refusal}
 pub use Rattle.indexset_events.specs.EventText.{EventInRange, event_reading, event_text}
 pub use Rattle.indexset_events.specs.Keys.{key_removal_events}
-pub use Rattle.indexset_events.specs.Spelling.{is_item, is_word}
+unfoldable pub use Rattle.indexset_events.specs.Spelling.{is_item, is_word}
 pub use Rattle.indexset_events.specs.Table.{put_events, checked_put_events, removal_events}
 pub use Rattle.indexset_events.specs.Replay.{IsNumberedFrom, numbered_from, replay, step, unassigned}
 pub use Rattle.indexset_log.specs.Tree.{Tree, refusal_for}
