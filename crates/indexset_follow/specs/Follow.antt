@@ -1,5 +1,5 @@
 -- What a line does to a follower, and the text that answers it.
-use Rattle.std.specs.Prelude.{ℕ, ◌==◌, is_none, if◌then◌else◌, nat_lt, List, [], ◌∷◌, ◌++◌, length, min, unwrap_or, Option}
+use Rattle.std.specs.Prelude.{ℕ, ◌==◌, is_none, if◌then◌else◌, nat_lt, List, [], ◌++◌, length, min, unwrap_or, Option}
 use Rattle.std.below.core.specs.declared.int.usize.TheConstants.{MAX}
 use Rattle.std.specs.Option.{option_map_or}
 use Rattle.std.specs.Ordering.{nat_cmp}

@@ -1,5 +1,5 @@
 -- What one equation says of the removal of a pair.
-use Rattle.std.proofs.Common.{◌≡◌, ℕ, ◌+◌, ◌/◌, zero, suc, ◌<◌, ◌≤◌, List, [], ◌∷◌, length, Option, None, Some, is_some, true, Result, Ok, Err, OnOk, OnErr, Ordering, slice_get, refl, ap, sym, ◌∙◌, subst, arith}
+use Rattle.std.proofs.Common.{◌≡◌, ℕ, ◌+◌, zero, suc, ◌<◌, ◌≤◌, List, [], ◌∷◌, length, Option, None, Some, is_some, true, Result, OnOk, Ordering, slice_get, refl, ap, sym, ◌∙◌, subst, arith}
 use Rattle.std.specs.Cmp.{IsTotalOrder}
 use Rattle.std.specs.Option.{unwrap_or}
 use Rattle.indexset_core.specs.declared.multipair.MultiPair.{MultiPair}

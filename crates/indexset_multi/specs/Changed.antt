@@ -1,5 +1,5 @@
 -- What a call makes of a multimap, and what it tells of that.
-use Rattle.std.specs.Prelude.{◌≡◌, ℕ, ◌+◌, ◌-◌, ◌/◌, ◌++◌, ◌≤◌, [], ◌∷◌, Bool, true, false, length, List, Option, Some, drop, slice_get, take}
+use Rattle.std.specs.Prelude.{◌≡◌, ◌+◌, ◌-◌, ◌/◌, ◌++◌, ◌≤◌, [], ◌∷◌, Bool, true, false, length, List, Option, Some, drop, slice_get, take}
 use Rattle.std.below.core.specs.declared.int.u64.TheConstants.{MAX}
 use Rattle.std.specs.Ordering.{is_eq}
 use Rattle.std.specs.declared.cmp.Ordering.{Ordering}

@@ -9,7 +9,6 @@ use Rattle.std.proofs.lemmas.Option.{slice_get_past}
 use Rattle.std.specs.declared.vec.Vec.{Vec}
 use Rattle.indexset_core.specs.Nodes.{joined, node_lengths, ends_less, equal_at, node_for, node_at, vec_items}
 use Rattle.indexset_core.specs.Parted.{IsParted, less_count}
-use Rattle.indexset_core.proofs.CallerLemmas as nodes
 use Rattle.indexset_core.proofs.CallerLemmas.{count_parted, ends_for, equal_none, ends_last, ends_until, front-is_lt, get_in_node, node_found, parted_node, place_for}
 use Rattle.indexset_spine.specs.Cut.{Cut, cut, IsCut, items}
 use Rattle.indexset_spine.proofs.VecNodes.{length-vec_items, node_read}

@@ -1,5 +1,5 @@
 -- A list that is cut into nodes.
-use Rattle.std.specs.Prelude.{◌≡◌, ℕ, ◌+◌, ◌-◌, ◌/◌, ◌<◌, ◌≤◌, ◌==◌, ◌&&◌, true, false, List, [], ◌∷◌, length, map, sum, take, drop, refl, slice_set, insert, remove, if◌then◌else◌, nat_lt}
+use Rattle.std.specs.Prelude.{◌≡◌, ℕ, ◌+◌, ◌-◌, ◌/◌, ◌<◌, ◌≤◌, ◌==◌, ◌&&◌, true, false, List, [], ◌∷◌, length, sum, take, drop, refl, slice_set, insert, remove, if◌then◌else◌, nat_lt}
 use Rattle.std.specs.List.{All, fold, splice}
 use Rattle.std.specs.Coded.{Coded, code_by, coded×, coded_ℕ, coded_list}
 use Rattle.indexset_core.specs.Nodes.{joined, node_at}

@@ -1,6 +1,5 @@
 use Rattle.std.specs.List.{All}
 use Rattle.std.proofs.lemmas.Option.{slice_get_read}
-use Rattle.indexset_events.proofs.CallerLemmas.{length_view, node_is}
 use Rattle.indexset_replica.proofs.Replica.get_by.Given.{Over}
 use Rattle.indexset_replica.proofs.Replica.get_by.Goals as goal
 use Rattle.std.proofs.Common.{◌≡◌, ◌<◌, ◌≤◌, ◌∙◌, [], length, slice_get, refl, ap, sym, arith}

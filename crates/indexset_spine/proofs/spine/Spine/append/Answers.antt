@@ -2,7 +2,7 @@ use Rattle.std.proofs.Common.{◌≡◌, ◌≤◌, List, length, sum, ap, sym, 
 use Rattle.std.proofs.lemmas.Result.{on_ok_weaker}
 use Rattle.indexset_core.specs.Nodes.{joined, node_lengths, vec_items}
 use Rattle.indexset_core.proofs.CallerLemmas.{length-joined}
-use Rattle.indexset_spine.specs.Cut.{Cut, items, with_last, with_all_last}
+use Rattle.indexset_spine.specs.Cut.{with_last, with_all_last}
 use Rattle.indexset_spine.proofs.AppendLemmas.{emptied_all, takes_items}
 use Rattle.indexset_spine.proofs.TakenLemmas.{taken_shorter, takes_all}
 use Rattle.indexset_spine.proofs.CutEdits.{spine_of}

@@ -1,8 +1,6 @@
-use Rattle.std.proofs.Common.{◌≡◌, ◌==◌, List, not, length, filter, [], ◌∷◌, ◌++◌, ap, ◌∙◌, sym, rules, arith}
+use Rattle.std.proofs.Common.{rules, arith}
 use Rattle.std.proofs.lemmas.Bool.Decides.{nat_tests}
 use Rattle.std.proofs.lemmas.Fn.{filter_same}
-use Rattle.indexset_core.specs.Nodes.{vec_items}
-use Rattle.indexset_spine.specs.Edits.{without_all_emptied}
 use Rattle.indexset_spine.proofs.AppendLemmas.{none_kept, some_kept}
 use Rattle.indexset_spine.proofs.spine.append.drop_emptied.Goals as goal
 
