@@ -1,4 +1,4 @@
-use Rattle.std.proofs.Common.{ℕ, List, Result, Ok, Err, OnOk, string_bytes}
+use Rattle.std.proofs.Common.{Result, Ok, Err, OnOk, string_bytes}
 use Rattle.indexset_uses.proofs.strings.set_in_both.Goals as goal
 
 on_ok : {U E A B : Type 0} (r : Result U E) → (A → B) → OnOk r A → OnOk r B
