@@ -1,6 +1,7 @@
 """Tests of what plain Python could once do to the package: crash it, read wrong values, or lose data."""
 import copy
 import gc
+import itertools
 import math
 import os
 import pickle
@@ -300,6 +301,17 @@ def changed(ours, items):
     list(ours), ours.copy(), ours[items[1] if isinstance(ours, dict) else slice(2, 9)]
 
 
+def changed_together(ours, items):
+    """Changes a set, list or dictionary by calls of many items, and by those that remove one."""
+    half = len(items) // 2
+    ours.update(dict.fromkeys(items[:half]) if isinstance(ours, dict) else items[:half])
+    ours.update(dict.fromkeys(items[half:]) if isinstance(ours, dict) else items[half:])
+    if isinstance(ours, dict):
+        ours.pop(items[5]), ours.popitem(2), ours.pop(items[half])
+    else:
+        ours.pop(2), ours.remove(items[5]), ours.discard(items[half]), ours.pop()
+
+
 class Refused(unittest.TestCase):
     """What does not fit leaves all as it was."""
 
@@ -327,12 +339,14 @@ class Refused(unittest.TestCase):
     def test_memory(self):
         """Each request for memory of Python fails in turn: the order and what finds its items agree."""
         texts = [f"{at}" for at in range(40)]
-        for make, items in ((SortedDict, texts), (SortedSet, texts), (SortedSet, range(10**12, 10**12 + 40)), (SortedList, range(40))):
+        numbers = range(10**12, 10**12 + 40)
+        kinds = ((SortedDict, texts), (SortedSet, texts), (SortedSet, numbers), (SortedDict, numbers), (SortedList, range(40)))
+        for (make, items), change in itertools.product(kinds, (changed, changed_together)):
             for start in range(1, 200):
                 ours = make()
                 _testcapi.set_nomemory(start, start + 1)
                 try:
-                    changed(ours, items)
+                    change(ours, items)
                 except MemoryError:
                     pass
                 finally:

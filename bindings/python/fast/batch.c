@@ -64,13 +64,17 @@ static int by_code(const void *a, const void *b) {
     return (first > second) - (first < second);
 }
 
-/* Puts numbers in their order, which finds the nodes in the cache: how many there are, or fewer with an error. */
-static size_t put_all(Numbers *self, Fresh *fresh, size_t count) {
+/* Puts numbers that are not there in their order, which finds the nodes in the cache: all, or none with an error. */
+static int put_all(Numbers *self, Fresh *fresh, size_t count) {
     size_t done = 0;
     qsort(fresh, count, sizeof *fresh, by_code);
     while (done < count && numbers_put(self, fresh[done].code, fresh[done].given) >= 0)
         done++;
-    return done;
+    if (done == count)
+        return 1;
+    while (done > 0)
+        numbers_take_out(self, fresh[--done].code);
+    return 0;
 }
 
 PyObject *numbers_take(Numbers *self, PyObject *values) {
@@ -81,7 +85,7 @@ PyObject *numbers_take(Numbers *self, PyObject *values) {
     for (size_t i = 0; fresh != NULL && i < count; i++)
         fresh[i] = (Fresh){codes[i], items ? items[i] : NULL};
     PyMem_Free(codes);
-    int is_done = fresh != NULL && put_all(self, fresh, count) == count;
+    int is_done = fresh != NULL && put_all(self, fresh, count);
     PyMem_Free(fresh);
     if (is_done)
         Py_RETURN_NONE;

@@ -93,6 +93,7 @@ int numbers_discard(Numbers *self, PyObject *value);
 Py_ssize_t numbers_bisect(Numbers *self, PyObject *value, int right);
 /* Puts an object, or NULL, at a code where there is none: 1, or 0, or -1 with an error. */
 int numbers_put(Numbers *self, uint64_t code, PyObject *given);
+int numbers_take_out(Numbers *self, uint64_t code);
 /* Asks the kind for the code of a value: 1, or 0 where it answers None, or -1 with an error. */
 int numbers_asked(Numbers *self, PyObject *call, PyObject *value, uint64_t *code);
 

@@ -116,7 +116,7 @@ int numbers_add(Numbers *self, PyObject *value) {
     return numbers_asked(self, names.code, value, &code) == 1 ? numbers_put(self, code, NULL) : -1;
 }
 
-static int take_out(Numbers *self, uint64_t code) {
+int numbers_take_out(Numbers *self, uint64_t code) {
     uint64_t object;
     if (!indexset_map_remove(&self->map, code, &object))
         return 0;
@@ -128,7 +128,7 @@ static int take_out(Numbers *self, uint64_t code) {
 int numbers_discard(Numbers *self, PyObject *value) {
     uint64_t code;
     int state = found(self, value, &code);
-    return state < 1 ? state : take_out(self, code);
+    return state < 1 ? state : numbers_take_out(self, code);
 }
 
 static PyObject *truth(int state) { return state < 0 ? NULL : PyBool_FromLong(state); }
@@ -248,7 +248,7 @@ static PyMethodDef methods[] = {
     {"own", (PyCFunction)numbers_own, METH_O, "The keys that values become, as a list."},
     {"pop", (PyCFunction)pop, METH_O, "Removes the key at a position and returns it."},
     {"ranks", (PyCFunction)numbers_ranks, METH_O, "How many keys are below each key, in one call."},
-    {"take", (PyCFunction)numbers_take, METH_O, "Adds keys, or none where one does not fit."},
+    {"take", (PyCFunction)numbers_take, METH_O, "Adds keys that are not there, or none where one does not fit."},
     {"walk", (PyCFunction)(void (*)(void))walk_method, METH_FASTCALL, "The keys at positions one by one."},
     {0},
 };

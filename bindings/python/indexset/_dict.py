@@ -117,8 +117,9 @@ class SortedDict(DictFront[K, V], Generic[K, V]):
         ('a', None)
         """
         if key in self:
+            pop = super().pop  # (from here on no memory is asked for once the order has changed)
             self._order.discard(key)
-            return super().pop(key)
+            return pop(key)
         if default is _NOT_GIVEN:
             raise KeyError(key)
         return default
@@ -146,7 +147,13 @@ class SortedDict(DictFront[K, V], Generic[K, V]):
         fresh = [key for key in entries if key not in self]
         if fresh:
             self._order_keys(fresh)
-        super().update(entries)
+        try:
+            super().update(entries)
+        except BaseException:
+            for key in fresh:
+                if key not in self:
+                    self._order.discard(key)
+            raise
 
     def get_all(self, keys: Iterable[Any], default: Any = None) -> list[Any]:
         """The value of each key, or the default where it is not there.
@@ -181,8 +188,11 @@ class SortedDict(DictFront[K, V], Generic[K, V]):
         """
         if not self:
             raise KeyError("popitem(): dictionary is empty")
-        key = self._order.pop(index)
-        return key, super().pop(key)
+        key = self._order[index]
+        pair, pop = (key, self[key]), super().pop
+        self._order.pop(index)
+        pop(key)
+        return pair
 
     def index(self, value: Any, start: Optional[int] = None, stop: Optional[int] = None) -> int:
         """The position of a key, from `start` and before `stop`. ValueError where it is not there."""

@@ -90,14 +90,17 @@ class Keyed(Coded[T]):
         return position >= 0
 
     def take(self, items: Iterable[T]) -> None:
-        """Adds items, or none where one does not fit."""
+        """Adds items, or none where one does not fit or memory is refused."""
         taken: list[T] = []
+        is_there = True  # whether the last one of these was added
         try:
             for item in self._sorted(items):
-                self.add(item)
                 taken.append(item)
+                is_there = False
+                self.add(item)
+                is_there = True
         except BaseException:
-            for item in reversed(taken):
+            for item in reversed(taken if is_there else taken[:-1]):
                 self._drop(item)
             raise
 

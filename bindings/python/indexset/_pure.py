@@ -9,7 +9,7 @@ from typing import Any, Callable, Generic, Iterable, Iterator, Optional, TypeVar
 
 from . import _library as library
 from ._kinds import ALL, NUMBERS, TOP, codes_of, flipped, turned
-from ._library import Count, Number, check, lib, memory, place, zeros
+from ._library import YES, Count, Number, check, lib, memory, place, zeros
 
 BACKEND = "ctypes"
 
@@ -200,13 +200,15 @@ class Numbers(Ordered[Any]):
         return [value if type(value) is self._own else self._decode(self._code(value)) for value in values]
 
     def take(self, values: Iterable[Any]) -> None:
-        """Adds keys, or none where one does not fit."""
+        """Adds keys that are not there, or none where one does not fit or memory is refused."""
         codes = self._codes(values)
         if codes:
-            taken, before = Count(), len(self)
+            taken = Count()
             status = lib.indexset_set_insert_all(self._handle, memory(codes), len(codes), place(taken))
-            if len(self) != before:
-                self.changed()
+            self.changed()
+            if status != YES:
+                for code in codes[: taken.value]:
+                    lib.indexset_set_remove(self._handle, code)
             check(status)
 
     def _codes(self, values: Iterable[Any]) -> array[int]:

@@ -142,12 +142,18 @@ class SortedSet(Sorted[T], MutableSet[T], Generic[T]):
         order = self._fitting(given)
         given = order.own(given)
         found = set(given)
-        order.take(given if len(found) == len(given) else list(dict.fromkeys(given)))
-        self._become(order)
+        fresh = given if len(found) == len(given) else list(dict.fromkeys(given))
         if members:
-            members.update(found)
+            try:
+                members.update(found)
+                order.take(fresh)
+            except BaseException:
+                members.difference_update(found)
+                raise
         else:
+            order.take(fresh)
             self._members = found
+        self._become(order)
 
     def ranks(self, values: Iterable[Any]) -> array[int]:
         """How many items are below each value; of numbers by one call.
