@@ -6,9 +6,11 @@ what `sortedcontainers` keeps inside is left out, by name. The last line counts 
 import argparse
 import collections
 import concurrent.futures
+import contextlib
 import hashlib
 import importlib
 import importlib.util
+import io
 import json
 import os
 import pathlib
@@ -72,9 +74,11 @@ def fetched():
         return None
     if hashlib.sha256(archive).hexdigest() != SUM:
         raise SystemExit(f"{NAME} is not the file that is known")
-    (FOLDER / NAME).write_bytes(archive)
-    with tarfile.open(FOLDER / NAME) as out:
-        out.extractall(FOLDER)
+    with tempfile.TemporaryDirectory(dir=FOLDER) as room:
+        with tarfile.open(fileobj=io.BytesIO(archive)) as out:
+            out.extractall(room)
+        with contextlib.suppress(OSError):  # (another process was first)
+            os.rename(pathlib.Path(room, folder.name), folder)
     return folder
 
 
