@@ -69,7 +69,6 @@ impl<T: Ord + Clone + Drop, Node: NodeLike<T>> BTreeSet<T, Node> {
             (checked_put_change T.cmp self.old value) events.items)) }
     {
         // The nodes are lawful, and the counter fits a u64, so a call without events lacks no number.
-        let _nodes = &self.nodes;
         let _next = self.next;
         let aim = self.aim(&value);
         if finds_equal(&aim) {
@@ -122,7 +121,6 @@ impl<T: Ord + Clone + Drop, Node: NodeLike<T>> BTreeSet<T, Node> {
             (checked_put_change T.cmp self.old value)) }
     {
         // The nodes are lawful, and the counter fits a u64, so a call without events lacks no number.
-        let _nodes = &self.nodes;
         let _next = self.next;
         let aim = self.aim(&value);
         if finds_equal(&aim) {
