@@ -21,6 +21,7 @@ pub mod multipair;
 pub mod node;
 pub mod node_text;
 pub mod pair;
+pub mod positions;
 pub mod probe;
 pub mod refusal;
 pub mod search;

@@ -6,8 +6,8 @@ ghost use Rattle.indexset_core.specs.Pairs.{pairs_within};
 
 use super::BTreeMap;
 use super::iter_mut::IterMut;
+use indexset_core::positions::{end_position, first_position};
 use indexset_set::Bounds;
-use indexset_set::inner::{end_position, first_position};
 use std::ops::Bound;
 
 /// The remaining pairs of a part of a map, with mutable references to the values, from both ends.

@@ -1,15 +1,13 @@
 //! What the crates above need of a set, and no caller meets: `indexset` does not pass it on.
 //!
 //! A map keeps its pairs in a set. Here it reads and edits where a search has ended (`spots`,
-//! `values`), gathers ascending pairs in a run that goes in by blocks (`runs`), and finds the ends of
-//! a range of positions (`places`). A caller has the calls of [`BTreeSet`](super::BTreeSet).
+//! `values`), and gathers ascending pairs in a run that goes in by blocks (`runs`). A caller has the
+//! calls of [`BTreeSet`](super::BTreeSet).
 
-mod places;
 mod runs;
 mod spots;
 mod values;
 
-pub use places::{end_position, first_position};
 pub use runs::{join_run, take_run};
 pub use spots::{
     element, first_spot, insert_at, last_spot, position, remove_at, spot_by, spot_from_end_by,

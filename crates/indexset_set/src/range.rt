@@ -10,8 +10,8 @@ ghost use Rattle.indexset_set.specs.SetProbes.{FindsInOrder};
 
 use super::BTreeSet;
 use super::bounds::Bounds;
-use super::inner::{end_position, first_position};
 use super::iter::Iter;
+use indexset_core::positions::{end_position, first_position};
 use indexset_core::probe::{ByItem, Probe};
 use std::ops::Bound;
 
