@@ -44,6 +44,11 @@ impl<K: Ord + Drop, V: Drop> BTreeMap<K, V> {
 
     /// Removes the pair of a key and returns it, or returns `None`, by two binary searches. It
     /// allocates nothing.
+    ///
+    /// ```
+    /// let mut prices = BTreeMap::from_iter(alloc, [("pear", 120), ("fig", 45)])?;
+    /// assert_eq!(rt; prices.remove_entry(&"fig"), Some(("fig", 45)));
+    /// ```
     pub fn remove_entry(&mut self, key: &K) -> Option<(K, V)>
         ensures value { result ≡ option_map entry_of (pair_of K.cmp self.old.pairs key.now) }
         ensures rest { self.new ≡ without_entry K.cmp self.old key.now }
@@ -100,6 +105,11 @@ impl<K: Ord + Drop, V: Drop> BTreeMap<K, V> {
 
     /// Removes the pair of the greatest key and returns it, or returns `None` where the map is
     /// empty. It allocates nothing.
+    ///
+    /// ```
+    /// let mut prices = BTreeMap::from_iter(alloc, [("pear", 120), ("fig", 45)])?;
+    /// assert_eq!(rt; prices.pop_last(), Some(("pear", 120)));
+    /// ```
     pub fn pop_last(&mut self) -> Option<(K, V)>
         ensures value { result ≡ option_map entry_of
             (slice_get self.old.pairs (length self.old.pairs - 1)) }
@@ -114,6 +124,11 @@ impl<K: Ord + Drop, V: Drop> BTreeMap<K, V> {
     }
 
     /// Removes the pair at a position. It allocates nothing.
+    ///
+    /// ```
+    /// let mut prices = BTreeMap::from_iter(alloc, [("pear", 120), ("fig", 45)])?;
+    /// assert_eq!(rt; prices.pop_index(0), ("fig", 45));
+    /// ```
     pub fn pop_index(&mut self, i: usize) -> (K, V)
         requires { i < length self.old.pairs }
         ensures value { option_map entry_of (slice_get self.old.pairs i) ≡ Some result }
@@ -124,6 +139,12 @@ impl<K: Ord + Drop, V: Drop> BTreeMap<K, V> {
     }
 
     /// Removes all pairs, and keeps one empty node. It allocates nothing.
+    ///
+    /// ```
+    /// let mut prices = BTreeMap::from_iter(alloc, [("pear", 120), ("fig", 45)])?;
+    /// prices.clear();
+    /// assert!(rt; prices.is_empty());
+    /// ```
     pub fn clear(&mut self)
         ensures empty { self.new ≡ no_pairs self.old.size }
     {

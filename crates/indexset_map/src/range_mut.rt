@@ -68,6 +68,15 @@ impl<K: Ord, V> BTreeMap<K, V> {
     /// Returns the pairs at the positions that satisfy both bounds, in order, with mutable
     /// references to the values. There is none where the bounds are the wrong way round, and
     /// positions past the end have none.
+    ///
+    /// ```
+    /// let mut map = BTreeMap::from_iter(alloc, [(5, 1), (10, 1), (15, 1)])?;
+    /// let mut last = map.range_mut_idx((Bound::Included(2), Bound::Unbounded));
+    /// if let Some((_, value)) = last.next() {
+    ///     *value += 1;
+    /// }
+    /// assert!(rt; map.values().copied().eq([1, 1, 2]));
+    /// ```
     pub fn range_mut_idx(&mut self, range: (Bound<usize>, Bound<usize>)) -> RangeMut<'_, K, V>
         ensures same_map { (walk_map result).ghost_name ≡ self.entry.ghost_name }
         ensures unchanged { (walk_map result).now ≡ self.old }

@@ -106,6 +106,12 @@ impl<T: Ord + Drop> BTreeSet<T> {
     }
 
     /// Removes all elements, and keeps one empty node. It allocates nothing.
+    ///
+    /// ```
+    /// let mut set = BTreeSet::from_iter(alloc, [10, 20])?;
+    /// set.clear();
+    /// assert!(rt; set.is_empty());
+    /// ```
     pub fn clear(&mut self)
         ensures empty { self.new.nodes ≡ [] ∷ [] }
         ensures size { self.new.size ≡ self.old.size }

@@ -162,6 +162,13 @@ impl<T: Ord> BTreeSet<T> {
 
     /// Returns the first element that the probe finds Equal, or `None` where there is none. It
     /// compares as `locate_by` does.
+    ///
+    /// ```
+    /// // An element of text, found by a &str without an allocation.
+    /// let mut names = BTreeSet::new(alloc)?;
+    /// names.insert(String::from_str(alloc, "pear")?)?;
+    /// assert!(rt; names.get_by(&mut ByStr::new("pear")).is_some());
+    /// ```
     pub fn get_by<P: Probe<T>>(&self, probe: &mut P) -> Option<&T>
         requires { FindsInOrder (P.answer probe.old) (items self.now) }
         ensures value { option_copied result
@@ -180,6 +187,13 @@ impl<T: Ord> BTreeSet<T> {
 
     /// Returns the position of the first element that the probe finds Equal, or where it finds
     /// none, how many it finds Less. It makes one comparison a step of two binary searches.
+    ///
+    /// ```
+    /// # use indexset::base::probe::ByItem;
+    /// let set = BTreeSet::from_iter(alloc, [10, 20, 30])?;
+    /// assert_eq!(rt; set.locate_by(&mut ByItem::new(&20)), Ok(1));
+    /// assert_eq!(rt; set.locate_by(&mut ByItem::new(&25)), Err(2));
+    /// ```
     pub fn locate_by<P: Probe<T>>(&self, probe: &mut P) -> Result<usize, usize>
         requires { FindsInOrder (P.answer probe.old) (items self.now) }
         ensures found { IfOk result (λ i. position (λ x. is_eq (P.answer probe.old x))

@@ -42,6 +42,11 @@ impl<T: Ord> BTreeSet<T> {
     }
 
     /// Returns the greatest element, or `None` where there is none.
+    ///
+    /// ```
+    /// let set = BTreeSet::from_iter(alloc, [10, 20, 30])?;
+    /// assert_eq!(rt; set.last(), Some(&30));
+    /// ```
     pub fn last(&self) -> Option<&T>
         ensures element { option_copied result
             ≡ slice_get (items self.now) (length (items self.now) - 1) }
@@ -97,6 +102,11 @@ impl<T: Ord + Drop> BTreeSet<T> {
     }
 
     /// Removes the element at a position. It allocates nothing.
+    ///
+    /// ```
+    /// let mut set = BTreeSet::from_iter(alloc, [10, 20, 30])?;
+    /// assert!(rt; set.pop_index(1) == 20 && set.len() == 2);
+    /// ```
     pub fn pop_index(&mut self, i: usize) -> T
         requires { i < length (items self.old) }
         ensures value { slice_get (items self.old) i ≡ Some result }

@@ -75,6 +75,12 @@ impl<T: Ord> BTreeSet<T> {
     }
 
     /// Returns how many elements stand before the start, a bound on what a probe seeks.
+    ///
+    /// ```
+    /// # use indexset::base::probe::ByItem;
+    /// let set = BTreeSet::from_iter(alloc, [10, 20, 30])?;
+    /// assert_eq!(rt; set.count_before(Bound::Included(ByItem::new(&20))), 1);
+    /// ```
     pub fn count_before<P: Probe<T> + Drop>(&self, start: Bound<P>) -> usize
         requires { IfBounded (λ p. FindsInOrder (P.answer p) (items self.now)) start }
         ensures { result ≡ count_by (is_before (λ x p. P.answer p x) start) (items self.now) }
@@ -83,6 +89,12 @@ impl<T: Ord> BTreeSet<T> {
     }
 
     /// Returns how many elements are not past the end, a bound on what a probe seeks.
+    ///
+    /// ```
+    /// # use indexset::base::probe::ByItem;
+    /// let set = BTreeSet::from_iter(alloc, [10, 20, 30])?;
+    /// assert_eq!(rt; set.count_up_to(Bound::Included(ByItem::new(&20))), 2);
+    /// ```
     pub fn count_up_to<P: Probe<T> + Drop>(&self, end: Bound<P>) -> usize
         requires { IfBounded (λ p. FindsInOrder (P.answer p) (items self.now)) end }
         ensures { result ≡ count_by (is_up_to_end (λ x p. P.answer p x) end) (items self.now) }
