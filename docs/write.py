@@ -19,6 +19,7 @@ from collections.abc import Callable, Iterable, Iterator
 
 ROOT = pathlib.Path(__file__).resolve().parent.parent
 HIDDEN_GHOSTS = re.compile(r"ghost (use|laws|Value|view|code|invariant)\b")
+LONGEST = 80  # of a definition that the glossary shows
 CLAUSE = re.compile(r"(requires|ensures)\b")
 # The pages of types: their title, crate, and the folder or file of its sources. Other crates have a page each.
 PAGES = {
@@ -47,10 +48,9 @@ class Call:
 
 @dataclasses.dataclass(frozen=True)
 class Word:
-    """A word of the contracts: its type, and what its comment says, or else its definition."""
+    """A word of the contracts, and what its comment says, or else its short definition."""
 
     name: str
-    kind: str
     says: str
 
 
@@ -340,12 +340,12 @@ def words_of(text: str) -> Iterator[Word]:
         if text.startswith("-- "):
             comment.append(text[3:])
             continue
-        found = re.match(r"(?:(?:abbrev|unfoldable) )?pub (record |opaque )?(\S+)(.*)", text)
+        found = re.match(r"(?:(?:abbrev|unfoldable) )?pub (record |opaque )?(\S+)", text)
         if found and found[2] != "mod" and is_definition(line):
-            name, rest = found[2], found[3].strip()
-            kind = re.sub(r" where$", "", rest[2:] if rest.startswith(": ") else rest)
+            name = found[2]
             definition = [it.strip() for it in lines[at + 1 : at + 3] if it.strip().startswith(name + " ")]
-            yield Word(name, kind, " ".join(comment) or (f"`{definition[0]}`" if definition else ""))
+            is_short = bool(definition) and len(definition[0]) <= LONGEST
+            yield Word(name, " ".join(comment) or (f"`{definition[0]}`" if is_short else ""))
         comment = []
 
 
@@ -371,12 +371,12 @@ def terms() -> list[str]:
 
 def entry(it: Word) -> str:
     """A line of the glossary."""
-    return f"- `{it.name}`: {it.says}" if it.says else f"- `{it.name} : {it.kind}`"
+    return f"- `{it.name}`: {it.says}"
 
 
 def glossary() -> str:
     """The text of GLOSSARY.md."""
-    out = ["# Glossary", "", "Written by `docs/write.py` from the comments in `crates/*/specs`: the terms, and each word that the contracts of the user's types use. The others are explained beside their definitions.", "", *terms(), "", "## Each word", "", "A word has the comment beside its definition, or the definition, or its type. `cmp` is the comparison of the element type, and of pairs that of the keys. A word with a star is passed on by `Rattle.indexset.specs.Words`; any other is imported from the file of its heading.", ""]
+    out = ["# Glossary", "", "Written by `docs/write.py` from the comments in `crates/*/specs`: the terms, and each word that the contracts of the user's types use. The others are explained beside their definitions.", "", *terms(), "", "## Each word", "", "A word has the comment beside its definition, or a short definition. `cmp` is the comparison of the element type, and of pairs that of the keys. A word with a star is passed on by `Rattle.indexset.specs.Words`; any other is imported from the file of its heading.", ""]
     used, passed = words_used(), passed_on_words()
     for crate in library_crates():
         for file in sorted((ROOT / "crates" / crate / "specs").glob("*.antt")):

@@ -58,7 +58,7 @@ module _ {K V : Type 0} (cmp : K → K → Ordering) (eq : V → V → Bool) whe
     pair_next = logged_multi_next (record { pairs = joined m.nodes; pair_next = m.pair_next }) c;
   }
 
-  -- it needs a number for a new pair, and none is left
+  -- it needs a number for a new pair, and none remains
   abbrev pub lacks_pair_number : MultiTree K V → LoggedMultiCommand K V → Bool
   lacks_pair_number m (Insert k w) = lacks_number cmp eq m k w
   lacks_pair_number m (RemoveSome k) = false

@@ -53,7 +53,7 @@ module _ {K V : Type 0} where
     abbrev pub has_key : List (Pair K V) → K → Bool
     has_key l k = list_any (λ p. is_eq (cmp p.key k)) l
 
-    -- the pair of the key, where there is one
+    -- the pair of the key, if any
     abbrev pub pair_of : List (Pair K V) → K → Option (Pair K V)
     pair_of l k = find (λ p. is_eq (cmp p.key k)) l
 

@@ -51,7 +51,7 @@ target_events cmp size n v = halving_events size n v ++ node_events cmp (part_fo
 unfoldable pub put_events : {T : Type 0} → (T → T → Ordering) → ℕ → List (List T) → T → List (ChangeEventUnassigned T)
 put_events cmp size ns v = if is_filled ns then target_events cmp size (node_at ns (target cmp ns v)) v else CreateNode v ∷ []
 
--- a checked put: nothing changes where an equal item is there
+-- a checked put: nothing changes where an equal item is present
 unfoldable pub checked_put_events : {T : Type 0} → (T → T → Ordering) → ℕ → List (List T) → T → List (ChangeEventUnassigned T)
 checked_put_events cmp size ns v = if has_equal cmp (joined ns) v then [] else put_events cmp size ns v
 

@@ -51,9 +51,9 @@ impl From<Id> for u64 {
     }
 }
 
-/// A change, numbered. A node is named by its last item before the change. Two events are equal where
-/// kind, number and index are the same and the items are equal by their own `==`: pairs by their keys,
-/// and numbered pairs by keys and numbers, whatever their values are.
+/// A change, numbered. A node is named by its last item before the change. Two events are equal
+/// where kind, number and index are the same and the items are equal by their own `==`: pairs by
+/// their keys, and numbered pairs by keys and numbers, whatever their values are.
 #[derive(Clone, Debug, PartialEq, Eq, Drop)]
 pub enum ChangeEvent<T> {
     /// In the node named, the value is inserted at the index.

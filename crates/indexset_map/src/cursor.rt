@@ -22,7 +22,8 @@ use std::ops::Bound;
 /// assert!(rt; cursor.key() == Some(&3) && cursor.peek_prev() == Some((&1, &'a')));
 /// ```
 ///
-/// A cursor wraps around: after the last pair comes the position past the end, and then the first pair.
+/// A cursor wraps around: after the last pair comes the position past the end, and then the first
+/// pair.
 #[derive(Drop)]
 pub struct CursorMap<'a, K: Ord, V> {
     cursor: Cursor<'a, Pair<K, V>>,
@@ -39,8 +40,8 @@ impl<'a, K: Ord, V> Model for CursorMap<'a, K, V> {
 }
 
 impl<K: Ord, V> BTreeMap<K, V> {
-    /// Returns a cursor at the first pair whose key is within the bound, or past the end if there is
-    /// none.
+    /// Returns a cursor at the first pair whose key is within the bound, or past the end if there
+    /// is none.
     ///
     /// ```
     /// let map = BTreeMap::from_iter(alloc, [(10, 'a'), (20, 'b')])?;
@@ -61,8 +62,8 @@ impl<K: Ord, V> BTreeMap<K, V> {
         }
     }
 
-    /// Returns a cursor at the first pair whose key is past the bound, as the end of a range, or past
-    /// the end if there is none: above an included key, and at or above an excluded one.
+    /// Returns a cursor at the first pair whose key is past the bound, as the end of a range, or
+    /// past the end if there is none: above an included key, and at or above an excluded one.
     ///
     /// ```
     /// let map = BTreeMap::from_iter(alloc, [(10, 'a'), (20, 'b')])?;
@@ -168,8 +169,8 @@ impl<'a, K: Ord, V> CursorMap<'a, K, V> {
         Some((&pair.key, &pair.value))
     }
 
-    /// Returns the pair that `move_next` would move to, past the end the first, or `None` if there is
-    /// none.
+    /// Returns the pair that `move_next` would move to, past the end the first, or `None` if there
+    /// is none.
     ///
     /// ```
     /// let map = BTreeMap::from_iter(alloc, [(1, 'a'), (3, 'b')])?;

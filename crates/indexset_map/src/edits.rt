@@ -13,9 +13,9 @@ use std::mem;
 
 impl<K: Ord + Drop, V: Drop> BTreeMap<K, V> {
     /// Inserts a pair and returns `None`. If the key is present, keeps the stored key, replaces its
-    /// value, allocates nothing and returns the old value. It costs two binary searches at most, one
-    /// comparison where the key is above all keys. Fails with `Memory`: a failed call returns both
-    /// in the error and changes nothing.
+    /// value, allocates nothing and returns the old value. It makes two binary searches at most,
+    /// one comparison where the key is above all keys. Fails with `Memory`: a failed call returns
+    /// both in the error and changes nothing.
     ///
     /// ```
     /// let mut prices = BTreeMap::new(alloc)?;

@@ -39,8 +39,8 @@ impl<K: Ord, V> BTreeMap<K, V> {
         IterMap::of(self.set.range_by_key(bounds))
     }
 
-    /// Returns the pairs at the positions that satisfy both bounds, in order. There is none where
-    /// the bounds are the wrong way round, and positions past the end have none.
+    /// Returns the pairs at the positions that satisfy both bounds, in order. None where the start
+    /// is past the end; the bounds are clipped to the length.
     ///
     /// ```
     /// let map = BTreeMap::from_iter(alloc, [(5, 'a'), (10, 'b'), (15, 'c')])?;

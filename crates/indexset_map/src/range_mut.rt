@@ -40,7 +40,7 @@ impl<K: Ord, V> BTreeMap<K, V> {
         self.within_mut(range.start_bound(), range.end_bound())
     }
 
-    // Does the same of two bounds.
+    // Returns the same for two bounds.
     fn within_mut(&mut self, start: Bound<&K>, end: Bound<&K>) -> RangeMut<'_, K, V>
         requires { IsTrue (are_ordered K.cmp (bound_map (λ k. k.now) start)
             (bound_map (λ k. k.now) end)) }
@@ -66,8 +66,8 @@ impl<K: Ord, V> BTreeMap<K, V> {
     }
 
     /// Returns the pairs at the positions that satisfy both bounds, in order, with mutable
-    /// references to the values. There is none where the bounds are the wrong way round, and
-    /// positions past the end have none.
+    /// references to the values. None where the start is past the end; the bounds are clipped to
+    /// the length.
     ///
     /// ```
     /// let mut map = BTreeMap::from_iter(alloc, [(5, 1), (10, 1), (15, 1)])?;

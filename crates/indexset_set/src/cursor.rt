@@ -23,8 +23,8 @@ use std::ops::Bound;
 /// assert!(rt; cursor.peek_prev() == Some(&10) && cursor.peek_next() == Some(&30));
 /// ```
 ///
-/// A cursor wraps around: after the last element comes the position past the end, and then the first
-/// element. Within a node it asks the index nothing.
+/// A cursor wraps around: after the last element comes the position past the end, and then the
+/// first element. It reads the index once a node.
 #[derive(Drop)]
 pub struct Cursor<'a, T: Ord> {
     set: &'a BTreeSet<T>,
@@ -86,8 +86,8 @@ impl<T: Ord> BTreeSet<T> {
         self.cursor_in(self.spine.start_of(start))
     }
 
-    /// Returns a cursor at the first element that is past the end, a bound on what a probe seeks, or
-    /// past the end if there is none, by two binary searches.
+    /// Returns a cursor at the first element that is past the end, a bound on what a probe seeks,
+    /// or past the end if there is none, by two binary searches.
     ///
     /// ```
     /// # use indexset::base::probe::ByItem;
@@ -181,8 +181,8 @@ impl<'a, T: Ord> Cursor<'a, T> {
         self.element_at(self.position)
     }
 
-    /// Returns the element that `move_next` would move to, past the end the first, or `None` if there
-    /// is none.
+    /// Returns the element that `move_next` would move to, past the end the first, or `None` if
+    /// there is none.
     ///
     /// ```
     /// let set = BTreeSet::from_iter(alloc, [10, 20, 30])?;

@@ -10,7 +10,7 @@ use indexset_core::refusal::{Refusal, Refused};
 
 impl<T: Ord + Drop> BTreeSet<T> {
     /// Inserts `value` and returns true. If an equal element is present, keeps it, drops `value`,
-    /// allocates nothing and returns false. It costs two binary searches at most, one comparison
+    /// allocates nothing and returns false. It makes two binary searches at most, one comparison
     /// where the value is above all elements, and moves items of one node. Fails with `Memory`: a
     /// failed call returns the value in the error and changes nothing.
     ///

@@ -35,7 +35,7 @@ pub(super) fn locate<T: Ord>(spine: &Spine<T>, value: &T) -> Spot
     spine.locate_by(&mut ByItem::new(value))
 }
 
-// Does the same, where the last element is compared first: it is for values that come in order.
+// Returns the same with the last element compared first. For values that come in order.
 pub(super) fn locate_from_end<T: Ord>(spine: &Spine<T>, value: &T) -> Spot
     requires { IsAscending T.cmp (items spine.now) }
     ensures spot { IsSpot spine.now.nodes result }
@@ -50,7 +50,7 @@ pub(super) fn locate_from_end<T: Ord>(spine: &Spine<T>, value: &T) -> Spot
     spine.locate_from_end_by(&mut ByItem::new(value))
 }
 
-// Does the same, where a node is tried first: it is for values that go near each other.
+// Returns the same with a node tried first. For values whose places are near each other.
 pub(super) fn locate_near<T: Ord>(spine: &Spine<T>, near: usize, value: &T) -> Spot
     requires { IsAscending T.cmp (items spine.now) }
     ensures spot { IsSpot spine.now.nodes result }

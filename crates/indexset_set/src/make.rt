@@ -125,9 +125,9 @@ impl<T: Ord + Drop> BTreeSet<T> {
         Self::from_iter(alloc, values)
     }
 
-    /// Returns the set of values that ascend strictly, in the nodes that `from` makes of them, by two
-    /// comparisons a value and no search. Where they do not ascend, fails with `Unsorted` and returns
-    /// them in the error. Fails with `Memory`, and then drops the values.
+    /// Returns the set of values that ascend strictly, in the nodes that `from` makes of them, by
+    /// two comparisons a value and no search. Where they do not ascend, fails with `Unsorted` and
+    /// returns them in the error. Fails with `Memory`, and then drops the values.
     ///
     /// ```
     /// let set = BTreeSet::from_sorted(alloc, vec![in alloc; 10, 20, 30]?)?;
@@ -160,9 +160,9 @@ impl<T: Ord + Drop> BTreeSet<T> {
         }
     }
 
-    /// Returns clones of the elements in nodes as long as these, by one comparison an element, where
-    /// the clones ascend, as those equal to their sources do. Else it inserts each clone in turn, as
-    /// `from_iter` does. Fails with `Memory`, and then drops the clones.
+    /// Returns clones of the elements in nodes as long as these, by one comparison an element,
+    /// where the clones ascend, as those equal to their sources do. Else it inserts the clones one
+    /// by one, as `from_iter` does. Fails with `Memory`, and then drops the clones.
     ///
     /// ```
     /// let set = BTreeSet::from_iter(alloc, [10, 20, 30])?;

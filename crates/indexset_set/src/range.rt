@@ -38,7 +38,7 @@ impl<T: Ord> BTreeSet<T> {
         self.within(range.start_bound(), range.end_bound())
     }
 
-    // Does the same of two bounds.
+    // Returns the same for two bounds.
     fn within(&self, start: Bound<&T>, end: Bound<&T>) -> Range<'_, T>
         requires { IsTrue (are_ordered T.cmp (bound_map (λ v. v.now) start)
             (bound_map (λ v. v.now) end)) }
@@ -53,8 +53,8 @@ impl<T: Ord> BTreeSet<T> {
         Iter::of(self.spine.iter_from_to(&from, &to))
     }
 
-    /// Returns the elements at the positions that satisfy both bounds, in order. There is none
-    /// where the bounds are the wrong way round, and positions past the end have none.
+    /// Returns the elements at the positions that satisfy both bounds, in order. None where the
+    /// start is past the end; the bounds are clipped to the length.
     ///
     /// ```
     /// // The second page of two elements each.

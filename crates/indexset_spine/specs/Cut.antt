@@ -1,4 +1,4 @@
--- A list that is cut into nodes.
+-- A list partitioned into nodes.
 use Rattle.std.specs.Prelude.{◌≡◌, ℕ, ◌+◌, ◌-◌, ◌/◌, ◌<◌, ◌≤◌, ◌==◌, ◌&&◌, true, false, List, [], ◌∷◌, length, sum, take, drop, refl, slice_set, insert, remove, if◌then◌else◌, nat_lt}
 use Rattle.std.specs.List.{All, fold, splice}
 use Rattle.std.specs.Coded.{Coded, code_by, coded×, coded_ℕ, coded_list}
@@ -52,7 +52,7 @@ module _ {X : Type 0} where
     pub node_in : s.node < length ns
     pub offset_in : s.offset < length (node_at ns s.node)
 
-  -- how many items stand before the spot
+  -- how many items are before the spot
   abbrev pub position_of : List (List X) → Spot → ℕ
   position_of ns s = length (joined (take s.node ns)) + s.offset
 
@@ -80,7 +80,7 @@ module _ {X : Type 0} where
   unfoldable pub with_all_last : ℕ → List (List X) → List X → List (List X)
   with_all_last size ns xs = fold (with_last size) ns xs
 
-  -- the nodes without the item at the spot: an emptied node goes too, unless it is the only one
+  -- the nodes without the item at the spot: an emptied node is removed too, unless it is the only one
   unfoldable pub without_item : List (List X) → Spot → List (List X)
   without_item ns s =
       if (length (node_at ns s.node) == 1) && nat_lt 1 (length ns) then remove ns s.node

@@ -192,8 +192,8 @@ fn item_behind<T: Spelled>(text: &[u8], front: &[u8]) -> Option<T>
 }
 
 impl<T: Spelled> ChangeEvent<T> {
-    /// Does nothing. A caller's proof learns that the items and numbers of the event are in range,
-    /// so that its text is read as the identical event (`laws::texts_are_read`).
+    /// Does nothing. From its contract a proof learns that the items and numbers of the event are
+    /// in range, so that its text is read as the identical event (`laws::texts_are_read`).
     pub fn attest(&self)
         ensures { EventInRange T.in_range self.now }
     {

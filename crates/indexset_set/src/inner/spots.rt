@@ -31,8 +31,8 @@ pub fn spot_by<T: Ord, P: Probe<T>>(set: &BTreeSet<T>, probe: &mut P) -> Spot
     set.spine.locate_by(probe)
 }
 
-/// Does the same, with the last element compared first: if it is below what is sought, no other
-/// comparison follows. It is for elements that come in order.
+/// Returns the same with the last element compared first: if it is Less, no other comparison
+/// follows. For elements that come in order.
 pub fn spot_from_end_by<T: Ord, P: Probe<T>>(set: &BTreeSet<T>, probe: &mut P) -> Spot
     requires { FindsInOrder (P.answer probe.old) (items set.now) }
     ensures sought { IsSought (P.answer probe.old) set.now.nodes result }
@@ -83,8 +83,8 @@ pub fn position<T: Ord>(set: &BTreeSet<T>, spot: &Spot) -> usize
     set.spine.position(spot)
 }
 
-/// Returns the spot of the element at a position. It asks the index only where the element is not
-/// in the node `near`, before which `start` elements stand.
+/// Returns the spot of the element at a position. It reads the index only where the element is not
+/// in the node `near`, before which there are `start` elements.
 pub fn spot_near<T: Ord>(set: &BTreeSet<T>, near: usize, start: usize, i: usize) -> Spot
     requires near { start ≡ sum (take near (node_lengths set.now.nodes)) }
     requires inside { i < length (items set.now) }

@@ -30,7 +30,7 @@ pub fn have_equal_items<'a, T: PartialEq>(mut left: Iter<'a, T>, mut right: Iter
     }
 }
 
-// Returns the run, or where it is used up, the next one of the iterator.
+// Returns the run, or where it is empty, the next one of the iterator.
 fn or_next_run<'a, T>(run: &'a [T], walk: &mut Iter<'a, T>) -> &'a [T]
     ensures taken { result.now ++ walk.new ≡ run.now ++ walk.old }
     ensures some { 0 < length (run.now ++ walk.old) → 0 < length result.now }

@@ -12,8 +12,8 @@ use indexset_core::walk::ReadVec;
 
 impl<T: Drop> Spine<T> {
     /// Calls the closure once for each item, first to last, and keeps the items for which it
-    /// returned true, as it left them, each in its node. An emptied node goes, unless all are. It
-    /// allocates nothing.
+    /// returned true, as it left them, each in its node. An emptied node is removed, unless all
+    /// are. It allocates nothing.
     pub fn retain_mut<F: FnMut(&mut T) -> bool>(&mut self, f: F)
         requires { F.IsAlwaysCallable f }
         ensures nodes { RetainsNodes (CalledAtMut F.FnMut) f self.old.nodes self.new.nodes }
