@@ -3,7 +3,7 @@
 //!
 //! This is the crate that a user lists; it holds paths alone, those of the Rust crate. [`BTreeSet`]
 //! and [`BTreeMap`] with their types stand at the root, the logged set, map and multimap in
-//! [`concurrent`], their events in [`cdc`], what both families stand on in [`base`], look-ups by
+//! [`concurrent`], their events in [`cdc`], what both families use in [`base`], look-ups by
 //! borrowed text in [`text`], and the replica that follows a tree by its events in [`replica`];
 //! laws of sets are in [`laws`]. `Rattle.indexset.specs.Words` has the words of its contracts, and
 //! `docs/CALLING.md` is the page for callers.

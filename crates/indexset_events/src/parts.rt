@@ -73,7 +73,7 @@ pub fn cut(text: &[u8], byte: u8) -> Option<(&[u8], &[u8])>
     Some((&text[..place], &text[place + 1..]))
 }
 
-// Returns where a byte stands first.
+// Returns the index of the first such byte.
 fn first_place(text: &[u8], byte: u8) -> Option<usize>
     ensures { result ≡ position (λ b. b == byte) text.now }
 {

@@ -91,7 +91,7 @@ fn take_piece<R: BufRead>(reader: &mut R, line: &mut Vec<u8>) -> Result<Option<P
     }
 }
 
-/// Returns how many bytes stand before the first line end.
+/// Returns how many bytes are before the first line end.
 fn line_len(bytes: &[u8]) -> usize
     ensures { result ≡ position_or_len (λ b. b == 10) bytes.now }
 {

@@ -21,7 +21,7 @@ pub struct ValuesMut<'a, K: Ord, V> {
     map: &'a mut BTreeMap<K, V>,
     front: usize,
     back: usize,
-    // The node of the value that was given last, and how many values stand before that node.
+    // The node of the value that was given last, and how many values are before that node.
     node: usize,
     start: usize,
     ghost within: { back ≤ length map.now.pairs },

@@ -29,8 +29,8 @@ use std::ops::Bound;
 pub struct Cursor<'a, T: Ord> {
     set: &'a BTreeSet<T>,
     position: usize,
-    // The node of the element where the cursor stood last, and how many elements stand before that
-    // node.
+    // The node of the element that the cursor pointed at last, and how many elements are before
+    // that node.
     node: usize,
     start: usize,
 }
@@ -69,8 +69,8 @@ impl<T: Ord> BTreeSet<T> {
         cursor
     }
 
-    /// Returns a cursor at the first element that is not before the start, a bound on what a probe
-    /// seeks, or past the end if there is none, by two binary searches.
+    /// Returns a cursor at the first element that is not before the start, a bound given by a
+    /// comparator, or past the end if there is none, by two binary searches.
     ///
     /// ```
     /// # use indexset::base::probe::ByItem;
@@ -86,7 +86,7 @@ impl<T: Ord> BTreeSet<T> {
         self.cursor_in(self.spine.start_of(start))
     }
 
-    /// Returns a cursor at the first element that is past the end, a bound on what a probe seeks,
+    /// Returns a cursor at the first element that is past the end, a bound given by a comparator,
     /// or past the end if there is none, by two binary searches.
     ///
     /// ```

@@ -74,7 +74,7 @@ impl<T: Ord> BTreeSet<T> {
         Iter::of(self.spine.iter_between(from, to))
     }
 
-    /// Returns how many elements stand before the start, a bound on what a probe seeks.
+    /// Returns how many elements are before the start, a bound given by a comparator.
     ///
     /// ```
     /// # use indexset::base::probe::ByItem;
@@ -88,7 +88,7 @@ impl<T: Ord> BTreeSet<T> {
         self.spine.position(&self.spine.start_of(start))
     }
 
-    /// Returns how many elements are not past the end, a bound on what a probe seeks.
+    /// Returns how many elements are not past the end, a bound given by a comparator.
     ///
     /// ```
     /// # use indexset::base::probe::ByItem;

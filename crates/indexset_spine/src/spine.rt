@@ -163,7 +163,8 @@ impl<T> Spine<T> {
         self.locate_by(probe)
     }
 
-    // Returns where the probe finds what it seeks, searched for as among `len` items.
+    // Returns the spot of the first item that the probe finds Equal, or its insertion point,
+    // searched for as among `len` items.
     #[inline(always)]
     fn locate_among<P: Probe<T>>(&self, probe: &mut P, len: usize) -> Spot
         requires { IsParted (P.answer probe.old) (items self.now) }
@@ -209,7 +210,7 @@ impl<T> Spine<T> {
         }
     }
 
-    /// Returns how many items stand before a spot: its position.
+    /// Returns how many items are before a spot: its position.
     pub fn position(&self, spot: &Spot) -> usize
         requires { IsSpot self.now.nodes spot.now }
         ensures { result ≡ position_of self.now.nodes spot.now }

@@ -45,8 +45,8 @@ pub fn set_text(
 }
 
 /// Removes a name from a map and from a copy with the same nodes: both then have the same nodes
-/// again, and the copy does not hold the name. Where it fails, nothing changed, or the name is gone
-/// from the map and the copy is behind.
+/// again, and the copy does not hold the name. Where it fails, nothing changed, or the name is
+/// absent from the map and the copy is behind.
 pub fn forget(names: &mut Names, copy: &mut Replica<Named>, name: &ByteStr) -> Result<(), Refusal>
     requires { copy.old.nodes ≡ names.old.nodes }
     ensures same { OnOk result (copy.new.nodes ≡ names.new.nodes) }
@@ -69,7 +69,7 @@ pub fn text_of<'a>(names: &'a Names, name: &str) -> Option<&'a ByteStr>
     ensures { option_copied result ≡ value_of (slice_cmp nat_cmp) (joined names.now.nodes)
         name.now }
 {
-    // Tells that the names ascend.
+    // Its contract says that the names ascend.
     let _nodes = names.node_count();
     let pair = names.get_by(&mut OnKey::new(ByStr::new(name)))?;
     Some(&pair.value)
@@ -79,7 +79,7 @@ pub fn text_of<'a>(names: &'a Names, name: &str) -> Option<&'a ByteStr>
 pub fn copied_text_of<'a>(copy: &'a Replica<Named>, name: &str) -> Option<&'a ByteStr>
     ensures { option_copied result ≡ value_of (slice_cmp nat_cmp) (joined copy.now.nodes) name.now }
 {
-    // Tells that the names ascend.
+    // Its contract says that the names ascend.
     let _nodes = copy.nodes();
     let pair = copy.get_by(&mut OnKey::new(ByStr::new(name)))?;
     Some(&pair.value)

@@ -44,7 +44,7 @@ pub fn set_count(
 }
 
 /// Removes a name from a stock and from a copy with the same nodes: both then have the same nodes
-/// again. Where it fails, nothing changed, or the name is gone from the stock and the copy is
+/// again. Where it fails, nothing changed, or the name is absent from the stock and the copy is
 /// behind.
 pub fn forget(stock: &mut Stock, copy: &mut Replica<Count>, name: &ByteStr) -> Result<(), Refusal>
     requires { copy.old.nodes ≡ stock.old.nodes }

@@ -35,7 +35,7 @@ pub fn resume(
     Ok(copy)
 }
 
-/// Returns a set that goes on where the copy stopped: it has the copy's nodes, and its next event
+/// Returns a set that continues where the copy stopped: it has the copy's nodes, and its next event
 /// has the number that the copy expects. Fails only where a node has more than `size` numbers, or
 /// the copy more than a usize counts.
 pub fn promote(copy: Replica<u64>, size: usize) -> Result<Numbers, Refusal>

@@ -64,7 +64,7 @@ pub fn last_spot<T: Ord>(set: &BTreeSet<T>) -> Option<Spot>
     set.spine.last_spot()
 }
 
-/// Returns the spot after the elements before the start, a bound on what a probe seeks, by two
+/// Returns the spot after the elements before the start, a bound given by a comparator, by two
 /// binary searches.
 pub fn start_of<T: Ord, P: Probe<T> + Drop>(set: &BTreeSet<T>, start: Bound<P>) -> Spot
     requires { IfBounded (λ p. FindsInOrder (P.answer p) (items set.now)) start }
@@ -75,7 +75,7 @@ pub fn start_of<T: Ord, P: Probe<T> + Drop>(set: &BTreeSet<T>, start: Bound<P>) 
     set.spine.start_of(start)
 }
 
-/// Returns how many elements stand before a spot, which the index tells.
+/// Returns how many elements are before a spot, by the index.
 pub fn position<T: Ord>(set: &BTreeSet<T>, spot: &Spot) -> usize
     requires { IsSpot set.now.nodes spot.now }
     ensures { result ≡ position_of set.now.nodes spot.now }
@@ -103,9 +103,9 @@ pub fn element<'a, T: Ord>(set: &'a BTreeSet<T>, spot: &Spot) -> &'a T
     set.spine.item(spot)
 }
 
-/// Inserts a value at the spot where a search for it ended, and returns the spot where it then
-/// stands. It makes no comparison. Fails with `Memory`: a failed call returns the value in the
-/// error and changes nothing.
+/// Inserts a value at the spot where a search for it ended, and returns its spot. It makes no
+/// comparison. Fails with `Memory`: a failed call returns the value in the error and changes
+/// nothing.
 pub fn insert_at<T: Ord + Drop>(
     set: &mut BTreeSet<T>,
     spot: Spot,

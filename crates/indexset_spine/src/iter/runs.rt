@@ -1,4 +1,4 @@
-//! Two iterators compared by runs, the items that stand in one node.
+//! Two iterators compared by runs, the items of one node.
 ghost use Rattle.std.specs.Prelude.{◌≡◌, ◌<◌, ◌++◌, length};
 ghost use Rattle.std.specs.Cmp.Lexicographic.{pointwise};
 

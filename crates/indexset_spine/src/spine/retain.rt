@@ -55,8 +55,8 @@ fn retain_nodes<T: Drop, F: FnMut(&mut T) -> bool>(nodes: &mut Vec<Vec<T>>, mut 
     }
 }
 
-// Keeps the items for which the closure returns true: once one has gone, each of them is swapped
-// with the first that went.
+// Keeps the items for which the closure returns true: once one is removed, each of them is swapped
+// with the first that was.
 fn retain_node<T: Drop, F: FnMut(&mut T) -> bool>(node: &mut Vec<T>, f: &mut F)
     requires { F.IsAlwaysCallable f.old }
     ensures kept { RetainsTo (CalledAtMut F.FnMut) f.old node.old.items node.new.items f.new }
