@@ -42,8 +42,8 @@ impl<K: Ord + Drop, V: Drop> BTreeMap<K, V> {
         Ok(None)
     }
 
-    /// Removes the pair of a key and returns it, or returns `None`, by two binary searches. It
-    /// allocates nothing.
+    /// Removes the pair of a key and returns it, if any, by two binary searches. It allocates
+    /// nothing.
     ///
     /// ```
     /// let mut prices = BTreeMap::from_iter(alloc, [("pear", 120), ("fig", 45)])?;
@@ -65,8 +65,8 @@ impl<K: Ord + Drop, V: Drop> BTreeMap<K, V> {
         }
     }
 
-    /// Removes the pair of a key and returns its value, or returns `None`, by two binary searches.
-    /// It allocates nothing.
+    /// Removes the pair of a key and returns its value, if any, by two binary searches. It
+    /// allocates nothing.
     ///
     /// ```
     /// let mut prices = BTreeMap::from_iter(alloc, [("pear", 120)])?;
@@ -84,8 +84,7 @@ impl<K: Ord + Drop, V: Drop> BTreeMap<K, V> {
         Some(value)
     }
 
-    /// Removes the pair of the least key and returns it, or returns `None` where the map is empty.
-    /// It allocates nothing.
+    /// Removes the pair of the first key and returns it, if any. It allocates nothing.
     ///
     /// ```
     /// let mut prices = BTreeMap::from_iter(alloc, [("pear", 120), ("fig", 45)])?;
@@ -103,8 +102,7 @@ impl<K: Ord + Drop, V: Drop> BTreeMap<K, V> {
         Some((key, value))
     }
 
-    /// Removes the pair of the greatest key and returns it, or returns `None` where the map is
-    /// empty. It allocates nothing.
+    /// Removes the pair of the last key and returns it, if any. It allocates nothing.
     ///
     /// ```
     /// let mut prices = BTreeMap::from_iter(alloc, [("pear", 120), ("fig", 45)])?;
@@ -123,7 +121,7 @@ impl<K: Ord + Drop, V: Drop> BTreeMap<K, V> {
         Some((key, value))
     }
 
-    /// Removes the pair at a position. It allocates nothing.
+    /// Removes the pair at a position and returns it. It allocates nothing.
     ///
     /// ```
     /// let mut prices = BTreeMap::from_iter(alloc, [("pear", 120), ("fig", 45)])?;
@@ -151,8 +149,8 @@ impl<K: Ord + Drop, V: Drop> BTreeMap<K, V> {
         self.set.clear();
     }
 
-    /// Calls the closure once for each pair, in order, and keeps the pairs for which it returned
-    /// true, with the values that it left. It allocates nothing.
+    /// Retains the pairs for which the closure returns true, with the values that it left. It is
+    /// called once for each pair, in order. It allocates nothing.
     ///
     /// ```
     /// let mut prices = BTreeMap::from_iter(alloc, [("pear", 120), ("fig", 45)])?;

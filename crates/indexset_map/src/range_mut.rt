@@ -16,9 +16,9 @@ pub type RangeMut<'a, K, V> = IterMut<'a, K, V>;
 impl<K: Ord, V> BTreeMap<K, V> {
     ghost use Rattle.indexset_map.specs.Walk.{IsSpan, walk_back, walk_front, walk_map, walk_rest};
 
-    /// Returns the pairs whose keys satisfy both bounds, in order, with mutable references to the
-    /// values. The start must not be past the end, nor at it where both are excluded (see
-    /// `base::bounds::bounds_are_ordered`).
+    /// Returns a double-ended iterator over the pairs whose keys are within the range, in order,
+    /// with mutable references to the values. The start must not be past the end, nor at it where
+    /// both are excluded (see `base::bounds::bounds_are_ordered`).
     ///
     /// ```
     /// let mut map = BTreeMap::from_iter(alloc, [(5, 1), (10, 1), (15, 1)])?;
@@ -65,9 +65,9 @@ impl<K: Ord, V> BTreeMap<K, V> {
         }
     }
 
-    /// Returns the pairs at the positions that satisfy both bounds, in order, with mutable
-    /// references to the values. None where the start is past the end; the bounds are clipped to
-    /// the length.
+    /// Returns a double-ended iterator over the pairs at the positions within the bounds, in order,
+    /// with mutable references to the values. It is empty where the start is past the end; the
+    /// bounds are clipped to the length.
     ///
     /// ```
     /// let mut map = BTreeMap::from_iter(alloc, [(5, 1), (10, 1), (15, 1)])?;

@@ -22,7 +22,8 @@ pub use symmetric_walk::SymmetricDifference;
 pub use union_walk::Union;
 
 impl<T: Ord> BTreeSet<T> {
-    /// Returns the elements of either set, ascending. Of two equal ones it gives this set's.
+    /// Returns an iterator over the union, ascending: the elements of either set, of two equal ones
+    /// this set's.
     ///
     /// ```
     /// let one = BTreeSet::from_iter(alloc, [1, 2])?;
@@ -39,7 +40,8 @@ impl<T: Ord> BTreeSet<T> {
         }
     }
 
-    /// Returns the elements of this set that have an equal one in the other, ascending.
+    /// Returns an iterator over the intersection, ascending: the elements of this set that have an
+    /// equal one in the other.
     ///
     /// ```
     /// let one = BTreeSet::from_iter(alloc, [1, 2])?;
@@ -56,7 +58,8 @@ impl<T: Ord> BTreeSet<T> {
         }
     }
 
-    /// Returns the elements of this set that have no equal one in the other, ascending.
+    /// Returns an iterator over the difference, ascending: the elements of this set that have no
+    /// equal one in the other.
     ///
     /// ```
     /// let one = BTreeSet::from_iter(alloc, [1, 2])?;
@@ -73,7 +76,8 @@ impl<T: Ord> BTreeSet<T> {
         }
     }
 
-    /// Returns the elements of either set that have no equal one in the other, ascending.
+    /// Returns an iterator over the symmetric difference, ascending: the elements of either set
+    /// that have no equal one in the other.
     ///
     /// ```
     /// let one = BTreeSet::from_iter(alloc, [1, 2])?;
@@ -90,7 +94,7 @@ impl<T: Ord> BTreeSet<T> {
         }
     }
 
-    /// Returns whether each element has an equal one in the other set.
+    /// Returns whether the set is a subset of the other: each element has an equal one there.
     ///
     /// ```
     /// let one = BTreeSet::from_iter(alloc, [1, 2])?;
@@ -103,7 +107,8 @@ impl<T: Ord> BTreeSet<T> {
         self.difference(other).next().is_none()
     }
 
-    /// Returns whether each element of the other set has an equal one here.
+    /// Returns whether the set is a superset of the other: each element there has an equal one
+    /// here.
     ///
     /// ```
     /// let one = BTreeSet::from_iter(alloc, [1, 2])?;
@@ -116,7 +121,7 @@ impl<T: Ord> BTreeSet<T> {
         other.is_subset(self)
     }
 
-    /// Returns whether no element has an equal one in the other set.
+    /// Returns whether the sets have no elements in common.
     ///
     /// ```
     /// let one = BTreeSet::from_iter(alloc, [1, 2])?;

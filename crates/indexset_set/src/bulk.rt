@@ -16,8 +16,8 @@ use super::lookup::{locate, locate_near};
 use indexset_core::refusal::Refusal;
 
 impl<T: Ord + Drop> BTreeSet<T> {
-    /// Calls the closure once for each element, in order, and keeps the elements for which it
-    /// returned true. It allocates nothing.
+    /// Retains the elements for which the closure returns true. It is called once for each element,
+    /// in order. It allocates nothing.
     ///
     /// ```
     /// let mut set = BTreeSet::from_iter(alloc, 1..=6)?;

@@ -66,8 +66,8 @@ impl<T: Ord + Drop> BTreeSet<T> {
         Ok(None)
     }
 
-    /// Removes the element equal to the value and returns it, or returns `None`, by two binary
-    /// searches. It allocates nothing.
+    /// Removes the element equal to the value and returns it, if any, by two binary searches. It
+    /// allocates nothing.
     ///
     /// ```
     /// let mut set = BTreeSet::from_iter(alloc, [7, 8])?;

@@ -66,7 +66,7 @@ pub(super) fn locate_near<T: Ord>(spine: &Spine<T>, near: usize, value: &T) -> S
 }
 
 impl<T: Ord> BTreeSet<T> {
-    /// Returns the element equal to the value, or `None`, by two binary searches.
+    /// Returns the element equal to the value, if any, by two binary searches.
     ///
     /// ```
     /// let set = BTreeSet::from_iter(alloc, [10, 20])?;
@@ -134,7 +134,7 @@ impl<T: Ord> BTreeSet<T> {
         }
     }
 
-    /// Returns the first element that is not below the value, or `None` where there is none.
+    /// Returns the first element that is not below the value, if any.
     ///
     /// ```
     /// let set = BTreeSet::from_iter(alloc, [10, 20, 30])?;
@@ -146,8 +146,7 @@ impl<T: Ord> BTreeSet<T> {
         self.spine.item_from(&locate(&self.spine, value))
     }
 
-    /// Returns the first element that is above the value, or `None` where there is none, by two
-    /// binary searches.
+    /// Returns the first element that is above the value, if any, by two binary searches.
     ///
     /// ```
     /// let set = BTreeSet::from_iter(alloc, [10, 20, 30])?;
@@ -160,8 +159,8 @@ impl<T: Ord> BTreeSet<T> {
         self.spine.item_from(&spot)
     }
 
-    /// Returns the first element that the probe finds Equal, or `None` where there is none. It
-    /// compares as `locate_by` does.
+    /// Returns the first element that the probe finds Equal, if any. It compares as `locate_by`
+    /// does.
     ///
     /// ```
     /// // An element of text, found by a &str without an allocation.

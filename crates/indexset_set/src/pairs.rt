@@ -19,7 +19,7 @@ use indexset_core::probe::Probe;
 impl<K: Ord, V> BTreeSet<Pair<K, V>> {
     ghost use Rattle.indexset_set.specs.SetLends.{lends_value, lends_pair, lends_pair_if, lends_value_if};
 
-    /// Returns a mutable reference to the value at a position, or `None` where there is none.
+    /// Returns a mutable reference to the value at a position, if any.
     ///
     /// ```
     /// let mut pairs = BTreeSet::from_iter(alloc, [Pair { key: 1, value: 10 }])?;
@@ -40,8 +40,8 @@ impl<K: Ord, V> BTreeSet<Pair<K, V>> {
         }
     }
 
-    /// Returns a mutable reference to the value of the first pair that the probe finds Equal, or
-    /// `None` where there is none. It compares as `locate_by` does.
+    /// Returns a mutable reference to the value of the first pair that the probe finds Equal, if
+    /// any. It compares as `locate_by` does.
     ///
     /// ```
     /// # use indexset::base::probe::ByKey;
@@ -121,8 +121,8 @@ impl<K: Ord, V> BTreeSet<Pair<K, V>> {
 }
 
 impl<K: Ord + Drop, V: Drop> BTreeSet<Pair<K, V>> {
-    /// Calls the closure once for each pair, in order, and keeps the pairs for which it returned
-    /// true, with the values that it left. It allocates nothing.
+    /// Retains the pairs for which the closure returns true, with the values that it left. It is
+    /// called once for each pair, in order. It allocates nothing.
     ///
     /// ```
     /// let mut pairs = BTreeSet::from_iter(alloc, [Pair { key: 1, value: 10 }])?;

@@ -19,8 +19,9 @@ use std::ops::Bound;
 pub type Range<'a, T> = Iter<'a, T>;
 
 impl<T: Ord> BTreeSet<T> {
-    /// Returns the elements that satisfy both bounds, in order. The start must not be past the end,
-    /// nor at it where both are excluded (see `base::bounds::bounds_are_ordered`).
+    /// Returns a double-ended iterator over the elements within the range, in order. The start must
+    /// not be past the end, nor at it where both are excluded (see
+    /// `base::bounds::bounds_are_ordered`).
     ///
     /// ```
     /// let set = BTreeSet::from_iter(alloc, [5, 10, 15, 20])?;
@@ -53,8 +54,8 @@ impl<T: Ord> BTreeSet<T> {
         Iter::of(self.spine.iter_from_to(&from, &to))
     }
 
-    /// Returns the elements at the positions that satisfy both bounds, in order. None where the
-    /// start is past the end; the bounds are clipped to the length.
+    /// Returns a double-ended iterator over the elements at the positions within the bounds, in
+    /// order. It is empty where the start is past the end; the bounds are clipped to the length.
     ///
     /// ```
     /// // The second page of two elements each.

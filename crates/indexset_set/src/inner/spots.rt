@@ -47,7 +47,7 @@ pub fn spot_from_end_by<T: Ord, P: Probe<T>>(set: &BTreeSet<T>, probe: &mut P) -
     set.spine.locate_from_end_by(probe)
 }
 
-/// Returns the spot of the least element, or `None` where there is none.
+/// Returns the spot of the least element, if any.
 pub fn first_spot<T: Ord>(set: &BTreeSet<T>) -> Option<Spot>
     ensures { MatchOption result (length (items set.now) ≡ 0)
         (λ s. IsItemSpot set.now.nodes s × (position_of set.now.nodes s ≡ 0) × IsTrue s.found) }
@@ -55,7 +55,7 @@ pub fn first_spot<T: Ord>(set: &BTreeSet<T>) -> Option<Spot>
     set.spine.first_spot()
 }
 
-/// Returns the spot of the greatest element, or `None` where there is none.
+/// Returns the spot of the greatest element, if any.
 pub fn last_spot<T: Ord>(set: &BTreeSet<T>) -> Option<Spot>
     ensures { MatchOption result (length (items set.now) ≡ 0)
         (λ s. IsItemSpot set.now.nodes s × (position_of set.now.nodes s
