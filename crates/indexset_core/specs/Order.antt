@@ -43,7 +43,7 @@ lower_element cmp l v = find (λ x. not (is_lt (cmp x v))) l
 unfoldable pub put : {T : Type 0} → (T → T → Ordering) → List T → T → List T
 put cmp l v = below cmp l v ++ v ∷ above cmp l v
 
--- the same, unless an equal element is present
+-- `put`, unless an equal element is present
 unfoldable pub keep : {T : Type 0} → (T → T → Ordering) → List T → T → List T
 keep cmp l v = if has_equal cmp l v then l else put cmp l v
 

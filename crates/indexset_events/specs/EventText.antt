@@ -84,7 +84,7 @@ module _ {T : Type 0} (reading : List ℕ → Option T) where
 abbrev pub pair_text : {K V : Type 0} → (K → List ℕ) → (V → List ℕ) → Pair K V → List ℕ
 pair_text key value p = key p.key ++ 58 ∷ value p.value
 
--- that of a numbered pair
+-- the text of a numbered pair
 abbrev pub multi_pair_text : {K V : Type 0} → (K → List ℕ) → (V → List ℕ) → MultiPair K V → List ℕ
 multi_pair_text key value p = key p.key ++ 58 ∷ (value p.value ++ 32 ∷ (codes "#" ++ decimal p.discriminator))
 

@@ -72,6 +72,7 @@ abbrev pub count_with : Option ℕ → ℕ
 count_with None = 1
 count_with (Some j) = 2
 
+-- how many events the removal of the item at place i of the node at place k gives
 abbrev pub taking_count : {T : Type 0} → ℕ → List (List T) → ℕ → ℕ → ℕ
 taking_count size ns k i = count_with (join_after size ns k i)
 

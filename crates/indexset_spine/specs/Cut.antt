@@ -17,7 +17,7 @@ pub record IsCut (lengths : List ℕ) (size : ℕ) : Type 0 where
   pub bounded : All (λ n. n ≤ size) lengths
   pub filled : 2 ≤ length lengths → All (λ n. 1 ≤ n) lengths
 
--- the same, with the sum of the lengths
+-- `IsCut`, with the sum of the lengths
 pub record IsSpine (lengths : List ℕ) (size total : ℕ) : Type 0 where
   pub is_cut : IsCut lengths size
   pub total_is : total ≡ sum lengths
@@ -32,13 +32,14 @@ abbrev pub first_spot : Spot
 first_spot = record { node = 0; offset = 0; found = true }
 
 module _ {X : Type 0} where
+  -- what contracts see of a set: its nodes and node size
   abbrev pub cut : List (List X) → ℕ → Cut X
   cut ns n = record { nodes = ns; size = n }
 
   abbrev pub cut_code : Coded X → Coded (Cut X)
   cut_code c = code_by (List (List X) × ℕ) (coded× (coded_list (coded_list c)) coded_ℕ) (λ s. (s.nodes, s.size)) (λ p. cut p.0 p.1) (λ _. refl)
 
-  -- the items
+  -- the list of a set, or of a spine
   abbrev pub items : Cut X → List X
   items s = joined s.nodes
 
