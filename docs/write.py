@@ -33,6 +33,7 @@ PAGES = {
     "text": ("Look-ups by borrowed text", "indexset_text", ""),
     "base": ("What all stand on: `indexset::base`", "indexset_core", ""),
 }
+FOR_C = {"c": ("Calls of the C library", "indexset_c", "")}
 INNER = ("inner", "inner/")  # what a crate of a type has for the crates above it alone
 
 
@@ -57,7 +58,7 @@ class Word:
 def library_crates() -> list[str]:
     """The crates of crates.txt that are neither programs nor tests nor what tests play on, in its order."""
     lines = (ROOT / "crates.txt").read_text(encoding="utf-8").splitlines()
-    names = [line.split(":")[0].strip() for line in lines if line.strip()]
+    names = [line.split(":")[0].split()[0] for line in lines if line.strip() and not line.startswith("#")]
     return [it for it in names if (ROOT / "crates" / it / "src/lib.rt").exists() and not it.endswith(("_tests", "_play"))]
 
 
@@ -183,8 +184,8 @@ def is_ghost_member(text: str) -> bool:
 def is_call(line: str, owner: str, free: Callable[[str], bool], public: set[str]) -> bool:
     """Whether a line begins a function that a caller can name."""
     if not owner:
-        function = re.match(r"pub fn (\w+)", line)
-        return function is not None and free(function[1])
+        function = re.match(r'pub (?:extern "C" )?fn (\w+)', line)
+        return function is not None and ('extern "C"' in line or free(function[1]))
     heads = ("pub fn ", "fn ") if owner.startswith("pub trait") else ("pub fn ",)
     return owner_type(owner) in public and line.strip().startswith(heads)
 
@@ -257,7 +258,7 @@ def files_of(crate: str, part: str) -> Iterator[pathlib.Path]:
 
 def files_apart(crate: str) -> Iterator[pathlib.Path]:
     """The source files of a crate that are on no page of a type."""
-    apart = {file for _, name, part in PAGES.values() if name == crate for file in files_of(crate, part)}
+    apart = {file for _, name, part in {**PAGES, **FOR_C}.values() if name == crate for file in files_of(crate, part)}
     return (file for file in source_files(crate) if file not in apart)
 
 
@@ -287,7 +288,7 @@ def pages_of_contracts() -> dict[str, Page]:
     """The pages by name, those of types first."""
     crates = library_crates()
     public = public_names(crates)
-    found = {name: page_of(title, crate, files_of(crate, part), public) for name, (title, crate, part) in PAGES.items()}
+    found = {name: page_of(title, crate, files_of(crate, part), public) for name, (title, crate, part) in {**PAGES, **FOR_C}.items()}
     for crate in crates:
         short = crate.removeprefix("indexset_")
         name = f"{short}_inner" if short in found else short
@@ -308,9 +309,10 @@ def text_of(page: Page) -> str:
 def index(pages: dict[str, Page]) -> str:
     """The text of the index: of each page the calls by type."""
     out = ["# Contracts", "", f"Each public call of the library crates with its clauses, written by `docs/write.py` from the sources. {ABOUT}", ""]
+    heads = {next(iter(FOR_C)): "# For C", next(it for it in pages if it not in {**PAGES, **FOR_C}): "# Inner crates"}
     for name, page in pages.items():
-        if name == next(it for it in pages if it not in PAGES):
-            out += ["# Inner crates", ""]
+        if name in heads:
+            out += [heads[name], ""]
         out += [f"## [{page.title}]({name}.md)", ""]
         for owner, calls in page.calls.items():
             links = ", ".join(f"[`{call}`]({name}.md#{anchor})" for call, anchor in calls)
