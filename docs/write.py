@@ -288,7 +288,8 @@ def pages_of_contracts() -> dict[str, Page]:
     """The pages by name, those of types first."""
     crates = library_crates()
     public = public_names(crates)
-    found = {name: page_of(title, crate, files_of(crate, part), public) for name, (title, crate, part) in {**PAGES, **FOR_C}.items()}
+    outer = {**PAGES, **FOR_C}.items()
+    found = {name: page_of(title, crate, files_of(crate, part), public) for name, (title, crate, part) in outer}
     for crate in crates:
         short = crate.removeprefix("indexset_")
         name = f"{short}_inner" if short in found else short
