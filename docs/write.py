@@ -31,6 +31,7 @@ PAGES = {
     "replica": ("Replica", "indexset_replica", ""),
     "events": ("Events", "indexset_events", ""),
     "text": ("Look-ups by borrowed text", "indexset_text", ""),
+    "journal": ("Journal", "indexset_journal", ""),
     "base": ("What all stand on: `indexset::base`", "indexset_core", ""),
 }
 FOR_C = {"c": ("Calls of the C library", "indexset_c", "")}
@@ -288,7 +289,7 @@ def pages_of_contracts() -> dict[str, Page]:
     """The pages by name, those of types first."""
     crates = library_crates()
     public = public_names(crates)
-    outer = {**PAGES, **FOR_C}.items()
+    outer = [(name, it) for name, it in {**PAGES, **FOR_C}.items() if it[1] in crates]
     found = {name: page_of(title, crate, files_of(crate, part), public) for name, (title, crate, part) in outer}
     for crate in crates:
         short = crate.removeprefix("indexset_")
@@ -331,7 +332,7 @@ def contracts() -> dict[str, str]:
 def words_used() -> set[str]:
     """The words in the clauses of the pages of types."""
     pages = pages_of_contracts()
-    return {word for name in PAGES for line in pages[name].lines for word in re.findall(r"[^\W\d]\w*'*", line)}
+    return {word for name in PAGES if name in pages for line in pages[name].lines for word in re.findall(r"[^\W\d]\w*'*", line)}
 
 
 def words_of(text: str) -> Iterator[Word]:
