@@ -1,9 +1,9 @@
 //! Comparators for text: keys are compared with a borrowed text.
 //!
-//! [`ByStr`] serves the calls that take a `Probe`, as `get_by` of sets and maps: they then look a `&str`
-//! up among items of any type that is `AsStr`, such as `String` and `bytes::ByteStr`, and no item is made
-//! for it. [`OnKey`] asks a comparator about the keys of pairs. The order of the keys must be that of
-//! the bytes of their texts, as it is for those types.
+//! [`ByStr`] serves the calls that take a `Probe`, as `get_by` of sets and maps: they then look a
+//! `&str` up among items of any type that is `AsStr`, such as `String` and `bytes::ByteStr`,
+//! without an allocation. [`OnKey`] compares the keys of pairs by a comparator. The order of the
+//! keys must be that of the bytes of their texts, as it is for those types.
 //!
 //! ```
 //! // The price of a name, in a map from `ByteStr`.
@@ -68,7 +68,7 @@ impl<'a, T: AsStr> Probe<T> for ByStr<'a> {
     }
 }
 
-/// Asks its comparator about the key of a pair, numbered or not.
+/// Compares the key of a pair, numbered or not, by its comparator.
 #[derive(Drop)]
 pub struct OnKey<P> {
     probe: P,
