@@ -60,7 +60,7 @@ pub record Reads (old new : View) (lines : List (List ℕ)) (next : ℕ) : Type 
 
 -- reads stay tested, no wrong answer and no fault is forgotten, and only a fault shuts the store
 pub record IsSteady {S : Type 0} (view : S → View) (faults : S → ℕ) (Shielded : S → Type 0) (old new : S) : Type 0 where
-  pub shield : Shielded old → Shielded new
   pub clean : doubt (view old).is_clean ≤ doubt (view new).is_clean
-  pub counts : faults old ≤ faults new
   pub closes : IsClean (view new) → IsTrue (view old).is_open → IsTrue (view new).is_open ⊎ MoreFaults (faults old) (faults new)
+  pub shield : Shielded old → Shielded new
+  pub counts : faults old ≤ faults new

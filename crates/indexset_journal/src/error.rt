@@ -1,5 +1,6 @@
 //! Why a call failed.
 
+use sqlite::ErrorCode;
 use sqlite_trees::error::StoreError;
 use std::alloc::{AllocError, AllocFailed};
 use std::error::Error;
@@ -20,7 +21,7 @@ pub enum JournalError {
     Shut,
     /// A line is longer than 999,999,946 bytes.
     TooLong,
-    /// The file has more than the one table of lines, or a row that is no line.
+    /// The file is no database, or has more than the one table of lines, or a row that is no line.
     NotLines,
     /// Too few numbers are left for the lines.
     Numbers,
@@ -40,7 +41,7 @@ impl fmt::Display for JournalError {
             JournalError::Shut =>
                 "the file was closed by an earlier failure and has to be opened again",
             JournalError::TooLong => "a line is longer than 999,999,946 bytes",
-            JournalError::NotLines => "the file holds other tables, or rows that are no lines",
+            JournalError::NotLines => "the file holds something other than lines",
             JournalError::Numbers =>
                 "the numbers of rows are used up; a compaction begins them again",
             JournalError::InUse => "another process has the file open",
@@ -65,6 +66,31 @@ impl From<StoreError> for JournalError {
             StoreError::Full => JournalError::Full,
             StoreError::Broken => JournalError::Shut,
             StoreError::Unstorable => JournalError::TooLong,
+        }
+    }
+}
+
+/// What an open of the file, or the statement that makes its table, answered.
+impl From<sqlite::Error> for JournalError {
+    ghost use Rattle.std.specs.Prelude.{◌≡◌};
+    ghost use Rattle.indexset_journal.specs.Opening.{opening};
+
+    ghost from_gives = { λ failed error. error ≡ opening failed };
+
+    fn from(error: sqlite::Error) -> JournalError {
+        let sqlite::Error::SqliteFailure(code) = error else {
+            return JournalError::NotLines;
+        };
+        match code {
+            ErrorCode::OutOfMemory => JournalError::OutOfMemory,
+            ErrorCode::SystemIoFailure => JournalError::Disk,
+            ErrorCode::DatabaseCorrupt => JournalError::Damaged,
+            ErrorCode::DiskFull => JournalError::Full,
+            ErrorCode::Closed => JournalError::Shut,
+            ErrorCode::TooBig => JournalError::TooLong,
+            ErrorCode::DatabaseBusy => JournalError::InUse,
+            ErrorCode::CannotOpen => JournalError::CannotOpen,
+            _ => JournalError::NotLines,
         }
     }
 }
