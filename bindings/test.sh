@@ -37,6 +37,9 @@ sanitized() {
 }
 
 try make -s -j "$(nproc)" -C c check
+for compiler in g++ clang++; do
+    has "$compiler" "the header for C++ by it" && try make -s -j "$(nproc)" -C c "check-$compiler"
+done
 try c/test_install.sh
 try python3 python/test_package.py
 try env PYTHONPATH=python/out python3 -m doctest README.md
