@@ -180,6 +180,22 @@ static void test_many_values() {
     CHECK(indexset::erase_if(ours, [](const auto &pair) { return pair.second % 2 == 0; }) == 450 && ours.size() == 450);
 }
 
+// Each request of a call refused in turn.
+static void test_sweep() {
+    indexset::multimap<int, int> multi, more, less, other;
+    for (int key = 0; key < 300; key++) multi.insert({key / 3, key});
+    more = less = multi;
+    more.insert({50, 1}), more.insert({7, 22}), less.erase(50, 151);
+    other.insert({1, 2});
+    indexset::multimap<int, int> one(multi);
+    one.insert({50, 1});
+    sweep(multi, one, [](auto &copy) { copy.insert({50, 1}); });
+    sweep(multi, less, [](auto &copy) { copy.erase(50, 151); });
+    sweep(multi, less, [](auto &copy) { copy.erase(copy.find(50, 151)); });
+    sweep(other, multi, [&](auto &copy) { copy = multi; });
+    CHECK(more.size() == 301 && less.size() == 299 && less < multi && multi != more);
+}
+
 // ---- a logged map and replicas that follow it
 template <class K, class V>
 struct log_script {
@@ -266,6 +282,7 @@ int main() {
     multimap_script<double, double>{0, 300}.run(1500);
     for (unsigned long refuse = 1; refuse <= 12; refuse++) multimap_script<std::uint64_t, int>{refuse, 8}.run(200);
     test_many_values();
+    test_sweep();
     log_script<std::uint64_t, std::uint64_t>{0}.run(2000);
     log_script<int, float>{0}.run(1500);
     for (unsigned long refuse = 2; refuse <= 12; refuse++) log_script<std::uint64_t, std::uint64_t>{refuse}.run(200);

@@ -302,6 +302,11 @@ static void test_keys() {
     const std::vector<int> several{3, 1, 2};
     indexset::set deduced(several.begin(), several.end());
     static_assert(std::is_same_v<decltype(deduced), indexset::set<int>>);
+    const std::map<int, float> pairs{{1, 2.5F}};
+    indexset::map copied(pairs.begin(), pairs.end());
+    static_assert(std::is_same_v<decltype(copied), indexset::map<int, float>>);
+    indexset::map listed{std::pair(2, 'b'), std::pair(1, 'a')};
+    CHECK(copied.get(1) == 2.5F && listed.begin()->second == 'a');
     CHECK(*deduced.begin() == 1 && std::accumulate(deduced.begin(), deduced.end(), 0) == 6);
     CHECK(indexset::version() == indexset_version());
 }
