@@ -23,14 +23,14 @@
 // Iterators of set, map and byte_map are positions. They meet std::random_access_iterator of C++20, and all rules of
 // such an iterator of C++17 but one: `*it` is a value and no reference. Iterators of the others are bidirectional in
 // the same sense. A change of a collection invalidates its iterators, but for those that the change returns. As long
-// as the collection lives, to use an invalid one touches no freed memory, but it may lead to another element, or to none,
-// which an assertion refuses. After a move or a swap iterators lead into the collection that has the elements. Elements are fetched in runs, so that a
-// walk does not search for each.
+// as the collection lives, to use an invalid one touches no freed memory, but it may lead to another element, or to
+// none, which an assertion refuses. After a move or a swap iterators lead into the collection that has the elements.
+// Elements are fetched in runs, so that a walk does not search for each.
 //
 // Exceptions: std::bad_alloc alone, where memory is refused, and what the caller's own iterators and functions throw.
-// Then nothing has changed (the calls that make several changes and say otherwise: `erase` of several pairs of a
-// multimap, `apply_all` of a replica, and `erase_if`). Moves, swaps and `clear` take no memory, and neither does `erase`
-// of set, map and byte_map. The empty collection takes none either.
+// Then nothing has changed, except by the calls that make several changes and say otherwise: `erase` and `insert` of
+// several pairs of a multimap, `apply_all` of a replica, and `erase_if`. Moves, swaps and `clear` take no memory, and
+// neither does `erase` of set and map, and of a key of a byte_map. An empty collection has none either.
 //
 // Threads: a collection is for one thread, the one that made it, reads too. Two collections do not touch each other,
 // except a byte_map and its copies, which share the bytes of keys.

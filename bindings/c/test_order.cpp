@@ -193,7 +193,7 @@ static void test_sweep() {
     sweep(multi, less, [](auto &copy) { copy.erase(50, 151); });
     sweep(multi, less, [](auto &copy) { copy.erase(copy.find(50, 151)); });
     sweep(other, multi, [&](auto &copy) { copy = multi; });
-    CHECK(more.size() == 301 && less.size() == 299 && less < multi && multi != more);
+    CHECK(more.size() == 301 && less.size() == 299 && multi < less && multi != more);
 }
 
 // ---- a logged map and replicas that follow it
