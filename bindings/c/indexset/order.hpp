@@ -84,7 +84,9 @@ class key_store : public held<Calls> {
     // Returns the pair after one, or before one or the end; where there is none, the end.
     place next(const place &from) {
         const bool follows = from.run == run_;
-        if (follows && from.index + 1 < count_) return at(from.index + 1, from);
+        if (follows && from.index + 1 < count_) {
+            return at(from.index + 1, keys_[from.index + 1] == from.at.key ? from.nth + 1 : 0);
+        }
         if (follows && is_whole_ && high_ == greatest) return place();
         if (!Calls::repeats && from.at.key == greatest) return place();
         const std::size_t past = Calls::repeats ? nth(from) + 1 : 0;
@@ -93,6 +95,7 @@ class key_store : public held<Calls> {
     }
     place previous(const place &from) {
         if (from.is_end) return last(greatest);
+        if (from.run == run_ && from.nth > 0 && from.index > 0) return at(from.index - 1, from.nth - 1);
         if (from.run == run_ && from.index > 0) return at(from.index - 1);
         const std::size_t before = Calls::repeats ? nth(from) : 0;
         if (before > 0) {
@@ -138,27 +141,26 @@ class key_store : public held<Calls> {
         high_ = high;
     }
 
+    // Returns a pair of the run, and counts the values of its key that are before it.
     place at(std::size_t index) const noexcept {
-        place found = {{keys_[index], values_[index]}, 0, index, run_, false};
+        std::size_t before = 0;
         if constexpr (Calls::repeats) {
-            while (found.nth < index && keys_[index - found.nth - 1] == keys_[index]) found.nth++;
+            while (before < index && keys_[index - before - 1] == keys_[index]) before++;
         }
-        return found;
+        return at(index, before);
     }
-    place at(std::size_t index, const place &before) const noexcept {
-        const std::size_t nth = keys_[index] == before.at.key ? before.nth + 1 : 0;
-        return {{keys_[index], values_[index]}, nth, index, run_, false};
+    place at(std::size_t index, std::size_t before) const noexcept {
+        return {{keys_[index], values_[index]}, before, index, run_, false};
     }
 
     // Returns the last pair whose key is at most `high`, with some pairs before it in the run. The library has no call
     // that goes back: a range is sought that ends at `high` and has some pairs, but fewer than there is room for.
     place last(std::uint64_t high) {
         std::uint64_t low = high - (width_ < high ? width_ : high), top = high, many = 0;
-        bool is_cut = false, is_found = false;
-        for (std::size_t places = room; !is_found;) {
+        bool is_cut = false;
+        for (std::size_t places = room;;) {
             fill(low, high, places);
-            is_found = count_ != 0 && is_whole_;
-            if (is_found) break;
+            if (count_ != 0 && is_whole_) break;
             if (count_ != 0) {
                 is_cut = true, many = low;
             } else if (low == 0) {
