@@ -3,7 +3,7 @@
 # named in a line. The last line counts them.
 set -u
 cd "$(dirname "$0")"
-make -s -C c all || exit 1
+make -s -C c all out/examples.cpp || exit 1
 rm -rf python/out
 mkdir -p python/out/logs
 cp -r python/indexset python/test_*.py python/peer_tests.py python/out
