@@ -10,9 +10,9 @@ use indexset::cdc::change::ChangeEvent;
 use indexset::cdc::laws::steps_lead_to_nodes;
 use indexset::replica::Replica;
 
-/// Returns a copy made of a snapshot, the nodes that a set had and the number of its next event, which
-/// then follows the set's events as they came. It holds what the longest beginning of all events leads
-/// to that the snapshot and the events in turn make up.
+/// Returns a copy made of a snapshot, the nodes that a set had and the number of its next event,
+/// which then follows the set's events as they came. It holds what the longest prefix of all events
+/// leads to that the snapshot and the events in order make up.
 pub fn resume(
     nodes: Vec<Vec<u64>>,
     next: u64,
@@ -35,9 +35,9 @@ pub fn resume(
     Ok(copy)
 }
 
-/// Returns a set that goes on where the copy stopped: it has the copy's nodes, and its next event has
-/// the number that the copy waits for. Fails where a node has more than `size` numbers, or memory runs
-/// out.
+/// Returns a set that continues where the copy stopped: it has the copy's nodes, and its next event
+/// has the number that the copy expects. Fails where a node has more than `size` numbers, or memory
+/// runs out.
 pub fn promote(copy: Replica<u64>, size: usize) -> Result<Numbers, Refusal>
     requires { 2 ≤ size }
     ensures tree { IfOk result (λ tree. tree

@@ -1,24 +1,22 @@
 //! Comparators for text: keys are compared with a borrowed text.
 //!
-//! [`ByStr`] serves the calls that take a `Probe`, as `get_by` of sets and maps: they then look a `&str`
-//! up among items of any type that is `AsStr`, such as `String` and `bytes::ByteStr`, and no item is made
-//! for it. [`OnKey`] asks a comparator about the keys of pairs. The order of the keys must be that of
-//! the bytes of their texts, as it is for those types.
+//! [`ByStr`] serves the calls that take a `Probe`, as `get_by` of sets and maps: they then look a
+//! `&str` up among items of any type that is `AsStr`, such as `String` and `bytes::ByteStr`,
+//! without an allocation. [`OnKey`] compares the keys of pairs by a comparator. The order of the
+//! keys must be that of the bytes of their texts, as it is for those types.
 //!
 //! ```
 //! // The price of a name, in a map from `ByteStr`.
 //! let price = prices.get_by(&mut OnKey::new(ByStr::new("pears")));
 //! ```
-#![tactic(auto)]
-
 ghost use Rattle.std.specs.Prelude.{◌≡◌};
 ghost use Rattle.std.specs.Cmp.Lexicographic.{slice_cmp};
 ghost use Rattle.std.specs.Ordering.{nat_cmp};
 
-use indexset_core::multipair::MultiPair;
-use indexset_core::pair::Pair;
-use indexset_core::probe::Probe;
-use indexset_core::steps::Steps;
+use crate::multipair::MultiPair;
+use crate::pair::Pair;
+use crate::probe::Probe;
+use crate::steps::Steps;
 use std::cmp::Ordering;
 use std::convert::AsStr;
 use std::marker::Model;
@@ -68,7 +66,7 @@ impl<'a, T: AsStr> Probe<T> for ByStr<'a> {
     }
 }
 
-/// Asks its comparator about the key of a pair, numbered or not.
+/// Compares the key of a pair, numbered or not, by its comparator.
 #[derive(Drop)]
 pub struct OnKey<P> {
     probe: P,
