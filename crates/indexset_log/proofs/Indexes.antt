@@ -1,6 +1,5 @@
 -- The index of a tree: the lengths of its nodes, as edits of the nodes change them.
 use Rattle.std.proofs.Common.{◌≡◌, ℕ, suc, ◌+◌, ◌-◌, ◌/◌, ◌^◌, ◌<◌, ◌≤◌, List, ◌∷◌, ◌++◌, length, set, sum, take, drop, get_or, insert, remove, ap, sym, ◌∙◌, arith, add-one, length-append, length-drop}
-use Rattle.std.specs.List.{splice}
 use Rattle.std.proofs.lemmas.List.{length-set, length-take-le, map-set, set_split, take-append-drop, take-append-le, take-map, take-set-le, take-take}
 use Rattle.indexset_core.specs.Nodes.{joined, node_at, node_lengths}
 use Rattle.indexset_core.proofs.CallerLemmas.{joined-append, joined_around, length-joined, length-joined-more}

@@ -1,5 +1,5 @@
 -- A tree as its contract sees it, and as the code holds it.
-use Rattle.std.proofs.Common.{◌≡◌, ℕ, ◌+◌, ◌-◌, ◌<◌, Option, Some, None, List, cond, map, length, get_or, slice_get, take, Ordering, ap, subst, sym, ◌∙◌, arith}
+use Rattle.std.proofs.Common.{◌≡◌, ℕ, ◌+◌, ◌-◌, ◌<◌, ◌≤◌, Option, Some, None, List, cond, map, length, get_or, slice_get, take, Ordering, ap, refl, subst, sym, ◌∙◌, arith}
 use Rattle.std.specs.Cmp.{IsTotalOrder}
 use Rattle.std.specs.Iterator.Runs.{ItemsAre, Run}
 use Rattle.std.proofs.lemmas.List.{get_or-take, length-take-le, same_lists}
@@ -24,6 +24,10 @@ front_of_run p xs are =
     same_lists p.items (take p.len xs) (sym p.long ∙ sym (length-take-le p.len xs are.0)) (λ k d inside.
     let here : k < p.len = omega (arith, p.long, inside) in
     same_Some _ _ (sym (p.reads k d here) ∙ are.2 k d here) ∙ sym (get_or-take p.len xs k d here))
+
+-- what the lemmas ask of a tree, from what a caller learns
+pub tree_of : {T : Type 0} {cmp : T → T → Ordering} {size : ℕ} {ns : List (List T)} → IsLawful cmp size ns → 2 ≤ size → IsTree cmp size ns size (length (joined ns))
+tree_of law two = record { lawful = law; two = two; within = omega arith; counted = refl }
 
 -- f tells the list of each node that the code holds
 pub record Held {T N : Type 0} (cmp : T → T → Ordering) (most : ℕ) (f : N → List T) (items : List N) (size len next : ℕ) (index : List ℕ) (t : Tree T) : Type 0 where

@@ -190,9 +190,7 @@ impl<K: Ord + Clone + Drop, V: Clone + Drop, Node: NodeLike<Pair<K, V>>> BTreeMa
     pub fn get(&self, key: &K) -> Option<&Pair<K, V>>
         ensures { option_copied result ≡ pair_of K.cmp (joined self.now.nodes) key.now }
     {
-        // The contract of `node_count` says that the pairs ascend, as a search by key requires.
-        let _nodes = self.set.node_count();
-        self.set.get_by(&mut ByKey::new(key))
+        self.set.get_by(&mut self.by_key(key))
     }
 
     /// Returns the first pair that the comparator finds equal, or `None` where there is none, by
@@ -232,10 +230,8 @@ impl<K: Ord + Clone + Drop, V: Clone + Drop, Node: NodeLike<Pair<K, V>>> BTreeMa
         ensures two { 2 ≤ self.now.size }
         ensures number { self.now.next ≤ u64.MAX }
     {
-        // The contract of `node_count` says that the pairs ascend, as a search by key requires.
-        let _nodes = self.set.node_count();
-        let _size = self.set.maximum_node_size();
+        // The counter fits a u64, so a call without events lacks no number.
         let _next = self.set.events_issued();
-        self.set.locate_by(&mut ByKey::new(key))
+        self.set.locate(&mut self.by_key(key))
     }
 }

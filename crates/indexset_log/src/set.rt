@@ -162,6 +162,23 @@ impl<T: Ord + Clone + Drop, Node: NodeLike<T>> BTreeSet<T, Node> {
             (digits (length self.now.nodes) + digits self.now.size + 1) }
         ensures unasked { self.now.nodes ≡ [] → P.asked probe.new ≡ P.asked probe.old }
     {
+        self.locate(probe)
+    }
+
+    // Does the same, and its caller learns that the nodes are lawful.
+    pub(crate) fn locate<P: Probe<T>>(
+        &self,
+        probe: &mut P,
+    ) -> Result<(usize, usize), (usize, usize)>
+        requires { IsParted (P.answer probe.old) (joined self.now.nodes) }
+        ensures place { result ≡ located (P.answer probe.old) self.now.nodes }
+        ensures lawful { IsLawful T.cmp self.now.size self.now.nodes }
+        ensures two { 2 ≤ self.now.size }
+        ensures fixed { P.answer probe.new ≡ P.answer probe.old }
+        ensures few { P.asked probe.new ≤ P.asked probe.old +
+            (digits (length self.now.nodes) + digits self.now.size + 1) }
+        ensures unasked { self.now.nodes ≡ [] → P.asked probe.new ≡ P.asked probe.old }
+    {
         locate_by::<T, Node, ReadAny, P>(self.nodes.as_slice(), probe)
     }
 
@@ -177,12 +194,13 @@ impl<T: Ord + Clone + Drop, Node: NodeLike<T>> BTreeSet<T, Node> {
 
     // Returns where the equal item is: its node, and the offset in it.
     fn place_of(&self, value: &T) -> Option<(usize, usize)>
-        ensures { MatchOption result (equal_element T.cmp (joined self.now.nodes) value.now ≡ None)
+        ensures place { MatchOption result (equal_element T.cmp
+            (joined self.now.nodes) value.now ≡ None)
             (λ p. IsFoundIn T.cmp self.now.nodes value.now p.0 p.1) }
+        ensures lawful { IsLawful T.cmp self.now.size self.now.nodes }
+        ensures two { 2 ≤ self.now.size }
     {
-        // The nodes are lawful, so a search by an item may go by them.
-        let _nodes = &self.nodes;
-        self.locate_by(&mut ByItem::new(value)).ok()
+        self.locate(&mut self.by_item(value)).ok()
     }
 
     /// Returns whether an equal item is present.
@@ -196,9 +214,7 @@ impl<T: Ord + Clone + Drop, Node: NodeLike<T>> BTreeSet<T, Node> {
     pub fn get(&self, value: &T) -> Option<&T>
         ensures { option_copied result ≡ equal_element T.cmp (joined self.now.nodes) value.now }
     {
-        // The nodes are lawful, so a search by an item may go by them.
-        let _nodes = &self.nodes;
-        self.get_by(&mut ByItem::new(value))
+        self.get_by(&mut self.by_item(value))
     }
 
     /// Returns the first item that the comparator finds equal, or `None` where there is none. It

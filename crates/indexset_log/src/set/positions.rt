@@ -75,9 +75,7 @@ impl<T: Ord + Clone + Drop, Node: NodeLike<T>> BTreeSet<T, Node> {
         ensures few { P.asked probe.new ≤ P.asked probe.old +
             (digits (length self.now.nodes) + digits self.now.size + 1) }
     {
-        // The nodes are lawful.
-        let _nodes = &self.nodes;
-        match self.locate_by(probe) {
+        match self.locate(probe) {
             Ok(place) => Ok(self.position(place)),
             Err(place) => Err(self.position(place)),
         }

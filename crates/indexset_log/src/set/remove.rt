@@ -1,6 +1,6 @@
 //! Calls that remove items.
 ghost use Rattle.std.specs.Prelude.{◌≡◌, ℕ, ◌+◌, ◌/◌, ◌<◌, ◌≤◌, [], length, set, remove, slice_get, Some, None, false, IfOk, OnOk, IfErr, OnErr, IsOk, IfSome};
-ghost use Rattle.indexset_core.specs.Nodes.{joined, node_at};
+ghost use Rattle.indexset_core.specs.Nodes.{joined, node_at, IsLawful};
 ghost use Rattle.indexset_core.specs.Order.{equal_element, has_equal};
 ghost use Rattle.indexset_log.specs.Changed.{Changed, Fits, ItemsTold, refusal_of, removal_change, taken_change};
 ghost use Rattle.indexset_events.specs.Clones.{IsTold};
@@ -40,8 +40,6 @@ impl<T: Ord + Clone + Drop, Node: NodeLike<T>> BTreeSet<T, Node> {
         ensures told { IfOk result (λ r. ItemsTold T.cmp T.is_clone self.old self.new
             (removal_change T.cmp self.old value.now) r.1.items) }
     {
-        // The nodes are lawful.
-        let _nodes = &self.nodes;
         let place = self.place_of(value);
         self.remove_from_cdc(place)
     }
@@ -65,8 +63,6 @@ impl<T: Ord + Clone + Drop, Node: NodeLike<T>> BTreeSet<T, Node> {
         ensures told { IfOk result (λ r. ItemsTold T.cmp T.is_clone self.old self.new
             (taken_change self.old node offset r.0) r.1.items) }
     {
-        // The nodes are lawful.
-        let _nodes = &self.nodes;
         let join = self.join_after(node);
         self.check_removal(join)?;
         let events = self.removal_log(node, offset, join)?;
@@ -93,8 +89,6 @@ impl<T: Ord + Clone + Drop, Node: NodeLike<T>> BTreeSet<T, Node> {
         ensures changed { OnOk result (Changed T.cmp self.old self.new
             (removal_change T.cmp self.old value.now)) }
     {
-        // The nodes are lawful.
-        let _nodes = &self.nodes;
         let place = self.place_of(value);
         self.remove_from(place)
     }
@@ -119,8 +113,6 @@ impl<T: Ord + Clone + Drop, Node: NodeLike<T>> BTreeSet<T, Node> {
         ensures changed { IfOk result (λ item. Changed T.cmp self.old self.new
             (taken_change self.old node offset item)) }
     {
-        // The nodes are lawful.
-        let _nodes = &self.nodes;
         let join = self.join_after(node);
         self.check_removal(join)?;
         self.take(node, offset, join)
@@ -201,8 +193,10 @@ impl<T: Ord + Clone + Drop, Node: NodeLike<T>> BTreeSet<T, Node> {
     // is.
     fn join_after(&self, node: usize) -> Option<usize>
         requires { node < length self.now.nodes }
-        ensures { (i : ℕ) → i < length (node_at self.now.nodes node)
+        ensures join { (i : ℕ) → i < length (node_at self.now.nodes node)
             → result ≡ join_after self.now.size self.now.nodes node i }
+        ensures lawful { IsLawful T.cmp self.now.size self.now.nodes }
+        ensures two { 2 ≤ self.now.size }
     {
         if self.nodes[node].len() == 1 {
             return None;

@@ -1,6 +1,6 @@
 use Rattle.indexset_core.specs.Digits.{digits}
 use Rattle.indexset_events.proofs.CallerLemmas.{lawful_filled}
-use Rattle.indexset_log.proofs.set.BTreeSet.locate_by.Goals as goal
+use Rattle.indexset_log.proofs.set.BTreeSet.locate.Goals as goal
 use Rattle.std.proofs.Common.{length, arith, ap, sym, ◌∙◌}
 use Rattle.indexset_log.proofs.Trees.{held}
 use Rattle.indexset_events.proofs.Views.{lawful_filled}
