@@ -6,6 +6,9 @@ pub mod Clones
 pub mod Copies
 pub mod Deliveries
 pub mod EqualClones
+pub mod KeySearches
+pub mod LengthLemmas
+pub mod Parts
 pub mod ReplayedClones
 pub mod ReplicaAttach
 pub mod ReplicaEdits

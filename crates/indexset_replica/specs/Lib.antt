@@ -1,4 +1,5 @@
 pub mod Copies
 pub mod Count
 pub mod Delivery
+pub mod Keyed
 pub mod Replica

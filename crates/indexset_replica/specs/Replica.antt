@@ -5,7 +5,7 @@ use Rattle.std.specs.Option.{option_map_or}
 use Rattle.std.specs.Ordering.{is_lt, is_eq}
 use Rattle.std.specs.declared.cmp.Ordering.{Ordering}
 use Rattle.std.specs.declared.cmp.Ordering.TheVariants.{Equal}
-use Rattle.indexset_core.specs.Nodes.{joined, node_at}
+use Rattle.indexset_core.specs.Nodes.{joined, node_at, node_lengths, IsNodeList}
 use Rattle.indexset_core.specs.declared.refusal.Refusal.{Refusal}
 use Rattle.indexset_core.specs.declared.refusal.Refusal.TheVariants.{Numbers, Gap, NoSuchNode, IndexOutside, ValueDiffers, WouldBeEmpty, OutOfOrder, BadSplit, NotNeighbours}
 use Rattle.indexset_events.specs.Nodes.{is_ascending}
@@ -25,6 +25,11 @@ last_item l = slice_get l (length l - 1)
 pub record ReplicaState (T : Type 0) : Type 0 where
   pub nodes : List (List T)
   pub next : ℕ
+
+-- the nodes are lawful, and these are their lengths
+pub record IsIndexed {T : Type 0} (cmp : T → T → Ordering) (ns : List (List T)) (lengths : List ℕ) : Type 0 where
+  pub nodes : IsNodeList cmp ns
+  pub index : lengths ≡ node_lengths ns
 
 module _ {T : Type 0} (cmp : T → T → Ordering) where
   -- the nodes that an edit leads to would not be ascending as a whole

@@ -1,10 +1,11 @@
-//! The change that an event makes to a replica's nodes.
+//! The change that an event makes to a replica's nodes, and to their index.
 ghost use Rattle.std.specs.Prelude.{◌≡◌, ◌<◌, [], ◌∷◌, IfOk, OnOk, IfErr, OnErr, unwrap_or, vec_len, vec_capacity};
-ghost use Rattle.indexset_core.specs.Nodes.{IsNodeList, vec_items};
+ghost use Rattle.indexset_core.specs.Nodes.{node_lengths, IsNodeList, vec_items};
 ghost use Rattle.indexset_replica.specs.Replica.{IsClonedEdit, IsEdit, IsEqualClone, misfit};
 ghost use Rattle.indexset_events.specs.Replay.{unassigned};
 ghost use Rattle.indexset_events.specs.declared.change.ChangeEventUnassigned.TheVariants.{InsertAt, RemoveAt, CreateNode, RemoveNode, SplitNode, MergeNodes};
 
+use super::index::NodeIndex;
 use super::places::{first_reaching, fits_at, fits_before, place_named};
 use indexset_core::moves;
 use indexset_core::refusal::Refusal;
@@ -13,15 +14,18 @@ use indexset_events::change::ChangeEvent;
 /// Makes the event's change, whatever its number.
 pub(super) fn carry_out<T: Ord + Clone + Drop>(
     nodes: &mut Vec<Vec<T>>,
+    lengths: &mut NodeIndex,
     event: &ChangeEvent<T>,
 ) -> Result<(), Refusal>
     requires nodes { IsNodeList T.cmp (vec_items nodes.old.items) }
+    requires lengths { lengths.old.lengths ≡ node_lengths (vec_items nodes.old.items) }
     ensures done { OnOk result (IsClonedEdit T.cmp T.is_clone (vec_items nodes.old.items)
         (unassigned event.now) (vec_items nodes.new.items)) }
     ensures refusal { IfErr result (λ e. e
         ≡ unwrap_or (misfit T.cmp (vec_items nodes.old.items) (unassigned event.now))
         Refusal.Memory) }
     ensures unchanged { OnErr result (vec_items nodes.new.items ≡ vec_items nodes.old.items) }
+    ensures lengths { lengths.new.lengths ≡ node_lengths (vec_items nodes.new.items) }
 {
     match event {
         ChangeEvent::InsertAt {
@@ -29,42 +33,45 @@ pub(super) fn carry_out<T: Ord + Clone + Drop>(
             value,
             index,
             ..
-        } => insert_item(nodes, max_value, value, *index),
+        } => insert_item(nodes, lengths, max_value, value, *index),
         ChangeEvent::RemoveAt {
             max_value,
             value,
             index,
             ..
-        } => remove_item(nodes, max_value, value, *index),
-        ChangeEvent::CreateNode { max_value, .. } => create_node(nodes, max_value),
-        ChangeEvent::RemoveNode { max_value, .. } => remove_node(nodes, max_value),
+        } => remove_item(nodes, lengths, max_value, value, *index),
+        ChangeEvent::CreateNode { max_value, .. } => create_node(nodes, lengths, max_value),
+        ChangeEvent::RemoveNode { max_value, .. } => remove_node(nodes, lengths, max_value),
         ChangeEvent::SplitNode {
             max_value,
             split_index,
             ..
-        } => split_node(nodes, max_value, *split_index),
+        } => split_node(nodes, lengths, max_value, *split_index),
         ChangeEvent::MergeNodes {
             max_value,
             next_max_value,
             ..
-        } => merge_nodes(nodes, max_value, next_max_value),
+        } => merge_nodes(nodes, lengths, max_value, next_max_value),
     }
 }
 
 // Inserts an item into the node of that name.
 fn insert_item<T: Ord + Clone + Drop>(
     nodes: &mut Vec<Vec<T>>,
+    lengths: &mut NodeIndex,
     name: &T,
     value: &T,
     index: usize,
 ) -> Result<(), Refusal>
     requires nodes { IsNodeList T.cmp (vec_items nodes.old.items) }
+    requires lengths { lengths.old.lengths ≡ node_lengths (vec_items nodes.old.items) }
     ensures done { OnOk result (IsClonedEdit T.cmp T.is_clone (vec_items nodes.old.items)
         (InsertAt name.now value.now index) (vec_items nodes.new.items)) }
     ensures refusal { IfErr result (λ e. e
         ≡ unwrap_or (misfit T.cmp (vec_items nodes.old.items) (InsertAt name.now value.now index))
         Refusal.Memory) }
     ensures unchanged { OnErr result (vec_items nodes.new.items ≡ vec_items nodes.old.items) }
+    ensures lengths { lengths.new.lengths ≡ node_lengths (vec_items nodes.new.items) }
 {
     let place = place_named(nodes.as_slice(), name)?;
     if index > nodes[place].len() {
@@ -73,27 +80,32 @@ fn insert_item<T: Ord + Clone + Drop>(
     if !fits_at(nodes.as_slice(), place, index, value) {
         return Err(Refusal::OutOfOrder);
     }
+    lengths.fits(1)?;
     let item = equal_clone(value)?;
     let node = &mut nodes[place];
     node.reserve(1)?;
     moves::insert_item(node, index, item);
+    lengths.add_item(place);
     Ok(())
 }
 
 // Removes the item at an index of the node of that name.
 fn remove_item<T: Ord + Clone + Drop>(
     nodes: &mut Vec<Vec<T>>,
+    lengths: &mut NodeIndex,
     name: &T,
     value: &T,
     index: usize,
 ) -> Result<(), Refusal>
-    requires { IsNodeList T.cmp (vec_items nodes.old.items) }
+    requires nodes { IsNodeList T.cmp (vec_items nodes.old.items) }
+    requires lengths { lengths.old.lengths ≡ node_lengths (vec_items nodes.old.items) }
     ensures done { OnOk result (IsEdit T.cmp (vec_items nodes.old.items)
         (RemoveAt name.now value.now index) (vec_items nodes.new.items)) }
     ensures refusal { IfErr result (λ e. e
         ≡ unwrap_or (misfit T.cmp (vec_items nodes.old.items) (RemoveAt name.now value.now index))
         Refusal.Memory) }
     ensures unchanged { OnErr result (vec_items nodes.new.items ≡ vec_items nodes.old.items) }
+    ensures lengths { lengths.new.lengths ≡ node_lengths (vec_items nodes.new.items) }
 {
     let place = place_named(nodes.as_slice(), name)?;
     let node = &mut nodes[place];
@@ -107,25 +119,34 @@ fn remove_item<T: Ord + Clone + Drop>(
         return Err(Refusal::WouldBeEmpty);
     }
     moves::remove_item(node, index);
+    lengths.take_item(place);
     Ok(())
 }
 
 // Inserts a node of this item alone.
-fn create_node<T: Ord + Clone + Drop>(nodes: &mut Vec<Vec<T>>, value: &T) -> Result<(), Refusal>
+fn create_node<T: Ord + Clone + Drop>(
+    nodes: &mut Vec<Vec<T>>,
+    lengths: &mut NodeIndex,
+    value: &T,
+) -> Result<(), Refusal>
     requires nodes { IsNodeList T.cmp (vec_items nodes.old.items) }
+    requires lengths { lengths.old.lengths ≡ node_lengths (vec_items nodes.old.items) }
     ensures done { OnOk result (IsClonedEdit T.cmp T.is_clone (vec_items nodes.old.items)
         (CreateNode value.now) (vec_items nodes.new.items)) }
     ensures refusal { IfErr result (λ e. e
         ≡ unwrap_or (misfit T.cmp (vec_items nodes.old.items) (CreateNode value.now))
         Refusal.Memory) }
     ensures unchanged { OnErr result (vec_items nodes.new.items ≡ vec_items nodes.old.items) }
+    ensures lengths { lengths.new.lengths ≡ node_lengths (vec_items nodes.new.items) }
 {
     let place = first_reaching(nodes.as_slice(), value);
     if !fits_before(nodes.as_slice(), place, value) {
         return Err(Refusal::OutOfOrder);
     }
+    lengths.reserve_node(1)?;
     let node = room_for_node_of(nodes, value)?;
     moves::insert_item(nodes, place, node);
+    lengths.rebuild_from(place, nodes.as_slice());
     Ok(())
 }
 
@@ -159,58 +180,75 @@ fn equal_clone<T: Ord + Clone + Drop>(value: &T) -> Result<T, Refusal>
 }
 
 // Removes the node of that name.
-fn remove_node<T: Ord + Clone + Drop>(nodes: &mut Vec<Vec<T>>, name: &T) -> Result<(), Refusal>
-    requires { IsNodeList T.cmp (vec_items nodes.old.items) }
+fn remove_node<T: Ord + Clone + Drop>(
+    nodes: &mut Vec<Vec<T>>,
+    lengths: &mut NodeIndex,
+    name: &T,
+) -> Result<(), Refusal>
+    requires nodes { IsNodeList T.cmp (vec_items nodes.old.items) }
+    requires lengths { lengths.old.lengths ≡ node_lengths (vec_items nodes.old.items) }
     ensures done { OnOk result (IsEdit T.cmp (vec_items nodes.old.items) (RemoveNode name.now)
         (vec_items nodes.new.items)) }
     ensures refusal { IfErr result (λ e. e
         ≡ unwrap_or (misfit T.cmp (vec_items nodes.old.items) (RemoveNode name.now))
         Refusal.Memory) }
     ensures unchanged { OnErr result (vec_items nodes.new.items ≡ vec_items nodes.old.items) }
+    ensures lengths { lengths.new.lengths ≡ node_lengths (vec_items nodes.new.items) }
 {
     let place = place_named(nodes.as_slice(), name)?;
+    // There is room for as many lengths as there were, and their sum fits.
+    let _total = lengths.total();
     moves::remove_item(nodes, place);
+    lengths.rebuild_from(place, nodes.as_slice());
     Ok(())
 }
 
 // Splits the node of that name into its first items and the rest.
 fn split_node<T: Ord + Clone + Drop>(
     nodes: &mut Vec<Vec<T>>,
+    lengths: &mut NodeIndex,
     name: &T,
     split_index: usize,
 ) -> Result<(), Refusal>
-    requires { IsNodeList T.cmp (vec_items nodes.old.items) }
+    requires nodes { IsNodeList T.cmp (vec_items nodes.old.items) }
+    requires lengths { lengths.old.lengths ≡ node_lengths (vec_items nodes.old.items) }
     ensures done { OnOk result (IsEdit T.cmp (vec_items nodes.old.items)
         (SplitNode name.now split_index) (vec_items nodes.new.items)) }
     ensures refusal { IfErr result (λ e. e
         ≡ unwrap_or (misfit T.cmp (vec_items nodes.old.items) (SplitNode name.now split_index))
         Refusal.Memory) }
     ensures unchanged { OnErr result (vec_items nodes.new.items ≡ vec_items nodes.old.items) }
+    ensures lengths { lengths.new.lengths ≡ node_lengths (vec_items nodes.new.items) }
 {
     let place = place_named(nodes.as_slice(), name)?;
     if split_index == 0 || split_index >= nodes[place].len() {
         return Err(Refusal::BadSplit);
     }
     nodes.reserve(1)?;
+    lengths.reserve_node(0)?;
     let node = &mut nodes[place];
     let rest = node.split_off(split_index)?;
     moves::insert_item(nodes, place + 1, rest);
+    lengths.rebuild_from(place, nodes.as_slice());
     Ok(())
 }
 
 // Merges the node of that name with the one after it, which has the second name.
 fn merge_nodes<T: Ord + Clone + Drop>(
     nodes: &mut Vec<Vec<T>>,
+    lengths: &mut NodeIndex,
     name: &T,
     next_name: &T,
 ) -> Result<(), Refusal>
-    requires { IsNodeList T.cmp (vec_items nodes.old.items) }
+    requires nodes { IsNodeList T.cmp (vec_items nodes.old.items) }
+    requires lengths { lengths.old.lengths ≡ node_lengths (vec_items nodes.old.items) }
     ensures done { OnOk result (IsEdit T.cmp (vec_items nodes.old.items)
         (MergeNodes name.now next_name.now) (vec_items nodes.new.items)) }
     ensures refusal { IfErr result (λ e. e
         ≡ unwrap_or (misfit T.cmp (vec_items nodes.old.items) (MergeNodes name.now next_name.now))
         Refusal.Memory) }
     ensures unchanged { OnErr result (vec_items nodes.new.items ≡ vec_items nodes.old.items) }
+    ensures lengths { lengths.new.lengths ≡ node_lengths (vec_items nodes.new.items) }
 {
     let place = place_named(nodes.as_slice(), name)?;
     let next = place_named(nodes.as_slice(), next_name)?;
@@ -220,7 +258,10 @@ fn merge_nodes<T: Ord + Clone + Drop>(
     let count = nodes[next].len();
     let node = &mut nodes[place];
     node.reserve(count)?;
+    // There is room for as many lengths as there were, and their sum fits.
+    let _total = lengths.total();
     let mut rest = moves::remove_item(nodes, next);
     moves::move_tail(&mut rest, 0, &mut nodes[place]);
+    lengths.rebuild_from(place, nodes.as_slice());
     Ok(())
 }

@@ -1,18 +1,20 @@
 //! Replicas made of a tree's nodes.
-ghost use Rattle.std.specs.Prelude.{◌≡◌, None, Some, OnOk, IfErr, IfOk, IsOk};
+ghost use Rattle.std.specs.Prelude.{◌≡◌, None, OnOk, IfErr, IfOk, unwrap_or};
 ghost use Rattle.indexset_core.specs.Nodes.{IsNodeList, vec_items};
 ghost use Rattle.indexset_events.specs.Attach.{nodes_refusal};
 
 use super::Replica;
-use indexset_core::refusal::Refused;
+use super::index::NodeIndex;
+use indexset_core::refusal::{Refusal, Refused};
 use indexset_events::nodes::test_nodes;
 
 impl<T: Ord + Clone + Drop> Replica<T> {
     /// Returns a replica of these nodes, whose first event is to have the number `next`: it follows a tree
-    /// from where the tree had these nodes and this next number. It takes the nodes as they are and
-    /// allocates nothing, and compares neighbouring items once. It fails at the first node that is
-    /// `Empty`, `Unsorted`, or `Overlaps` the one before, by the first of these that holds, and for no
-    /// other reason. A call that fails returns the nodes.
+    /// from where the tree had these nodes and this next number. It takes the nodes as they are,
+    /// compares neighbouring items once, and allocates the index of their lengths. It fails at the first
+    /// node that is `Empty`, `Unsorted`, or `Overlaps` the one before, by the first of these that holds,
+    /// and else for `Memory` alone, also where the items are more than `usize::MAX`. A call that fails
+    /// returns the nodes.
     ///
     /// ```
     /// // A snapshot: the nodes of a tree, and the number of its next event.
@@ -24,14 +26,25 @@ impl<T: Ord + Clone + Drop> Replica<T> {
         ensures replica { IfOk result (λ r. r
             ≡ record { nodes = vec_items nodes.items; next = next }) }
         ensures good { OnOk result (nodes_refusal T.cmp usize.MAX (vec_items nodes.items) ≡ None) }
-        ensures refusal { IfErr result (λ e. nodes_refusal T.cmp usize.MAX (vec_items nodes.items)
-            ≡ Some e.cause) }
-        ensures lawful { IsNodeList T.cmp (vec_items nodes.items) → IsOk result }
+        ensures refusal { IfErr result (λ e. e.cause
+            ≡ unwrap_or (nodes_refusal T.cmp usize.MAX (vec_items nodes.items)) Refusal.Memory) }
+        ensures lawful { IsNodeList T.cmp (vec_items nodes.items)
+            → IfErr result (λ e. e.cause ≡ Refusal.Memory) }
         ensures given_back { IfErr result (λ e. e.value ≡ nodes) }
     {
         // No node holds more items than `usize::MAX`.
-        match test_nodes(nodes.as_slice(), usize::MAX) {
-            Ok(()) => Ok(Replica { nodes, next }),
+        if let Err(cause) = test_nodes(nodes.as_slice(), usize::MAX) {
+            return Err(Refused {
+                value: nodes,
+                cause,
+            });
+        }
+        match NodeIndex::of_nodes(*nodes.allocator(), nodes.as_slice()) {
+            Ok(lengths) => Ok(Replica {
+                nodes,
+                lengths,
+                next,
+            }),
             Err(cause) => Err(Refused {
                 value: nodes,
                 cause,

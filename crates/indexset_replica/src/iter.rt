@@ -1,5 +1,5 @@
-//! The items of a replica in order, and how many there are.
-ghost use Rattle.std.specs.Prelude.{◌≡◌, ◌≤◌, length, min, IfSome};
+//! The items of a replica in order.
+ghost use Rattle.std.specs.Prelude.{◌≡◌, ◌≤◌, length, IfSome};
 ghost use Rattle.std.specs.Iterator.{UpTo, at_most};
 ghost use Rattle.std.specs.Iterator.SizeHint.{IsWithinCount};
 ghost use Rattle.std.specs.List.{between};
@@ -116,18 +116,6 @@ impl<'a, T> Clone for Iter<'a, T> {
 }
 
 impl<T: Ord + Clone + Drop> Replica<T> {
-    /// Returns how many items are held, or `usize::MAX` where there are more. A replica does not
-    /// keep its length: the call adds up the lengths of the nodes, in time linear in their number.
-    pub fn len(&self) -> usize
-        ensures { result ≡ min (length (joined self.now.nodes)) usize.MAX }
-    {
-        let mut len: usize = 0;
-        for node in self.nodes.iter() {
-            len = len.saturating_add(node.len());
-        }
-        len
-    }
-
     /// Returns the items, in order and from both ends, in constant time. It allocates nothing.
     pub fn iter(&self) -> Iter<'_, T>
         ensures rest { result ≡ joined self.now.nodes }

@@ -11,9 +11,8 @@
 //! each kind of event changes is in `edits`, and the searches among the nodes are in `places`.
 #![tactic(auto)]
 
-ghost use Rattle.std.specs.Prelude.{◌≡◌, ◌+◌, [], length, None, Some, OnOk, IfErr, OnErr, unwrap_or};
-ghost use Rattle.indexset_core.specs.Nodes.{joined, IsNodeList, vec_items};
-ghost use Rattle.indexset_core.specs.Order.{has_equal};
+ghost use Rattle.std.specs.Prelude.{◌≡◌, ◌+◌, ◌≤◌, [], insert, length, None, Some, OnOk, IfErr, OnErr, unwrap_or};
+ghost use Rattle.indexset_core.specs.Nodes.{IsNodeList, vec_items};
 ghost use Rattle.indexset_replica.specs.Replica.{apply_refusal, IsClonedStep};
 ghost use Rattle.indexset_events.specs.Attach.{attached, attach_refusal};
 ghost use Rattle.indexset_events.specs.Replay.{step, unassigned};
@@ -21,13 +20,17 @@ ghost use Rattle.indexset_events.specs.Replay.{step, unassigned};
 mod edits;
 mod follow;
 mod from_nodes;
+mod index;
 pub mod iter;
+pub mod keys;
 pub mod laws;
 pub mod lookup;
 mod places;
+pub mod positions;
 mod range;
 mod text;
 
+use self::index::NodeIndex;
 use indexset_core::refusal::{Refusal, Refused};
 use indexset_events::change::ChangeEvent;
 use std::alloc::Global;
@@ -38,20 +41,21 @@ use std::marker::Model;
 #[derive(Drop)]
 pub struct Replica<T: Ord + Clone + Drop> {
     nodes: Vec<Vec<T>>,
+    // The lengths of the nodes.
+    lengths: NodeIndex,
     // The number of the next event.
     next: u64,
 }
 
 impl<T: Ord + Clone + Drop> Model for Replica<T> {
-    ghost use Rattle.indexset_core.specs.Nodes.{IsNodeList};
     ghost use Rattle.indexset_core.specs.Nodes.{vec_items};
-    ghost use Rattle.indexset_replica.specs.Replica.{ReplicaState};
+    ghost use Rattle.indexset_replica.specs.Replica.{IsIndexed, ReplicaState};
 
     ghost Value = { ReplicaState T };
 
     ghost view = { λ r. record { nodes = vec_items r.nodes.items; next = r.next } };
 
-    ghost invariant = { λ r. IsNodeList T.cmp (vec_items r.nodes.items) };
+    ghost invariant = { λ r. IsIndexed T.cmp (vec_items r.nodes.items) r.lengths.lengths };
 }
 
 impl<T: Ord + Clone + Drop> Replica<T> {
@@ -62,6 +66,7 @@ impl<T: Ord + Clone + Drop> Replica<T> {
     {
         Replica {
             nodes: Vec::new(alloc),
+            lengths: NodeIndex::new(alloc),
             next,
         }
     }
@@ -81,13 +86,6 @@ impl<T: Ord + Clone + Drop> Replica<T> {
         self.next
     }
 
-    /// Returns whether an equal item is held, by two binary searches.
-    pub fn contains(&self, value: &T) -> bool
-        ensures { result ≡ has_equal T.cmp (joined self.now.nodes) value.now }
-    {
-        self.get(value).is_some()
-    }
-
     /// Inserts a whole node in its place among the others, and consumes no event number. It compares the
     /// items of the node once each, and makes one binary search among the nodes. It fails with the first
     /// of these: `Empty`; `Unsorted`, where the node is not strictly ascending; `Overlaps`, where it does
@@ -105,14 +103,33 @@ impl<T: Ord + Clone + Drop> Replica<T> {
         ensures unchanged { OnErr result (self.new ≡ self.old) }
     {
         match places::place_of_node(self.nodes.as_slice(), node.as_slice()) {
-            Ok(place) => match self.nodes.insert(place, node) {
-                Ok(()) => Ok(()),
-                Err(failed) => Err(Refused {
-                    value: failed.value,
-                    cause: Refusal::Memory,
-                }),
-            },
+            Ok(place) => self.insert_node(place, node),
             Err(cause) => Err(Refused { value: node, cause }),
+        }
+    }
+
+    // Inserts a node at a place where it goes.
+    fn insert_node(&mut self, place: usize, node: Vec<T>) -> Result<(), Refused<Vec<T>>>
+        requires within { place ≤ length self.old.nodes }
+        requires nodes { IsNodeList T.cmp (insert self.old.nodes place node.items) }
+        ensures nodes { OnOk result (self.new.nodes ≡ insert self.old.nodes place node.items) }
+        ensures refusal { IfErr result (λ e. e.cause ≡ Refusal.Memory) }
+        ensures given_back { IfErr result (λ e. e.value ≡ node) }
+        ensures next { self.new.next ≡ self.old.next }
+        ensures unchanged { OnErr result (self.new ≡ self.old) }
+    {
+        if let Err(cause) = self.lengths.reserve_node(node.len()) {
+            return Err(Refused { value: node, cause });
+        }
+        match self.nodes.insert(place, node) {
+            Ok(()) => {
+                self.lengths.rebuild_from(place, self.nodes.as_slice());
+                Ok(())
+            }
+            Err(failed) => Err(Refused {
+                value: failed.value,
+                cause: Refusal::Memory,
+            }),
         }
     }
 
@@ -149,7 +166,7 @@ impl<T: Ord + Clone + Drop> Replica<T> {
         if self.next == u64::MAX {
             return Err(Refusal::Numbers);
         }
-        edits::carry_out(&mut self.nodes, event)?;
+        edits::carry_out(&mut self.nodes, &mut self.lengths, event)?;
         self.next += 1;
         Ok(())
     }

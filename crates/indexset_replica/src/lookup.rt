@@ -1,19 +1,20 @@
-//! The item equal to a value, the first and the last item, and whether an event is the next.
+//! The item equal to a value or of a key, the first and the last item, and whether an event is the next.
 ghost use Rattle.std.specs.Prelude.{◌≡◌, ℕ, ◌+◌, ◌≤◌, ◌==◌, if◌then◌else◌, find, length, nat_lt};
 ghost use Rattle.std.specs.List.{All};
 ghost use Rattle.std.specs.Option.{option_copied};
 ghost use Rattle.std.specs.Ordering.{is_eq};
 ghost use Rattle.indexset_core.specs.Digits.{digits};
 ghost use Rattle.indexset_core.specs.Nodes.{joined, node_lengths};
-ghost use Rattle.indexset_core.specs.Order.{equal_element};
 ghost use Rattle.indexset_core.specs.Parted.{IsParted};
+ghost use Rattle.indexset_replica.specs.Keyed.{find_by_key, has_by_key};
 ghost use Rattle.indexset_replica.specs.Replica.{first_item, last_item};
 ghost use Rattle.indexset_events.specs.Replay.{event_number};
 
 use super::Replica;
+use super::keys::{ByKeyOf, KeyOf};
 use super::places::{item_before, item_from};
 use indexset_core::locate::locate_by;
-use indexset_core::probe::{ByItem, Probe};
+use indexset_core::probe::Probe;
 use indexset_core::walk::ReadVec;
 use indexset_events::change::ChangeEvent;
 
@@ -30,13 +31,29 @@ pub enum Turn {
 
 impl<T: Ord + Clone + Drop> Replica<T> {
     /// Returns the held item equal to the value, or `None` where there is none, by two binary searches:
-    /// one among the nodes and one in a node.
-    pub fn get(&self, value: &T) -> Option<&T>
-        ensures { option_copied result ≡ equal_element T.cmp (joined self.now.nodes) value.now }
+    /// one among the nodes and one in a node. A pair is sought by its key, and of numbered pairs the
+    /// first of the key is returned.
+    ///
+    /// ```
+    /// let mut copy: Replica<Pair<u64, u64>> = Replica::new(alloc, 0);
+    /// copy.apply(&ChangeEvent::CreateNode { event_id: Id::from(0), max_value: Pair { key: 5, value: 50 } })?;
+    /// assert!(rt; copy.get(&5).is_some() && copy.get(&6).is_none());
+    /// ```
+    pub fn get<Q: KeyOf<T>>(&self, value: &Q) -> Option<&T>
+        ensures { option_copied result
+            ≡ find_by_key Q.cmp Q.key (joined self.now.nodes) value.now }
     {
-        // The nodes ascend, so a search by an item may go by them.
+        // The nodes ascend, so a search by a key may go by them.
         let _nodes = &self.nodes;
-        self.get_by(&mut ByItem::new(value))
+        self.get_by(&mut ByKeyOf::new(value))
+    }
+
+    /// Returns whether an equal item is held, by the same two binary searches. A pair is sought by its
+    /// key.
+    pub fn contains<Q: KeyOf<T>>(&self, value: &Q) -> bool
+        ensures { result ≡ has_by_key Q.cmp Q.key (joined self.now.nodes) value.now }
+    {
+        self.get(value).is_some()
     }
 
     /// Returns the first held item that the comparator finds equal, or `None` where there is none, by the

@@ -2,19 +2,21 @@
 ghost use Rattle.std.specs.Map.Iter.{ShowsInOrder, ShowsInReverse, deref};
 ghost use Rattle.std.specs.Range.Bound.{bound_map};
 ghost use Rattle.std.specs.Prelude.{◌≡◌, IsTrue};
-ghost use Rattle.indexset_core.specs.Bounds.{are_ordered, in_range};
+ghost use Rattle.indexset_core.specs.Bounds.{are_ordered};
 ghost use Rattle.indexset_core.specs.Nodes.{joined};
+ghost use Rattle.indexset_replica.specs.Keyed.{range_by_key};
 
 use super::Replica;
 use super::iter::Iter;
+use super::keys::{ByKeyOf, KeyOf};
 use indexset_core::locate::{place_from, place_to};
-use indexset_core::probe::ByItem;
 use indexset_core::walk::ReadVec;
 use std::ops::Bound;
 
 impl<T: Ord + Clone + Drop> Replica<T> {
-    /// Returns the items that satisfy both bounds, in order and from both ends. The start must not be
-    /// past the end, nor at it where both are excluded (see `base::bounds::bounds_are_ordered`). For each
+    /// Returns the items that satisfy both bounds, in order and from both ends: pairs by bounds on their
+    /// keys. The start must not be past the end, nor at it where both are excluded (see
+    /// `base::bounds::bounds_are_ordered`). For each
     /// bound that names an item it makes two binary searches: one among the nodes and one in a node. It
     /// allocates nothing.
     ///
@@ -25,23 +27,23 @@ impl<T: Ord + Clone + Drop> Replica<T> {
     /// let teens = copy.range((Bound::Included(&10), Bound::Excluded(&20)));
     /// assert!(rt; teens.copied().eq([10, 15]));
     /// ```
-    pub fn range(&self, range: (Bound<&T>, Bound<&T>)) -> Iter<'_, T>
-        requires { IsTrue (are_ordered T.cmp (bound_map (λ v. v.now) range.0)
+    pub fn range<Q: KeyOf<T>>(&self, range: (Bound<&Q>, Bound<&Q>)) -> Iter<'_, T>
+        requires { IsTrue (are_ordered Q.cmp (bound_map (λ v. v.now) range.0)
             (bound_map (λ v. v.now) range.1)) }
-        ensures rest { result ≡ in_range T.cmp (joined self.now.nodes)
+        ensures rest { result ≡ range_by_key Q.cmp Q.key (joined self.now.nodes)
             (bound_map (λ v. v.now) range.entry.0) (bound_map (λ v. v.now) range.entry.1) }
         ensures runs { ShowsInOrder (deref {X = T}) }
         ensures runs_back { ShowsInReverse (deref {X = T}) }
     {
         let nodes = self.nodes.as_slice();
-        let from = place_from::<T, Vec<T>, ReadVec, ByItem<'_, T>>(
+        let from = place_from::<T, Vec<T>, ReadVec, ByKeyOf<'_, Q>>(
             nodes,
-            range.0.map(ByItem::new),
+            range.0.map(ByKeyOf::new),
             false,
         );
-        let to = place_to::<T, Vec<T>, ReadVec, ByItem<'_, T>>(
+        let to = place_to::<T, Vec<T>, ReadVec, ByKeyOf<'_, Q>>(
             nodes,
-            range.1.map(ByItem::new),
+            range.1.map(ByKeyOf::new),
             false,
         );
         Iter::between(nodes, from, to)

@@ -30,21 +30,24 @@ returns-in_err-carry_out-clause-refusal g c =
 pub invariant_of-self-2 : goal.invariant_of-self-2
 invariant_of-self-2 g c =
     let cmp = g.T.Ord.cmp in
-    ruled_nodes cmp _ (edited_ruled cmp g.met.T.Ord.total _ _ _ (nodes_ruled cmp _ c.self.invariant) c.in_ok-carry_out.ensures.done.done)
+    record {
+      nodes = ruled_nodes cmp _ (edited_ruled cmp g.met.T.Ord.total _ _ _ (nodes_ruled cmp _ c.self.invariant.nodes) c.in_ok-carry_out.ensures.done.done);
+      index = c.carry_out.ensures.lengths;
+    }
 
 pub returns-clause-cloned : goal.returns-clause-cloned
 returns-clause-cloned g c =
     let cmp = g.T.Ord.cmp in
     let nodes = ap (λ t. t.nodes) c.self.view_is in
     let d = c.in_ok-carry_out.ensures.done in
-    rw (sym nodes) (record { event = d.event; adds = d.adds; made = edited_step cmp g.met.T.Ord.total _ _ _ (nodes_ruled cmp _ c.self.invariant) d.done })
+    rw (sym nodes) (record { event = d.event; adds = d.adds; made = edited_step cmp g.met.T.Ord.total _ _ _ (nodes_ruled cmp _ c.self.invariant.nodes) d.done })
 
 pub returns-clause-step : goal.returns-clause-step
 returns-clause-step g c h =
     let cmp = g.T.Ord.cmp in
     let nodes = ap (λ t. t.nodes) c.self.view_is in
     let d = c.in_ok-carry_out.ensures.done in
-    rw (sym nodes) (step_same cmp g.T.Clone.is_clone h _ _ _ (record { event = d.event; adds = d.adds; made = edited_step cmp g.met.T.Ord.total _ _ _ (nodes_ruled cmp _ c.self.invariant) d.done }))
+    rw (sym nodes) (step_same cmp g.T.Clone.is_clone h _ _ _ (record { event = d.event; adds = d.adds; made = edited_step cmp g.met.T.Ord.total _ _ _ (nodes_ruled cmp _ c.self.invariant.nodes) d.done }))
 
 pub returns-clause-fits : goal.returns-clause-fits
 returns-clause-fits g c =

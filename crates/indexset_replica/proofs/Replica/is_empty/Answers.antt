@@ -13,4 +13,4 @@ returns g c =
     let same : vec_len c.self.inside.nodes ≡ length ns = omega (arith, c.self.inside.nodes.ok.0, length-map vs (λ v. v.items)) in
     c.is_empty.ensures
     ∙ (ap (λ k. k == 0) same
-    ∙ (empty_is ns (filled_each ns c.self.invariant.filled) ∙ ap (λ q. length (joined q) == 0) nodes))
+    ∙ (empty_is ns (filled_each ns c.self.invariant.nodes.filled) ∙ ap (λ q. length (joined q) == 0) nodes))

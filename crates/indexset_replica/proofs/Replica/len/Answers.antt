@@ -1,8 +1,8 @@
-use Rattle.std.proofs.Common.{arith}
-use Rattle.indexset_core.proofs.CallerLemmas.{more_read}
+use Rattle.std.proofs.Common.{length, sum, ap, sym, ◌∙◌}
+use Rattle.indexset_core.specs.Nodes.{joined, vec_items}
+use Rattle.indexset_core.proofs.CallerLemmas.{length-joined}
 use Rattle.indexset_replica.proofs.Replica.len.Goals as goal
 
-pub loop-node-preserved : goal.loop-node-preserved
-loop-node-preserved g c =
-    let more = more_read (λ v. v.items) c.deref-node-items.result.now c.loop-node.node-index c.node-item.result (omega arith) c.node-item.is in
-    omega (arith, more, c.loop-node.invariant, c.node-item.result.ok.0)
+pub returns : goal.returns
+returns g c =
+    c.total.ensures.value ∙ (ap sum c.self.invariant.index ∙ (sym (length-joined (vec_items c.self.inside.nodes.items)) ∙ ap (λ r. length (joined r.nodes)) c.self.view_is))

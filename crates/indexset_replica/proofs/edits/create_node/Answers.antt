@@ -1,16 +1,18 @@
-use Rattle.std.proofs.Common.{[], ◌∷◌, map, insert, refl, sym, ◌∙◌}
+use Rattle.std.proofs.Common.{◌≤◌, [], ◌∷◌, length, map, sum, insert, refl, ap, sym, ◌∙◌, arith}
+use Rattle.std.proofs.lemmas.List.{length-map}
 use Rattle.std.proofs.lemmas.Result.{err_from_is_err_and}
 use Rattle.indexset_events.specs.declared.change.ChangeEventUnassigned.TheVariants.{CreateNode}
 use Rattle.indexset_events.proofs.CallerLemmas.{map_insert, nodes_ruled}
 use Rattle.indexset_replica.proofs.Clones.{created_same, reaching_same}
 use Rattle.indexset_replica.specs.Replica.{IsEdit}
+use Rattle.indexset_replica.proofs.LengthLemmas.{Rebuilds, insert_rebuilds}
 use Rattle.indexset_replica.proofs.ReplicaEdits.{create_disorder, create_edit}
 use Rattle.indexset_replica.proofs.edits.create_node.Given.{Over}
 use Rattle.indexset_replica.proofs.edits.create_node.Goals as goal
-use Rattle.indexset_replica.proofs.edits.create_node.Goals.{After-room_for_node_of}
+use Rattle.indexset_replica.proofs.edits.create_node.Goals.{After-as_slice-3, Else-not-fits_before}
 
 -- what the new node makes of the nodes
-created : (g : Over) (c : After-room_for_node_of g) → let ns = map (λ v. v.items) c.args.nodes.now.items in let v = c.args.value.now in IsEdit g.T.Ord.cmp ns (CreateNode v) (insert ns c.first_reaching-place.result (v ∷ []))
+created : (g : Over) (c : Else-not-fits_before g) → let ns = map (λ v. v.items) c.args.nodes.now.items in let v = c.args.value.now in IsEdit g.T.Ord.cmp ns (CreateNode v) (insert ns c.first_reaching-place.result (v ∷ []))
 created g c =
     let place = rw c.as_slice.ensures.value at c.first_reaching-place.ensures.place in
     let good = rw c.as_slice-2.ensures.value at (sym c.fits_before.ensures ∙ c.if-not-fits_before.false) in
@@ -22,10 +24,15 @@ returns-then-not-fits_before-clause-refusal g c =
     let bad = rw c.as_slice-2.ensures.value at (sym c.fits_before.ensures ∙ c.if-not-fits_before.true) in
     rw (create_disorder g.T.Ord.cmp _ c.args.value.now c.first_reaching-place.result place bad) refl
 
+pub returns-in_err-reserve_node-clause-refusal : goal.returns-in_err-reserve_node-clause-refusal
+returns-in_err-reserve_node-clause-refusal g c =
+    let p = err_from_is_err_and c.from_residual.result c.from_residual.ensures.1 in
+    rw (p.1, (created g (goal.at.returns-in_err-reserve_node-clause-refusal g c).Else-not-fits_before).fits) (p.2 ∙ c.in_err-reserve_node.ensures.refusal)
+
 pub returns-in_err-node-clause-refusal : goal.returns-in_err-node-clause-refusal
 returns-in_err-node-clause-refusal g c =
-    let p = err_from_is_err_and c.from_residual.result c.from_residual.ensures.1 in
-    rw (p.1, (created g (goal.at.returns-in_err-node-clause-refusal g c).After-room_for_node_of).fits) (p.2 ∙ c.in_err-node.ensures.refusal)
+    let p = err_from_is_err_and c.from_residual-in_err-node.result c.from_residual-in_err-node.ensures.1 in
+    rw (p.1, (created g (goal.at.returns-in_err-node-clause-refusal g c).Else-not-fits_before).fits) (p.2 ∙ c.in_err-node.ensures.refusal)
 
 pub returns-clause-done : goal.returns-clause-done
 returns-clause-done g c =
@@ -39,4 +46,22 @@ returns-clause-done g c =
     let reach = place ∙ sym (reaching_same cmp g.met.T.Ord.total c.args.value.now w node.1.1 ns) in
     let fine = created_same cmp g.met.T.Ord.total c.args.value.now w node.1.1 ns (nodes_ruled cmp ns c.requires.nodes) p ∙ good in
     rw (c.insert_item.ensures.items, c.room_for_node_of.ensures.nodes, map_insert (λ v. v.items) c.args.nodes.now.items p c.in_ok-node.node, node.2)
-    (record { fits = (created g (goal.at.returns-clause-done g c).After-room_for_node_of).fits; event = CreateNode w; adds = (w, node.1, refl); done = create_edit cmp ns w p reach fine })
+    (record { fits = (created g (goal.at.returns-clause-done g c).Else-not-fits_before).fits; event = CreateNode w; adds = (w, node.1, refl); done = create_edit cmp ns w p reach fine })
+
+-- the lengths of the nodes with the new one
+rebuilt : (g : Over) (c : After-as_slice-3 g) → Rebuilds (λ v. v.items) c.first_reaching-place.result 1 (length c.in_ok-node.node.items) c.args.lengths.now.lengths c.as_slice-3.result.now
+rebuilt g c =
+    let vs = c.args.nodes.now.items in
+    let ns = map (λ v. v.items) vs in
+    let p = c.first_reaching-place.result in
+    let inside : p ≤ length ns = omega (arith, c.first_reaching-place.ensures.within, ap (λ l. length l) c.as_slice.ensures.value, length-map vs (λ v. v.items)) in
+    insert_rebuilds (λ v. v.items) ns c.args.lengths.now.lengths c.requires.lengths p c.as_slice-3.result.now c.in_ok-node.node.items inside
+    (rw (c.as_slice-3.ensures.value, c.insert_item.ensures.items, c.room_for_node_of.ensures.nodes) (map_insert (λ v. v.items) vs p c.in_ok-node.node))
+
+pub rebuild_from-requires-clause-same : goal.rebuild_from-requires-clause-same
+rebuild_from-requires-clause-same g c = let r = rebuilt g c in rw c.reserve_node.ensures.lengths r.same
+
+pub rebuild_from-requires-clause-fits : goal.rebuild_from-requires-clause-fits
+rebuild_from-requires-clause-fits g c =
+    let r = rebuilt g c in
+    omega (arith, r.total, c.in_ok-reserve_node.ensures.fits, ap sum c.reserve_node.ensures.lengths, ap (λ l. length l) c.in_ok-node.ensures.node.2)

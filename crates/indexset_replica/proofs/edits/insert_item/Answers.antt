@@ -1,5 +1,9 @@
-use Rattle.std.proofs.Common.{◌≡◌, map, set, insert, refl, arith, sym, ap, ◌∙◌}
+use Rattle.std.proofs.Common.{◌≡◌, ◌+◌, ◌<◌, length, map, get_or, set, insert, refl, arith, sym, ap, ◌∙◌}
 use Rattle.std.proofs.lemmas.List.{map-set}
+use Rattle.std.proofs.lemmas.List.Edits.{length-insert}
+use Rattle.indexset_core.specs.Nodes.{node_at, node_lengths}
+use Rattle.indexset_index.proofs.CallerLemmas.{length-at}
+use Rattle.indexset_replica.proofs.LengthLemmas.{lengths-set}
 use Rattle.std.proofs.Math.Seq.{map-set_same}
 use Rattle.std.proofs.lemmas.Result.{err_from_is_err_and}
 use Rattle.indexset_events.specs.declared.change.ChangeEventUnassigned.TheVariants.{InsertAt}
@@ -38,6 +42,11 @@ returns-then-not-fits_at-clause-refusal g c =
     let bad = rw c.as_slice-2.ensures.value at (sym c.fits_at.ensures ∙ c.if-not-fits_at.true) in
     rw (insert_disorder g.T.Ord.cmp (λ v. v.items) c.args.nodes.now.items c.args.name.now c.in_ok-place.place named n c.index.ensures c.args.value.now c.args.index (omega (arith, n.ok.0)) bad) refl
 
+pub returns-in_err-fits-clause-refusal : goal.returns-in_err-fits-clause-refusal
+returns-in_err-fits-clause-refusal g c =
+    let p = err_from_is_err_and c.from_residual-in_err-fits.result c.from_residual-in_err-fits.ensures.1 in
+    rw (p.1, (inserted g (goal.at.returns-in_err-fits-clause-refusal g c).Else-not-fits_at).fits) (p.2 ∙ c.in_err-fits.ensures.refusal)
+
 pub returns-in_err-item-clause-refusal : goal.returns-in_err-item-clause-refusal
 returns-in_err-item-clause-refusal g c =
     let p = err_from_is_err_and c.from_residual-in_err-item.result c.from_residual-in_err-item.ensures.1 in
@@ -71,3 +80,26 @@ returns-clause-done g c =
     let edited = insert_edit cmp (λ v. v.items) vs c.args.name.now k named n c.index.ensures w c.args.index (omega (arith, n.ok.0)) fine in
     rw (map-set (λ v. v.items) vs k c.insert_item.new.items, c.insert_item.ensures.items, c.in_ok-reserve.ensures.items, same)
     (record { fits = (inserted g (goal.at.returns-clause-done g c).Else-not-fits_at).fits; event = InsertAt c.args.name.now w c.args.index; adds = (w, copy, refl); done = edited })
+
+pub returns-in_err-reserve-clause-lengths : goal.returns-in_err-reserve-clause-lengths
+returns-in_err-reserve-clause-lengths g c =
+    let m = c.index_mut-node.result.now in
+    c.requires.lengths
+    ∙ ap (λ l. node_lengths l) (sym (map-set_same (λ v. v.items) c.args.nodes.now.items c.in_ok-place.place c.reserve.new.self m (c.in_err-reserve.ensures.items ∙ ap (λ v. v.items) c.index_mut-node.ensures.value)))
+
+pub returns-clause-lengths : goal.returns-clause-lengths
+returns-clause-lengths g c =
+    let cmp = g.T.Ord.cmp in
+    let vs = c.args.nodes.now.items in
+    let ns = map (λ v. v.items) vs in
+    let k = c.in_ok-place.place in
+    let named = rw c.as_slice.ensures.value at c.in_ok-place.ensures.named in
+    let inside : k < length ns = named_inside cmp ns c.args.name.now k named in
+    let n = c.index.result.now in
+    let m = c.index_mut-node.result.now in
+    let here : node_at ns k ≡ n.items = held cmp (λ v. v.items) vs c.args.name.now k named n c.index.ensures in
+    let long : length c.reserve.new.self.items ≡ length n.items = ap (λ l. length l) (c.in_ok-reserve.ensures.items ∙ (sym (held cmp (λ v. v.items) vs c.args.name.now k named m c.index_mut-node.ensures.value) ∙ here)) in
+    let more : length c.insert_item.new.items.items ≡ get_or (node_lengths ns) k 0 + 1 =
+    omega (arith, ap (λ l. length l) c.insert_item.ensures.items, length-insert c.reserve.new.self.items c.args.index c.in_ok-item.item (omega (arith, long, n.ok.0)), long, length-at ns k inside, ap (λ l. length l) here) in
+    rw (map-set (λ v. v.items) vs k c.insert_item.new.items)
+    (c.add_item.ensures ∙ (ap (λ l. set l k (get_or l k 0 + 1)) c.requires.lengths ∙ sym (lengths-set ns k (get_or (node_lengths ns) k 0 + 1) c.insert_item.new.items.items inside more)))

@@ -1,7 +1,11 @@
-use Rattle.std.proofs.Common.{◌<◌, length, refl, arith, sym, ◌∙◌}
+use Rattle.std.proofs.Common.{◌≡◌, ◌-◌, ◌<◌, length, map, get_or, set, refl, ap, arith, sym, ◌∙◌}
 use Rattle.std.proofs.lemmas.List.{map-set}
+use Rattle.std.proofs.lemmas.List.Edits.{length-remove}
+use Rattle.indexset_core.specs.Nodes.{node_at, node_lengths}
+use Rattle.indexset_index.proofs.CallerLemmas.{length-at}
+use Rattle.indexset_replica.proofs.LengthLemmas.{lengths-set}
 use Rattle.std.proofs.lemmas.Result.{err_from_is_err_and}
-use Rattle.indexset_replica.proofs.ReplicaEdits.{absent_remove, remove_differs, remove_edit, remove_empty, remove_outside}
+use Rattle.indexset_replica.proofs.ReplicaEdits.{absent_remove, held, named_inside, remove_differs, remove_edit, remove_empty, remove_outside}
 use Rattle.indexset_replica.proofs.edits.remove_item.Goals as goal
 
 pub returns-in_err-place-clause-refusal : goal.returns-in_err-place-clause-refusal
@@ -40,3 +44,18 @@ returns-clause-done g c =
     let same = rw c.cmp.ensures at (sym c.is_ne.ensures ∙ c.if-is_ne.false) in
     rw (map-set (λ v. v.items) c.args.nodes.now.items c.in_ok-place.place c.remove_item.new.items, c.remove_item.ensures.items)
     (remove_edit g.T.Ord.cmp (λ v. v.items) c.args.nodes.now.items c.args.name.now c.in_ok-place.place named n c.index_mut-node.ensures.value c.args.value.now c.args.index inside c.index.result.now c.index.ensures same (λ one. omega (arith, n.ok.0, one)))
+
+pub returns-clause-lengths : goal.returns-clause-lengths
+returns-clause-lengths g c =
+    let cmp = g.T.Ord.cmp in
+    let vs = c.args.nodes.now.items in
+    let ns = map (λ v. v.items) vs in
+    let k = c.in_ok-place.place in
+    let named = rw c.as_slice.ensures.value at c.in_ok-place.ensures.named in
+    let inside : k < length ns = named_inside cmp ns c.args.name.now k named in
+    let n = c.index_mut-node.result.now in
+    let here : node_at ns k ≡ n.items = held cmp (λ v. v.items) vs c.args.name.now k named n c.index_mut-node.ensures.value in
+    let less : length c.remove_item.new.items.items ≡ get_or (node_lengths ns) k 0 - 1 =
+    omega (arith, ap (λ l. length l) c.remove_item.ensures.items, length-remove n.items c.args.index (omega (arith, n.ok.0)), length-at ns k inside, ap (λ l. length l) here) in
+    rw (map-set (λ v. v.items) vs k c.remove_item.new.items)
+    (c.take_item.ensures ∙ (ap (λ l. set l k (get_or l k 0 - 1)) c.requires.lengths ∙ sym (lengths-set ns k (get_or (node_lengths ns) k 0 - 1) c.remove_item.new.items.items inside less)))

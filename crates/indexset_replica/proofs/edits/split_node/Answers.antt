@@ -1,13 +1,16 @@
-use Rattle.std.proofs.Common.{◌≡◌, ◌+◌, [], ◌∷◌, map, take, drop, refl, arith, sym, ◌∙◌}
+use Rattle.std.proofs.Common.{◌≡◌, ◌+◌, [], ◌∷◌, length, map, sum, take, drop, ap, arith, sym, ◌∙◌, refl, length-append}
+use Rattle.std.proofs.lemmas.List.{take-append-drop}
+use Rattle.indexset_core.specs.Nodes.{node_at}
 use Rattle.std.specs.List.{splice}
 use Rattle.std.proofs.lemmas.Result.{err_from_is_err_and}
 use Rattle.indexset_events.specs.declared.change.ChangeEventUnassigned.TheVariants.{SplitNode}
 use Rattle.indexset_events.proofs.CallerLemmas.{halved_view}
 use Rattle.indexset_replica.specs.Replica.{IsEdit}
-use Rattle.indexset_replica.proofs.ReplicaEdits.{absent_split, held, held_at, split_edit, split_past, split_start}
+use Rattle.indexset_replica.proofs.LengthLemmas.{Rebuilds, split_rebuilds}
+use Rattle.indexset_replica.proofs.ReplicaEdits.{absent_split, held, held_at, named_inside, split_edit, split_past, split_start}
 use Rattle.indexset_replica.proofs.edits.split_node.Given.{Over}
 use Rattle.indexset_replica.proofs.edits.split_node.Goals as goal
-use Rattle.indexset_replica.proofs.edits.split_node.Goals.{After-reserve, then-split_index-eq0-via-then-split_index-eq0, then-split_index-eq0-via-else-split_index-eq0+then-split_index-len}
+use Rattle.indexset_replica.proofs.edits.split_node.Goals.{After-as_slice-2, After-reserve, then-split_index-eq0-via-then-split_index-eq0, then-split_index-eq0-via-else-split_index-eq0+then-split_index-len}
 
 -- what the split makes of the nodes
 split : (g : Over) (c : After-reserve g) → let ns = map (λ v. v.items) c.args.nodes.now.items in let p = c.in_ok-place.place in let k = c.args.split_index in let n = c.index.result.now.items in IsEdit g.T.Ord.cmp ns (SplitNode c.args.name.now k) (splice ns p (p + 1) (take k n ∷ drop k n ∷ []))
@@ -38,6 +41,11 @@ returns-in_err-reserve-clause-refusal g c =
     let p = err_from_is_err_and c.from_residual-in_err-reserve.result c.from_residual-in_err-reserve.ensures.1 in
     rw (p.1, (split g (goal.at.returns-in_err-reserve-clause-refusal g c).After-reserve).fits) p.2
 
+pub returns-in_err-reserve_node-clause-refusal : goal.returns-in_err-reserve_node-clause-refusal
+returns-in_err-reserve_node-clause-refusal g c =
+    let p = err_from_is_err_and c.from_residual-in_err-reserve_node.result c.from_residual-in_err-reserve_node.ensures.1 in
+    rw (p.1, (split g (goal.at.returns-in_err-reserve_node-clause-refusal g c).After-reserve).fits) (p.2 ∙ c.in_err-reserve_node.ensures.refusal)
+
 pub returns-in_err-rest-clause-refusal : goal.returns-in_err-rest-clause-refusal
 returns-in_err-rest-clause-refusal g c =
     let p = err_from_is_err_and c.from_residual-in_err-rest.result c.from_residual-in_err-rest.ensures.1 in
@@ -54,3 +62,29 @@ returns-clause-done g c =
     let same : m.items ≡ n.items = sym (held cmp (λ v. v.items) vs c.args.name.now c.in_ok-place.place named m read) ∙ held cmp (λ v. v.items) vs c.args.name.now c.in_ok-place.place named n c.index.ensures in
     let here = held_at cmp (λ v. v.items) vs c.args.name.now c.in_ok-place.place named n c.index.ensures in
     rw (c.insert_item.ensures.items, c.in_ok-reserve.ensures.items, halved_view (λ v. v.items) vs c.in_ok-place.place n c.split_off.new.self c.in_ok-rest.rest here, c.in_ok-rest.ensures.items, c.in_ok-rest.ensures.tail, same) (split g (goal.at.returns-clause-done g c).After-reserve)
+
+-- the lengths of the nodes with the two
+rebuilt : (g : Over) (c : After-as_slice-2 g) → Rebuilds (λ v. v.items) c.in_ok-place.place 1 0 c.args.lengths.now.lengths c.as_slice-2.result.now
+rebuilt g c =
+    let cmp = g.T.Ord.cmp in
+    let vs = c.args.nodes.now.items in
+    let ns = map (λ v. v.items) vs in
+    let p = c.in_ok-place.place in
+    let named = rw c.as_slice.ensures.value at c.in_ok-place.ensures.named in
+    let n = c.index.result.now in
+    let m = c.index_mut-node.result.now in
+    let read = rw c.in_ok-reserve.ensures.items at c.index_mut-node.ensures.value in
+    let here = held_at cmp (λ v. v.items) vs c.args.name.now p named n c.index.ensures in
+    let whole : node_at ns p ≡ m.items = held cmp (λ v. v.items) vs c.args.name.now p named m read in
+    let k = c.args.split_index in
+    split_rebuilds (λ v. v.items) ns c.args.lengths.now.lengths c.requires.lengths p c.as_slice-2.result.now (named_inside cmp ns c.args.name.now p named) c.split_off.new.self.items c.in_ok-rest.rest.items
+    (rw (c.as_slice-2.ensures.value, c.insert_item.ensures.items, c.in_ok-reserve.ensures.items) (halved_view (λ v. v.items) vs p n c.split_off.new.self c.in_ok-rest.rest here))
+    (omega (arith, ap (λ l. length l) whole, ap (λ l. length l) c.in_ok-rest.ensures.items, ap (λ l. length l) c.in_ok-rest.ensures.tail, ap (λ l. length l) (take-append-drop k m.items), length-append (take k m.items) (drop k m.items)))
+
+pub rebuild_from-requires-clause-same : goal.rebuild_from-requires-clause-same
+rebuild_from-requires-clause-same g c = let r = rebuilt g c in rw c.reserve_node.ensures.lengths r.same
+
+pub rebuild_from-requires-clause-fits : goal.rebuild_from-requires-clause-fits
+rebuild_from-requires-clause-fits g c =
+    let r = rebuilt g c in
+    omega (arith, r.total, c.in_ok-reserve_node.ensures.fits, ap sum c.reserve_node.ensures.lengths)

@@ -1,0 +1,24 @@
+use Rattle.std.proofs.Common.{◌≡◌, arith, Ordering}
+use Rattle.indexset_core.specs.Nodes.{joined}
+use Rattle.indexset_core.specs.Parted.{less_count, not_greater_count}
+use Rattle.indexset_replica.proofs.KeySearches.{count_equal}
+use Rattle.indexset_replica.proofs.Replica.count.Given.{Over}
+use Rattle.indexset_replica.proofs.Replica.count.Goals.{After-count_before}
+use Rattle.indexset_replica.proofs.Replica.count.Goals as goal
+
+-- so many items are below, and so many are not above
+module _ (g : Over) (c : After-count_before g) where
+  abbrev answer : g.row.T.Denot → Ordering
+  answer x = g.Q.Ord.cmp (g.Q.KeyOf.key x) c.args.value.now
+
+  low : c.count_before.result ≡ less_count answer (joined c.args.self.now.nodes)
+  low = rw c.new-2.ensures at c.count_before.ensures
+
+  high : c.count_up_to-past.result ≡ not_greater_count answer (joined c.args.self.now.nodes)
+  high = rw c.new.ensures at c.count_up_to-past.ensures
+
+pub overflow_sub-result : goal.overflow_sub-result
+overflow_sub-result g c = omega (arith, low g c, high g c, count_equal (answer g c) (joined c.args.self.now.nodes))
+
+pub returns : goal.returns
+returns g c = omega (arith, low g c, high g c, count_equal (answer g c) (joined c.args.self.now.nodes))

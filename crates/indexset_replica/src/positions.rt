@@ -1,0 +1,152 @@
+//! Positions in a replica: ranks, items by position, and ranges of positions.
+ghost use Rattle.std.specs.Prelude.{◌≡◌, ◌<◌, true, IfSome, length, slice_get};
+ghost use Rattle.std.specs.declared.cmp.Ordering.TheVariants.{Less};
+ghost use Rattle.std.specs.List.{AllWithin, count_by};
+ghost use Rattle.std.specs.Map.Iter.{ShowsInOrder, ShowsInReverse, deref};
+ghost use Rattle.std.specs.Option.{option_copied};
+ghost use Rattle.indexset_core.specs.Bounds.{IfBounded, in_positions, is_before, is_up_to_end};
+ghost use Rattle.indexset_core.specs.Nodes.{joined};
+ghost use Rattle.indexset_core.specs.Parted.{IsParted};
+ghost use Rattle.indexset_replica.specs.Keyed.{count_by_key, find_by_key, has_by_key, index_by_key, rank_by_key};
+
+use super::Replica;
+use super::iter::Iter;
+use super::keys::{ByKeyOf, KeyOf};
+use indexset_core::locate::{locate_by, place_from, place_to};
+use indexset_core::positions::{end_position, first_position};
+use indexset_core::probe::Probe;
+use indexset_core::walk::ReadVec;
+use std::ops::Bound;
+
+impl<T: Ord + Clone + Drop> Replica<T> {
+    /// Returns how many items are held, in constant time.
+    pub fn len(&self) -> usize
+        ensures { result ≡ length (joined self.now.nodes) }
+    {
+        self.lengths.total()
+    }
+
+    /// Returns how many items are below the value, by two binary searches and a sum over the index.
+    /// Pairs are ranked by their keys: it is how many pairs have a key below the value.
+    ///
+    /// ```
+    /// let nodes = vec![in alloc; vec![in alloc; 10, 20]?, vec![in alloc; 30]?]?;
+    /// let board = Replica::from_nodes(nodes, 3)?;
+    /// assert!(rt; board.rank(&30) == 2 && board.rank(&25) == 2);
+    /// ```
+    pub fn rank<Q: KeyOf<T>>(&self, value: &Q) -> usize
+        ensures value { result ≡ rank_by_key Q.cmp Q.key (joined self.now.nodes) value.now }
+        ensures there { has_by_key Q.cmp Q.key (joined self.now.nodes) value.now ≡ true
+            → slice_get (joined self.now.nodes) result
+            ≡ find_by_key Q.cmp Q.key (joined self.now.nodes) value.now }
+        ensures inside { has_by_key Q.cmp Q.key (joined self.now.nodes) value.now ≡ true
+            → result < length (joined self.now.nodes) }
+        ensures before { AllWithin (λ x. Q.cmp (Q.key x) value.now ≡ Less)
+            (joined self.now.nodes) 0 result }
+    {
+        // The nodes ascend, so a search by a key may go by them.
+        let _nodes = &self.nodes;
+        self.count_before(Bound::Included(ByKeyOf::new(value)))
+    }
+
+    /// Returns the position of the item equal to the value, or `None`, by the searches of `get` and
+    /// `rank`. A pair is sought by its key: it is the position of the first pair of the key.
+    ///
+    /// ```
+    /// let nodes = vec![in alloc; vec![in alloc; 10, 20]?, vec![in alloc; 30]?]?;
+    /// let board = Replica::from_nodes(nodes, 3)?;
+    /// assert!(rt; board.index_of(&20) == Some(1) && board.index_of(&25).is_none());
+    /// ```
+    pub fn index_of<Q: KeyOf<T>>(&self, value: &Q) -> Option<usize>
+        ensures value { result ≡ index_by_key Q.cmp Q.key (joined self.now.nodes) value.now }
+        ensures there { IfSome result (λ i. slice_get (joined self.now.nodes) i
+            ≡ find_by_key Q.cmp Q.key (joined self.now.nodes) value.now) }
+        ensures inside { IfSome result (λ i. i < length (joined self.now.nodes)) }
+    {
+        // The nodes ascend, so a search by a key may go by them.
+        let _nodes = &self.nodes;
+        match locate_by::<T, Vec<T>, ReadVec, ByKeyOf<'_, Q>>(
+            self.nodes.as_slice(),
+            &mut ByKeyOf::new(value),
+        ) {
+            Ok(place) => Some(self.lengths.position(self.nodes.as_slice(), place)),
+            Err(_) => None,
+        }
+    }
+
+    /// Returns how many items equal the value, by four binary searches and two sums over the index.
+    /// Of pairs, it is how many have the key.
+    pub fn count<Q: KeyOf<T>>(&self, value: &Q) -> usize
+        ensures { result ≡ count_by_key Q.cmp Q.key (joined self.now.nodes) value.now }
+    {
+        // The nodes ascend, so a search by a key may go by them.
+        let _nodes = &self.nodes;
+        let past = self.count_up_to(Bound::Included(ByKeyOf::new(value)));
+        past - self.count_before(Bound::Included(ByKeyOf::new(value)))
+    }
+
+    /// Returns the item at a position, counted from 0, or `None` past the end, in logarithmic time.
+    ///
+    /// ```
+    /// let nodes = vec![in alloc; vec![in alloc; 10, 20]?, vec![in alloc; 30]?]?;
+    /// let board = Replica::from_nodes(nodes, 3)?;
+    /// assert!(rt; board.get_index(2) == Some(&30) && board.get_index(3).is_none());
+    /// ```
+    pub fn get_index(&self, i: usize) -> Option<&T>
+        ensures { option_copied result ≡ slice_get (joined self.now.nodes) i }
+    {
+        let (node, offset) = self.lengths.place(self.nodes.as_slice(), i)?;
+        let items = self.nodes[node].as_slice();
+        Some(&items[offset])
+    }
+
+    /// Returns the items at the positions that satisfy both bounds, in order and from both ends. There
+    /// is none where the bounds are the wrong way round, and positions past the end have none.
+    ///
+    /// ```
+    /// // The second page of two items each.
+    /// let nodes = vec![in alloc; vec![in alloc; 5, 10, 15]?, vec![in alloc; 20, 25]?]?;
+    /// let copy = Replica::from_nodes(nodes, 0)?;
+    /// let page = copy.range_idx((Bound::Included(2), Bound::Excluded(4)));
+    /// assert!(rt; page.copied().eq([15, 20]));
+    /// ```
+    pub fn range_idx(&self, range: (Bound<usize>, Bound<usize>)) -> Iter<'_, T>
+        ensures rest { result ≡ in_positions (joined self.now.nodes) range.0 range.1 }
+        ensures runs { ShowsInOrder (deref {X = T}) }
+        ensures runs_back { ShowsInReverse (deref {X = T}) }
+    {
+        let len = self.len();
+        let to = end_position(range.1, len);
+        let from = first_position(range.0, len).min(to);
+        let nodes = self.nodes.as_slice();
+        Iter::between(
+            nodes,
+            self.lengths.place_after(nodes, from),
+            self.lengths.place_after(nodes, to),
+        )
+    }
+
+    /// Returns how many items stand before the start, a bound on what a comparator seeks, by two
+    /// binary searches and a sum over the index.
+    pub fn count_before<P: Probe<T> + Drop>(&self, start: Bound<P>) -> usize
+        requires { IfBounded (λ p. IsParted (P.answer p) (joined self.now.nodes)) start }
+        ensures { result ≡ count_by (is_before (λ x p. P.answer p x) start)
+            (joined self.now.nodes) }
+    {
+        let nodes = self.nodes.as_slice();
+        let place = place_from::<T, Vec<T>, ReadVec, P>(nodes, start, false);
+        self.lengths.position(nodes, place)
+    }
+
+    /// Returns how many items are not past the end, a bound on what a comparator seeks, by two binary
+    /// searches and a sum over the index.
+    pub fn count_up_to<P: Probe<T> + Drop>(&self, end: Bound<P>) -> usize
+        requires { IfBounded (λ p. IsParted (P.answer p) (joined self.now.nodes)) end }
+        ensures { result ≡ count_by (is_up_to_end (λ x p. P.answer p x) end)
+            (joined self.now.nodes) }
+    {
+        let nodes = self.nodes.as_slice();
+        let place = place_to::<T, Vec<T>, ReadVec, P>(nodes, end, false);
+        self.lengths.position(nodes, place)
+    }
+}
