@@ -1,0 +1,16 @@
+-- The boxes of the handles, as the proofs of the parts take them.
+use Rattle.indexset_handle.proofs.Steps.{Bx}
+use Rattle.indexset_handle.proofs.Boxes.{on_heap}
+use Rattle.indexset_handle.proofs.map_handle.MapHandle.TheLaws as map
+use Rattle.indexset_handle.proofs.set_handle.SetHandle.TheLaws as set
+use Rattle.indexset_handle.proofs.text_handle.TextHandle.TheLaws as text
+use Rattle.indexset_handle.specs.Owners.{map_handle_row, set_handle_row, text_handle_row}
+
+abbrev pub set_handle_box : Bx
+set_handle_box = on_heap set_handle_row set.the_row_laws
+
+abbrev pub map_handle_box : Bx
+map_handle_box = on_heap map_handle_row map.the_row_laws
+
+abbrev pub text_handle_box : Bx
+text_handle_box = on_heap text_handle_row text.the_row_laws
