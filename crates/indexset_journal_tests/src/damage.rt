@@ -10,6 +10,9 @@ use std::test::Fail;
 /// What the files below have held after each commit.
 const TEXTS: [&[u8]; 4] = [b"", b"first ", b"first second third ", b"fourth "];
 
+/// Of how many bytes one is turned, or is the end.
+const STRIDE: usize = 797;
+
 /// Two files with three commits, of which the last is yet in the log alone.
 fn files(alloc: Global) -> Result<Files<Memory>, JournalError> {
     let new = Files {
@@ -70,15 +73,23 @@ fn a_turned_byte_is_noticed(rt: HostRuntime) -> Result<(), Fail> {
     let both = files(alloc)?;
     let (log, db) = (both.log.bytes(), both.db.bytes());
     let mut refused = 0u32;
-    for step in 0..db.len() / 37 {
-        let at = 37 * step;
-        if is_refused(alloc, changed(alloc, log, log.len(), log.len())?, changed(alloc, db, db.len(), at)?)? {
+    for step in 0..db.len() / STRIDE {
+        let at = STRIDE * step;
+        if is_refused(
+            alloc,
+            changed(alloc, log, log.len(), log.len())?,
+            changed(alloc, db, db.len(), at)?,
+        )? {
             refused += 1;
         }
     }
-    for step in 0..log.len() / 37 {
-        let at = 37 * step;
-        is_refused(alloc, changed(alloc, log, log.len(), at)?, changed(alloc, db, db.len(), db.len())?)?;
+    for step in 0..log.len() / STRIDE {
+        let at = STRIDE * step;
+        is_refused(
+            alloc,
+            changed(alloc, log, log.len(), at)?,
+            changed(alloc, db, db.len(), db.len())?,
+        )?;
     }
     assert!(rt; refused > 0);
     Ok(())
@@ -89,11 +100,19 @@ fn a_cut_is_noticed(rt: HostRuntime) -> Result<(), Fail> {
     let alloc = rt.alloc();
     let both = files(alloc)?;
     let (log, db) = (both.log.bytes(), both.db.bytes());
-    for step in 0..log.len() / 37 {
-        is_refused(alloc, changed(alloc, log, 37 * step, log.len())?, changed(alloc, db, db.len(), db.len())?)?;
+    for step in 0..log.len() / STRIDE {
+        is_refused(
+            alloc,
+            changed(alloc, log, STRIDE * step, log.len())?,
+            changed(alloc, db, db.len(), db.len())?,
+        )?;
     }
-    for step in 0..db.len() / 37 {
-        is_refused(alloc, changed(alloc, log, log.len(), log.len())?, changed(alloc, db, 37 * step, db.len())?)?;
+    for step in 0..db.len() / STRIDE {
+        is_refused(
+            alloc,
+            changed(alloc, log, log.len(), log.len())?,
+            changed(alloc, db, STRIDE * step, db.len())?,
+        )?;
     }
     Ok(())
 }

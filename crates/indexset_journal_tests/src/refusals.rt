@@ -20,7 +20,10 @@ fn refusal(alloc: Global, statements: &str) -> Result<Option<JournalError>, Jour
 }
 
 /// A journal over a table with these rows.
-fn journal_of(alloc: Global, rows: &str) -> Result<(Journal<MemStore>, Vec<Vec<u8>>), JournalError> {
+fn journal_of(
+    alloc: Global,
+    rows: &str,
+) -> Result<(Journal<MemStore>, Vec<Vec<u8>>), JournalError> {
     let mut conn = Connection::open_in_memory(alloc)?;
     conn.execute(TABLE, &[])?;
     conn.execute_batch(rows)?;
@@ -55,26 +58,29 @@ fn rows_of_other_hands_are_lines(rt: HostRuntime) -> Result<(), Fail> {
     let alloc = rt.alloc();
     let rows = "INSERT INTO kept VALUES (7, 'b'), (3, 'a'), (40, 'c')";
     let (mut journal, found) = journal_of(alloc, rows)?;
-    assert!(rt; shown(alloc, found.as_slice())?.as_slice() == b"a b c ");
+    assert!(rt; shown(alloc, found.as_slice())?.as_slice() == b"a b c ".as_slice());
     journal.append(lines(alloc, &["d"])?.as_slice())?;
     let (_again, found) = opened(alloc, journal.into_store())?;
-    assert!(rt; shown(alloc, found.as_slice())?.as_slice() == b"a b c d ");
+    assert!(rt; shown(alloc, found.as_slice())?.as_slice() == b"a b c d ".as_slice());
     Ok(())
 }
 
 #[test]
 fn numbers_end_and_begin_again(rt: HostRuntime) -> Result<(), Fail> {
     let alloc = rt.alloc();
-    let (mut journal, _found) = journal_of(alloc, "INSERT INTO kept VALUES (9223372036854775806, 'a')")?;
+    let (mut journal, _found) = journal_of(
+        alloc,
+        "INSERT INTO kept VALUES (9223372036854775806, 'a')",
+    )?;
     let two = lines(alloc, &["b", "c"])?;
     assert!(rt; journal.append(two.as_slice()) == Err(JournalError::Numbers));
     journal.append(lines(alloc, &["d"])?.as_slice())?;
     assert!(rt; journal.append(lines(alloc, &["e"])?.as_slice()) == Err(JournalError::Numbers));
     let (mut journal, found) = opened(alloc, journal.into_store())?;
-    assert!(rt; shown(alloc, found.as_slice())?.as_slice() == b"a d ");
+    assert!(rt; shown(alloc, found.as_slice())?.as_slice() == b"a d ".as_slice());
     journal.replace(found.as_slice())?;
     journal.append(two.as_slice())?;
     let (_again, found) = opened(alloc, journal.into_store())?;
-    assert!(rt; shown(alloc, found.as_slice())?.as_slice() == b"a d b c ");
+    assert!(rt; shown(alloc, found.as_slice())?.as_slice() == b"a d b c ".as_slice());
     Ok(())
 }

@@ -1,7 +1,7 @@
 //! What the tests share.
 
 use indexset_journal::{Journal, JournalError};
-use sqlite::{Connection, Files, FileStore, Options};
+use sqlite::{Connection, FileStore, Files, Options};
 use sqlite_disk::Disk;
 use sqlite_trees::store::Store;
 use std::alloc::Global;
