@@ -30,7 +30,6 @@ PAGES = {
     "multimap": ("Multimap", "indexset_multi", ""),
     "replica": ("Replica", "indexset_replica", ""),
     "events": ("Events", "indexset_events", ""),
-    "text": ("Look-ups by borrowed text", "indexset_text", ""),
     "journal": ("Journal", "indexset_journal", ""),
     "base": ("What all stand on: `indexset::base`", "indexset_core", ""),
 }

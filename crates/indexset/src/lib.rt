@@ -49,7 +49,7 @@ pub mod cdc {
 
 /// Comparators by which sets and maps look a `&str` up among text keys.
 pub mod text {
-    pub use indexset_text::{ByStr, OnKey};
+    pub use indexset_core::text::{ByStr, OnKey};
 }
 
 /// A replica, which follows a tree by its events.

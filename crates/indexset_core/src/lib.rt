@@ -26,6 +26,7 @@ pub mod probe;
 pub mod refusal;
 pub mod search;
 pub mod steps;
+pub mod text;
 pub mod walk;
 
 const _: () = prove!(size_of::<steps::Steps>() == 0);

@@ -61,9 +61,8 @@ impl<K: Ord + Clone + Drop, V: Clone + Drop, Node: NodeLike<Pair<K, V>>> BTreeMa
     }
 
     /// Returns the map of these nodes, whose first event has the number `next`, as the set makes
-    /// it: the nodes are taken as they are, nothing is allocated, and no number is used up. A
-    /// failed call returns the nodes in the error, and no call fails where the nodes are lawful for
-    /// this size and the number of items is a usize.
+    /// it: the nodes are taken as they are, one number for each is allocated, and no event number
+    /// is used up. A failed call returns the nodes in the error.
     pub fn from_nodes(nodes: Vec<Node>, size: usize, next: u64) -> Result<Self, Refused<Vec<Node>>>
         requires two { 2 ≤ size }
         requires within { size ≤ Node.most }
@@ -73,11 +72,6 @@ impl<K: Ord + Clone + Drop, V: Clone + Drop, Node: NodeLike<Pair<K, V>>> BTreeMa
             ≡ None) }
         ensures refusal { IfErr result (λ e. e.cause ≡ unwrap_or
             (nodes_refusal (by_key K.cmp) size (map Node.list nodes.items)) Memory) }
-        ensures memory { IfErr result (λ e. nodes_refusal (by_key K.cmp) size
-            (map Node.list nodes.items) ≡ None → usize.MAX
-            < length (joined (map Node.list nodes.items))) }
-        ensures lawful { IsLawful (by_key K.cmp) size (map Node.list nodes.items)
-            → length (joined (map Node.list nodes.items)) ≤ usize.MAX → IsOk result }
         ensures given_back { IfErr result (λ e. e.value ≡ nodes) }
     {
         match BTreeSet::from_nodes(nodes, size, next) {

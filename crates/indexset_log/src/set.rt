@@ -29,6 +29,7 @@ use indexset_core::locate::locate_by;
 use indexset_core::node::NodeLike;
 use indexset_core::probe::{ByItem, Probe};
 use indexset_core::walk::ReadAny;
+use indexset_index::fenwick::Fenwick;
 use std::alloc::Global;
 use std::marker::{Model, PhantomData};
 
@@ -40,6 +41,8 @@ pub struct BTreeSet<T: Ord + Clone + Drop, Node: NodeLike<T>> {
     size: usize,
     // How many items there are.
     len: usize,
+    // The lengths of the nodes.
+    index: Fenwick,
     // The number of the next event.
     next: u64,
     items: PhantomData<T>,
@@ -47,7 +50,7 @@ pub struct BTreeSet<T: Ord + Clone + Drop, Node: NodeLike<T>> {
 
 impl<T: Ord + Clone + Drop, Node: NodeLike<T>> Model for BTreeSet<T, Node> {
     ghost use Rattle.std.specs.Prelude.{map};
-    ghost use Rattle.indexset_log.specs.Tree.{Tree, IsTree};
+    ghost use Rattle.indexset_log.specs.Tree.{Tree, IsIndexed};
 
     ghost Value = { Tree T };
 
@@ -57,7 +60,8 @@ impl<T: Ord + Clone + Drop, Node: NodeLike<T>> Model for BTreeSet<T, Node> {
       next = s.next;
     } };
 
-    ghost invariant = { λ s. IsTree T.cmp Node.most (map Node.list s.nodes.items) s.size s.len };
+    ghost invariant = { λ s. IsIndexed T.cmp Node.most (map Node.list s.nodes.items) s.size s.len
+        s.index.lengths };
 }
 
 impl<T: Ord + Clone + Drop, Node: NodeLike<T>> BTreeSet<T, Node> {
@@ -71,6 +75,7 @@ impl<T: Ord + Clone + Drop, Node: NodeLike<T>> BTreeSet<T, Node> {
             nodes: Vec::new(alloc),
             size,
             len: 0,
+            index: Fenwick::new(alloc),
             next,
             items: PhantomData,
         }

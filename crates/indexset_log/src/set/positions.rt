@@ -17,11 +17,11 @@ use super::range::Range;
 use indexset_core::node::NodeLike;
 use indexset_core::positions::{end_position, first_position};
 use indexset_core::probe::Probe;
-use indexset_core::walk::{ReadAny, Walk};
 use std::ops::Bound;
 
 impl<T: Ord + Clone + Drop, Node: NodeLike<T>> BTreeSet<T, Node> {
-    /// Returns how many items are below the value, by two binary searches and a sum of lengths.
+    /// Returns how many items are below the value, by two binary searches and a sum over the
+    /// index.
     ///
     /// ```
     /// let mut board: set::BTreeSet<u64, Vec<u64>> = set::BTreeSet::new(alloc);
@@ -148,10 +148,10 @@ impl<T: Ord + Clone + Drop, Node: NodeLike<T>> BTreeSet<T, Node> {
         requires { IsPlace self.now.nodes place }
         ensures { result ≡ items_before self.now.nodes place }
     {
-        // The number of items fits.
+        // The number of items fits, so each sum of some lengths does.
         let _len = self.len;
-        let before = Walk::<'_, T, Node, ReadAny>::between(self.nodes.as_slice(), (0, 0), place);
-        before.item_count()
+        let (node, offset) = place;
+        self.index.prefix(node) + offset
     }
 
     /// Returns the place of the item at a position, counted from 0, or `None` past the end. It makes
@@ -161,11 +161,7 @@ impl<T: Ord + Clone + Drop, Node: NodeLike<T>> BTreeSet<T, Node> {
             (λ p. (p.0 < length self.now.nodes) × (p.1 < length (node_at self.now.nodes p.0))
             × (items_before self.now.nodes p ≡ i)) }
     {
-        if i < self.len {
-            Some(self.place_ahead((0, 0), i))
-        } else {
-            None
-        }
+        self.index.find(i)
     }
 
     // Returns the place after the first `i` items.

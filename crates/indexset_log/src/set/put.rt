@@ -302,11 +302,11 @@ impl<T: Ord + Clone + Drop, Node: NodeLike<T>> BTreeSet<T, Node> {
                 cause: Refusal::Memory,
             });
         }
-        match make_room(&mut self.nodes, &aim) {
+        match make_room(&mut self.nodes, &mut self.index, &aim) {
             Ok(place) => {
                 self.next = next;
                 self.len += aim.growth();
-                Ok(put_in(&mut self.nodes[place], aim.at, value))
+                Ok(put_in(&mut self.nodes, &mut self.index, place, aim.at, value))
             }
             Err(cause) => Err(Refused { value, cause }),
         }
@@ -324,10 +324,11 @@ impl<T: Ord + Clone + Drop, Node: NodeLike<T>> BTreeSet<T, Node> {
         ensures given_back { IfErr result (λ e. e.value ≡ value) }
         ensures unchanged { OnErr result (self.new ≡ self.old) }
     {
-        match first_node(&mut self.nodes) {
+        match first_node(&mut self.nodes, &mut self.index) {
             Ok(mut node) => {
                 node.insert_at(0, value);
                 self.nodes.push_reserved(node);
+                self.index.push(1);
                 self.len = 1;
                 self.next = next;
                 Ok(None)

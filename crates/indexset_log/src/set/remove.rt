@@ -11,7 +11,7 @@ ghost use Rattle.indexset_log.specs.Taking.{after_taking, events_from, item_from
 ghost use Rattle.indexset_log.specs.Tree.{refusal_for};
 
 use super::BTreeSet;
-use crate::nodes::{fit_together, take_and_join};
+use crate::nodes::{fit_together, take_and_join, take_out};
 use indexset_core::node::NodeLike;
 use indexset_core::refusal::Refusal;
 use indexset_events::change::ChangeEvent;
@@ -294,7 +294,7 @@ impl<T: Ord + Clone + Drop, Node: NodeLike<T>> BTreeSet<T, Node> {
         ensures never { Node.allocates ≡ false → IsOk result }
         ensures unchanged { OnErr result (self.new ≡ self.old) }
     {
-        let item = take_and_join(&mut self.nodes, node, offset, left)?;
+        let item = take_and_join(&mut self.nodes, &mut self.index, node, offset, left)?;
         self.next += 2;
         self.len -= 1;
         Ok(item)
@@ -311,11 +311,7 @@ impl<T: Ord + Clone + Drop, Node: NodeLike<T>> BTreeSet<T, Node> {
     {
         self.next += 1;
         self.len -= 1;
-        if self.nodes[node].len() == 1 {
-            let mut emptied = self.nodes.remove(node);
-            return emptied.remove_at(offset);
-        }
-        self.nodes[node].remove_at(offset)
+        take_out(&mut self.nodes, &mut self.index, node, offset)
     }
 }
 

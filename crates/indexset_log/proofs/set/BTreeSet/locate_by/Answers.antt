@@ -6,7 +6,7 @@ use Rattle.indexset_log.proofs.Trees.{held}
 use Rattle.indexset_events.proofs.Views.{lawful_filled}
 
 pub locate_by-requires-clause-filled : goal.locate_by-requires-clause-filled
-locate_by-requires-clause-filled g c = rw c.as_slice.ensures.value (λ _. lawful_filled g.T.Ord.cmp c.self.inside.size _ c.self.invariant.lawful)
+locate_by-requires-clause-filled g c = rw c.as_slice.ensures.value (λ _. lawful_filled g.T.Ord.cmp c.self.inside.size _ c.self.invariant.tree.lawful)
 
 pub locate_by-requires-clause-parted : goal.locate_by-requires-clause-parted
 locate_by-requires-clause-parted g c =

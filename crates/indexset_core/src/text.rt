@@ -9,16 +9,14 @@
 //! // The price of a name, in a map from `ByteStr`.
 //! let price = prices.get_by(&mut OnKey::new(ByStr::new("pears")));
 //! ```
-#![tactic(auto)]
-
 ghost use Rattle.std.specs.Prelude.{◌≡◌};
 ghost use Rattle.std.specs.Cmp.Lexicographic.{slice_cmp};
 ghost use Rattle.std.specs.Ordering.{nat_cmp};
 
-use indexset_core::multipair::MultiPair;
-use indexset_core::pair::Pair;
-use indexset_core::probe::Probe;
-use indexset_core::steps::Steps;
+use crate::multipair::MultiPair;
+use crate::pair::Pair;
+use crate::probe::Probe;
+use crate::steps::Steps;
 use std::cmp::Ordering;
 use std::convert::AsStr;
 use std::marker::Model;
