@@ -54,7 +54,7 @@ pub mod text {
 
 /// A replica, which follows a tree by its events.
 pub mod replica {
-    pub use indexset_replica::{Replica, iter, laws, lookup};
+    pub use indexset_replica::{Replica, iter, keys, laws, lookup};
 }
 
 pub use indexset_map::{
