@@ -81,7 +81,7 @@ static void make_change(const indexset_event *event) {
     }
 }
 
-static void compare(indexset_log *log) {
+static void compare(const indexset_log *log) {
     static uint64_t keys[ROOM], values[ROOM];
     static size_t lengths[ROOM];
     size_t first = 0;
@@ -97,7 +97,7 @@ static void compare(indexset_log *log) {
 
 /* ---- a handle that leads to none, and worked changes: nodes of at most 2 pairs */
 static void test_life(void) {
-    indexset_log log = INDEXSET_HANDLE;
+    indexset_log log = INDEXSET_HANDLE, other = INDEXSET_HANDLE;
     indexset_event events[INDEXSET_CHANGES];
     uint64_t out = 7;
     size_t told = 9, length = 5;
@@ -131,10 +131,20 @@ static void test_life(void) {
     CHECK(events[0].number == 107 && events[0].kind == INDEXSET_DROP && events[0].node_key == 10);
     CHECK(indexset_log_remove(&log, 10, &out, events, 3, &told) == INDEXSET_NO && told == 0);
     CHECK(indexset_log_next(&log) == 108 && indexset_log_len(&log) == 2);
+    CHECK(indexset_log_new(&other, 4, 7) == INDEXSET_YES);
+    indexset_log_swap(&log, &other);
+    CHECK(indexset_log_next(&log) == 7 && indexset_log_next(&other) == 108);
+    indexset_log_move(&log, &other);
+    CHECK(!other.live && indexset_log_next(&log) == 108 && indexset_log_len(&log) == 2);
     indexset_log_free(&log);
     CHECK(!log.live);
     CHECK(indexset_log_new(&log, 2, UINT64_MAX) == INDEXSET_YES);
     CHECK(indexset_log_insert(&log, 1, 2, &out, events, 3, &told) == INDEXSET_NUMBERS && told == 0);
+    indexset_log *heap = NULL;
+    CHECK(indexset_log_create(&heap, 1, 0) == INDEXSET_UNFIT && heap == NULL);
+    CHECK(indexset_log_create(&heap, 2, 50) == INDEXSET_YES && indexset_log_next(heap) == 50);
+    indexset_log_destroy(&heap);
+    CHECK(heap == NULL);
     indexset_log_free(&log);
 }
 
