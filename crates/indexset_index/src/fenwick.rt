@@ -4,6 +4,7 @@ ghost use Rattle.indexset_core.specs.Nodes.{node_lengths};
 
 pub mod cells;
 pub mod laws;
+pub mod places;
 pub mod sums;
 mod table;
 
@@ -34,6 +35,15 @@ impl Model for Fenwick {
 }
 
 impl Fenwick {
+    /// Returns an index of no lengths. It allocates nothing.
+    pub fn new(alloc: Global) -> Self
+        ensures { result.lengths ≡ [] }
+    {
+        Fenwick {
+            cells: Vec::new(alloc),
+        }
+    }
+
     /// No length, and room for some.
     pub fn with_capacity(alloc: Global, capacity: usize) -> Result<Self, Refusal>
         ensures empty { IfOk result (λ f. f.lengths ≡ []) }

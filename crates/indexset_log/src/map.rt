@@ -15,6 +15,7 @@ ghost use Rattle.indexset_core.specs.Places.{located};
 
 mod ends;
 pub mod iter;
+mod positions;
 mod put;
 pub mod range;
 mod remove;
@@ -218,6 +219,16 @@ impl<K: Ord + Clone + Drop, V: Clone + Drop, Node: NodeLike<Pair<K, V>>> BTreeMa
         ensures { result ≡ has_key K.cmp (joined self.now.nodes) key.now }
     {
         self.get(key).is_some()
+    }
+
+    // Returns a probe for a key, which finds the pairs in order.
+    fn by_key<'a>(&self, key: &'a K) -> ByKey<'a, K>
+        ensures probe { result ≡ (key.now, 0) }
+        ensures parted { IsParted (λ p. K.cmp p.key key.now) (joined self.now.nodes) }
+    {
+        // The contract of `node_count` says that the pairs ascend.
+        let _nodes = self.set.node_count();
+        ByKey::new(key)
     }
 
     // Returns where a search for a key ends.

@@ -16,6 +16,7 @@ mod from_nodes;
 pub mod iter;
 mod make;
 pub mod nodes;
+mod positions;
 mod put;
 pub mod range;
 mod removal_log;
@@ -157,6 +158,16 @@ impl<T: Ord + Clone + Drop, Node: NodeLike<T>> BTreeSet<T, Node> {
         ensures unasked { self.now.nodes ≡ [] → P.asked probe.new ≡ P.asked probe.old }
     {
         locate_by::<T, Node, ReadAny, P>(self.nodes.as_slice(), probe)
+    }
+
+    // Returns a probe for an item, which finds the items in order.
+    fn by_item<'a>(&self, value: &'a T) -> ByItem<'a, T>
+        ensures probe { result ≡ (value.now, 0) }
+        ensures parted { IsParted (λ x. T.cmp x value.now) (joined self.now.nodes) }
+    {
+        // The nodes are lawful.
+        let _nodes = &self.nodes;
+        ByItem::new(value)
     }
 
     // Returns where the equal item is: its node, and the offset in it.

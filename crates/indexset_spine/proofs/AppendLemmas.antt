@@ -12,7 +12,7 @@ use Rattle.indexset_spine.specs.Cut.{IsCut, IsSpine, IsSpot, end_spot, position_
 use Rattle.indexset_spine.specs.Edits.{IsShortEnd, TakesSome, or_one_empty, with_halved, with_item_in, without_all_emptied}
 use Rattle.indexset_spine.proofs.EditSteps.{get_right, node_is, put_short}
 use Rattle.indexset_spine.proofs.CutEdits.{cut_inserted, joined_inserted, joined_set, node_bounded, spine_of}
-use Rattle.indexset_spine.proofs.IndexLemmas.{count-lengths, length-at}
+use Rattle.indexset_index.proofs.CallerLemmas.{count-lengths, length-at}
 use Rattle.indexset_spine.proofs.TakenLemmas.{takes_within}
 use Rattle.indexset_spine.proofs.VecNodes.{length-vec_items, vec_items-set}
 

@@ -9,7 +9,7 @@ use Rattle.indexset_core.specs.Parted.{less_count}
 use Rattle.indexset_core.proofs.CallerLemmas.{count_parted, ends_last, joined_around, node_found}
 use Rattle.indexset_spine.specs.Cut.{IsCut}
 use Rattle.indexset_spine.proofs.CutEdits.{node_filled}
-use Rattle.indexset_spine.proofs.IndexLemmas.{count-lengths}
+use Rattle.indexset_index.proofs.CallerLemmas.{count-lengths}
 
 module _ {X : Type 0} where
   -- what holds of all items holds of those of a node

@@ -9,19 +9,10 @@ use Rattle.indexset_spine.specs.declared.spot.Spot.{Spot}
 use Rattle.indexset_spine.specs.Cut.{IsSpot, IsItemSpot, position_of}
 use Rattle.indexset_spine.specs.Edits.{RetainsEach, RetainsNodes, with_item_in, with_halved, without_emptied, without_all_emptied, or_one_empty, left_nodes, right_nodes}
 use Rattle.indexset_index.specs.Fenwick.{prefix_sum}
+use Rattle.indexset_index.proofs.CallerLemmas.{count-lengths, length-at, prefix-joined}
 use Rattle.indexset_spine.proofs.CutSplits.{joined_emptied}
 
 module _ {X : Type 0} where
-  pub count-lengths : (ns : List (List X)) → length (node_lengths ns) ≡ length ns
-  count-lengths ns = length-map ns (λ (n : List X). length n)
-
-  pub length-at : (ns : List (List X)) (k : ℕ) → k < length ns → get_or (node_lengths ns) k 0 ≡ length (node_at ns k)
-  length-at ns k h = get_or-map (λ (n : List X). length n) ns k [] 0 h
-
-  -- the items of the first k nodes
-  pub prefix-joined : (ns : List (List X)) (k : ℕ) → prefix_sum (node_lengths ns) k ≡ length (joined (take k ns))
-  prefix-joined ns k = ap sum (take-map (λ (n : List X). length n) k ns) ∙ sym (length-joined (take k ns))
-
   -- what the index finds is the spot of an item
   pub spot_found : (ns : List (List X)) (i : ℕ) (s : Spot) → (s.node < length (node_lengths ns)) × (s.offset < get_or (node_lengths ns) s.node 0) × (prefix_sum (node_lengths ns) s.node + s.offset ≡ i) → IsItemSpot ns s × (position_of ns s ≡ i)
   spot_found ns i s h =

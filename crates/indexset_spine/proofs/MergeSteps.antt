@@ -15,7 +15,7 @@ use Rattle.indexset_spine.specs.Edits.{right_nodes, without_emptied}
 use Rattle.indexset_spine.proofs.CutEdits.{joined_set, spine_of}
 use Rattle.indexset_spine.proofs.CutSplits.{joined_right, spine_right}
 use Rattle.indexset_spine.proofs.EditSteps.{node_is, node_len}
-use Rattle.indexset_spine.proofs.IndexLemmas.{length-at}
+use Rattle.indexset_index.proofs.CallerLemmas.{length-at}
 use Rattle.indexset_spine.proofs.PutLemmas.{IsGrown, fold_grown, node_up, put_filled}
 use Rattle.indexset_spine.proofs.VecNodes.{vec_items-set}
 

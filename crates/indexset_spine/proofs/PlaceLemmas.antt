@@ -6,7 +6,7 @@ use Rattle.indexset_core.specs.Nodes.{node_at, node_lengths}
 use Rattle.indexset_spine.specs.declared.spot.Spot.{Spot}
 use Rattle.indexset_spine.specs.Cut.{IsItemSpot, IsSpot, position_of, with_inserted, without_item}
 use Rattle.indexset_spine.specs.Lengths.{IsItemPlace, IsPlace, lengths_with, lengths_without, node_of, place_of}
-use Rattle.indexset_spine.proofs.IndexLemmas.{count-lengths, length-at, prefix-joined}
+use Rattle.indexset_index.proofs.CallerLemmas.{count-lengths, length-at, prefix-joined}
 use Rattle.indexset_spine.proofs.NodeLengthLemmas.{node_lengths-inserted, node_lengths-without}
 
 -- the node that a position is in

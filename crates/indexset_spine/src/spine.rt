@@ -216,7 +216,7 @@ impl<T> Spine<T> {
     {
         // The sum of all lengths fits, so each sum of some does.
         let _len = self.len;
-        lengths::items_before(&self.index, spot.node) + spot.offset
+        self.index.prefix(spot.node) + spot.offset
     }
 
     /// Returns the spot of the item at a position, or `None` past the end.
@@ -225,7 +225,7 @@ impl<T> Spine<T> {
             (λ s. IsItemSpot self.now.nodes s × (position_of self.now.nodes s ≡ i)
             × IsTrue s.found) }
     {
-        let (node, offset) = lengths::node_and_offset(&self.index, i)?;
+        let (node, offset) = self.index.find(i)?;
         Some(Spot {
             node,
             offset,

@@ -7,7 +7,8 @@ use Rattle.indexset_spine.proofs.AppendLemmas.{emptied_all, takes_items}
 use Rattle.indexset_spine.proofs.TakenLemmas.{taken_shorter, takes_all}
 use Rattle.indexset_spine.proofs.CutEdits.{spine_of}
 use Rattle.indexset_spine.proofs.CutSplits.{cut_all_emptied, joined_all_emptied}
-use Rattle.indexset_spine.proofs.IndexLemmas.{count-lengths, emptied_few}
+use Rattle.indexset_index.proofs.CallerLemmas.{count-lengths}
+use Rattle.indexset_spine.proofs.IndexLemmas.{emptied_few}
 use Rattle.indexset_spine.proofs.VecNodes.{length-vec_items}
 use Rattle.indexset_spine.proofs.spine.Spine.append.Given.{Over}
 use Rattle.indexset_spine.proofs.spine.Spine.append.Goals as goal

@@ -8,7 +8,7 @@ use Rattle.indexset_spine.specs.Edits.{IsShortEnd}
 use Rattle.indexset_spine.proofs.AppendLemmas.{block_taken, block_writes, lengths-block, short_end, spine_all_last}
 use Rattle.indexset_core.proofs.CallerLemmas.{on_err}
 use Rattle.indexset_spine.proofs.EditSteps.{node_len, spot_in}
-use Rattle.indexset_spine.proofs.IndexLemmas.{count-lengths}
+use Rattle.indexset_index.proofs.CallerLemmas.{count-lengths}
 use Rattle.indexset_spine.proofs.VecNodes.{length-vec_items}
 use Rattle.indexset_spine.proofs.spine.Spine.append_block.Given.{Over}
 use Rattle.indexset_spine.proofs.spine.Spine.append_block.Goals as goal

@@ -4,7 +4,7 @@ use Rattle.indexset_core.proofs.CallerLemmas.{length-joined}
 use Rattle.indexset_spine.proofs.CutLemmas.{spine_len}
 use Rattle.indexset_spine.proofs.PartLemmas.{last_filled, last_spot_in}
 use Rattle.indexset_spine.proofs.VecNodes.{length-vec_items, node_read}
-use Rattle.indexset_spine.proofs.IndexLemmas.{count-lengths}
+use Rattle.indexset_index.proofs.CallerLemmas.{count-lengths}
 use Rattle.indexset_spine.proofs.spine.Spine.last_spot.Goals as goal
 
 pub returns-then-self-eq0 : goal.returns-then-self-eq0

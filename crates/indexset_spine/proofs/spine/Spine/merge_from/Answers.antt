@@ -6,7 +6,7 @@ use Rattle.indexset_core.proofs.CallerLemmas.{on_err}
 use Rattle.indexset_spine.specs.Cut.{Cut, cut, items}
 use Rattle.indexset_spine.proofs.EditSteps.{lists_kept, node_is}
 use Rattle.indexset_spine.proofs.MergeSteps.{Merges, grown, length_after, length_before, lengths_after, count_within, other_items, other_lengths, other_some, other_spine, spine_after, writes}
-use Rattle.indexset_spine.proofs.IndexLemmas.{count-lengths, length-at}
+use Rattle.indexset_index.proofs.CallerLemmas.{count-lengths, length-at}
 use Rattle.indexset_spine.proofs.PutLemmas.{node_up}
 use Rattle.indexset_spine.proofs.VecNodes.{length-vec_items}
 use Rattle.indexset_spine.proofs.spine.Spine.merge_from.Given.{Over}

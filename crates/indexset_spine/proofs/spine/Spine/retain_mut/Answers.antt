@@ -2,7 +2,8 @@ use Rattle.std.proofs.Common.{length, sum, ap, arith, ◌∙◌}
 use Rattle.std.specs.Fn.{CalledAtMut}
 use Rattle.indexset_core.specs.Nodes.{node_lengths, vec_items}
 use Rattle.indexset_core.proofs.CallerLemmas.{length-joined}
-use Rattle.indexset_spine.proofs.IndexLemmas.{count-lengths, retained_few}
+use Rattle.indexset_index.proofs.CallerLemmas.{count-lengths}
+use Rattle.indexset_spine.proofs.IndexLemmas.{retained_few}
 use Rattle.indexset_spine.proofs.VecNodes.{length-vec_items}
 use Rattle.indexset_spine.proofs.RetainSteps.{nodes_joined, nodes_shorter, nodes_spine}
 use Rattle.indexset_spine.proofs.spine.Spine.retain_mut.Goals as goal

@@ -4,7 +4,8 @@ use Rattle.indexset_spine.specs.Cut.{Cut, items, position_of}
 use Rattle.indexset_spine.proofs.CutEdits.{position_below}
 use Rattle.indexset_spine.proofs.CutSplits.{joined_left, joined_right, spine_left, spine_right}
 use Rattle.indexset_spine.proofs.EditSteps.{spot_in}
-use Rattle.indexset_spine.proofs.IndexLemmas.{count-lengths, left_keeps, right_few}
+use Rattle.indexset_index.proofs.CallerLemmas.{count-lengths}
+use Rattle.indexset_spine.proofs.IndexLemmas.{left_keeps, right_few}
 use Rattle.indexset_spine.proofs.VecNodes.{length-vec_items}
 use Rattle.indexset_spine.proofs.spine.Spine.split_off.Goals as goal
 

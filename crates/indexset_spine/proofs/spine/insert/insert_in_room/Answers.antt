@@ -1,7 +1,8 @@
 use Rattle.std.proofs.Common.{List, ◌∙◌, ◌+◌, ap, sym, arith, get_or, slice_set}
 use Rattle.indexset_core.specs.Nodes.{node_lengths, vec_items}
 use Rattle.indexset_spine.proofs.EditSteps.{put_writes}
-use Rattle.indexset_spine.proofs.IndexLemmas.{count-lengths, lengths-more}
+use Rattle.indexset_index.proofs.CallerLemmas.{count-lengths}
+use Rattle.indexset_spine.proofs.IndexLemmas.{lengths-more}
 use Rattle.indexset_spine.proofs.spine.insert.insert_in_room.Goals as goal
 
 pub add-requires-clause-inside : goal.add-requires-clause-inside

@@ -2,7 +2,8 @@ use Rattle.std.proofs.Common.{◌≡◌, List, ◌∙◌, arith, ap, sym, sum, t
 use Rattle.indexset_core.specs.Nodes.{node_lengths, vec_items}
 use Rattle.indexset_core.proofs.CallerLemmas.{on_err}
 use Rattle.indexset_spine.proofs.EditSteps.{lists_kept, room_puts, node_len, inserted_full}
-use Rattle.indexset_spine.proofs.IndexLemmas.{count-lengths, halved_keeps, halved_sum}
+use Rattle.indexset_index.proofs.CallerLemmas.{count-lengths}
+use Rattle.indexset_spine.proofs.IndexLemmas.{halved_keeps, halved_sum}
 use Rattle.indexset_spine.proofs.VecNodes.{length-vec_items}
 use Rattle.indexset_spine.specs.Cut.{position_of}
 use Rattle.indexset_spine.proofs.spine.insert.make_room.Goals as goal

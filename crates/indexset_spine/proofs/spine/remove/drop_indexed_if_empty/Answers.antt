@@ -1,6 +1,7 @@
 use Rattle.std.proofs.Common.{List, ◌∙◌, ap, sym, arith, sum, take, length}
 use Rattle.indexset_core.specs.Nodes.{node_lengths, vec_items}
-use Rattle.indexset_spine.proofs.IndexLemmas.{count-lengths, emptied_keeps, emptied_sum}
+use Rattle.indexset_index.proofs.CallerLemmas.{count-lengths}
+use Rattle.indexset_spine.proofs.IndexLemmas.{emptied_keeps, emptied_sum}
 use Rattle.indexset_spine.proofs.VecNodes.{length-vec_items}
 use Rattle.indexset_spine.proofs.spine.remove.drop_indexed_if_empty.Goals as goal
 

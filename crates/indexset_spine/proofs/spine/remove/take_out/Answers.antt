@@ -1,7 +1,8 @@
 use Rattle.std.proofs.Common.{List, ◌∙◌, ◌-◌, ap, sym, arith, get_or, slice_set}
 use Rattle.indexset_core.specs.Nodes.{node_lengths, vec_items}
 use Rattle.indexset_spine.proofs.RemoveSteps.{item_taken, item_out}
-use Rattle.indexset_spine.proofs.IndexLemmas.{count-lengths, length-at, lengths-less}
+use Rattle.indexset_index.proofs.CallerLemmas.{count-lengths, length-at}
+use Rattle.indexset_spine.proofs.IndexLemmas.{lengths-less}
 use Rattle.indexset_spine.proofs.spine.remove.take_out.Goals as goal
 
 pub sub-requires-clause-inside : goal.sub-requires-clause-inside
