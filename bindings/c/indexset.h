@@ -421,9 +421,20 @@ bool indexset_log_get(const indexset_log *log, uint64_t key, uint64_t *out);
 /* Tells whether a key is there. */
 bool indexset_log_contains(const indexset_log *log, uint64_t key);
 
+/* Returns how many keys are below a key. It adds up the lengths of the nodes before. */
+size_t indexset_log_rank(const indexset_log *log, uint64_t key);
+
+/* Writes the pair at a position, counted from 0. True, or false where there is none, and then nothing is
+ * written. It adds up the lengths of the nodes before. */
+bool indexset_log_at(const indexset_log *log, size_t position, uint64_t *key, uint64_t *value);
+
 /* Writes the pairs of the keys from `low` to `high`, both included, in order into two arrays, as many as
  * both have room for. Returns how many it wrote. */
 size_t indexset_log_range(const indexset_log *log, uint64_t low, uint64_t high, uint64_t *keys, size_t key_places, uint64_t *values, size_t value_places);
+
+/* Writes the pairs from a position on, in order into two arrays, as many as both have room for. Returns how
+ * many it wrote. */
+size_t indexset_log_range_by_position(const indexset_log *log, size_t from, uint64_t *keys, size_t key_places, uint64_t *values, size_t value_places);
 
 /* Writes how many pairs each node has, in order into an array of `places` places, as many as it has room
  * for. Returns how many it wrote. These, the pairs from 0 to UINT64_MAX and the number of the next change

@@ -93,6 +93,19 @@ static void compare(const indexset_log *log) {
         CHECK(memcmp(values + first, nodes[at].values, lengths[at] * sizeof *values) == 0);
     }
     CHECK(first == count);
+    for (size_t draws = 0; draws < 8; draws++) {
+        size_t at = (size_t)(draw() % (count + 2)), past = count - (at < count ? at : count), wrote = past < 3 ? past : 3;
+        uint64_t key = 77, value = 78, some_keys[4] = {77, 77, 77, 77}, some_values[4] = {78, 78, 78, 78};
+        CHECK(indexset_log_at(log, at, &key, &value) == (at < count));
+        CHECK(at < count ? key == keys[at] && value == values[at] : key == 77 && value == 78);
+        CHECK(indexset_log_range_by_position(log, at, some_keys, 4, some_values, 3) == wrote);
+        CHECK(memcmp(some_keys, keys + at, wrote * sizeof *keys) == 0 && some_keys[wrote] == 77);
+        CHECK(memcmp(some_values, values + at, wrote * sizeof *values) == 0 && some_values[wrote] == 78);
+        uint64_t sought = key_of((size_t)(draw() % KEYS));
+        size_t below = 0;
+        while (below < count && keys[below] < sought) below++;
+        CHECK(indexset_log_rank(log, sought) == below);
+    }
 }
 
 /* ---- a handle that leads to none, and worked changes: nodes of at most 2 pairs */
@@ -104,6 +117,10 @@ static void test_life(void) {
     CHECK(indexset_log_len(&log) == 0 && indexset_log_node_count(&log) == 0 && indexset_log_next(&log) == 0);
     CHECK(!indexset_log_get(&log, 1, &out) && !indexset_log_contains(&log, 1) && out == 7);
     CHECK(indexset_log_range(&log, 0, UINT64_MAX, &out, 1, &out, 1) == 0);
+    CHECK(indexset_log_rank(&log, UINT64_MAX) == 0);
+    uint64_t key = 6;
+    CHECK(!indexset_log_at(&log, 0, &key, &out) && key == 6 && out == 7);
+    CHECK(indexset_log_range_by_position(&log, 0, &key, 1, &out, 1) == 0);
     CHECK(indexset_log_node_lengths(&log, &length, 1) == 0 && length == 5);
     CHECK(indexset_log_insert(&log, 1, 2, &out, events, 3, &told) == INDEXSET_NONE && told == 0);
     told = 9;
