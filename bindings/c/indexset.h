@@ -289,6 +289,20 @@ uint32_t indexset_multi_new(indexset_multi *multi);
 /* Frees the multimap, and leaves the handle with none. Of a handle with none it does nothing. */
 void indexset_multi_free(indexset_multi *multi);
 
+/* Makes an empty multimap, under a handle on the heap, and writes where the handle lies. INDEXSET_YES, or INDEXSET_MEMORY; unless it is
+ * INDEXSET_YES, nothing is written. Each call takes this handle too. */
+uint32_t indexset_multi_create(indexset_multi **multi);
+
+/* Frees a handle that indexset_multi_create made, and what it leads to, and writes a null pointer. */
+void indexset_multi_destroy(indexset_multi **multi);
+
+/* Moves a multimap from one handle to another: frees what `to` leads to, has `to` lead to what `from` leads to, and
+ * leaves `from` with none. */
+void indexset_multi_move(indexset_multi *to, indexset_multi *from);
+
+/* Swaps what two handles lead to. */
+void indexset_multi_swap(indexset_multi *one, indexset_multi *other);
+
 /* Removes all pairs. It takes no memory. */
 void indexset_multi_clear(indexset_multi *multi);
 
@@ -370,6 +384,20 @@ uint32_t indexset_log_new(indexset_log *log, size_t size, uint64_t next);
 /* Frees the map, and leaves the handle with none. Of a handle with none it does nothing. */
 void indexset_log_free(indexset_log *log);
 
+/* Makes an empty map as indexset_log_new does, under a handle on the heap, and writes where the handle lies. INDEXSET_YES, or INDEXSET_MEMORY, or INDEXSET_UNFIT; unless it is
+ * INDEXSET_YES, nothing is written. Each call takes this handle too. */
+uint32_t indexset_log_create(indexset_log **log, size_t size, uint64_t next);
+
+/* Frees a handle that indexset_log_create made, and what it leads to, and writes a null pointer. */
+void indexset_log_destroy(indexset_log **log);
+
+/* Moves a map from one handle to another: frees what `to` leads to, has `to` lead to what `from` leads to, and
+ * leaves `from` with none. */
+void indexset_log_move(indexset_log *to, indexset_log *from);
+
+/* Swaps what two handles lead to. */
+void indexset_log_swap(indexset_log *one, indexset_log *other);
+
 /* Returns how many pairs there are, how many nodes, and the number of the next change. */
 size_t indexset_log_len(const indexset_log *log);
 size_t indexset_log_node_count(const indexset_log *log);
@@ -393,9 +421,20 @@ bool indexset_log_get(const indexset_log *log, uint64_t key, uint64_t *out);
 /* Tells whether a key is there. */
 bool indexset_log_contains(const indexset_log *log, uint64_t key);
 
+/* Returns how many keys are below a key. It adds up the lengths of the nodes before. */
+size_t indexset_log_rank(const indexset_log *log, uint64_t key);
+
+/* Writes the pair at a position, counted from 0. True, or false where there is none, and then nothing is
+ * written. It adds up the lengths of the nodes before. */
+bool indexset_log_at(const indexset_log *log, size_t position, uint64_t *key, uint64_t *value);
+
 /* Writes the pairs of the keys from `low` to `high`, both included, in order into two arrays, as many as
  * both have room for. Returns how many it wrote. */
 size_t indexset_log_range(const indexset_log *log, uint64_t low, uint64_t high, uint64_t *keys, size_t key_places, uint64_t *values, size_t value_places);
+
+/* Writes the pairs from a position on, in order into two arrays, as many as both have room for. Returns how
+ * many it wrote. */
+size_t indexset_log_range_by_position(const indexset_log *log, size_t from, uint64_t *keys, size_t key_places, uint64_t *values, size_t value_places);
 
 /* Writes how many pairs each node has, in order into an array of `places` places, as many as it has room
  * for. Returns how many it wrote. These, the pairs from 0 to UINT64_MAX and the number of the next change
@@ -421,6 +460,20 @@ uint32_t indexset_replica_from_log(indexset_replica *replica, const indexset_log
 
 /* Frees the replica, and leaves the handle with none. Of a handle with none it does nothing. */
 void indexset_replica_free(indexset_replica *replica);
+
+/* Makes a replica as indexset_replica_new does, under a handle on the heap, and writes where the handle lies. INDEXSET_YES, or INDEXSET_MEMORY; unless it is
+ * INDEXSET_YES, nothing is written. Each call takes this handle too. */
+uint32_t indexset_replica_create(indexset_replica **replica, uint64_t next);
+
+/* Frees a handle that indexset_replica_create made, and what it leads to, and writes a null pointer. */
+void indexset_replica_destroy(indexset_replica **replica);
+
+/* Moves a replica from one handle to another: frees what `to` leads to, has `to` lead to what `from` leads to, and
+ * leaves `from` with none. */
+void indexset_replica_move(indexset_replica *to, indexset_replica *from);
+
+/* Swaps what two handles lead to. */
+void indexset_replica_swap(indexset_replica *one, indexset_replica *other);
 
 /* Makes a change of the logged map, and awaits the next. INDEXSET_YES, or the first of these that applies:
  * INDEXSET_NONE; INDEXSET_UNFIT where the kind is none of enum indexset_kind; INDEXSET_NO where the number is
