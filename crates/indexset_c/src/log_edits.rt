@@ -19,8 +19,8 @@ use indexset_handle::status::{HELD, MEMORY, NO, NONE, UNFIT, YES, of_refusal};
 use indexset_handle::write::write;
 use std::alloc::Global;
 
-/// Makes a value that of a key, and writes the changes and how many they are. Where the key is there, the
-/// value before is written. Fewer than three places for changes are refused.
+/// Makes a value that of a key, and writes the changes and how many they are. Where the key is
+/// there, the value before is written. Fewer than three places for changes are refused.
 #[unsafe(no_mangle)]
 pub extern "C" fn indexset_log_insert(
     alloc: Global,
@@ -76,8 +76,8 @@ pub extern "C" fn indexset_log_insert(
     status
 }
 
-/// Removes a key and writes its value, the changes and how many they are. Fewer than three places for
-/// changes are refused.
+/// Removes a key and writes its value, the changes and how many they are. Fewer than three places
+/// for changes are refused.
 #[unsafe(no_mangle)]
 #[tactic(auto, unfolding(indexset_core::specs::Pairs::without_key))]
 pub extern "C" fn indexset_log_remove(

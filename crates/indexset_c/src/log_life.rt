@@ -87,7 +87,8 @@ pub extern "C" fn indexset_log_destroy(alloc: Global, log: &mut LogOwner)
     indexset_log_free(alloc, &mut *handle);
 }
 
-/// Moves a logged map to the handle `to`, whose own is freed, and leaves the handle `from` with none.
+/// Moves a logged map to the handle `to`, whose own is freed, and leaves the handle `from` with
+/// none.
 #[unsafe(no_mangle)]
 pub extern "C" fn indexset_log_move(alloc: Global, to: &mut LogHandle, from: &mut LogHandle)
     ensures moved { to.new.slot.value ≡ from.old.slot.value }

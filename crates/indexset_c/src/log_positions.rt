@@ -51,7 +51,8 @@ pub extern "C" fn indexset_log_at(
     write_pair(found, key, value)
 }
 
-/// Writes the pairs from a position on, in order and as far as there is room. Returns how many it wrote.
+/// Writes the pairs from a position on, in order and as far as there is room. Returns how many it
+/// wrote.
 #[unsafe(no_mangle)]
 pub extern "C" fn indexset_log_range_by_position(
     alloc: Global,

@@ -66,7 +66,8 @@ pub extern "C" fn indexset_log_node_count(alloc: Global, log: &mut LogHandle) ->
     count
 }
 
-/// Writes how many pairs each node has, in order and as far as there is room. Returns how many it wrote.
+/// Writes how many pairs each node has, in order and as far as there is room. Returns how many it
+/// wrote.
 #[unsafe(no_mangle)]
 pub extern "C" fn indexset_log_node_lengths(
     alloc: Global,
@@ -86,8 +87,8 @@ pub extern "C" fn indexset_log_node_lengths(
     count
 }
 
-/// Writes the pairs of the keys from `low` to `high`, both included, in order and as far as there is
-/// room. Returns how many it wrote.
+/// Writes the pairs of the keys from `low` to `high`, both included, in order and as far as there
+/// is room. Returns how many it wrote.
 #[unsafe(no_mangle)]
 pub extern "C" fn indexset_log_range(
     alloc: Global,

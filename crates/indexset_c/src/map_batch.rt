@@ -8,8 +8,8 @@ use indexset_handle::status::{MEMORY, NO, NONE, YES};
 use indexset_handle::write::write_same;
 use std::alloc::Global;
 
-/// Makes each value that of its key, first to last and as far as there are both. Writes how many were
-/// taken: all, or those before the one at which memory ran out.
+/// Makes each value that of its key, first to last and as far as there are both. Writes how many
+/// were taken: all, or those before the one at which memory ran out.
 #[unsafe(no_mangle)]
 #[tactic(auto, unfolding(indexset_handle::specs::Elements::put_all))]
 pub extern "C" fn indexset_map_insert_all(

@@ -46,8 +46,8 @@ pub extern "C" fn indexset_map_insert(
     status
 }
 
-/// Inserts a pair, or replaces the value of a present key and writes the old one, and writes the rank of
-/// the key: where its pair stands then.
+/// Inserts a pair, or replaces the value of a present key and writes the old one, and writes the
+/// rank of the key: where its pair stands then.
 #[unsafe(no_mangle)]
 #[tactic(auto, using(crate::proofs::PairLemmas::no_value_no_key))]
 pub extern "C" fn indexset_map_insert_ranked(

@@ -10,8 +10,8 @@ use indexset_handle::map_handle::MapHandle;
 use std::alloc::Global;
 use std::ops::Bound;
 
-/// Writes the pairs of the keys from `low` to `high`, both included, in order and as far as there is
-/// room. Returns how many it wrote.
+/// Writes the pairs of the keys from `low` to `high`, both included, in order and as far as there
+/// is room. Returns how many it wrote.
 #[unsafe(no_mangle)]
 pub extern "C" fn indexset_map_range_by_key(
     alloc: Global,
@@ -47,7 +47,8 @@ pub extern "C" fn indexset_map_range_by_key(
     count
 }
 
-/// Writes the pairs from a position on, in order and as far as there is room. Returns how many it wrote.
+/// Writes the pairs from a position on, in order and as far as there is room. Returns how many it
+/// wrote.
 #[unsafe(no_mangle)]
 pub extern "C" fn indexset_map_range_by_position(
     alloc: Global,

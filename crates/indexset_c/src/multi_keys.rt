@@ -60,8 +60,8 @@ pub extern "C" fn indexset_multi_count(alloc: Global, multi: &mut MultiHandle, k
     count
 }
 
-/// Writes the values of a key in the order in which they came, as far as there is room. Returns how many
-/// it wrote.
+/// Writes the values of a key in the order in which they came, as far as there is room. Returns how
+/// many it wrote.
 #[unsafe(no_mangle)]
 pub extern "C" fn indexset_multi_get(
     alloc: Global,

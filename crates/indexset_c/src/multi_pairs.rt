@@ -65,8 +65,8 @@ pub extern "C" fn indexset_multi_last(
     write_pair(found, key, value)
 }
 
-/// Writes the pairs of the keys from `low` to `high`, both included, in order and as far as there is
-/// room. Returns how many it wrote.
+/// Writes the pairs of the keys from `low` to `high`, both included, in order and as far as there
+/// is room. Returns how many it wrote.
 #[unsafe(no_mangle)]
 pub extern "C" fn indexset_multi_range(
     alloc: Global,

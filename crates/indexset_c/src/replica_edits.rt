@@ -32,8 +32,8 @@ pub extern "C" fn indexset_replica_apply(
     status
 }
 
-/// Makes changes of a logged map, first to last, and passes over each that came before. Writes how many
-/// were taken: all, or those before the first that is refused.
+/// Makes changes of a logged map, first to last, and passes over each that came before. Writes how
+/// many were taken: all, or those before the first that is refused.
 #[unsafe(no_mangle)]
 pub extern "C" fn indexset_replica_apply_all(
     alloc: Global,

@@ -13,8 +13,8 @@ use indexset_replica::Replica;
 use std::alloc::Global;
 use std::mem::swap;
 
-/// Makes a replica without nodes, which awaits the change of the number `next`. Fails where the handle
-/// leads to a replica.
+/// Makes a replica without nodes, which awaits the change of the number `next`. Fails where the
+/// handle leads to a replica.
 #[unsafe(no_mangle)]
 pub extern "C" fn indexset_replica_new(alloc: Global, replica: &mut ReplicaHandle, next: u64) -> u32
     ensures made { result ≡ YES → replica.new.slot.value

@@ -110,7 +110,8 @@ pub extern "C" fn indexset_replica_last(
     write_pair(found, key, value)
 }
 
-/// Writes how many pairs each node has, in order and as far as there is room. Returns how many it wrote.
+/// Writes how many pairs each node has, in order and as far as there is room. Returns how many it
+/// wrote.
 #[unsafe(no_mangle)]
 pub extern "C" fn indexset_replica_node_lengths(
     alloc: Global,
@@ -130,8 +131,8 @@ pub extern "C" fn indexset_replica_node_lengths(
     count
 }
 
-/// Writes the pairs of the keys from `low` to `high`, both included, in order and as far as there is
-/// room. Returns how many it wrote.
+/// Writes the pairs of the keys from `low` to `high`, both included, in order and as far as there
+/// is room. Returns how many it wrote.
 #[unsafe(no_mangle)]
 pub extern "C" fn indexset_replica_range(
     alloc: Global,

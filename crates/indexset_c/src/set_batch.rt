@@ -62,8 +62,8 @@ pub extern "C" fn indexset_set_ranks(
     count
 }
 
-/// Writes the element at each position, as far as there is room and up to the first position that has
-/// none. Returns how many it wrote.
+/// Writes the element at each position, as far as there is room and up to the first position that
+/// has none. Returns how many it wrote.
 #[unsafe(no_mangle)]
 pub extern "C" fn indexset_set_at_all(
     alloc: Global,

@@ -44,8 +44,8 @@ pub extern "C" fn indexset_set_range_by_key(
     count
 }
 
-/// Writes the elements from a position on, in order and as far as there is room. Returns how many it
-/// wrote.
+/// Writes the elements from a position on, in order and as far as there is room. Returns how many
+/// it wrote.
 #[unsafe(no_mangle)]
 pub extern "C" fn indexset_set_range_by_position(
     alloc: Global,

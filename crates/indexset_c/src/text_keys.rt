@@ -13,8 +13,8 @@ use indexset_handle::text_handle::TextHandle;
 use indexset_handle::write::write;
 use std::alloc::Global;
 
-/// Inserts a pair, or replaces the value of a present key and writes the old one. The bytes of a new key
-/// are copied.
+/// Inserts a pair, or replaces the value of a present key and writes the old one. The bytes of a
+/// new key are copied.
 #[unsafe(no_mangle)]
 #[tactic(auto, using(crate::proofs::PairLemmas::no_value_no_key))]
 pub extern "C" fn indexset_text_map_insert(
@@ -52,8 +52,8 @@ pub extern "C" fn indexset_text_map_insert(
     status
 }
 
-/// Inserts a pair, or replaces the value of a present key and writes the old one, and writes the rank of
-/// the key: where its pair stands then.
+/// Inserts a pair, or replaces the value of a present key and writes the old one, and writes the
+/// rank of the key: where its pair stands then.
 #[unsafe(no_mangle)]
 pub extern "C" fn indexset_text_map_insert_ranked(
     alloc: Global,

@@ -109,7 +109,8 @@ pub extern "C" fn indexset_text_map_destroy(alloc: Global, map: &mut TextOwner)
     indexset_text_map_free(alloc, &mut *handle);
 }
 
-/// Moves a map from byte strings to the handle `to`, whose own is freed, and leaves the handle `from` with none.
+/// Moves a map from byte strings to the handle `to`, whose own is freed, and leaves the handle
+/// `from` with none.
 #[unsafe(no_mangle)]
 pub extern "C" fn indexset_text_map_move(alloc: Global, to: &mut TextHandle, from: &mut TextHandle)
     ensures moved { to.new.slot.value ≡ from.old.slot.value }

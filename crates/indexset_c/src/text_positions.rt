@@ -13,8 +13,8 @@ use indexset_handle::text_handle::TextHandle;
 use indexset_handle::write::write_bytes;
 use std::alloc::Global;
 
-/// Writes the pair at a position, counted from 0, where there is one: as many bytes of its key as there
-/// is room for, how many the key has, and its value.
+/// Writes the pair at a position, counted from 0, where there is one: as many bytes of its key as
+/// there is room for, how many the key has, and its value.
 #[unsafe(no_mangle)]
 pub extern "C" fn indexset_text_map_at(
     alloc: Global,
@@ -51,8 +51,8 @@ pub extern "C" fn indexset_text_map_at(
     found
 }
 
-/// Removes the pair at a position, counted from 0, and writes it as `indexset_text_map_at` does, where there
-/// is one.
+/// Removes the pair at a position, counted from 0, and writes it as `indexset_text_map_at` does,
+/// where there is one.
 #[unsafe(no_mangle)]
 pub extern "C" fn indexset_text_map_remove_at(
     alloc: Global,
@@ -90,8 +90,8 @@ pub extern "C" fn indexset_text_map_remove_at(
     found
 }
 
-/// Writes the pair of the first key that is not below a key, where there is one, as `indexset_text_map_at`
-/// does.
+/// Writes the pair of the first key that is not below a key, where there is one, as
+/// `indexset_text_map_at` does.
 #[unsafe(no_mangle)]
 pub extern "C" fn indexset_text_map_lower_bound(
     alloc: Global,
@@ -119,8 +119,8 @@ pub extern "C" fn indexset_text_map_lower_bound(
     indexset_text_map_at(alloc, map, position, key, len, value)
 }
 
-/// Writes the pair of the first key that is above a key, where there is one, as `indexset_text_map_at`
-/// does.
+/// Writes the pair of the first key that is above a key, where there is one, as
+/// `indexset_text_map_at` does.
 #[unsafe(no_mangle)]
 pub extern "C" fn indexset_text_map_upper_bound(
     alloc: Global,

@@ -10,8 +10,8 @@ use indexset_handle::text_handle::TextHandle;
 use std::alloc::Global;
 use std::ops::Bound;
 
-/// Writes the values of the pairs from a position on, in order and as far as there is room. Returns how
-/// many it wrote.
+/// Writes the values of the pairs from a position on, in order and as far as there is room. Returns
+/// how many it wrote.
 #[unsafe(no_mangle)]
 pub extern "C" fn indexset_text_map_range_by_position(
     alloc: Global,
@@ -34,8 +34,9 @@ pub extern "C" fn indexset_text_map_range_by_position(
     count
 }
 
-/// Writes the lengths of the keys from a position on, in order and as far as there is room, and the bytes
-/// of these keys, one key behind another and as far as there is room. Returns how many lengths it wrote.
+/// Writes the lengths of the keys from a position on, in order and as far as there is room, and the
+/// bytes of these keys, one key behind another and as far as there is room. Returns how many
+/// lengths it wrote.
 #[unsafe(no_mangle)]
 pub extern "C" fn indexset_text_map_keys_by_position(
     alloc: Global,

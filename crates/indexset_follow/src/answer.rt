@@ -49,7 +49,7 @@ pub fn answer_line<W: Write>(
     }
 }
 
-/// Makes the step of the awaited event, and returns the reply to any event.
+/// Makes the step of the expected event, and returns the reply to any event.
 fn take_event(nodes: &mut Nodes, event: &Event) -> Result<Reply, RunFault>
     ensures held { OnOk result (nodes.new ≡ after_event nodes.old event.now) }
     ensures reply { IfOk result (λ reply. reply ≡ event_reply nodes.old event.now) }
@@ -79,7 +79,7 @@ fn take_node(nodes: &mut Nodes, node: Node) -> Result<Reply, RunFault>
     }
 }
 
-/// Returns the reply to what does not fit. A lack of memory is a fault.
+/// Returns the reply to what does not apply. A lack of memory is a fault.
 fn reply_unless_memory(refusal: Refusal, next: u64) -> Result<Reply, RunFault>
     ensures unfit { OnOk result (refusal ≢ Refusal.Memory) }
     ensures reply { IfOk result (λ reply. reply ≡ Reply.Unfit next) }

@@ -43,10 +43,10 @@ pub fn request_meaning_is_spelling()
     ensures fits { (line : List ℕ) (r : Request) → request_of line ≡ Some r → RequestFits r }
 {}
 
-/// Let the events be numbered without a gap and lead from some nodes on, and let a follower hold what the
-/// first j of them lead to. After any list of lines that are texts of these events, with losses, repeats
-/// and in any order, it holds what the first k lead to, for some k. Where the texts of the events from j
-/// on are among the lines in their order, k is all of them.
+/// Let the events be numbered without a gap and lead from some nodes on, and let a follower hold
+/// what the first j of them lead to. After any list of lines that are texts of these events, with
+/// losses, repeats and in any order, it holds what the first k lead to, for some k. Where the texts
+/// of the events from j on are among the lines in their order, k is all of them.
 pub fn deliveries_lead_to_a_beginning()
     ensures beginning { (s j : ℕ) (ns : List (List (Pair ℕ ℕ))) (es : List Event) (r : State)
         (lines : List (List ℕ))
@@ -61,8 +61,8 @@ pub fn deliveries_lead_to_a_beginning()
         → HoldsFirst s ns es 0 (state ns s) }
 {}
 
-/// The lines of a snapshot, sent to any follower, make it what the giver is: the nodes, and the awaited
-/// number. Where the giver holds what the first k events lead to, the other does.
+/// The lines of a snapshot, sent to any follower, make it what its source is: the nodes, and the
+/// expected number. Where the source holds what the first k events lead to, the other does.
 pub fn snapshot_gives_the_follower()
     ensures { (giver taker : State) → IsNodeList (by_key nat_cmp) giver.nodes
         → giver.next < 2 ^ 64 → All NodeFits giver.nodes
@@ -104,10 +104,10 @@ pub fn output_tells_the_events()
 /// Both programs together. Let the first read fewer than 2^64 lines, and write fewer than 2^64
 /// events. A follower that starts from nothing is given any list of lines that the first wrote,
 /// with losses, repeats and in any order. It then holds what the first k events lead to, for some
-/// k: no other line changes it. Where it awaits the number that the first would give next after its
-/// first n lines, it holds the nodes that the first held then. Where all the lines that spell
+/// k: no other line changes it. Where it expects the number that the first would give next after
+/// its first n lines, it holds the nodes that the first held then. Where all the lines that spell
 /// events came in their order, and so where all that the first wrote came as it was written, it
-/// holds the nodes of the first, and awaits its next number.
+/// holds the nodes of the first, and expects its next number.
 pub fn programs_agree()
     ensures beginning { (lines delivered : List (List ℕ)) → length lines < 2 ^ 64
         → (stores_of no_stores lines).pairs.next < 2 ^ 64

@@ -8,9 +8,9 @@ use indexset_events::parts::{cut, read_number};
 /// A command to a follower.
 #[derive(Clone, Copy, Debug, PartialEq, Eq)]
 pub enum Request {
-    /// Begins anew, without nodes: the event of this number is awaited.
+    /// Begins anew, without nodes: the event of this number is expected.
     Start(u64),
-    /// Returns the nodes and the awaited number.
+    /// Returns the nodes and the expected number.
     Nodes,
     /// Returns the lines that make another follower the same.
     Snapshot,

@@ -31,7 +31,7 @@ pub fn write_reply<W: Write>(writer: &mut W, reply: Reply) -> Result<(), RunFaul
     writer.writeln(reply).map_err(|_| RunFault::Write)
 }
 
-/// Writes the nodes, one a line, and then the awaited number.
+/// Writes the nodes, one a line, and then the expected number.
 pub fn write_nodes<W: Write>(writer: &mut W, nodes: &Nodes) -> Result<(), RunFault>
     ensures told { OnOk result (Appends (W.contents writer.old) (W.contents writer.new)
         (nodes_text nodes.now)) }

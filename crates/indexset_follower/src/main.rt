@@ -1,7 +1,7 @@
 //! Follows a map of numbers by the event lines of its input, and writes the reply to each line.
 //!
-//! With the argument `--pass-others`, a line that is no event, no node and no request is passed over in
-//! silence, so that all that the first program writes can be its input.
+//! With the argument `--pass-others`, a line that is no event, no node and no request is passed
+//! over in silence, so that all that the first program writes can be its input.
 #![tactic(auto)]
 
 use indexset_bench::RunFault;

@@ -1,10 +1,11 @@
 //! What C holds, and what its calls do with it: the layer below the static library.
 //!
-//! C sees a pointer and knows nothing of a box. [`Parts`] is the step between the two: a box becomes
-//! its parts, a handle keeps them, and the parts become the box again. Each collection has a slot (as
-//! [`set_slot`]), which owns the parts, and a handle (as [`set_handle`]), which tells whether there are
-//! any. Modules such as [`set_calls`] hold what a call does with a collection once it is out of the
-//! handle, [`event`] the record of a change, and [`status`] what a call returns that can fail.
+//! C sees a pointer and knows nothing of a box. [`Parts`] is the step between the two: a box
+//! becomes its parts, a handle keeps them, and the parts become the box again. Each collection has
+//! a slot (as [`set_slot`]), which owns the parts, and a handle (as [`set_handle`]), which tells
+//! whether there are any. Modules such as [`set_calls`] hold what a call does with a collection
+//! once it is out of the handle, [`event`] the record of a change, and [`status`] what a call
+//! returns that can fail.
 #![tactic(auto)]
 
 ghost use Rattle.std.specs.Prelude.{◌≡◌, Option, Some, None, is_some, true};

@@ -16,7 +16,7 @@ use crate::event::{Event, write_events};
 use crate::log_slot::{LoggedMap, LoggedNodes, LoggedRange};
 use indexset_core::refusal::Refusal;
 
-/// Puts a pair in and writes the changes. Returns the value before and how many the changes are.
+/// Inserts a pair and writes the changes. Returns the value before and how many the changes are.
 pub fn insert_told(
     log: &mut LoggedMap,
     key: u64,
@@ -89,8 +89,8 @@ pub fn remove_told(
     Ok((value, changes.len()))
 }
 
-/// Writes the lengths of the nodes that a walk gives, as far as there is room, and returns how many that
-/// are.
+/// Writes the lengths of the nodes that an iterator yields, as far as there is room, and returns
+/// how many that are.
 pub fn write_lengths(mut walk: LoggedNodes<'_>, out: &mut [usize]) -> usize
     ensures count { result ≡ min (length walk.entry) (length out.old) }
     ensures written { out.new ≡ written result (node_lengths (vec_items walk.entry)) out.old }
@@ -106,7 +106,8 @@ pub fn write_lengths(mut walk: LoggedNodes<'_>, out: &mut [usize]) -> usize
     count
 }
 
-/// Writes what a walk gives, as far as there is room in both slices, and returns how much that is.
+/// Writes what an iterator yields, as far as there is room in both slices, and returns how much
+/// that is.
 pub fn write_logged(mut walk: LoggedRange<'_>, keys: &mut [u64], values: &mut [u64]) -> usize
     ensures count { result ≡ min (length walk.entry) (min (length keys.old) (length values.old)) }
     ensures keys { keys.new ≡ written result (pair_keys walk.entry) keys.old }

@@ -10,7 +10,7 @@ use indexset_log::set::nodes::Nodes;
 use std::alloc::Global;
 use std::marker::Model;
 
-/// A map of numbers that tells its changes.
+/// A map of numbers that returns its changes.
 pub type LoggedMap = BTreeMap<u64, u64, Vec<Pair<u64, u64>>>;
 
 /// The pairs of a part of it.

@@ -9,7 +9,7 @@ ghost use Rattle.indexset_handle.specs.Elements.{entry_at, key_count_up_to, put_
 use indexset_map::{BTreeMap, RangeMap};
 use std::ops::Bound;
 
-/// Makes each value that of its key, until memory is refused, and returns how many were taken.
+/// Makes each value that of its key, until an allocation fails, and returns how many were taken.
 #[tactic(auto, unfolding(crate::specs::Elements::put_all))]
 pub fn put_each(map: &mut BTreeMap<u64, u64>, keys: &[u64], values: &[u64]) -> usize
     ensures count { result ≤ min (length keys.now) (length values.now) }
@@ -27,7 +27,8 @@ pub fn put_each(map: &mut BTreeMap<u64, u64>, keys: &[u64], values: &[u64]) -> u
     count
 }
 
-/// Writes the value of each key or `absent`, as far as there is room, and returns how many those are.
+/// Writes the value of each key or `absent`, as far as there is room, and returns how many those
+/// are.
 pub fn value_each(held: &BTreeMap<u64, u64>, keys: &[u64], absent: u64, out: &mut [u64]) -> usize
     ensures count { result ≡ min (length keys.now) (length out.old) }
     ensures written { out.new ≡ written result (map (value_or held.now.pairs absent) keys.now)
@@ -40,8 +41,8 @@ pub fn value_each(held: &BTreeMap<u64, u64>, keys: &[u64], absent: u64, out: &mu
     count
 }
 
-/// Writes what an iterator gives, as far as there is room in both slices, and returns how much that
-/// is.
+/// Writes what an iterator yields, as far as there is room in both slices, and returns how much
+/// that is.
 pub fn write_pairs(mut walk: RangeMap<'_, u64, u64>, keys: &mut [u64], values: &mut [u64]) -> usize
     ensures count { result ≡ min (length walk.entry) (min (length keys.old) (length values.old)) }
     ensures keys { keys.new ≡ written result (pair_keys walk.entry) keys.old }

@@ -13,7 +13,7 @@ ghost use Rattle.indexset_multi.specs.Tree.{after_insertion, insertion_refusal};
 use crate::multi_slot::{MultiMap, MultiRange};
 use indexset_core::refusal::Refusal;
 
-/// Tells whether a walk gives a value.
+/// Returns whether an iterator yields a value.
 pub fn has_value(mut walk: MultiRange<'_>, value: u64) -> bool
     ensures { result ≡ list_any (λ p. nat_eq p.value value) walk.entry }
 {
@@ -53,7 +53,8 @@ pub fn insert_new(multi: &mut MultiMap, key: u64, value: u64) -> Result<(), Refu
     }
 }
 
-/// Writes the values that a walk gives, as far as there is room, and returns how many that are.
+/// Writes the values that an iterator yields, as far as there is room, and returns how many that
+/// are.
 pub fn write_values(mut walk: MultiRange<'_>, out: &mut [u64]) -> usize
     ensures count { result ≡ min (length walk.entry) (length out.old) }
     ensures written { out.new ≡ written result (pair_values walk.entry) out.old }
@@ -69,7 +70,8 @@ pub fn write_values(mut walk: MultiRange<'_>, out: &mut [u64]) -> usize
     count
 }
 
-/// Writes what a walk gives, as far as there is room in both slices, and returns how much that is.
+/// Writes what an iterator yields, as far as there is room in both slices, and returns how much
+/// that is.
 pub fn write_entries(mut walk: MultiRange<'_>, keys: &mut [u64], values: &mut [u64]) -> usize
     ensures count { result ≡ min (length walk.entry) (min (length keys.old) (length values.old)) }
     ensures keys { keys.new ≡ written result (pair_keys walk.entry) keys.old }

@@ -33,8 +33,8 @@ pub fn apply_record(replica: &mut MapReplica, event: &Event) -> u32
     }
 }
 
-/// Makes the changes of records, first to last, until one is refused. Returns the status and how many
-/// records were taken.
+/// Makes the changes of records, first to last, until one is refused. Returns the status and how
+/// many records were taken.
 pub fn apply_each(replica: &mut MapReplica, events: &[Event]) -> (u32, usize)
     ensures applied { applied_all replica.old (take result.1 events.now) ≡ Some replica.new }
     ensures all { result.0 ≡ YES → result.1 ≡ length events.now }
@@ -54,7 +54,7 @@ pub fn apply_each(replica: &mut MapReplica, events: &[Event]) -> (u32, usize)
     (YES, count)
 }
 
-/// Returns copies of the nodes that remain of a walk.
+/// Returns copies of the nodes that remain of an iterator.
 pub fn copies(alloc: Global, walk: LoggedNodes<'_>) -> Result<Vec<Vec<Pair<u64, u64>>>, AllocError>
     ensures { IfOk result (λ nodes. vec_items nodes.items ≡ vec_items walk.entry) }
 {
@@ -99,7 +99,8 @@ pub fn write_lengths(nodes: &[Vec<Pair<u64, u64>>], out: &mut [usize]) -> usize
     count
 }
 
-/// Writes what a walk gives, as far as there is room in both slices, and returns how much that is.
+/// Writes what an iterator yields, as far as there is room in both slices, and returns how much
+/// that is.
 pub fn write_copied(mut walk: ReplicaRange<'_>, keys: &mut [u64], values: &mut [u64]) -> usize
     ensures count { result ≡ min (length walk.entry) (min (length keys.old) (length values.old)) }
     ensures keys { keys.new ≡ written result (pair_keys walk.entry) keys.old }

@@ -10,7 +10,7 @@ use indexset_set::BTreeSet;
 use indexset_set::range::Range;
 use std::ops::Bound;
 
-/// Writes what an iterator gives, as far as there is room, and returns how much that is.
+/// Writes what an iterator yields, as far as there is room, and returns how much that is.
 pub fn write_each(mut walk: Range<'_, u64>, out: &mut [u64]) -> usize
     ensures count { result ≡ min (length walk.entry) (length out.old) }
     ensures written { out.new ≡ written result walk.entry out.old }
@@ -39,7 +39,7 @@ pub fn rank_each(set: &BTreeSet<u64>, keys: &[u64], out: &mut [usize]) -> usize
     count
 }
 
-/// Adds each key, until memory is refused, and returns how many have gone in or were there.
+/// Adds each key, until an allocation fails, and returns how many are present now.
 pub fn insert_each(set: &mut BTreeSet<u64>, keys: &[u64]) -> usize
     ensures count { result ≤ length keys.now }
     ensures kept { items set.new ≡ fold (keep nat_cmp) (items set.old) (take result keys.now) }
@@ -56,8 +56,8 @@ pub fn insert_each(set: &mut BTreeSet<u64>, keys: &[u64]) -> usize
     count
 }
 
-/// Writes the element at each position, as far as there is room and up to the first position that has
-/// none, and returns how many that are.
+/// Writes the element at each position, as far as there is room and up to the first position that
+/// has none, and returns how many that are.
 pub fn element_each(set: &BTreeSet<u64>, positions: &[usize], out: &mut [u64]) -> usize
     ensures room { result ≤ min (length positions.now) (length out.old) }
     ensures there { AllWithin (λ i. i < length (items set.now)) positions.now 0 result }

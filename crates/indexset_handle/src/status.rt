@@ -38,8 +38,9 @@ pub fn of_refusal(cause: Refusal) -> u32
     }
 }
 
-/// Returns the status of a change that a replica refused: memory, numbers and nodes that do not fit have
-/// the statuses that they have everywhere, and each other refusal has its own number, from 11 on.
+/// Returns the status of a change that a replica refused: memory, numbers and nodes that do not fit
+/// have the statuses that they have everywhere, and each other refusal has its own number, from 11
+/// on.
 pub fn status_of(cause: Refusal) -> u32
     ensures { result ≡ status_of cause }
 {

@@ -23,7 +23,8 @@ fn replace_at(map: &mut TextMap, position: usize, value: u64) -> u64
     }
 }
 
-/// Makes a value that of a key, and returns the value before. Where the key is new, its bytes are copied.
+/// Makes a value that of a key, and returns the value before. Where the key is new, its bytes are
+/// copied.
 pub fn put(
     alloc: Global,
     map: &mut TextMap,

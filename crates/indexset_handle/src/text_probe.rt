@@ -1,5 +1,5 @@
-//! Comparators for a map from byte strings: its keys are compared with borrowed bytes, so that a look-up
-//! allocates nothing.
+//! Comparators for a map from byte strings: its keys are compared with borrowed bytes, so that a
+//! look-up allocates nothing.
 ghost use Rattle.std.specs.Prelude.{◌≡◌};
 ghost use Rattle.std.specs.Cmp.Lexicographic.{slice_cmp};
 ghost use Rattle.std.specs.Ordering.{nat_cmp};
@@ -50,8 +50,8 @@ impl<'a> Probe<Pair<Bytes, u64>> for ByBytes<'a> {
     }
 }
 
-/// Does the same, but returns Equal where the key is above the bytes, so that a search finds the first
-/// key that is not below them.
+/// Compares as `ByBytes` does, but returns Equal where the key is above the bytes, so that a search
+/// finds the first key that is not below them.
 #[derive(Drop)]
 pub struct FromBytes<'a> {
     sought: &'a [u8],

@@ -43,8 +43,8 @@ pub fn write_bytes(bytes: &[u8], out: &mut [u8])
     out[..count].copy_from_slice(&bytes[..count]);
 }
 
-/// Writes the same answer to each of `asked` questions, as far as there is room, and returns how many
-/// those are.
+/// Writes the same answer to each of `asked` questions, as far as there is room, and returns how
+/// many those are.
 pub fn write_same<T: Copy>(asked: usize, answer: T, out: &mut [T]) -> usize
     ensures count { result ≡ min asked (length out.old) }
     ensures written { out.new ≡ written result (replicate asked answer) out.old }

@@ -31,7 +31,8 @@ use indexset_core::refusal::Refused;
 use std::alloc::Global;
 use std::marker::Model;
 
-/// A list of pairs, ascending by key and cut into nodes, which returns its changes as events.
+/// A list of pairs, ascending by key and partitioned into nodes, which returns its changes as
+/// events.
 #[derive(Drop)]
 pub struct BTreeMap<K: Ord + Clone + Drop, V: Clone + Drop, Node: NodeLike<Pair<K, V>>> {
     set: BTreeSet<Pair<K, V>, Node>,
@@ -120,8 +121,7 @@ impl<K: Ord + Clone + Drop, V: Clone + Drop, Node: NodeLike<Pair<K, V>>> BTreeMa
     }
 
     /// Returns the number of nodes: no more than pairs. None is empty or holds more than the node
-    /// size, and the pairs of all ascend by key, one node after another, which a caller learns
-    /// here.
+    /// size, and the pairs of all ascend by key, one node after another.
     pub fn node_count(&self) -> usize
         ensures value { result ≡ length self.now.nodes }
         ensures few { result ≤ length (joined self.now.nodes) }
@@ -146,12 +146,12 @@ impl<K: Ord + Clone + Drop, V: Clone + Drop, Node: NodeLike<Pair<K, V>>> BTreeMa
         self.set.events_issued()
     }
 
-    /// Returns the allocator that it keeps. (The Rust crate's tree keeps none.)
+    /// Returns the allocator that it keeps.
     pub fn allocator(&self) -> &Global {
         self.set.allocator()
     }
 
-    /// Returns the nodes, in order. (The Rust crate lends them locked.)
+    /// Returns the nodes, in order.
     pub fn iter_nodes(&self) -> Nodes<'_, Node>
         ensures rest { map Node.list result ≡ self.now.nodes }
         ensures runs { ShowsInOrder (deref {X = Node}) }

@@ -33,7 +33,7 @@ use indexset_index::fenwick::Fenwick;
 use std::alloc::Global;
 use std::marker::{Model, PhantomData};
 
-/// An ascending list cut into nodes, which returns its changes as events.
+/// An ascending list partitioned into nodes, which returns its changes as events.
 #[derive(Drop)]
 pub struct BTreeSet<T: Ord + Clone + Drop, Node: NodeLike<T>> {
     nodes: Vec<Node>,
@@ -121,7 +121,7 @@ impl<T: Ord + Clone + Drop, Node: NodeLike<T>> BTreeSet<T, Node> {
     }
 
     /// Returns the number of nodes: no more than items. None is empty or holds more than the node
-    /// size, and the items of all ascend, one node after another, which a caller learns here.
+    /// size, and the items of all ascend, one node after another.
     pub fn node_count(&self) -> usize
         ensures value { result ≡ length self.now.nodes }
         ensures few { result ≤ length (joined self.now.nodes) }
@@ -147,7 +147,7 @@ impl<T: Ord + Clone + Drop, Node: NodeLike<T>> BTreeSet<T, Node> {
         self.size
     }
 
-    /// Returns the allocator that it keeps. (The Rust crate's tree keeps none.)
+    /// Returns the allocator that it keeps.
     pub fn allocator(&self) -> &Global {
         self.nodes.allocator()
     }

@@ -28,8 +28,8 @@ use indexset_log::set::nodes::Nodes;
 use std::alloc::Global;
 use std::marker::Model;
 
-/// A list of numbered pairs, ascending by key and then by number and cut into nodes, which returns
-/// its changes as events.
+/// A list of numbered pairs, ascending by key and then by number and partitioned into nodes, which
+/// returns its changes as events.
 #[derive(Drop)]
 pub struct BTreeMultiMap<
     K: Ord + Clone + Drop,
@@ -128,7 +128,7 @@ impl<K: Ord + Clone + Drop, V: Eq + Clone + Drop, Node: NodeLike<MultiPair<K, V>
 
     /// Returns the number of nodes: no more than pairs. None is empty or holds more than the node
     /// size, and the pairs of all ascend by key and then by number, one node after another, with
-    /// numbers below that of the next new pair, which a caller learns here.
+    /// numbers below that of the next new pair.
     pub fn node_count(&self) -> usize
         ensures value { result ≡ length self.now.nodes }
         ensures few { result ≤ length (joined self.now.nodes) }
@@ -154,7 +154,7 @@ impl<K: Ord + Clone + Drop, V: Eq + Clone + Drop, Node: NodeLike<MultiPair<K, V>
         self.set.events_issued()
     }
 
-    /// Returns the nodes, in order. (The Rust crate lends them locked.)
+    /// Returns the nodes, in order.
     pub fn iter_nodes(&self) -> Nodes<'_, Node>
         ensures rest { map Node.list result ≡ self.now.nodes }
         ensures runs { ShowsInOrder (deref {X = Node}) }

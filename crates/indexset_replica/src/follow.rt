@@ -10,18 +10,19 @@ use indexset_core::refusal::Refusal;
 use indexset_events::change::ChangeEvent;
 
 impl<T: Ord + Clone + Drop> Replica<T> {
-    /// Applies the events at these places of a list, one after the other, and passes over each whose
-    /// number is not the next. It costs one comparison of numbers for an event that is passed over, and
-    /// otherwise what `apply` does. It fails at the first event that `apply` refuses for another reason
-    /// than `Gap`, with that reason; what was applied before it stays.
+    /// Applies the events at these places of a list, one after the other, and passes over each
+    /// whose number is not the next. It costs one comparison of numbers for an event that is passed
+    /// over, and otherwise what `apply` does. It fails at the first event that `apply` refuses for
+    /// another reason than `Gap`, with that reason; what was applied before it stays.
     ///
-    /// Where the events are numbered without a gap, lead from some nodes to others, and the replica holds
-    /// what the first j of them lead to, it then holds what the first m lead to, and awaits event m: m is
-    /// the greatest number for which j, j + 1, .. m - 1 are among the places in this order. A call then
-    /// fails for memory alone, and the same holds of a beginning of the places. In particular it holds
-    /// what a beginning leads to whatever the places are, and what all events lead to where the places are
-    /// all of them in order, or where it awaits the event after the last. What it holds are the items
-    /// themselves where clones are identical to their sources, and else copies of them.
+    /// Where the events are numbered without a gap, lead from some nodes to others, and the replica
+    /// holds what the first j of them lead to, it then holds what the first m lead to, and expects
+    /// event m: m is the greatest number for which j, j + 1, .. m - 1 are among the places in this
+    /// order. A call then fails with `Memory` alone, and the same holds of a prefix of the places.
+    /// In particular it holds what a prefix leads to whatever the places are, and what all events
+    /// lead to where the places are all of them in order, or where it expects the event after the
+    /// last. What it holds are the items themselves where clones are identical to their sources,
+    /// and else copies of them.
     ///
     /// ```
     /// // The first event comes twice, and the second before it: that one is passed over.
@@ -61,7 +62,7 @@ impl<T: Ord + Clone + Drop> Replica<T> {
             × IsDelivered T.cmp s ns events.now j (take k order.now) r
             × IsAlike T.cmp T.is_clone r self.new) }
 
-        // From a beginning of a feed it goes on to a beginning.
+        // From a prefix of a feed it goes on to a prefix.
         ensures onwards { self.old.next ≤ self.new.next }
         ensures beginning { ((x y : T) → T.is_clone x y → y ≡ x) → (s : ℕ) (ns : List (List T))
             → IsFeed T.cmp s ns events.now

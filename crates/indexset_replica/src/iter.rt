@@ -77,7 +77,7 @@ impl<'a, T> Iterator for Iter<'a, T> {
     }
 }
 
-// Returns how many items a walk gives, or `None` where they are more than a usize can say.
+// Returns how many items an iterator yields, or `None` where they are more than a usize can say.
 fn count_left<T>(walk: Walk<'_, T, Vec<T>, ReadVec>) -> Option<usize>
     ensures { result ≡ counted (length walk.entry) }
 {

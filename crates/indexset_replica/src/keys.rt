@@ -12,8 +12,8 @@ use indexset_core::steps::Steps;
 use std::cmp::Ordering;
 use std::marker::Model;
 
-/// A key by which items are sought: an item itself, or the key of a pair, numbered or not. It stands
-/// for `Borrow`: items that ascend have keys that do not descend.
+/// A key by which items are sought: an item itself, or the key of a pair, numbered or not. It
+/// stands for `Borrow`: items that ascend have keys that do not descend.
 pub trait KeyOf<T: Ord>: Ord {
     /// The key of an item.
     ghost key: { T → Self };

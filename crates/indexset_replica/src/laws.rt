@@ -21,16 +21,17 @@ pub fn refused_unless_a_step<T: Ord>()
         ↔ ((event_number e ≡ next) × (next ≢ u64.MAX) × (is_some (step T.cmp ns e) ≡ true)) }
 {}
 
-/// One pass over the places finds the greatest number that is reached: the number awaited goes up by
-/// one at each place that equals it. There is no other.
+/// One pass over the places finds the greatest number that is reached: the number expected goes up
+/// by one at each place that equals it. There is no other.
 pub fn reached_in_one_pass()
     ensures found { (j : ℕ) (order : List ℕ) → IsReached j order (fold awaited j order) }
     ensures once { (j m n : ℕ) (order : List ℕ) → IsReached j order m → IsReached j order n
         → m ≡ n }
 {}
 
-/// Where clones equal their sources, events that are clones lead where the events lead, item by item up
-/// to equal items, and so do they from nodes whose items are equal. From copies they lead to copies.
+/// Where clones equal their sources, events that are clones lead where the events lead, item by
+/// item up to equal items, and so do they from nodes whose items are equal. From copies they lead
+/// to copies.
 pub fn replay_of_clones<T: Ord + Clone>()
     ensures equal { ((x y : T) → T.is_clone x y → T.cmp x y ≡ Equal)
         → (ns ms after : List (List T)) (es fs : List (ChangeEvent T))
@@ -45,8 +46,8 @@ pub fn replay_of_clones<T: Ord + Clone>()
         → LeadsToCopies T.cmp T.is_clone ms fs after }
 {}
 
-/// A replica that holds copies of a tree's nodes holds copies of them after it applied a clone of the
-/// tree's event.
+/// A replica that holds copies of a tree's nodes holds copies of them after it applied a clone of
+/// the tree's event.
 pub fn step_of_clones<T: Ord + Clone>()
     ensures { AreClonesEqual T.cmp T.is_clone
         → (ns ms after new : List (List T)) (e f : ChangeEvent T)
@@ -56,8 +57,8 @@ pub fn step_of_clones<T: Ord + Clone>()
         → AreCopies T.cmp T.is_clone after new }
 {}
 
-/// Nodes are copies of themselves, copies of copies are copies, and the items of copies equal those of
-/// their sources.
+/// Nodes are copies of themselves, copies of copies are copies, and the items of copies equal those
+/// of their sources.
 pub fn copies_are_equal<T: Ord + Clone>()
     ensures itself { (ns : List (List T)) → AreCopies T.cmp T.is_clone ns ns }
     ensures again { (ns ms ks : List (List T)) → AreCopies T.cmp T.is_clone ns ms

@@ -1,14 +1,15 @@
 //! A copy of a logged tree's nodes that follows the tree by its events.
 //!
-//! [`Replica`] holds a list of nodes and the number of the next event. `new` returns one without nodes,
-//! `attach` gives it the nodes that the tree has when the copy begins, and `from_nodes` makes one of all
-//! of them at once. `apply` makes the change of one event. It takes the next event alone, and fails with
-//! a `Refusal` that says why where an event is not the next or does not fit the nodes. Once the events of
-//! the tree's calls are applied, the nodes are those of the tree, boundaries included; `nodes`,
-//! `contains`, `next`, `range` and the calls of [`lookup`] and [`iter`] read them. `follow` is for events
-//! that are delivered with losses, repeats and in any order. [`laws`] states what the definitions mean,
-//! whatever the code: memory aside, an event is refused exactly where it is no step from the nodes. What
-//! each kind of event changes is in `edits`, and the searches among the nodes are in `places`.
+//! [`Replica`] holds a list of nodes and the number of the next event. `new` returns one without
+//! nodes, `attach` gives it the nodes that the tree has when the copy begins, and `from_nodes`
+//! makes one of all of them at once. `apply` makes the change of one event. It takes the next event
+//! alone, and fails with a `Refusal` that says why where an event is not the next or does not apply
+//! to the nodes. Once the events of the tree's calls are applied, the nodes are those of the tree,
+//! boundaries included; `nodes`, `contains`, `next`, `range` and the calls of [`lookup`] and
+//! [`iter`] read them. `follow` is for events that are delivered with losses, repeats and in any
+//! order. [`laws`] states what the definitions mean, whatever the code: memory aside, an event is
+//! refused exactly where it is no step from the nodes. What each kind of event changes is in
+//! `edits`, and the searches among the nodes are in `places`.
 #![tactic(auto)]
 
 ghost use Rattle.std.specs.Prelude.{◌≡◌, ◌+◌, ◌≤◌, [], insert, length, None, Some, OnOk, IfErr, OnErr, unwrap_or};
@@ -36,8 +37,8 @@ use indexset_events::change::ChangeEvent;
 use std::alloc::Global;
 use std::marker::Model;
 
-/// Nodes that follow a tree's events: non-empty lists whose concatenation is ascending. A node is named
-/// by its last item. (In the Rust crate a helper of the tests.)
+/// Nodes that follow a tree's events: non-empty lists whose concatenation is ascending. A node is
+/// named by its last item.
 #[derive(Drop)]
 pub struct Replica<T: Ord + Clone + Drop> {
     nodes: Vec<Vec<T>>,
@@ -59,8 +60,8 @@ impl<T: Ord + Clone + Drop> Model for Replica<T> {
 }
 
 impl<T: Ord + Clone + Drop> Replica<T> {
-    /// Returns a replica without nodes, whose first event is to have the number `next`. It allocates
-    /// nothing.
+    /// Returns a replica without nodes, whose first event is to have the number `next`. It
+    /// allocates nothing.
     pub fn new(alloc: Global, next: u64) -> Self
         ensures { result ≡ record { nodes = []; next = next } }
     {
@@ -86,11 +87,11 @@ impl<T: Ord + Clone + Drop> Replica<T> {
         self.next
     }
 
-    /// Inserts a whole node in its place among the others, and consumes no event number. It compares the
-    /// items of the node once each, and makes one binary search among the nodes. It fails with the first
-    /// of these: `Empty`; `Unsorted`, where the node is not strictly ascending; `Overlaps`, where it does
-    /// not lie wholly before, after or between two neighbouring nodes; `Memory`. A call that fails
-    /// returns the node and changes nothing.
+    /// Inserts a whole node in its place among the others, and consumes no event number. It
+    /// compares the items of the node once each, and makes one binary search among the nodes. It
+    /// fails with the first of these: `Empty`; `Unsorted`, where the node is not strictly
+    /// ascending; `Overlaps`, where it does not lie wholly before, after or between two
+    /// neighbouring nodes; `Memory`. A call that fails returns the node and changes nothing.
     pub fn attach(&mut self, node: Vec<T>) -> Result<(), Refused<Vec<T>>>
         ensures nodes { OnOk result (self.new.nodes ≡ attached T.cmp self.old.nodes node.items) }
         ensures good { OnOk result (attach_refusal T.cmp (length node.items) self.old.nodes
@@ -133,13 +134,13 @@ impl<T: Ord + Clone + Drop> Replica<T> {
         }
     }
 
-    /// Makes the change of an event, and waits for the next. It makes a binary search among the nodes
-    /// for each node that the event names, moves no items of other nodes, and inserts a clone, which it
-    /// compares with its source. It fails with the first of these: `Gap`, where the event is not the next;
-    /// `Numbers`, where its number is `u64::MAX`, so that none is left after it; the reason why it does not
-    /// fit the nodes (`NoSuchNode`, `IndexOutside`, `ValueDiffers`, `WouldBeEmpty`, `OutOfOrder`, `BadSplit`
-    /// or `NotNeighbours`); `Memory`, also where the clone does not equal its source. A call that fails
-    /// changes nothing.
+    /// Applies an event, and expects the next. It makes a binary search among the nodes for each
+    /// node that the event names, moves no items of other nodes, and inserts a clone, which it
+    /// compares with its source. It fails with the first of these: `Gap`, where the event is not
+    /// the next; `Numbers`, where its number is `u64::MAX`, so that none is left after it; the
+    /// reason why it does not apply (`NoSuchNode`, `IndexOutside`, `ValueDiffers`, `WouldBeEmpty`,
+    /// `OutOfOrder`, `BadSplit` or `NotNeighbours`); `Memory`, also where the clone does not equal
+    /// its source. A call that fails changes nothing.
     ///
     /// ```
     /// let mut copy: Replica<u64> = Replica::new(alloc, 0);

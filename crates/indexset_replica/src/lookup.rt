@@ -1,4 +1,5 @@
-//! The item equal to a value or of a key, the first and the last item, and whether an event is the next.
+//! The item equal to a value or of a key, the first and the last item, and whether an event is the
+//! next.
 ghost use Rattle.std.specs.Prelude.{◌≡◌, ℕ, ◌+◌, ◌≤◌, ◌==◌, if◌then◌else◌, find, length, nat_lt};
 ghost use Rattle.std.specs.List.{All};
 ghost use Rattle.std.specs.Option.{option_copied};
@@ -18,7 +19,7 @@ use indexset_core::probe::Probe;
 use indexset_core::walk::ReadVec;
 use indexset_events::change::ChangeEvent;
 
-/// Whether an event is the one that a replica waits for.
+/// Whether an event is the one that a replica expects.
 #[derive(Clone, Copy, Debug, PartialEq, Eq)]
 pub enum Turn {
     /// The event is the next one.
@@ -30,9 +31,9 @@ pub enum Turn {
 }
 
 impl<T: Ord + Clone + Drop> Replica<T> {
-    /// Returns the held item equal to the value, or `None` where there is none, by two binary searches:
-    /// one among the nodes and one in a node. A pair is sought by its key, and of numbered pairs the
-    /// first of the key is returned.
+    /// Returns the held item equal to the value, or `None` where there is none, by two binary
+    /// searches: one among the nodes and one in a node. A pair is sought by its key, and of
+    /// numbered pairs the first of the key is returned.
     ///
     /// ```
     /// let mut copy: Replica<Pair<u64, u64>> = Replica::new(alloc, 0);
@@ -48,16 +49,17 @@ impl<T: Ord + Clone + Drop> Replica<T> {
         self.get_by(&mut ByKeyOf::new(value))
     }
 
-    /// Returns whether an equal item is held, by the same two binary searches. A pair is sought by its
-    /// key.
+    /// Returns whether an equal item is held, by the same two binary searches. A pair is sought by
+    /// its key.
     pub fn contains<Q: KeyOf<T>>(&self, value: &Q) -> bool
         ensures { result ≡ has_by_key Q.cmp Q.key (joined self.now.nodes) value.now }
     {
         self.get(value).is_some()
     }
 
-    /// Returns the first held item that the comparator finds equal, or `None` where there is none, by the
-    /// same two searches, with at most one comparison more. The comparator must find the items in order.
+    /// Returns the first held item that the comparator finds equal, or `None` where there is none,
+    /// by the same two searches, with at most one comparison more. The comparator must find the
+    /// items in order.
     pub fn get_by<P: Probe<T>>(&self, probe: &mut P) -> Option<&T>
         requires { IsParted (P.answer probe.old) (joined self.now.nodes) }
         ensures value { option_copied result
@@ -99,8 +101,8 @@ impl<T: Ord + Clone + Drop> Replica<T> {
     }
 
     /// Returns whether the event is the next one, is one that was applied already (`Had`), or comes
-    /// after events that are missing (`Missing`), in constant time. `apply` fails with `Gap` for the two
-    /// last. It looks at the number alone, not at whether the event fits the nodes.
+    /// after events that are missing (`Missing`), in constant time. `apply` fails with `Gap` for
+    /// the two last. It looks at the number alone, not at whether the event applies.
     pub fn expects(&self, event: &ChangeEvent<T>) -> Turn
         ensures { result ≡ (if event_number event.now
             == self.now.next then Turn.Next else if nat_lt (event_number event.now) self.now.next

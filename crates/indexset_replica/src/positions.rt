@@ -100,8 +100,9 @@ impl<T: Ord + Clone + Drop> Replica<T> {
         Some(&items[offset])
     }
 
-    /// Returns the items at the positions that satisfy both bounds, in order and from both ends. There
-    /// is none where the bounds are the wrong way round, and positions past the end have none.
+    /// Returns the items at the positions that satisfy both bounds, in order and from both ends.
+    /// There is none where the bounds are the wrong way round, and positions past the end have
+    /// none.
     ///
     /// ```
     /// // The second page of two items each.
@@ -138,8 +139,8 @@ impl<T: Ord + Clone + Drop> Replica<T> {
         self.lengths.position(nodes, place)
     }
 
-    /// Returns how many items are not past the end, a bound on what a comparator seeks, by two binary
-    /// searches and a sum over the index.
+    /// Returns how many items are not past the end, a bound on what a comparator seeks, by two
+    /// binary searches and a sum over the index.
     pub fn count_up_to<P: Probe<T> + Drop>(&self, end: Bound<P>) -> usize
         requires { IfBounded (λ p. IsParted (P.answer p) (joined self.now.nodes)) end }
         ensures { result ≡ count_by (is_up_to_end (λ x p. P.answer p x) end)

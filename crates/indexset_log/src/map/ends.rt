@@ -38,10 +38,10 @@ impl<K: Ord + Clone + Drop, V: Clone + Drop, Node: NodeLike<Pair<K, V>>> BTreeMa
         Some((&pair.key, &pair.value))
     }
 
-    /// Removes the pair of the least key, if any, and returns it with the events, which are those of
-    /// `remove_cdc` of that key. A node that is left small is merged with a small neighbour. Fails with
-    /// `Numbers` where the events do not fit the counter, else with `Memory`. A failed call changes
-    /// nothing.
+    /// Removes the pair of the least key, if any, and returns it with the events, which are those
+    /// of `remove_cdc` of that key. A node that is left small is merged with a small neighbour.
+    /// Fails with `Numbers` where the events do not fit the counter, else with `Memory`. A failed
+    /// call changes nothing.
     pub fn pop_first_cdc(
         &mut self,
     ) -> Result<(Option<(K, V)>, Vec<ChangeEvent<Pair<K, V>>>), Refusal>
@@ -60,10 +60,10 @@ impl<K: Ord + Clone + Drop, V: Clone + Drop, Node: NodeLike<Pair<K, V>>> BTreeMa
         Ok((entry_of(pair), events))
     }
 
-    /// Removes the pair of the least key, if any, and returns it. It consumes as many event numbers as
-    /// `pop_first_cdc`, and fails with `Numbers` where they do not fit. It allocates only where it merges
-    /// two nodes of a type that allocates, and else does not fail with `Memory`. A failed call changes
-    /// nothing.
+    /// Removes the pair of the least key, if any, and returns it. It consumes as many event numbers
+    /// as `pop_first_cdc`, and fails with `Numbers` where they do not fit. It allocates only where
+    /// it merges two nodes of a type that allocates, and else does not fail with `Memory`. A failed
+    /// call changes nothing.
     pub fn pop_first(&mut self) -> Result<Option<(K, V)>, Refusal>
         ensures answer { IfOk result (λ entry.
             entry ≡ option_map entry_of (slice_get (joined self.old.nodes) 0)) }
@@ -82,10 +82,10 @@ impl<K: Ord + Clone + Drop, V: Clone + Drop, Node: NodeLike<Pair<K, V>>> BTreeMa
         Ok(entry_of(pair))
     }
 
-    /// Removes the pair of the greatest key, if any, and returns it with the events, which are those of
-    /// `remove_cdc` of that key. A node that is left small is merged with a small neighbour. Fails with
-    /// `Numbers` where the events do not fit the counter, else with `Memory`. A failed call changes
-    /// nothing.
+    /// Removes the pair of the greatest key, if any, and returns it with the events, which are
+    /// those of `remove_cdc` of that key. A node that is left small is merged with a small
+    /// neighbour. Fails with `Numbers` where the events do not fit the counter, else with `Memory`.
+    /// A failed call changes nothing.
     pub fn pop_last_cdc(
         &mut self,
     ) -> Result<(Option<(K, V)>, Vec<ChangeEvent<Pair<K, V>>>), Refusal>
@@ -105,10 +105,10 @@ impl<K: Ord + Clone + Drop, V: Clone + Drop, Node: NodeLike<Pair<K, V>>> BTreeMa
         Ok((entry_of(pair), events))
     }
 
-    /// Removes the pair of the greatest key, if any, and returns it. It consumes as many event numbers
-    /// as `pop_last_cdc`, and fails with `Numbers` where they do not fit. It allocates only where it
-    /// merges two nodes of a type that allocates, and else does not fail with `Memory`. A failed call
-    /// changes nothing.
+    /// Removes the pair of the greatest key, if any, and returns it. It consumes as many event
+    /// numbers as `pop_last_cdc`, and fails with `Numbers` where they do not fit. It allocates only
+    /// where it merges two nodes of a type that allocates, and else does not fail with `Memory`. A
+    /// failed call changes nothing.
     pub fn pop_last(&mut self) -> Result<Option<(K, V)>, Refusal>
         ensures answer { IfOk result (λ entry.
             entry ≡ option_map entry_of (slice_get (joined self.old.nodes)

@@ -48,8 +48,9 @@ impl<K: Ord + Clone + Drop, V: Clone + Drop, Node: NodeLike<Pair<K, V>>> BTreeMa
         Ok((value_in(old), events))
     }
 
-    /// Does the same where the key is absent. If it is present, returns `None`, drops key and
-    /// value, consumes no event number, allocates nothing and changes nothing.
+    /// Inserts a pair where the key is absent, and returns the events. If it is present, returns
+    /// `None`, drops key and value, consumes no event number, allocates nothing and changes
+    /// nothing.
     pub fn checked_insert_cdc(
         &mut self,
         key: K,

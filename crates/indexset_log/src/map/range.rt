@@ -38,8 +38,8 @@ impl<K: Ord + Clone + Drop, V: Clone + Drop, Node: NodeLike<Pair<K, V>>> BTreeMa
         ensures runs { ShowsInOrder (pair_shown {K = K} {V = V}) }
         ensures runs_back { ShowsInReverse (pair_shown {K = K} {V = V}) }
     {
-        // The contract of `node_count` says that the pairs ascend, so the range is what lies between the
-        // two places.
+        // The contract of `node_count` says that the pairs ascend, so the range is what lies
+        // between the two places.
         let _nodes = self.set.node_count();
         let from = self.set.place_from(range.0.map(ByKey::new));
         let to = self.set.place_to(range.1.map(ByKey::new));

@@ -13,9 +13,9 @@ use indexset_core::refusal::Refusal;
 use indexset_events::change::ChangeEvent;
 
 impl<K: Ord + Clone + Drop, V: Clone + Drop, Node: NodeLike<Pair<K, V>>> BTreeMap<K, V, Node> {
-    /// Removes the pair of a key, if any, and returns it with the events. A node that is left small is
-    /// merged with a small neighbour. Fails with `Numbers` where the events do not fit the counter, else
-    /// with `Memory`. A failed call changes nothing.
+    /// Removes the pair of a key, if any, and returns it with the events. A node that is left small
+    /// is merged with a small neighbour. Fails with `Numbers` where the events do not fit the
+    /// counter, else with `Memory`. A failed call changes nothing.
     ///
     /// ```
     /// let mut tree: map::BTreeMap<u64, u64, Vec<Pair<u64, u64>>> = map::BTreeMap::new(alloc);
@@ -51,9 +51,9 @@ impl<K: Ord + Clone + Drop, V: Clone + Drop, Node: NodeLike<Pair<K, V>>> BTreeMa
     }
 
     /// Removes the pair of a key, if any, and returns it. It consumes as many event numbers as
-    /// `remove_cdc`, and fails with `Numbers` where they do not fit. It allocates only where it merges
-    /// two nodes of a type that allocates, and else does not fail with `Memory`. A failed call changes
-    /// nothing.
+    /// `remove_cdc`, and fails with `Numbers` where they do not fit. It allocates only where it
+    /// merges two nodes of a type that allocates, and else does not fail with `Memory`. A failed
+    /// call changes nothing.
     pub fn remove(&mut self, key: &K) -> Result<Option<(K, V)>, Refusal>
         ensures answer { IfOk result (λ entry.
             entry ≡ option_map entry_of (pair_of K.cmp (joined self.old.nodes) key.now)) }

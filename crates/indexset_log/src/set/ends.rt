@@ -54,8 +54,8 @@ impl<T: Ord + Clone + Drop, Node: NodeLike<T>> BTreeSet<T, Node> {
 
     /// Removes the least item, if any, and returns it. It consumes as many event numbers as
     /// `pop_first_cdc`, and fails with `Numbers` where they do not fit. It allocates only where it
-    /// merges two nodes of a type that allocates, and else does not fail with `Memory`. A failed call
-    /// changes nothing.
+    /// merges two nodes of a type that allocates, and else does not fail with `Memory`. A failed
+    /// call changes nothing.
     pub fn pop_first(&mut self) -> Result<Option<T>, Refusal>
         ensures answer { IfOk result (λ item. item ≡ slice_get (joined self.old.nodes) 0) }
         ensures refusal { IfErr result (λ e. e ≡ refusal_of self.old
@@ -95,8 +95,8 @@ impl<T: Ord + Clone + Drop, Node: NodeLike<T>> BTreeSet<T, Node> {
 
     /// Removes the greatest item, if any, and returns it. It consumes as many event numbers as
     /// `pop_last_cdc`, and fails with `Numbers` where they do not fit. It allocates only where it
-    /// merges two nodes of a type that allocates, and else does not fail with `Memory`. A failed call
-    /// changes nothing.
+    /// merges two nodes of a type that allocates, and else does not fail with `Memory`. A failed
+    /// call changes nothing.
     pub fn pop_last(&mut self) -> Result<Option<T>, Refusal>
         ensures answer { IfOk result (λ item.
             item ≡ slice_get (joined self.old.nodes) (length (joined self.old.nodes) - 1)) }

@@ -13,9 +13,9 @@ use indexset_core::refusal::Refusal;
 use std::alloc::Global;
 
 impl<T: Ord + Clone + Drop> BTreeSet<T, Vec<T>> {
-    /// Returns the tree of what an iterator gives, each item put in by `insert`: of equal ones the
-    /// first stays. Fails with `Memory`, or with `Numbers` where the events of the items that came
-    /// do not fit, and then all are dropped.
+    /// Returns the tree of what an iterator yields, inserted one by one: of equal ones the first
+    /// stays. Fails with `Memory`, or with `Numbers` where the events of the items that came do not
+    /// fit, and then all are dropped.
     pub fn from_iter<I: IntoIterator<Item = T>>(alloc: Global, iter: I) -> Result<Self, Refusal>
         requires { IsFiniteIterable I.into_iter_gives I.IntoIter.can_next
             I.IntoIter.remaining iter }

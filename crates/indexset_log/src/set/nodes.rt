@@ -66,8 +66,7 @@ impl<'a, Node> ExactSizeIterator for Nodes<'a, Node> {
 impl<'a, Node> FusedIterator for Nodes<'a, Node> {}
 
 impl<T: Ord + Clone + Drop, Node: NodeLike<T>> BTreeSet<T, Node> {
-    /// Returns the nodes, in order. (In the Rust crate it is the maps' alone, and lends them
-    /// locked.)
+    /// Returns the nodes, in order.
     pub fn iter_nodes(&self) -> Nodes<'_, Node>
         ensures rest { map Node.list result ≡ self.now.nodes }
         ensures runs { ShowsInOrder (deref {X = Node}) }

@@ -152,8 +152,8 @@ impl<T: Ord + Clone + Drop, Node: NodeLike<T>> BTreeSet<T, Node> {
         self.index.prefix(node) + offset
     }
 
-    /// Returns the place of the item at a position, counted from 0, or `None` past the end. It makes
-    /// no comparison.
+    /// Returns the place of the item at a position, counted from 0, or `None` past the end. It
+    /// makes no comparison.
     pub fn place_at(&self, i: usize) -> Option<(usize, usize)>
         ensures { MatchOption result (length (joined self.now.nodes) ≤ i)
             (λ p. (p.0 < length self.now.nodes) × (p.1 < length (node_at self.now.nodes p.0))

@@ -133,7 +133,8 @@ impl<T: Ord + Clone + Drop, Node: NodeLike<T>> BTreeSet<T, Node> {
         }
     }
 
-    // Returns how many items stand between two places: the index is asked where they are of two nodes.
+    // Returns how many items stand between two places: the index is asked where they are of two
+    // nodes.
     fn count_between(&self, from: (usize, usize), to: (usize, usize)) -> usize
         requires from { IsPlace self.now.nodes from }
         requires to { IsPlace self.now.nodes to }
@@ -169,10 +170,10 @@ impl<T: Ord + Clone + Drop, Node: NodeLike<T>> BTreeSet<T, Node> {
         place_to::<T, Node, ReadAny, P>(self.nodes.as_slice(), end, false)
     }
 
-    /// Returns the places before and after the items that the comparator finds Equal, which must find
-    /// the items in order: two binary searches for the first, and from there steps that double, so
-    /// that `n` such items cost few comparisons more than one. Where there is none, both places are
-    /// where one would go.
+    /// Returns the places before and after the items that the comparator finds Equal, which must
+    /// find the items in order: two binary searches for the first, and from there steps that
+    /// double, so that `n` such items cost few comparisons more than one. Where there is none, both
+    /// places are where one would go.
     pub fn places_by<P: Probe<T>>(&self, probe: &mut P) -> ((usize, usize), (usize, usize))
         requires { IsParted (P.answer probe.old) (joined self.now.nodes) }
         ensures from { IsPlace self.now.nodes result.0 }
@@ -199,7 +200,8 @@ impl<T: Ord + Clone + Drop, Node: NodeLike<T>> BTreeSet<T, Node> {
         }
     }
 
-    // Returns the place after the items that are not found Greater, where the one at a place is not.
+    // Returns the place after the items that are not found Greater, where the one at a place is
+    // not.
     fn end_from<P: Probe<T>>(&self, node: usize, offset: usize, probe: &mut P) -> (usize, usize)
         requires parted { IsParted (P.answer probe.old) (joined self.now.nodes) }
         requires node { node < length self.now.nodes }

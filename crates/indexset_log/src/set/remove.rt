@@ -18,8 +18,8 @@ use indexset_events::change::ChangeEvent;
 
 impl<T: Ord + Clone + Drop, Node: NodeLike<T>> BTreeSet<T, Node> {
     /// Removes the equal item, if any, and returns it with the events. A node that is left small is
-    /// merged with a small neighbour. Fails with `Numbers` where the events do not fit the counter, else
-    /// with `Memory`. A failed call changes nothing.
+    /// merged with a small neighbour. Fails with `Numbers` where the events do not fit the counter,
+    /// else with `Memory`. A failed call changes nothing.
     ///
     /// ```
     /// let mut tree: set::BTreeSet<u64, Vec<u64>> = set::BTreeSet::new(alloc);
@@ -44,8 +44,8 @@ impl<T: Ord + Clone + Drop, Node: NodeLike<T>> BTreeSet<T, Node> {
         self.remove_from_cdc(place)
     }
 
-    /// Removes the item at a place, and returns it with the events. A node that is left small is merged
-    /// with a small neighbour. Fails as `remove_cdc` does, and then changes nothing.
+    /// Removes the item at a place, and returns it with the events. A node that is left small is
+    /// merged with a small neighbour. Fails as `remove_cdc` does, and then changes nothing.
     pub fn remove_at_cdc(
         &mut self,
         node: usize,
@@ -71,9 +71,9 @@ impl<T: Ord + Clone + Drop, Node: NodeLike<T>> BTreeSet<T, Node> {
     }
 
     /// Removes the equal item, if any, and returns it. It consumes as many event numbers as
-    /// `remove_cdc`, and fails with `Numbers` where they do not fit. It allocates only where it merges
-    /// two nodes of a type that allocates, and else does not fail with `Memory`. A failed call changes
-    /// nothing.
+    /// `remove_cdc`, and fails with `Numbers` where they do not fit. It allocates only where it
+    /// merges two nodes of a type that allocates, and else does not fail with `Memory`. A failed
+    /// call changes nothing.
     pub fn remove(&mut self, value: &T) -> Result<Option<T>, Refusal>
         ensures answer { IfOk result (λ item.
             item ≡ equal_element T.cmp (joined self.old.nodes) value.now) }
@@ -95,8 +95,8 @@ impl<T: Ord + Clone + Drop, Node: NodeLike<T>> BTreeSet<T, Node> {
 
     /// Removes the item at a place, and returns it. It consumes as many event numbers as
     /// `remove_at_cdc`, and fails with `Numbers` where they do not fit. It allocates only where it
-    /// merges two nodes of a type that allocates, and else does not fail with `Memory`. A failed call
-    /// changes nothing.
+    /// merges two nodes of a type that allocates, and else does not fail with `Memory`. A failed
+    /// call changes nothing.
     pub fn remove_at(&mut self, node: usize, offset: usize) -> Result<T, Refusal>
         requires node { node < length self.old.nodes }
         requires offset { offset < length (node_at self.old.nodes node) }
@@ -274,8 +274,8 @@ impl<T: Ord + Clone + Drop, Node: NodeLike<T>> BTreeSet<T, Node> {
         }
     }
 
-    // Removes the item at a place, and merges the node at `left` with the one after it. A failed call
-    // changes nothing.
+    // Removes the item at a place, and merges the node at `left` with the one after it. A failed
+    // call changes nothing.
     fn take_joining(&mut self, node: usize, offset: usize, left: usize) -> Result<T, Refusal>
         requires node { node < length self.old.nodes }
         requires offset { offset < length (node_at self.old.nodes node) }

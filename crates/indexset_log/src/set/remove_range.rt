@@ -10,9 +10,9 @@ use indexset_core::walk::ReadVec;
 use std::ops::Bound;
 
 impl<T: Ord + Clone + Drop> BTreeSet<T, Vec<T>> {
-    /// Removes the items that satisfy both bounds. Each node loses just its own, and one that is left
-    /// empty is removed. No nodes are merged, no event is emitted, no number is used up and nothing is
-    /// allocated. Bounds that are the wrong way round hold nothing. (The Rust crate panics there.)
+    /// Removes the items that satisfy both bounds. An emptied node is removed. No nodes are merged,
+    /// no event is emitted, no event number is consumed and nothing is allocated. None where the
+    /// start is past the end.
     pub fn remove_range(&mut self, range: (Bound<&T>, Bound<&T>))
         ensures nodes { self.new.nodes ≡ without_range T.cmp self.old.nodes
             (bound_map (λ v. v.now) range.entry.0) (bound_map (λ v. v.now) range.entry.1) }

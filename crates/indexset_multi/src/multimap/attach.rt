@@ -16,8 +16,8 @@ impl<K: Ord + Clone + Drop, V: Eq + Clone + Drop, Node: NodeLike<MultiPair<K, V>
     /// Inserts a whole node of pairs in its place among the others. It gives no event and consumes
     /// no event number; where the number of the next new pair is not above those of the node's
     /// pairs, it is raised to the one after the greatest of them. A node with a pair that has the
-    /// greatest number is refused with `PairNumber`, before all that `attach_node` of the set
-    /// refuses. A failed call returns the node in the error and changes nothing.
+    /// greatest number fails with `PairNumber`, before all reasons of the set's `attach_node`. A
+    /// failed call returns the node in the error and changes nothing.
     pub fn attach_multi_node(&mut self, node: Node) -> Result<(), Refused<Node>>
         ensures attached { OnOk result (IsAttached K.cmp self.old self.new (Node.list node)) }
         ensures good { IsOk result → pairs_refusal K.cmp self.old (Node.list node) ≡ None }

@@ -18,8 +18,8 @@ impl<K: Ord + Clone + Drop, V: Eq + Clone + Drop, Node: NodeLike<MultiPair<K, V>
     V,
     Node,
 > {
-    /// Returns the least key and the value of its first pair, or `None` where there is no pair, in constant
-    /// time.
+    /// Returns the least key and the value of its first pair, or `None` where there is no pair, in
+    /// constant time.
     pub fn first_key_value(&self) -> Option<(&K, &V)>
         ensures pair { option_map (λ p. (p.0.now, p.1.now)) result
             ≡ option_map key_and_value (slice_get (joined self.now.nodes) 0) }
@@ -31,8 +31,8 @@ impl<K: Ord + Clone + Drop, V: Eq + Clone + Drop, Node: NodeLike<MultiPair<K, V>
         Some((&pair.key, &pair.value))
     }
 
-    /// Returns the greatest key and the value of its last pair, or `None` where there is no pair, in constant
-    /// time.
+    /// Returns the greatest key and the value of its last pair, or `None` where there is no pair,
+    /// in constant time.
     ///
     /// ```
     /// let mut tags: multimap::BTreeMultiMap<u64, u64, Vec<MultiPair<u64, u64>>> = multimap::BTreeMultiMap::new(alloc);
@@ -54,10 +54,10 @@ impl<K: Ord + Clone + Drop, V: Eq + Clone + Drop, Node: NodeLike<MultiPair<K, V>
         Some((&pair.key, &pair.value))
     }
 
-    /// Removes the first pair of the least key, if any, and returns it with the events, which are those of
-    /// `remove_some_cdc` of that key. It makes no comparison. A node that is left small is merged with a
-    /// small neighbour. Fails with `Numbers` where the events do not fit the counter, else with `Memory`. A
-    /// failed call changes nothing.
+    /// Removes the first pair of the least key, if any, and returns it with the events, which are
+    /// those of `remove_some_cdc` of that key. It makes no comparison. A node that is left small is
+    /// merged with a small neighbour. Fails with `Numbers` where the events do not fit the counter,
+    /// else with `Memory`. A failed call changes nothing.
     ///
     /// ```
     /// let mut tags: multimap::BTreeMultiMap<u64, u64, Vec<MultiPair<u64, u64>>> = multimap::BTreeMultiMap::new(alloc);
@@ -85,10 +85,10 @@ impl<K: Ord + Clone + Drop, V: Eq + Clone + Drop, Node: NodeLike<MultiPair<K, V>
         Ok((entry_of(pair), events))
     }
 
-    /// Removes the first pair of the least key, if any, and returns it, without a comparison. It consumes as
-    /// many event numbers as `pop_first_cdc`, and fails with `Numbers` where they do not fit. It allocates
-    /// only where it merges two nodes of a type that allocates, and else does not fail with `Memory`. A failed
-    /// call changes nothing.
+    /// Removes the first pair of the least key, if any, and returns it, without a comparison. It
+    /// consumes as many event numbers as `pop_first_cdc`, and fails with `Numbers` where they do
+    /// not fit. It allocates only where it merges two nodes of a type that allocates, and else does
+    /// not fail with `Memory`. A failed call changes nothing.
     pub fn pop_first(&mut self) -> Result<Option<(K, V)>, Refusal>
         ensures answer { IfOk result (λ entry.
             entry ≡ option_map key_and_value (slice_get (joined self.old.nodes) 0)) }
@@ -107,9 +107,9 @@ impl<K: Ord + Clone + Drop, V: Eq + Clone + Drop, Node: NodeLike<MultiPair<K, V>
         Ok(entry_of(pair))
     }
 
-    /// Removes the last pair of the greatest key, if any, and returns it with the events. It makes no
-    /// comparison. A node that is left small is merged with a small neighbour. Fails as `pop_first_cdc` does,
-    /// and then changes nothing.
+    /// Removes the last pair of the greatest key, if any, and returns it with the events. It makes
+    /// no comparison. A node that is left small is merged with a small neighbour. Fails as
+    /// `pop_first_cdc` does, and then changes nothing.
     pub fn pop_last_cdc(
         &mut self,
     ) -> Result<(Option<(K, V)>, Vec<ChangeEvent<MultiPair<K, V>>>), Refusal>
@@ -128,10 +128,10 @@ impl<K: Ord + Clone + Drop, V: Eq + Clone + Drop, Node: NodeLike<MultiPair<K, V>
         Ok((entry_of(pair), events))
     }
 
-    /// Removes the last pair of the greatest key, if any, and returns it, without a comparison. It consumes as
-    /// many event numbers as `pop_last_cdc`, and fails with `Numbers` where they do not fit. It allocates only
-    /// where it merges two nodes of a type that allocates, and else does not fail with `Memory`. A failed call
-    /// changes nothing.
+    /// Removes the last pair of the greatest key, if any, and returns it, without a comparison. It
+    /// consumes as many event numbers as `pop_last_cdc`, and fails with `Numbers` where they do not
+    /// fit. It allocates only where it merges two nodes of a type that allocates, and else does not
+    /// fail with `Memory`. A failed call changes nothing.
     ///
     /// ```
     /// let mut tags: multimap::BTreeMultiMap<u64, u64, Vec<MultiPair<u64, u64>>> = multimap::BTreeMultiMap::new(alloc);

@@ -23,8 +23,8 @@ impl<K: Ord + Clone + Drop, V: Eq + Clone + Drop, Node: NodeLike<MultiPair<K, V>
     V,
     Node,
 > {
-    /// Returns how many pairs have a key below this one, which is the position of its first pair, by
-    /// two binary searches and a sum over the index.
+    /// Returns how many pairs have a key below this one, which is the position of its first pair,
+    /// by two binary searches and a sum over the index.
     ///
     /// ```
     /// let mut tags: multimap::BTreeMultiMap<u64, u64, Vec<MultiPair<u64, u64>>> = multimap::BTreeMultiMap::new(alloc);
@@ -52,8 +52,8 @@ impl<K: Ord + Clone + Drop, V: Eq + Clone + Drop, Node: NodeLike<MultiPair<K, V>
         self.set.position(to) - self.set.position(from)
     }
 
-    /// Returns the position of the first pair of a key whose value is equal, or `None`. It compares keys
-    /// as `get` does, and then the values of the key's pairs, one by one.
+    /// Returns the position of the first pair of a key whose value is equal, or `None`. It compares
+    /// keys as `get` does, and then the values of the key's pairs, one by one.
     pub fn index_of(&self, key: &K, value: &V) -> Option<usize>
         ensures { MatchOption result
             (equal_pair K.cmp V.eq (joined self.now.nodes) key.now value.now ≡ None)
@@ -73,8 +73,8 @@ impl<K: Ord + Clone + Drop, V: Eq + Clone + Drop, Node: NodeLike<MultiPair<K, V>
         Some((&pair.key, &pair.value))
     }
 
-    /// Returns the pairs at the positions that satisfy both bounds, clipped to the length, in order. It
-    /// makes no comparison.
+    /// Returns the pairs at the positions that satisfy both bounds, clipped to the length, in
+    /// order. It makes no comparison.
     pub fn range_idx(&self, range: (Bound<usize>, Bound<usize>)) -> Range<'_, K, V, Node>
         ensures rest { result ≡ entries (in_positions (joined self.now.nodes) range.0 range.1) }
         ensures runs { ShowsInOrder (pair_shown {K = K} {V = V}) }
@@ -85,9 +85,9 @@ impl<K: Ord + Clone + Drop, V: Eq + Clone + Drop, Node: NodeLike<MultiPair<K, V>
         }
     }
 
-    /// Removes the pair at a position, if any, and returns it with the events, without a comparison. A
-    /// node that is left small is merged with a small neighbour. Fails with `Numbers` where the events do
-    /// not fit the counter, else with `Memory`. A failed call changes nothing.
+    /// Removes the pair at a position, if any, and returns it with the events, without a
+    /// comparison. A node that is left small is merged with a small neighbour. Fails with `Numbers`
+    /// where the events do not fit the counter, else with `Memory`. A failed call changes nothing.
     pub fn pop_index_cdc(
         &mut self,
         i: usize,
@@ -107,10 +107,10 @@ impl<K: Ord + Clone + Drop, V: Eq + Clone + Drop, Node: NodeLike<MultiPair<K, V>
         self.take_cdc(place)
     }
 
-    /// Removes the pair at a position, if any, and returns it, without a comparison. It consumes as many
-    /// event numbers as `pop_index_cdc`, and fails with `Numbers` where they do not fit. It allocates only
-    /// where it merges two nodes of a type that allocates, and else does not fail with `Memory`. A failed
-    /// call changes nothing.
+    /// Removes the pair at a position, if any, and returns it, without a comparison. It consumes as
+    /// many event numbers as `pop_index_cdc`, and fails with `Numbers` where they do not fit. It
+    /// allocates only where it merges two nodes of a type that allocates, and else does not fail
+    /// with `Memory`. A failed call changes nothing.
     pub fn pop_index(&mut self, i: usize) -> Result<Option<(K, V)>, Refusal>
         ensures answer { IfOk result (λ entry.
             entry ≡ option_map key_and_value (slice_get (joined self.old.nodes) i)) }

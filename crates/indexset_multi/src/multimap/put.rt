@@ -18,12 +18,12 @@ impl<K: Ord + Clone + Drop, V: Eq + Clone + Drop, Node: NodeLike<MultiPair<K, V>
     V,
     Node,
 > {
-    /// Inserts a pair, and returns the events. Where the key has pairs of an equal value, the first of
-    /// them is replaced in its place and keeps its number, and its value is returned. Else the pair gets
-    /// the next number and is the last of its key. It makes two searches: that of `get`, whose pairs'
-    /// values it compares one by one, and one for the place. Fails with `Numbers` where the events do
-    /// not fit, or where a new number is needed and none remains, else with `Memory`. A failed call
-    /// returns key and value in the error and changes nothing.
+    /// Inserts a pair, and returns the events. Where the key has pairs of an equal value, the first
+    /// of them is replaced in its place and keeps its number, and its value is returned. Else the
+    /// pair gets the next number and is the last of its key. It makes two searches: that of `get`,
+    /// whose pairs' values it compares one by one, and one for the place. Fails with `Numbers`
+    /// where the events do not fit, or where a new number is needed and none remains, else with
+    /// `Memory`. A failed call returns key and value in the error and changes nothing.
     pub fn insert_cdc(
         &mut self,
         key: K,
@@ -82,10 +82,11 @@ impl<K: Ord + Clone + Drop, V: Eq + Clone + Drop, Node: NodeLike<MultiPair<K, V>
         Ok(value_in(old))
     }
 
-    /// Inserts a pair as the last of its key, whatever values the key has, and returns the events. It
-    /// compares no values, so its cost does not grow with the number of the key's pairs: one search for
-    /// the place. Fails with `Numbers` where the events do not fit or no number remains for the pair,
-    /// else with `Memory`. A failed call returns key and value in the error and changes nothing.
+    /// Inserts a pair as the last of its key, whatever values the key has, and returns the events.
+    /// It compares no values, so its cost does not grow with the number of the key's pairs: one
+    /// search for the place. Fails with `Numbers` where the events do not fit or no number remains
+    /// for the pair, else with `Memory`. A failed call returns key and value in the error and
+    /// changes nothing.
     pub fn push_cdc(
         &mut self,
         key: K,
@@ -108,8 +109,8 @@ impl<K: Ord + Clone + Drop, V: Eq + Clone + Drop, Node: NodeLike<MultiPair<K, V>
         Ok(events)
     }
 
-    /// Inserts a pair as the last of its key, as `push_cdc` does, and consumes as many event numbers. A
-    /// failed call returns key and value in the error and changes nothing.
+    /// Inserts a pair as the last of its key, as `push_cdc` does, and consumes as many event
+    /// numbers. A failed call returns key and value in the error and changes nothing.
     ///
     /// ```
     /// let mut scores: multimap::BTreeMultiMap<u64, u64, Vec<MultiPair<u64, u64>>> = multimap::BTreeMultiMap::new(alloc);

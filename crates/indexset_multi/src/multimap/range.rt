@@ -257,8 +257,8 @@ impl<K: Ord + Clone + Drop, V: Eq + Clone + Drop, Node: NodeLike<MultiPair<K, V>
             (bound_map (λ k. k.now) range.entry.0) (bound_map (λ k. k.now) range.entry.1) }
         ensures runs { ShowsInOrder (deref {X = MultiPair K V}) }
     {
-        // The contract of `node_count` says that the pairs ascend, so the range is what lies between the
-        // two places.
+        // The contract of `node_count` says that the pairs ascend, so the range is what lies
+        // between the two places.
         let _nodes = self.set.node_count();
         let from = self.set.place_from(range.0.map(ByKey::new));
         let to = self.set.place_to(range.1.map(ByKey::new));

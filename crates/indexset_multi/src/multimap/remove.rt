@@ -22,9 +22,9 @@ impl<K: Ord + Clone + Drop, V: Eq + Clone + Drop, Node: NodeLike<MultiPair<K, V>
     V,
     Node,
 > {
-    /// Removes the first pair of a key, if any, and returns it with the events, by one search. A node that
-    /// is left small is merged with a small neighbour. Fails with `Numbers` where the events do not fit
-    /// the counter, else with `Memory`. A failed call changes nothing.
+    /// Removes the first pair of a key, if any, and returns it with the events, by one search. A
+    /// node that is left small is merged with a small neighbour. Fails with `Numbers` where the
+    /// events do not fit the counter, else with `Memory`. A failed call changes nothing.
     pub fn remove_some_cdc(
         &mut self,
         key: &K,
@@ -47,10 +47,10 @@ impl<K: Ord + Clone + Drop, V: Eq + Clone + Drop, Node: NodeLike<MultiPair<K, V>
         self.take_cdc(place)
     }
 
-    /// Removes the first pair of a key, if any, and returns it. It consumes as many event numbers as
-    /// `remove_some_cdc`, and fails with `Numbers` where they do not fit. It allocates only where it merges
-    /// two nodes of a type that allocates, and else does not fail with `Memory`. A failed call changes
-    /// nothing.
+    /// Removes the first pair of a key, if any, and returns it. It consumes as many event numbers
+    /// as `remove_some_cdc`, and fails with `Numbers` where they do not fit. It allocates only
+    /// where it merges two nodes of a type that allocates, and else does not fail with `Memory`. A
+    /// failed call changes nothing.
     pub fn remove_some(&mut self, key: &K) -> Result<Option<(K, V)>, Refusal>
         ensures answer { IfOk result (λ entry.
             entry ≡ option_map key_and_value (first_pair K.cmp (joined self.old.nodes) key.now)) }
@@ -72,10 +72,10 @@ impl<K: Ord + Clone + Drop, V: Eq + Clone + Drop, Node: NodeLike<MultiPair<K, V>
         self.take(place)
     }
 
-    /// Removes the first pair of a key whose value is equal, if any, and returns it with the events. Other
-    /// such pairs of the key stay. It compares keys as `get` does, and then the values of the key's pairs,
-    /// one by one. A node that is left small is merged with a small neighbour. Fails as `remove_some_cdc`
-    /// does, and then changes nothing.
+    /// Removes the first pair of a key whose value is equal, if any, and returns it with the
+    /// events. Other such pairs of the key stay. It compares keys as `get` does, and then the
+    /// values of the key's pairs, one by one. A node that is left small is merged with a small
+    /// neighbour. Fails as `remove_some_cdc` does, and then changes nothing.
     pub fn remove_cdc(
         &mut self,
         key: &K,
@@ -101,10 +101,10 @@ impl<K: Ord + Clone + Drop, V: Eq + Clone + Drop, Node: NodeLike<MultiPair<K, V>
         self.take_cdc(place)
     }
 
-    /// Removes the first pair of a key whose value is equal, if any, and returns it. It compares, and uses
-    /// up numbers, as `remove_cdc` does, and fails with `Numbers` where they do not fit. It allocates only
-    /// where it merges two nodes of a type that allocates, and else does not fail with `Memory`. A failed
-    /// call changes nothing.
+    /// Removes the first pair of a key whose value is equal, if any, and returns it. It compares,
+    /// and consumes event numbers, as `remove_cdc` does, and fails with `Numbers` where they do not
+    /// fit. It allocates only where it merges two nodes of a type that allocates, and else does not
+    /// fail with `Memory`. A failed call changes nothing.
     ///
     /// ```
     /// let mut tags: multimap::BTreeMultiMap<u64, u64, Vec<MultiPair<u64, u64>>> = multimap::BTreeMultiMap::new(alloc);

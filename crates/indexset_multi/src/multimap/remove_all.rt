@@ -19,9 +19,9 @@ impl<K: Ord + Clone + Drop, V: Eq + Clone + Drop, Node: NodeLike<MultiPair<K, V>
     V,
     Node,
 > {
-    /// Removes all pairs of a key, the first of them again and again by `remove_some`, and returns how
-    /// many they were. Fails where one of these removals does: the pairs before it are gone, and it and
-    /// those after it stay. Where the key has no pair it does not fail.
+    /// Removes all pairs of a key, the first of them again and again by `remove_some`, and returns
+    /// how many they were. Fails where one of these removals does: the pairs before it are removed,
+    /// and it and those after it stay. Where the key has no pair it does not fail.
     pub fn remove_all(&mut self, key: &K) -> Result<usize, Refusal>
         ensures count { IfOk result (λ n. n ≡ length (pairs_of K.cmp
             (joined self.old.nodes) key.now)) }
@@ -43,11 +43,11 @@ impl<K: Ord + Clone + Drop, V: Eq + Clone + Drop, Node: NodeLike<MultiPair<K, V>
         Ok(count)
     }
 
-    /// Removes all pairs of a key, as `remove_all` does, and returns how many they were, and the events.
-    /// Fails where one of these removals does, or where the list of events has no room for more, with
-    /// `Numbers` where too few are left for that removal, else with `Memory`: the pairs before it are
-    /// gone, and their events are handed back; it and those after it stay. Where the key has no pair it
-    /// allocates nothing.
+    /// Removes all pairs of a key, as `remove_all` does, and returns how many they were, and the
+    /// events. Fails where one of these removals does, or where the list of events has no room for
+    /// more, with `Numbers` where too few are left for that removal, else with `Memory`: the pairs
+    /// before it are removed, and their events are returned; it and those after it stay. Where the
+    /// key has no pair it allocates nothing.
     pub fn remove_all_cdc(
         &mut self,
         key: &K,
@@ -88,8 +88,8 @@ impl<K: Ord + Clone + Drop, V: Eq + Clone + Drop, Node: NodeLike<MultiPair<K, V>
         }
     }
 
-    // Removes the first pair of a key, if any, adds the events to others, and returns whether there was
-    // one. A failed call changes nothing.
+    // Removes the first pair of a key, if any, adds the events to others, and returns whether there
+    // was one. A failed call changes nothing.
     fn remove_next(
         &mut self,
         key: &K,

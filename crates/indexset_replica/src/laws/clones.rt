@@ -1,5 +1,5 @@
-//! Types whose clones equal their sources by the order, as the law [`super::replay_of_clones`] and the
-//! calls that cite it ask.
+//! Types whose clones equal their sources by the order, as the law [`super::replay_of_clones`] and
+//! the calls that cite it ask.
 
 ghost use Rattle.std.specs.Prelude.{◌≡◌};
 ghost use Rattle.indexset_core.specs.MultiPairs.{by_number};
