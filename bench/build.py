@@ -84,6 +84,18 @@ def program(name: str) -> pathlib.Path | None:
     return made if made.exists() else None
 
 
+def compilers() -> str:
+    """The compilers of the programs, with their versions and what they are told."""
+    asked = {"ours": ["rt", "version"], "Rust crate and std": ["rustc", "--version"], "pb_ds": ["g++", "--version"]}
+    told = {"ours": "", "Rust crate and std": ", optimised", "pb_ds": ", `-O2`"}
+    found = []
+    for name, words in asked.items():
+        if shutil.which(words[0]):
+            said = subprocess.run(words, stdout=subprocess.PIPE, text=True).stdout.splitlines()[0]
+            found.append(f"{name}: {said}{told[name]}")
+    return "; ".join(found)
+
+
 def built() -> dict[str, pathlib.Path]:
     """The programs by name, ours first."""
     OUT.mkdir(exist_ok=True)

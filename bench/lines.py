@@ -67,9 +67,9 @@ def of_each(program: pathlib.Path, times: int) -> list[list[str]]:
 def paces(program: pathlib.Path, follower: pathlib.Path, text: bytes, events: bytes, times: int) -> list[list[str]]:
     """How many events a second come of a text, are followed, and both."""
     spent = {
-        "events told, to nowhere": least(times, lambda: seconds(program, text)),
+        "events written, to nowhere": least(times, lambda: seconds(program, text)),
         "events followed, from a file": least(times, lambda: seconds(follower, events)),
-        "events told and followed, through a pipe": least(times, lambda: piped(program, follower, text)),
+        "events written and followed, through a pipe": least(times, lambda: piped(program, follower, text)),
     }
     count = events.count(b"\n")
     return [[name, f"{count / it / 1e6:.2f} million a second"] for name, it in spent.items()]
@@ -86,4 +86,4 @@ def of_lines(times: int) -> str | None:
     events = events_of(program, text)
     rows += paces(program, follower, text, events, times)
     count = events.count(b"\n")
-    return f"The programs, over {LINES:,} lines, and over {COMMANDS:,} puts at {KEYS:,} keys, which tell {count:,} events:\n\n" + table(["", ""], rows)
+    return f"The programs, over {LINES:,} lines, and over {COMMANDS:,} puts at {KEYS:,} keys, which give {count:,} events:\n\n" + table(["what", "time"], rows)

@@ -22,7 +22,9 @@ PANELS = [
     "iterate",
 ]
 COLOURS = ["#1f4e9c", "#c2571a", "#3f8f3f", "#8a3f8f"]
-WIDTH, HEIGHT, LEFT, TOP, COLUMNS = 300, 200, 52, 30, 3
+WIDTH, HEIGHT, LEFT, RIGHT, TOP, COLUMNS = 300, 200, 52, 34, 30, 3
+HEAD, FOOT = 64, 24  # what stands above the panels, and below them
+SAID = "Nanoseconds (ns) or microseconds (µs) an operation, by number of keys; lower is better. Both scales are logarithmic."
 
 Points = list[tuple[int, float]]  # numbers of keys, each with its nanoseconds
 Shapes = list[str]
@@ -35,7 +37,7 @@ def unit(nanoseconds: float) -> str:
 def across(keys: list[int], x0: int) -> Callable[[int], float]:
     """Where a number of keys stands in a panel."""
     low, high = math.log10(min(keys)), math.log10(max(keys))
-    return lambda k: x0 + LEFT + (math.log10(k) - low) / max(high - low, 1) * (WIDTH - LEFT - 16)
+    return lambda k: x0 + LEFT + (math.log10(k) - low) / max(high - low, 1) * (WIDTH - LEFT - RIGHT)
 
 
 def scale(low: int, high: int, x0: int, y: Callable[[float], float]) -> Shapes:
@@ -43,7 +45,7 @@ def scale(low: int, high: int, x0: int, y: Callable[[float], float]) -> Shapes:
     out: Shapes = []
     for power in range(low, high + 1):
         at = y(10**power)
-        out.append(f'<line x1="{x0 + LEFT}" x2="{x0 + WIDTH - 16}" y1="{at:.1f}" y2="{at:.1f}" stroke="#ddd"/>')
+        out.append(f'<line x1="{x0 + LEFT}" x2="{x0 + WIDTH - RIGHT}" y1="{at:.1f}" y2="{at:.1f}" stroke="#ddd"/>')
         out.append(f'<text x="{x0 + LEFT - 4}" y="{at + 4:.1f}" text-anchor="end">{unit(10**power)}</text>')
     return out
 
@@ -61,11 +63,22 @@ def panel(what: str, lines: list[Points], x0: int, y0: int) -> Shapes:
 
     out = [f'<text x="{x0 + LEFT}" y="{y0 + 18}" font-weight="bold">{what}</text>', *scale(low, high, x0, y)]
     for k in sorted(set(keys)):
-        out.append(f'<text x="{x(k):.1f}" y="{y0 + HEIGHT - 10}" text-anchor="middle">1e{round(math.log10(k))}</text>')
+        out.append(f'<text x="{x(k):.1f}" y="{y0 + HEIGHT - 10}" text-anchor="middle">{k:,}</text>')
     for points, colour in zip(lines, COLOURS):
         path = " ".join(f"{x(k):.1f},{y(t):.1f}" for k, t in points)
         out.append(f'<polyline points="{path}" fill="none" stroke="{colour}" stroke-width="2"/>')
         out += [f'<circle cx="{x(k):.1f}" cy="{y(t):.1f}" r="2.5" fill="{colour}"/>' for k, t in points]
+    return out
+
+
+def legend(names: list[str]) -> Shapes:
+    """What the picture shows, and the line of each library."""
+    out = [f'<text x="20" y="20" font-size="13" font-weight="bold">{SAID}</text>']
+    for at, (name, colour) in enumerate(zip(names, COLOURS)):
+        x = 20 + 160 * at
+        out.append(f'<line x1="{x}" x2="{x + 28}" y1="42" y2="42" stroke="{colour}" stroke-width="2"/>')
+        out.append(f'<circle cx="{x + 14}" cy="42" r="2.5" fill="{colour}"/>')
+        out.append(f'<text x="{x + 36}" y="46" font-size="13">{name}</text>')
     return out
 
 
@@ -76,11 +89,10 @@ def plot(names: list[str], keys: list[int], figures: Figures) -> str:
         return [(k, figures[name][k][what]) for k in keys if figures[name][k].get(what, 0) > 0]
 
     shown = [what for what in PANELS if any(points(name, what) for name in names)]
-    width, height = WIDTH * COLUMNS, HEIGHT * -(-len(shown) // COLUMNS) + 30
+    width, height = WIDTH * COLUMNS, HEIGHT * -(-len(shown) // COLUMNS) + HEAD + FOOT
     out = [f'<svg xmlns="http://www.w3.org/2000/svg" width="{width}" height="{height}" font-family="sans-serif" font-size="11">']
-    out.append(f'<rect width="{width}" height="{height}" fill="white"/>')
+    out += [f'<rect width="{width}" height="{height}" fill="white"/>', *legend(names)]
     for at, what in enumerate(shown):
-        out += panel(what, [points(name, what) for name in names], at % COLUMNS * WIDTH, at // COLUMNS * HEIGHT + 24)
-    for at, (name, colour) in enumerate(zip(names, COLOURS)):
-        out.append(f'<text x="{20 + 160 * at}" y="16" fill="{colour}" font-weight="bold">{name}</text>')
+        out += panel(what, [points(name, what) for name in names], at % COLUMNS * WIDTH, at // COLUMNS * HEIGHT + HEAD)
+    out.append(f'<text x="{width / 2:g}" y="{height - 8}" text-anchor="middle">number of keys</text>')
     return "\n".join([*out, "</svg>"]) + "\n"

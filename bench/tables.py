@@ -62,23 +62,24 @@ def shown(figure: float | None) -> str:
 
 
 def table(head: Sequence[str], lines: Sequence[Sequence[str]]) -> str:
-    return "\n".join([f"| {' | '.join(head)} |", "|---" * len(head) + "|", *(f"| {' | '.join(it)} |" for it in lines)]) + "\n"
+    return "\n".join(f"|{'|'.join(it)}|" for it in [head, ["---"] * len(head), *lines]) + "\n"
 
 
-def of_sets(names: list[str], keys: list[int], figures: Figures) -> str:
-    lines: list[list[str]] = []
-    for row in figures["ours"][keys[0]]:
-        cells = ["/".join(shown(figures[name][k].get(row)) for name in names) for k in keys]
-        lines.append([row, *cells])
-    return f"Nanoseconds an operation, {'/'.join(names)}:\n\n" + table(["", *(f"{k:,}" for k in keys)], lines)
+def of_sets(names: list[str], keys: list[int], figures: Figures, compilers: str) -> str:
+    """A table for each number of keys, a column for each library."""
+    parts = [f"Nanoseconds an operation; lower is better. Compilers: {compilers}.\n"]
+    for k in keys:
+        lines = [[row, *(shown(figures[name][k].get(row)) for name in names)] for row in figures["ours"][keys[0]]]
+        parts.append(f"### {k:,} keys\n\n" + table(["call", *names], lines))
+    return "\n".join(parts)
 
 
 def of_memory(programs: Programs) -> str:
     lines: list[list[str]] = []
     for order in ("ascending", "mixed"):
-        cells = ["/".join(shown(bytes_each(it, *size, order)) for it in programs.values()) for size in HELD]
-        lines.append([order, *cells])
-    return f"Bytes of memory an element, {'/'.join(programs)}:\n\n" + table(["keys inserted", *(f"{k:,}" for k, _ in HELD)], lines)
+        for size in HELD:
+            lines.append([order, f"{size[0]:,}", *(shown(bytes_each(it, *size, order)) for it in programs.values())])
+    return "### Bytes of memory an element\n\n" + table(["inserted", "keys", *programs], lines)
 
 
 PER_EVENT = ", an event"
@@ -94,13 +95,16 @@ def of_logged_call(call: str, figure: float) -> str:
 
 
 def of_logged(program: pathlib.Path, keys: list[int], times: int) -> str:
+    """A table for each number of keys, a column for each type and size of nodes."""
     found = {k: medians({"ours": program}, "logged", k, times)["ours"] for k in keys}
     nodes = list(dict.fromkeys(row.partition(": ")[0] for row in found[keys[0]]))
     calls = list(dict.fromkeys(row.partition(": ")[2] for row in found[keys[0]]))
-    at = "/".join(f"{k:,}" for k in keys)
+    return logged_tables(nodes, calls, found)
 
-    def cell(call: str, node: str) -> str:
-        return "/".join(of_logged_call(call, found[k][f"{node}: {call}"]) for k in keys)
 
-    lines = [[of_call(call), *(cell(call, node) for node in nodes)] for call in calls]
-    return f"The logged set and a replica at {at} keys, by node type and size, nanoseconds an operation:\n\n" + table(["", *nodes], lines)
+def logged_tables(nodes: list[str], calls: list[str], found: Mapping[int, Rows]) -> str:
+    parts = ["The logged set and a replica, by type and size of nodes, nanoseconds an operation.\n"]
+    for k, rows in found.items():
+        lines = [[of_call(call), *(of_logged_call(call, rows[f"{node}: {call}"]) for node in nodes)] for call in calls]
+        parts.append(f"### {k:,} items, logged\n\n" + table(["call", *nodes], lines))
+    return "\n".join(parts)

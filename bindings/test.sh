@@ -3,7 +3,7 @@
 # named in a line. The last line counts them.
 set -u
 cd "$(dirname "$0")"
-make -s -C c all || exit 1
+make -s -C c all out/examples.cpp || exit 1
 rm -rf python/out
 mkdir -p python/out/logs
 cp -r python/indexset python/test_*.py python/peer_tests.py python/out
@@ -37,6 +37,9 @@ sanitized() {
 }
 
 try make -s -j "$(nproc)" -C c check
+for compiler in g++ clang++; do
+    has "$compiler" "the header for C++ by it" && try make -s -j "$(nproc)" -C c "check-$compiler"
+done
 try c/test_install.sh
 try python3 python/test_package.py
 try env PYTHONPATH=python/out python3 -m doctest README.md

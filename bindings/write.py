@@ -4,7 +4,8 @@
     bindings/write.py [--check]      `--check` writes nothing, and fails where something is out of date
 
 In the header each prototype is written in its place: what stands around it is written by hand, and a new call needs
-its comment there first. A slice of an export is a pointer and a length in C.
+its comment there first. A slice of an export is a pointer and a length in C. A handle is const where a clause says
+that what it leads to stays.
 """
 
 from __future__ import annotations
@@ -22,7 +23,7 @@ TABLE = HERE / "python/indexset/_signatures.py"
 HANDLES = {"Set": "set", "Map": "map", "Text": "text_map", "Multi": "multi", "Log": "log", "Replica": "replica"}
 PLAIN = {"u8": "void", "u32": "uint32_t", "u64": "uint64_t", "usize": "size_t", "bool": "bool", "Event": "indexset_event", "": "void"}
 IN_PYTHON = {"u32": "c_uint32", "u64": "c_uint64", "usize": "c_size_t", "bool": "c_bool", "": "None"}
-EXPORT = re.compile(r'pub extern "C" fn indexset_(\w+)\(([^)]*)\)(?: -> (\w+))?\s')
+EXPORT = re.compile(r'pub extern "C" fn indexset_(\w+)\(([^)]*)\)(?: -> (\w+))?\s(.*?)^\{', re.M | re.S)
 PROTOTYPE = re.compile(r"^\w[\w ]* \*?indexset_(\w+)\([^)]*\);$", re.M)
 
 
@@ -32,6 +33,7 @@ class Word:
 
     name: str
     kind: str
+    stays: bool
 
     def is_slice(self, of: str = "") -> bool:
         return self.kind.startswith(f"&{of}[")
@@ -50,12 +52,13 @@ class Word:
     def in_c(self, words: list[Word]) -> str:
         """The parameters of C that stand for it."""
         base = self.base()
-        if base.endswith("Handle"):
-            handle = HANDLES[base.removesuffix("Handle")]
-            return f"indexset_{handle} *{handle.removeprefix('text_') if self.name == 'handle' else self.name}"
+        const = "const " if self.stays or not self.kind.startswith("&mut ") else ""
+        if base.endswith(("Handle", "Owner")):
+            handle = HANDLES[base.removesuffix("Handle").removesuffix("Owner")]
+            stars = "*" if base.endswith("Handle") else "**"
+            return f"{const}indexset_{handle} {stars}{handle.removeprefix('text_') if self.name == 'handle' else self.name}"
         if not self.kind.startswith("&"):
             return f"{PLAIN[base]} {self.name}"
-        const = "" if self.kind.startswith("&mut ") else "const "
         length = f", size_t {self.length(words)}" if "[" in self.kind else ""
         return f"{const}{PLAIN[base]} *{self.name}{length}"
 
@@ -87,9 +90,10 @@ def calls() -> list[Call]:
     """The exports, file by file."""
     found = []
     for file in sorted(EXPORTS.glob("*.rt")):
-        for name, words, result in EXPORT.findall(file.read_text(encoding="utf-8")):
+        for name, words, result, clauses in EXPORT.findall(file.read_text(encoding="utf-8")):
             pairs = [it.split(": ") for it in re.sub(r"\s+", " ", words).strip(" ,").split(", ") if it]
-            found.append(Call(name, [Word(it[0], it[1]) for it in pairs if it[1] != "Global"], result))
+            stay = re.findall(r"\{ (\w+)\.new\.slot\.value ≡ \1\.old\.slot\.value \}", clauses)
+            found.append(Call(name, [Word(it[0], it[1], it[0] in stay) for it in pairs if it[1] != "Global"], result))
     return found
 
 

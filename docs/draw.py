@@ -63,19 +63,21 @@ def two_levels(x: int, y: int) -> Shapes:
     """A list of nodes with its index, a look-up by position and one by key."""
     lists = [[2, 5, 7], [11, 13], [17, 19, 23, 29]]
     edges = lefts(x, lists)
-    out = title(x, y, "A set: one ascending list, cut into nodes") + nodes(x, y + 72, lists)
-    for left, items, total in zip(edges, lists, [3, 5, 4]):
-        out += cell(left, y + 16, total, INDEX, CELL * len(items))
+    out = title(x, y, "A set: one ascending list, cut into nodes") + nodes(x, y + 80, lists)
+    for left, items, (sum_of, total) in zip(edges, lists, [("length", 3), ("3 + 2", 5), ("length", 4)]):
+        out += text(left + CELL * len(items) / 2, y + 18, sum_of, "middle", SOFT)
+        out += cell(left, y + 24, total, INDEX, CELL * len(items))
     side = edges[-1] + CELL * 4 + 24
-    out += text(side, y + 35, "index: sums of node lengths (a Fenwick tree)", colour=SOFT)
-    out += text(side, y + 91, "nodes: each within the node size, none empty", colour=SOFT)
+    out += text(side, y + 35, "the index, a Fenwick tree: a cell is the length of its node,", colour=SOFT)
+    out += text(side, y + 51, "every second one with that of the node before, and so on", colour=SOFT)
+    out += text(side, y + 99, "the nodes: each within the node size, none empty", colour=SOFT)
     middle = edges[1] + CELL * 1.5
-    out += arrow(edges[1] + CELL, y + 44, middle, y + 71)
-    out += arrow(middle, y + 129, middle, y + 101) + code(middle, y + 143, "get_index(4)", "middle")
+    out += arrow(edges[1] + CELL, y + 52, middle, y + 79)
+    out += arrow(middle, y + 137, middle, y + 109) + code(middle + 12, y + 151, "get_index(4)", "end")
     found = edges[2] + CELL * 1.5
-    out += arrow(found, y + 129, found, y + 101) + code(found + 4, y + 143, "contains(&amp;19)", "middle")
-    out += text(side, y + 135, "a position goes through the index; a key is sought", colour=SOFT)
-    out += text(side, y + 151, "among the nodes' last items, and then in one node", colour=SOFT)
+    out += arrow(found, y + 137, found, y + 109) + code(found - 30, y + 151, "contains(&amp;19)")
+    out += text(side, y + 135, "a position is found through the index; a key among", colour=SOFT)
+    out += text(side, y + 151, "the nodes' last items, and then in one node", colour=SOFT)
     return out
 
 
@@ -98,7 +100,7 @@ def an_event(x: int, y: int, number: int, words: Sequence[str], arrow_to: tuple[
 
 def a_replica(x: int, y: int) -> Shapes:
     """The nodes of a replica, before the events and after each."""
-    out = text(x, y + 26, "the replica: the same nodes after each", colour=SOFT)
+    out = text(x, y + 26, "the replica, after each event", colour=SOFT)
     out += nodes(x, y + 36, [[0, 2, 4, 6]])
     out += nodes(x, y + 79, [[0, 2], [4, 6]])
     return out + nodes(x, y + 122, [[0, 2], [3, 4, 6]], [3])
@@ -119,12 +121,12 @@ def a_change(x: int, y: int) -> Shapes:
 
 def main() -> None:
     argparse.ArgumentParser(description="Draws docs/nodes.svg.").parse_args()
-    width, height = 840, 400
+    width, height = 860, 412
     out = [
         f'<svg xmlns="http://www.w3.org/2000/svg" width="{width}" height="{height}" viewBox="0 0 {width} {height}" font-family="sans-serif" font-size="13">',
         f'<rect width="{width}" height="{height}" fill="white"/>',
     ]
-    out += two_levels(24, 30) + a_change(24, 226) + ["</svg>"]
+    out += two_levels(24, 30) + a_change(24, 238) + ["</svg>"]
     (pathlib.Path(__file__).resolve().parent / "nodes.svg").write_text("\n".join(out) + "\n", encoding="utf-8")
 
 

@@ -1,9 +1,10 @@
 #!/usr/bin/env python3
-"""Writes docs/CONTRACTS.md and docs/GLOSSARY.md from the sources.
+"""Writes docs/contracts/ and docs/GLOSSARY.md from the sources.
 
-CONTRACTS.md has each public call of the library crates with its clauses. GLOSSARY.md has the terms, from
-the comment at the head of the words that indexset passes on, and each word that the clauses use, with the
-comment beside its definition.
+docs/contracts has each public call of the library crates with its clauses, a page for each type of the crate
+`indexset` and for each inner crate, and an index. GLOSSARY.md has the terms, from the comment at the head of the
+words that indexset passes on, and each word that the clauses of the pages of types use, with the comment beside its
+definition.
 """
 
 from __future__ import annotations
@@ -18,7 +19,22 @@ from collections.abc import Callable, Iterable, Iterator
 
 ROOT = pathlib.Path(__file__).resolve().parent.parent
 HIDDEN_GHOSTS = re.compile(r"ghost (use|laws|Value|view|code|invariant)\b")
+LONGEST = 80  # of a definition that the glossary shows
 CLAUSE = re.compile(r"(requires|ensures)\b")
+# The pages of types: their title, crate, and the folder or file of its sources. Other crates have a page each.
+PAGES = {
+    "set": ("Set", "indexset_set", ""),
+    "map": ("Map", "indexset_map", ""),
+    "logged_set": ("Logged set", "indexset_log", "set"),
+    "logged_map": ("Logged map", "indexset_log", "map"),
+    "multimap": ("Multimap", "indexset_multi", ""),
+    "replica": ("Replica", "indexset_replica", ""),
+    "events": ("Events", "indexset_events", ""),
+    "journal": ("Journal", "indexset_journal", ""),
+    "base": ("What all stand on: `indexset::base`", "indexset_core", ""),
+}
+FOR_C = {"c": ("Calls of the C library", "indexset_c", "")}
+INNER = ("inner", "inner/")  # what a crate of a type has for the crates above it alone
 
 
 @dataclasses.dataclass(frozen=True)
@@ -33,17 +49,16 @@ class Call:
 
 @dataclasses.dataclass(frozen=True)
 class Word:
-    """A word of the contracts: its type, and what its comment says, or else its definition."""
+    """A word of the contracts, and what its comment says, or else its short definition."""
 
     name: str
-    kind: str
     says: str
 
 
 def library_crates() -> list[str]:
     """The crates of crates.txt that are neither programs nor tests nor what tests play on, in its order."""
     lines = (ROOT / "crates.txt").read_text(encoding="utf-8").splitlines()
-    names = [line.split(":")[0].strip() for line in lines if line.strip()]
+    names = [line.split(":")[0].split()[0] for line in lines if line.strip() and not line.startswith("#")]
     return [it for it in names if (ROOT / "crates" / it / "src/lib.rt").exists() and not it.endswith(("_tests", "_play"))]
 
 
@@ -169,8 +184,8 @@ def is_ghost_member(text: str) -> bool:
 def is_call(line: str, owner: str, free: Callable[[str], bool], public: set[str]) -> bool:
     """Whether a line begins a function that a caller can name."""
     if not owner:
-        function = re.match(r"pub fn (\w+)", line)
-        return function is not None and free(function[1])
+        function = re.match(r'pub (?:extern "C" )?fn (\w+)', line)
+        return function is not None and ('extern "C"' in line or free(function[1]))
     heads = ("pub fn ", "fn ") if owner.startswith("pub trait") else ("pub fn ",)
     return owner_type(owner) in public and line.strip().startswith(heads)
 
@@ -184,46 +199,139 @@ def public_names(crates: list[str]) -> set[str]:
     return names
 
 
-def lines_of(calls: Iterable[Call]) -> list[str]:
-    """The lines of a file's calls: each owner, and below it each call; ghost members of one owner together."""
-    out: list[str] = []
-    last = ""
-    for it in calls:
-        if it.owner not in ("", last):
-            out += [f"#### `{it.owner}`", ""]
-        if it.doc:
-            out += [it.doc, ""]
-        if it.signature:
-            out += ["```text", it.signature, *("    " + clause for clause in it.clauses), "```", ""]
-        elif it.clauses and not it.doc and it.owner == last and out[-2:] == ["```", ""]:
-            out[-2:] = [*it.clauses, "```", ""]
-        elif it.clauses:
-            out += ["```text", *it.clauses, "```", ""]
-        last = it.owner
-    return out
+@dataclasses.dataclass(frozen=True)
+class Page:
+    """A page of contracts, with the names of its calls and the anchor of each, by the type that has them."""
+
+    title: str
+    lines: list[str]
+    calls: dict[str, list[tuple[str, str]]]
 
 
-def chapter(crate: str, public: set[str]) -> list[str]:
-    """The lines of the calls of a crate, file by file."""
+def name_of(it: Call) -> str:
+    """The name of a call, with that of its type."""
+    function = re.search(r"\bfn (\w+)", it.signature)
+    owner = owner_type(it.owner)
+    return "::".join(word for word in (owner, function[1] if function else "") if word)
+
+
+def anchor_of(heading: str, taken: dict[str, int]) -> str:
+    """The anchor of a heading of a page, where others have come before it."""
+    plain = re.sub(r"[^\w\- ]", "", heading.lower()).replace(" ", "-")
+    taken[plain] = taken.get(plain, -1) + 1
+    return f"{plain}-{taken[plain]}" if taken[plain] else plain
+
+
+def shown(it: Call, page: Page, taken: dict[str, int]) -> None:
+    """Adds a call to a page, with a heading and an anchor."""
+    name = name_of(it)
+    page.lines.extend([f"### `{name}`", ""])
+    anchor = anchor_of(name, taken)
+    owner, _, function = name.rpartition("::")
+    page.calls.setdefault(owner, []).append((function, anchor))
+    said = [it.doc] if it.doc else []
+    head = [it.owner] if it.owner else []
+    page.lines.extend([*said, *[""] * len(said), "```text", *head, it.signature, *("    " + clause for clause in it.clauses), "```", ""])
+
+
+def add_ghosts(it: Call, page: Page, last: str) -> None:
+    """Adds the head of a trait, or ghost members; those of one owner stand together."""
+    lines = page.lines
+    if it.owner not in ("", last):
+        lines.extend([f"#### `{it.owner}`", ""])
+    if it.doc:
+        lines.extend([it.doc, ""])
+    if it.clauses and not it.doc and it.owner == last and lines[-2:] == ["```", ""]:
+        lines[-2:] = [*it.clauses, "```", ""]
+    elif it.clauses:
+        lines.extend(["```text", *it.clauses, "```", ""])
+
+
+def files_of(crate: str, part: str) -> Iterator[pathlib.Path]:
+    """The source files of a page: of a part of the crate, what the folder or the file of that name has."""
     src = ROOT / "crates" / crate / "src"
-    out: list[str] = []
     for file in source_files(crate):
+        name = str(file.relative_to(src).with_suffix(""))
+        if name not in INNER and not name.startswith(INNER) and (not part or name == part or name.startswith(part + "/")):
+            yield file
+
+
+def files_apart(crate: str) -> Iterator[pathlib.Path]:
+    """The source files of a crate that are on no page of a type."""
+    apart = {file for _, name, part in {**PAGES, **FOR_C}.values() if name == crate for file in files_of(crate, part)}
+    return (file for file in source_files(crate) if file not in apart)
+
+
+def page_of(title: str, crate: str, files: Iterable[pathlib.Path], public: set[str]) -> Page:
+    """The page of some files of a crate."""
+    src = ROOT / "crates" / crate / "src"
+    page = Page(title, [], {})
+    taken: dict[str, int] = {}
+    for file in files:
         seen, names = is_open(file, src), passed_on(file, src)
-        calls = calls_of(file.read_text(encoding="utf-8"), lambda name: seen or name in names, public)
-        if section := lines_of(calls):
-            out += [f"### `{file.relative_to(ROOT / 'crates')}`", "", *section]
-    return out
+        found = list(calls_of(file.read_text(encoding="utf-8"), lambda name: seen or name in names, public))
+        if found:
+            heading = f"`{file.relative_to(ROOT / 'crates')}`"
+            anchor_of(heading, taken)
+            page.lines.extend([f"## {heading}", ""])
+        last = ""
+        for it in found:
+            if it.signature:
+                shown(it, page, taken)
+            else:
+                add_ghosts(it, page, last)
+            last = it.owner
+    return page
 
 
-def contracts() -> str:
-    """The text of CONTRACTS.md."""
+def pages_of_contracts() -> dict[str, Page]:
+    """The pages by name, those of types first."""
     crates = library_crates()
     public = public_names(crates)
-    out = ["# Contracts", "", "Each public call of the library crates with its clauses, written by `docs/write.py` from the sources. A `requires` is a condition on the caller; an `ensures` is proved. Of an `impl` of a trait the lines are its ghost members, which the trait's own contract uses. [GLOSSARY.md](GLOSSARY.md) has the words.", ""]
+    outer = [(name, it) for name, it in {**PAGES, **FOR_C}.items() if it[1] in crates]
+    found = {name: page_of(title, crate, files_of(crate, part), public) for name, (title, crate, part) in outer}
     for crate in crates:
-        if lines := chapter(crate, public):
-            out += [f"## `{crate}`", "", *lines]
+        short = crate.removeprefix("indexset_")
+        name = f"{short}_inner" if short in found else short
+        page = page_of(f"`{crate}`", crate, files_apart(crate), public)
+        if page.lines:
+            found[name] = page
+    return found
+
+
+ABOUT = "A `requires` is a condition on the caller; an `ensures` is proved. Of an `impl` of a trait the lines are its ghost members, which the trait's own contract uses. [GLOSSARY.md](../GLOSSARY.md) has the words."
+
+
+def text_of(page: Page) -> str:
+    """The text of a page of contracts."""
+    return "\n".join([f"# {page.title}", "", f"Written by `docs/write.py` from the sources; [the index](README.md) has all pages. {ABOUT}", "", *page.lines])
+
+
+def index(pages: dict[str, Page]) -> str:
+    """The text of the index: of each page the calls by type."""
+    out = ["# Contracts", "", f"Each public call of the library crates with its clauses, written by `docs/write.py` from the sources. {ABOUT}", ""]
+    heads = {next(iter(FOR_C)): "# For C", next(it for it in pages if it not in {**PAGES, **FOR_C}): "# Inner crates"}
+    for name, page in pages.items():
+        if name in heads:
+            out += [heads[name], ""]
+        out += [f"## [{page.title}]({name}.md)", ""]
+        for owner, calls in page.calls.items():
+            links = ", ".join(f"[`{call}`]({name}.md#{anchor})" for call, anchor in calls)
+            out.append(f"- `{owner}`: {links}" if owner else f"- {links}")
+        out.append("")
     return "\n".join(out)
+
+
+def contracts() -> dict[str, str]:
+    """The texts of docs/contracts, by the name of the file."""
+    pages = pages_of_contracts()
+    return {"contracts/README.md": index(pages), **{f"contracts/{name}.md": text_of(page) for name, page in pages.items()}}
+
+
+def words_used() -> set[str]:
+    """The words in the clauses of the pages of types."""
+    pages = pages_of_contracts()
+    return {word for name in PAGES if name in pages for line in pages[name].lines for word in re.findall(r"[^\W\d]\w*'*", line)}
 
 
 def words_of(text: str) -> Iterator[Word]:
@@ -235,12 +343,12 @@ def words_of(text: str) -> Iterator[Word]:
         if text.startswith("-- "):
             comment.append(text[3:])
             continue
-        found = re.match(r"(?:(?:abbrev|unfoldable) )?pub (record |opaque )?(\S+)(.*)", text)
+        found = re.match(r"(?:(?:abbrev|unfoldable) )?pub (record |opaque )?(\S+)", text)
         if found and found[2] != "mod" and is_definition(line):
-            name, rest = found[2], found[3].strip()
-            kind = re.sub(r" where$", "", rest[2:] if rest.startswith(": ") else rest)
+            name = found[2]
             definition = [it.strip() for it in lines[at + 1 : at + 3] if it.strip().startswith(name + " ")]
-            yield Word(name, kind, " ".join(comment) or (f"`{definition[0]}`" if definition else ""))
+            is_short = bool(definition) and len(definition[0]) <= LONGEST
+            yield Word(name, " ".join(comment) or (f"`{definition[0]}`" if is_short else ""))
         comment = []
 
 
@@ -251,12 +359,11 @@ def is_definition(line: str) -> bool:
     return not passed_on and (other or line.startswith("pub "))
 
 
-def passed_on_words() -> Iterator[str]:
-    """The words that indexset passes on, by file, as lines."""
+def passed_on_words() -> set[str]:
+    """The words that indexset passes on."""
     text = (ROOT / "crates/indexset/specs/Words.antt").read_text(encoding="utf-8")
-    for crate, file, names in re.findall(r"^(?:unfoldable )?pub use Rattle\.(\w+)\.specs\.(\w+)\.\{(.*?)\}", text, re.M):
-        listed = ", ".join(f"`{name.strip()}`" for name in names.split(","))
-        yield f"- of `{crate}/specs/{file}.antt`: {listed}"
+    lists = re.findall(r"^(?:unfoldable )?pub use [\w.]+\.\{(.*?)\}", text, re.M)
+    return {name.strip() for names in lists for name in names.split(",")}
 
 
 def terms() -> list[str]:
@@ -265,31 +372,42 @@ def terms() -> list[str]:
     return [line[2:].strip() for line in head.split("-- Terms:\n--\n")[1].splitlines()]
 
 
+def entry(it: Word) -> str:
+    """A line of the glossary."""
+    return f"- `{it.name}`: {it.says}"
+
+
 def glossary() -> str:
     """The text of GLOSSARY.md."""
-    out = ["# Glossary", "", "Written by `docs/write.py` from the comments in `crates/*/specs`: first the terms, then each word of the contracts with its type and what it means.", "", *terms(), "", "## Each word", "", "A word has the comment beside its definition, or the definition where there is no comment. `cmp` is the comparison of the element type, and of pairs that of the keys; parameters that several words of a file share, mostly `cmp`, come first and are left out here.", "", "## Passed on by `Rattle.indexset.specs.Words`", "", *passed_on_words(), ""]
+    out = ["# Glossary", "", "Written by `docs/write.py` from the comments in `crates/*/specs`: the terms, and each word that the contracts of the user's types use. The others are explained beside their definitions.", "", *terms(), "", "## Each word", "", "A word has the comment beside its definition, or a short definition. `cmp` is the comparison of the element type, and of pairs that of the keys. A word with a star is passed on by `Rattle.indexset.specs.Words`; any other is imported from the file of its heading.", ""]
+    used, passed = words_used(), passed_on_words()
     for crate in library_crates():
         for file in sorted((ROOT / "crates" / crate / "specs").glob("*.antt")):
-            if found := list(words_of(file.read_text(encoding="utf-8"))):
-                out += [f"## `{crate}/specs/{file.name}`", ""]
-                out += [f"- `{it.name} : {it.kind}`" + (f": {it.says}" if it.says else "") for it in found] + [""]
+            found = [it for it in words_of(file.read_text(encoding="utf-8")) if it.name in used]
+            if found and file.stem != "Words":
+                out += [f"### `{crate}/specs/{file.name}`", ""]
+                out += [entry(it) + (" \\*" if it.name in passed else "") for it in found] + [""]
     return "\n".join(out)
 
 
 def main() -> None:
-    ask = argparse.ArgumentParser(description="Writes docs/CONTRACTS.md and docs/GLOSSARY.md from the sources.")
+    ask = argparse.ArgumentParser(description="Writes docs/contracts and docs/GLOSSARY.md from the sources.")
     ask.add_argument("--check", action="store_true", help="write nothing, and fail where a page differs from what would be written")
     given = ask.parse_args()
-    pages = {"CONTRACTS.md": contracts(), "GLOSSARY.md": glossary()}
-    stale = []
+    folder = ROOT / "docs"
+    pages = {**contracts(), "GLOSSARY.md": glossary()}
+    stale = [f"contracts/{it.name}" for it in sorted((folder / "contracts").glob("*")) if f"contracts/{it.name}" not in pages]
     for name, text in pages.items():
-        file = ROOT / "docs" / name
+        file = folder / name
         if not given.check:
+            file.parent.mkdir(exist_ok=True)
             file.write_text(text, encoding="utf-8")
         elif not file.exists() or file.read_text(encoding="utf-8") != text:
             stale.append(name)
-    if stale:
+    if stale and given.check:
         sys.exit(f"stale: {', '.join(stale)}; run docs/write.py")
+    for name in stale:
+        (folder / name).unlink()
 
 
 if __name__ == "__main__":

@@ -10,7 +10,8 @@ other the body of a test. A comment before the block,
 
 gives the lines that go before a body, or the test of a module; `<!-- not run: why -->` leaves the block
 out. A line `EXPRESSION // TEXT` asserts that the value is printed so by `{:?}`. A function of a page that
-has clauses must stand, word for word, in the crate of proved callers.
+has clauses must stand, word for word, in the crate of proved callers, and a block with a `main` must be the root of a
+program of this repository.
 
 Where INDEXSET_PROGRAMS names a folder of built programs, `rt try` in a block of shell runs the program from there.
 
@@ -165,6 +166,13 @@ def unproved(blocks: list[Block]) -> list[str]:
     return found
 
 
+def no_program(blocks: list[Block]) -> list[str]:
+    """The blocks with a `main` that are no program of this repository."""
+    programs = [file.read_text(encoding="utf-8") for file in TOP.glob("crates/*/src/main.rt")]
+    shown = [it for it in blocks if it.language == "rust" and any(line.startswith("fn main(") for line in it.lines)]
+    return [f"{it.name}: no program of this repository" for it in shown if "\n".join(it.lines) + "\n" not in programs]
+
+
 # Stands for `rt` in the blocks of shell.
 BUILT = """#!/bin/sh
 program="{folder}/$(basename "$PWD")"
@@ -230,7 +238,7 @@ def main() -> int:
         lay.lay(pathlib.Path(room), lay.every())
         printed, faults = shell_faults(blocks, room)
         passed = run_tests(sources, room, show)
-    faults += unproved(blocks)
+    faults += unproved(blocks) + no_program(every)
     print(*(f"{it.name} is not run: {it.left_out}" for it in every if it.left_out), *faults, sep="\n")
     failed = sources.tests - passed + len(faults)
     print(f"{passed + printed} passed, {failed} failed")

@@ -3,8 +3,8 @@
 
 The crate `indexset` passes on modules and types: a module's functions count, with those of the modules
 within it, and the public functions of a type's own `impl` blocks, and a trait's. Each is to stand in the
-code of the page, those of the plain set and the plain map in the section of their calls. The last line is
-'N named, M missing'.
+code of the page, those of the plain set and the plain map in the section of their calls. Laws, and what is
+below the collections, stand in docs/contracts alone. The last line is 'N named, M missing'.
 """
 
 from __future__ import annotations
@@ -19,6 +19,7 @@ from dataclasses import dataclass
 TOP = pathlib.Path(__file__).resolve().parent.parent
 # The page's heading under which the calls of a crate stand, for those that have one.
 SECTIONS = {"indexset_set": "## Every call of the set", "indexset_map": "## Every call of the map"}
+BELOW = "indexset_core"
 
 
 @dataclass(frozen=True, order=True)
@@ -86,6 +87,8 @@ def calls() -> set[Call]:
     for crate, path in passed_on():
         files = module_files(crate, path)
         name = path.rsplit("::")[-1]
+        if crate == BELOW or "laws" in path.split("::"):
+            continue
         for file in files or sorted((TOP / "crates" / crate / "src").rglob("*.rt")):
             found |= {call for call in calls_in(crate, file) if files or call.owner == name}
     return found

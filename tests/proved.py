@@ -24,7 +24,7 @@ sys.path.insert(0, str(TOP / "tools"))
 import kit  # noqa: E402
 import testing  # noqa: E402
 
-NAMES = ["indexset_core", "indexset_text"]
+NAMES = ["indexset_core", "indexset_index"]
 TOLD = {"format": b"of ", "toolchain/checked.a": bytes(range(256)) * 40}
 
 
@@ -66,7 +66,7 @@ def proved(*words: str | pathlib.Path) -> tuple[bool, str]:
 def packed(room: pathlib.Path) -> pathlib.Path:
     """A pack of a checkout's two libraries."""
     file = room / "pack.tgz"
-    well, said = proved("pack", file, "--of", built(room / "from"), "--crate", "indexset_text")
+    well, said = proved("pack", file, "--of", built(room / "from"), "--crate", "indexset_index")
     assert well, said
     return file
 
@@ -148,7 +148,7 @@ def test_changed_source(room: pathlib.Path) -> None:
     to = laid_out(room / "to")
     with open(to / "crates/indexset_core/src/lib.rt", "a", encoding="utf-8") as it:
         it.write("// changed\n")
-    is_refused(room, packed(room), "other sources of indexset_core, indexset_text")
+    is_refused(room, packed(room), "other sources of indexset_core, indexset_index")
 
 
 def test_other_kit(room: pathlib.Path) -> None:
@@ -201,7 +201,7 @@ def test_link(room: pathlib.Path) -> None:
 def test_kept_for_these_sources(room: pathlib.Path) -> None:
     os.environ["XDG_CACHE_HOME"] = str(room / "cache")
     top, to = built(room / "from"), laid_out(room / "to")
-    name = ("--crate", "indexset_text")
+    name = ("--crate", "indexset_index")
     well, said = proved("lay", to, *name)
     assert not well and "there is no such file" in said, said
     well, said = proved("pack", "--of", top, *name)
@@ -214,8 +214,8 @@ def test_packs_no_stale_library(room: pathlib.Path) -> None:
     top = built(room / "from")
     with open(top / "crates/indexset_core/src/lib.rt", "a", encoding="utf-8") as it:
         it.write("// changed\n")
-    well, said = proved("pack", room / "pack.tgz", "--of", top, "--crate", "indexset_text")
-    assert not well and "not built of these sources: indexset_core, indexset_text" in said, said
+    well, said = proved("pack", room / "pack.tgz", "--of", top, "--crate", "indexset_index")
+    assert not well and "not built of these sources: indexset_core, indexset_index" in said, said
 
 
 def in_a_room(test: Callable[[pathlib.Path], None]) -> None:

@@ -7,9 +7,13 @@
  * empty collection, and one that adds answers INDEXSET_NONE.
  *
  * Who owns what: the library owns what a handle leads to, and the caller owns the handle and every
- * array and number that it passes. A handle is passed by its address. It is never copied, since two
- * copies would lead to one collection, and its two fields are never written. A handle that goes out
- * of use is freed first, or its memory is lost.
+ * array and number that it passes. A handle is passed by its address. No two handles lead to one
+ * collection: a handle is moved by indexset_set_move or indexset_set_swap, or with the memory that it
+ * lies in, as realloc does, where its old place is used no more. Its two fields are never written. A
+ * handle that goes out of use is freed first, or its memory is lost.
+ *
+ * Const: a call that takes a handle as const leaves it, and what it leads to, as they were. It writes to
+ * the handle meanwhile, so a handle is not itself an object of a const type.
  *
  * Threads: a handle is for one thread, the one that made its collection, and is in one call at a time.
  * Handles of several threads do not touch each other. No call may be made from a signal handler, nor
@@ -28,6 +32,7 @@
 #include <stdbool.h>
 #include <stddef.h>
 #include <stdint.h>
+#include <string.h>
 
 #ifdef __cplusplus
 extern "C" {
@@ -60,7 +65,7 @@ typedef struct indexset_set {
 } indexset_set;
 
 /* What a handle starts as: `indexset_set set = INDEXSET_HANDLE;` */
-#define INDEXSET_HANDLE {0}
+#define INDEXSET_HANDLE {NULL, false}
 
 /* Returns the version of the library: major * 65536 + minor * 256 + patch. */
 uint32_t indexset_version(void);
@@ -72,55 +77,85 @@ uint32_t indexset_set_new(indexset_set *set);
 /* Makes a clone of a set under the handle `to`. INDEXSET_YES, or INDEXSET_MEMORY, or INDEXSET_NONE
  * where `set` leads to none, or else INDEXSET_HELD where `to` leads to a set. `set` never changes, and
  * `to` only where it is INDEXSET_YES. */
-uint32_t indexset_set_clone(indexset_set *set, indexset_set *to);
+uint32_t indexset_set_clone(const indexset_set *set, indexset_set *to);
 
 /* Frees the set, and leaves the handle with none. Of a handle with none it does nothing. */
 void indexset_set_free(indexset_set *set);
+
+/* Makes an empty set, under a handle on the heap, and writes where the handle lies. INDEXSET_YES, or INDEXSET_MEMORY; unless it is
+ * INDEXSET_YES, nothing is written. Each call takes this handle too. */
+uint32_t indexset_set_create(indexset_set **set);
+
+/* Frees a handle that indexset_set_create made, and what it leads to, and writes a null pointer. */
+void indexset_set_destroy(indexset_set **set);
+
+/* Moves a set from one handle to another: frees what `to` leads to, has `to` lead to what `from` leads to, and
+ * leaves `from` with none. */
+void indexset_set_move(indexset_set *to, indexset_set *from);
+
+/* Swaps what two handles lead to. */
+void indexset_set_swap(indexset_set *one, indexset_set *other);
 
 /* Removes all elements. It takes no memory. */
 void indexset_set_clear(indexset_set *set);
 
 /* Returns how many elements there are. */
-size_t indexset_set_len(indexset_set *set);
+size_t indexset_set_len(const indexset_set *set);
 
 /* Adds a key. INDEXSET_YES, or INDEXSET_NO where it is there, or INDEXSET_MEMORY, or INDEXSET_NONE;
  * unless it is INDEXSET_YES, nothing changes. */
 uint32_t indexset_set_insert(indexset_set *set, uint64_t key);
 
+/* Adds a key in the same way, and writes its rank to `rank`, which is the position where it stands then, also
+ * where it was there. `rank` is written for INDEXSET_YES and INDEXSET_NO alone. It costs a search more. */
+uint32_t indexset_set_insert_ranked(indexset_set *set, uint64_t key, size_t *rank);
+
 /* Removes a key. True, or false where it is not there, and then nothing changes. */
 bool indexset_set_remove(indexset_set *set, uint64_t key);
 
 /* Tells whether a key is there. */
-bool indexset_set_contains(indexset_set *set, uint64_t key);
+bool indexset_set_contains(const indexset_set *set, uint64_t key);
 
 /* Returns how many elements are below a key. */
-size_t indexset_set_rank(indexset_set *set, uint64_t key);
+size_t indexset_set_rank(const indexset_set *set, uint64_t key);
+
+/* Returns how many elements are not above a key. The elements from `low` to `high` stand at the positions
+ * from the rank of `low` on, up to this number of `high`. */
+size_t indexset_set_count_up_to(const indexset_set *set, uint64_t key);
 
 /* Writes the first element that is not below a key. True, or false where there is none, and then
  * nothing is written. */
-bool indexset_set_lower_bound(indexset_set *set, uint64_t key, uint64_t *out);
+bool indexset_set_lower_bound(const indexset_set *set, uint64_t key, uint64_t *out);
+
+/* Writes the first element that is above a key. True, or false where there is none, and then nothing is
+ * written. */
+bool indexset_set_upper_bound(const indexset_set *set, uint64_t key, uint64_t *out);
 
 /* Writes the element at a position, counted from 0. True, or false where there is none, and then
  * nothing is written. */
-bool indexset_set_at(indexset_set *set, size_t position, uint64_t *out);
+bool indexset_set_at(const indexset_set *set, size_t position, uint64_t *out);
 
 /* Writes the least or the greatest element. True, or false where the set is empty, and then nothing is
  * written. */
-bool indexset_set_first(indexset_set *set, uint64_t *out);
-bool indexset_set_last(indexset_set *set, uint64_t *out);
+bool indexset_set_first(const indexset_set *set, uint64_t *out);
+bool indexset_set_last(const indexset_set *set, uint64_t *out);
 
 /* Removes the least or the greatest element and writes it. True, or false where the set is empty, and
  * then nothing changes and nothing is written. */
 bool indexset_set_pop_first(indexset_set *set, uint64_t *out);
 bool indexset_set_pop_last(indexset_set *set, uint64_t *out);
 
+/* Removes the element at a position, counted from 0, and writes it. True, or false where there is none, and
+ * then nothing changes and nothing is written. */
+bool indexset_set_remove_at(indexset_set *set, size_t position, uint64_t *out);
+
 /* Writes the elements from `low` to `high`, both included, in order into an array of `places` places,
  * as many as it has room for. Returns how many it wrote. */
-size_t indexset_set_range_by_key(indexset_set *set, uint64_t low, uint64_t high, uint64_t *out, size_t places);
+size_t indexset_set_range_by_key(const indexset_set *set, uint64_t low, uint64_t high, uint64_t *out, size_t places);
 
 /* Writes the elements from a position on, in order into an array of `places` places, as many as it has
  * room for. Returns how many it wrote. */
-size_t indexset_set_range_by_position(indexset_set *set, size_t from, uint64_t *out, size_t places);
+size_t indexset_set_range_by_position(const indexset_set *set, size_t from, uint64_t *out, size_t places);
 
 /* Adds `count` keys, first to last, and writes how many it took to `taken`. INDEXSET_YES where it took
  * them all, or INDEXSET_MEMORY where memory was refused for the key after those, or INDEXSET_NONE. A
@@ -129,11 +164,11 @@ uint32_t indexset_set_insert_all(indexset_set *set, const uint64_t *keys, size_t
 
 /* Writes the rank of each of `count` keys into an array of `places` places, as many as it has room for.
  * Returns how many it wrote. */
-size_t indexset_set_ranks(indexset_set *set, const uint64_t *keys, size_t count, size_t *out, size_t places);
+size_t indexset_set_ranks(const indexset_set *set, const uint64_t *keys, size_t count, size_t *out, size_t places);
 
 /* Writes the element at each of `count` positions into an array of `places` places, as many as it has
  * room for, and stops at the first position that has no element. Returns how many it wrote. */
-size_t indexset_set_at_all(indexset_set *set, const size_t *positions, size_t count, uint64_t *out, size_t places);
+size_t indexset_set_at_all(const indexset_set *set, const size_t *positions, size_t count, uint64_t *out, size_t places);
 
 /* The handle of an ordered map from uint64_t to uint64_t. Both fields are the library's own. */
 typedef struct indexset_map {
@@ -148,56 +183,88 @@ uint32_t indexset_map_new(indexset_map *map);
 /* Makes a clone of a map under the handle `to`. INDEXSET_YES, or INDEXSET_MEMORY, or INDEXSET_NONE
  * where `map` leads to none, or else INDEXSET_HELD where `to` leads to a map. `map` never changes, and
  * `to` only where it is INDEXSET_YES. */
-uint32_t indexset_map_clone(indexset_map *map, indexset_map *to);
+uint32_t indexset_map_clone(const indexset_map *map, indexset_map *to);
 
 /* Frees the map, and leaves the handle with none. Of a handle with none it does nothing. */
 void indexset_map_free(indexset_map *map);
+
+/* Makes an empty map, under a handle on the heap, and writes where the handle lies. INDEXSET_YES, or INDEXSET_MEMORY; unless it is
+ * INDEXSET_YES, nothing is written. Each call takes this handle too. */
+uint32_t indexset_map_create(indexset_map **map);
+
+/* Frees a handle that indexset_map_create made, and what it leads to, and writes a null pointer. */
+void indexset_map_destroy(indexset_map **map);
+
+/* Moves a map from one handle to another: frees what `to` leads to, has `to` lead to what `from` leads to, and
+ * leaves `from` with none. */
+void indexset_map_move(indexset_map *to, indexset_map *from);
+
+/* Swaps what two handles lead to. */
+void indexset_map_swap(indexset_map *one, indexset_map *other);
 
 /* Removes all pairs. It takes no memory. */
 void indexset_map_clear(indexset_map *map);
 
 /* Returns how many pairs there are. */
-size_t indexset_map_len(indexset_map *map);
+size_t indexset_map_len(const indexset_map *map);
 
 /* Makes a value that of a key. INDEXSET_YES where the key was not there; INDEXSET_NO where it was, and
  * then the value before is written to `before`; or INDEXSET_MEMORY or INDEXSET_NONE, and then nothing
  * changes. `before` is written for INDEXSET_NO alone. */
 uint32_t indexset_map_insert(indexset_map *map, uint64_t key, uint64_t value, uint64_t *before);
 
+/* Makes a value that of a key in the same way, and writes the key's rank to `rank`, which is the position where
+ * its pair stands then, also where it was there. `rank` is written for INDEXSET_YES and INDEXSET_NO alone. It
+ * costs a search more. */
+uint32_t indexset_map_insert_ranked(indexset_map *map, uint64_t key, uint64_t value, uint64_t *before, size_t *rank);
+
 /* Writes the value of a key. True, or false where the key is not there, and then nothing is written. */
-bool indexset_map_get(indexset_map *map, uint64_t key, uint64_t *out);
+bool indexset_map_get(const indexset_map *map, uint64_t key, uint64_t *out);
 
 /* Removes a key and writes its value. True, or false where the key is not there, and then nothing
  * changes and nothing is written. */
 bool indexset_map_remove(indexset_map *map, uint64_t key, uint64_t *out);
 
 /* Tells whether a key is there. */
-bool indexset_map_contains(indexset_map *map, uint64_t key);
+bool indexset_map_contains(const indexset_map *map, uint64_t key);
 
 /* Returns how many keys are below a key. */
-size_t indexset_map_rank(indexset_map *map, uint64_t key);
+size_t indexset_map_rank(const indexset_map *map, uint64_t key);
+
+/* Returns how many keys are not above a key. The pairs of the keys from `low` to `high` stand at the positions
+ * from the rank of `low` on, up to this number of `high`. */
+size_t indexset_map_count_up_to(const indexset_map *map, uint64_t key);
+
+/* Writes the pair of the first key that is not below `from`, or that is above it. True, or false where there is
+ * none, and then nothing is written. */
+bool indexset_map_lower_bound(const indexset_map *map, uint64_t from, uint64_t *key, uint64_t *value);
+bool indexset_map_upper_bound(const indexset_map *map, uint64_t from, uint64_t *key, uint64_t *value);
 
 /* Writes the pair at a position, counted from 0. True, or false where there is none, and then nothing
  * is written. */
-bool indexset_map_at(indexset_map *map, size_t position, uint64_t *key, uint64_t *value);
+bool indexset_map_at(const indexset_map *map, size_t position, uint64_t *key, uint64_t *value);
 
 /* Writes the pair of the least or the greatest key. True, or false where the map is empty, and then
  * nothing is written. */
-bool indexset_map_first(indexset_map *map, uint64_t *key, uint64_t *value);
-bool indexset_map_last(indexset_map *map, uint64_t *key, uint64_t *value);
+bool indexset_map_first(const indexset_map *map, uint64_t *key, uint64_t *value);
+bool indexset_map_last(const indexset_map *map, uint64_t *key, uint64_t *value);
 
 /* Removes the pair of the least or the greatest key and writes it. True, or false where the map is
  * empty, and then nothing changes and nothing is written. */
 bool indexset_map_pop_first(indexset_map *map, uint64_t *key, uint64_t *value);
 bool indexset_map_pop_last(indexset_map *map, uint64_t *key, uint64_t *value);
 
+/* Removes the pair at a position, counted from 0, and writes it. True, or false where there is none, and then
+ * nothing changes and nothing is written. */
+bool indexset_map_remove_at(indexset_map *map, size_t position, uint64_t *key, uint64_t *value);
+
 /* Writes the pairs of the keys from `low` to `high`, both included, in order into two arrays, as many as
  * both have room for. Returns how many it wrote. */
-size_t indexset_map_range_by_key(indexset_map *map, uint64_t low, uint64_t high, uint64_t *keys, size_t key_places, uint64_t *values, size_t value_places);
+size_t indexset_map_range_by_key(const indexset_map *map, uint64_t low, uint64_t high, uint64_t *keys, size_t key_places, uint64_t *values, size_t value_places);
 
 /* Writes the pairs from a position on, in order into two arrays, as many as both have room for. Returns
  * how many it wrote. */
-size_t indexset_map_range_by_position(indexset_map *map, size_t from, uint64_t *keys, size_t key_places, uint64_t *values, size_t value_places);
+size_t indexset_map_range_by_position(const indexset_map *map, size_t from, uint64_t *keys, size_t key_places, uint64_t *values, size_t value_places);
 
 /* Makes each value that of its key, first to last, as many as there are both keys and values, and writes
  * how many it took to `taken`. INDEXSET_YES where it took them all, or INDEXSET_MEMORY where memory was
@@ -206,7 +273,7 @@ uint32_t indexset_map_insert_all(indexset_map *map, const uint64_t *keys, size_t
 
 /* Writes the value of each of `count` keys, or `absent` where the key is not there, into an array of
  * `places` places, as many as it has room for. Returns how many it wrote. */
-size_t indexset_map_gets(indexset_map *map, const uint64_t *keys, size_t count, uint64_t absent, uint64_t *out, size_t places);
+size_t indexset_map_gets(const indexset_map *map, const uint64_t *keys, size_t count, uint64_t absent, uint64_t *out, size_t places);
 
 /* The handle of an ordered map from uint64_t to uint64_t whose keys may have several values. The values
  * of a key are distinct and stand in the order in which they came. Both fields are the library's own. */
@@ -222,11 +289,25 @@ uint32_t indexset_multi_new(indexset_multi *multi);
 /* Frees the multimap, and leaves the handle with none. Of a handle with none it does nothing. */
 void indexset_multi_free(indexset_multi *multi);
 
+/* Makes an empty multimap, under a handle on the heap, and writes where the handle lies. INDEXSET_YES, or INDEXSET_MEMORY; unless it is
+ * INDEXSET_YES, nothing is written. Each call takes this handle too. */
+uint32_t indexset_multi_create(indexset_multi **multi);
+
+/* Frees a handle that indexset_multi_create made, and what it leads to, and writes a null pointer. */
+void indexset_multi_destroy(indexset_multi **multi);
+
+/* Moves a multimap from one handle to another: frees what `to` leads to, has `to` lead to what `from` leads to, and
+ * leaves `from` with none. */
+void indexset_multi_move(indexset_multi *to, indexset_multi *from);
+
+/* Swaps what two handles lead to. */
+void indexset_multi_swap(indexset_multi *one, indexset_multi *other);
+
 /* Removes all pairs. It takes no memory. */
 void indexset_multi_clear(indexset_multi *multi);
 
 /* Returns how many pairs there are. */
-size_t indexset_multi_len(indexset_multi *multi);
+size_t indexset_multi_len(const indexset_multi *multi);
 
 /* Adds a value to those of a key, as the last. INDEXSET_YES, or INDEXSET_NO where the key has it, or
  * INDEXSET_MEMORY, INDEXSET_NUMBERS or INDEXSET_NONE; unless it is INDEXSET_YES, nothing changes. Each
@@ -244,27 +325,27 @@ uint32_t indexset_multi_remove(indexset_multi *multi, uint64_t key, uint64_t val
 uint32_t indexset_multi_remove_first(indexset_multi *multi, uint64_t key, uint64_t *out);
 
 /* Tells whether a key has a value. */
-bool indexset_multi_contains(indexset_multi *multi, uint64_t key, uint64_t value);
+bool indexset_multi_contains(const indexset_multi *multi, uint64_t key, uint64_t value);
 
 /* Tells whether a key is there. */
-bool indexset_multi_contains_key(indexset_multi *multi, uint64_t key);
+bool indexset_multi_contains_key(const indexset_multi *multi, uint64_t key);
 
 /* Returns how many values a key has. */
-size_t indexset_multi_count(indexset_multi *multi, uint64_t key);
+size_t indexset_multi_count(const indexset_multi *multi, uint64_t key);
 
 /* Writes the values of a key in the order in which they came into an array of `places` places, as many as
  * it has room for. Returns how many it wrote; indexset_multi_count says how many there are. */
-size_t indexset_multi_get(indexset_multi *multi, uint64_t key, uint64_t *out, size_t places);
+size_t indexset_multi_get(const indexset_multi *multi, uint64_t key, uint64_t *out, size_t places);
 
 /* Writes the first pair, which is that of the least key and the first of its values, or the last pair,
  * which is that of the greatest key and the last of its values. True, or false where the multimap is
  * empty, and then nothing is written. */
-bool indexset_multi_first(indexset_multi *multi, uint64_t *key, uint64_t *value);
-bool indexset_multi_last(indexset_multi *multi, uint64_t *key, uint64_t *value);
+bool indexset_multi_first(const indexset_multi *multi, uint64_t *key, uint64_t *value);
+bool indexset_multi_last(const indexset_multi *multi, uint64_t *key, uint64_t *value);
 
 /* Writes the pairs of the keys from `low` to `high`, both included, in order into two arrays, as many as
  * both have room for. Returns how many it wrote. */
-size_t indexset_multi_range(indexset_multi *multi, uint64_t low, uint64_t high, uint64_t *keys, size_t key_places, uint64_t *values, size_t value_places);
+size_t indexset_multi_range(const indexset_multi *multi, uint64_t low, uint64_t high, uint64_t *keys, size_t key_places, uint64_t *values, size_t value_places);
 
 /* What a change does. A node is a run of pairs in order; it is named by its last pair before the change. */
 enum indexset_kind {
@@ -303,10 +384,24 @@ uint32_t indexset_log_new(indexset_log *log, size_t size, uint64_t next);
 /* Frees the map, and leaves the handle with none. Of a handle with none it does nothing. */
 void indexset_log_free(indexset_log *log);
 
+/* Makes an empty map as indexset_log_new does, under a handle on the heap, and writes where the handle lies. INDEXSET_YES, or INDEXSET_MEMORY, or INDEXSET_UNFIT; unless it is
+ * INDEXSET_YES, nothing is written. Each call takes this handle too. */
+uint32_t indexset_log_create(indexset_log **log, size_t size, uint64_t next);
+
+/* Frees a handle that indexset_log_create made, and what it leads to, and writes a null pointer. */
+void indexset_log_destroy(indexset_log **log);
+
+/* Moves a map from one handle to another: frees what `to` leads to, has `to` lead to what `from` leads to, and
+ * leaves `from` with none. */
+void indexset_log_move(indexset_log *to, indexset_log *from);
+
+/* Swaps what two handles lead to. */
+void indexset_log_swap(indexset_log *one, indexset_log *other);
+
 /* Returns how many pairs there are, how many nodes, and the number of the next change. */
-size_t indexset_log_len(indexset_log *log);
-size_t indexset_log_node_count(indexset_log *log);
-uint64_t indexset_log_next(indexset_log *log);
+size_t indexset_log_len(const indexset_log *log);
+size_t indexset_log_node_count(const indexset_log *log);
+uint64_t indexset_log_next(const indexset_log *log);
 
 /* Makes a value that of a key, and writes the changes and how many they are to `events` and `told`.
  * INDEXSET_YES where the key was not there; INDEXSET_NO where it was, and then the value before is written
@@ -321,19 +416,30 @@ uint32_t indexset_log_insert(indexset_log *log, uint64_t key, uint64_t value, ui
 uint32_t indexset_log_remove(indexset_log *log, uint64_t key, uint64_t *out, indexset_event *events, size_t places, size_t *told);
 
 /* Writes the value of a key. True, or false where the key is not there, and then nothing is written. */
-bool indexset_log_get(indexset_log *log, uint64_t key, uint64_t *out);
+bool indexset_log_get(const indexset_log *log, uint64_t key, uint64_t *out);
 
 /* Tells whether a key is there. */
-bool indexset_log_contains(indexset_log *log, uint64_t key);
+bool indexset_log_contains(const indexset_log *log, uint64_t key);
+
+/* Returns how many keys are below a key. It adds up the lengths of the nodes before. */
+size_t indexset_log_rank(const indexset_log *log, uint64_t key);
+
+/* Writes the pair at a position, counted from 0. True, or false where there is none, and then nothing is
+ * written. It adds up the lengths of the nodes before. */
+bool indexset_log_at(const indexset_log *log, size_t position, uint64_t *key, uint64_t *value);
 
 /* Writes the pairs of the keys from `low` to `high`, both included, in order into two arrays, as many as
  * both have room for. Returns how many it wrote. */
-size_t indexset_log_range(indexset_log *log, uint64_t low, uint64_t high, uint64_t *keys, size_t key_places, uint64_t *values, size_t value_places);
+size_t indexset_log_range(const indexset_log *log, uint64_t low, uint64_t high, uint64_t *keys, size_t key_places, uint64_t *values, size_t value_places);
+
+/* Writes the pairs from a position on, in order into two arrays, as many as both have room for. Returns how
+ * many it wrote. */
+size_t indexset_log_range_by_position(const indexset_log *log, size_t from, uint64_t *keys, size_t key_places, uint64_t *values, size_t value_places);
 
 /* Writes how many pairs each node has, in order into an array of `places` places, as many as it has room
  * for. Returns how many it wrote. These, the pairs from 0 to UINT64_MAX and the number of the next change
  * are a snapshot, from which a copy goes on. */
-size_t indexset_log_node_lengths(indexset_log *log, size_t *out, size_t places);
+size_t indexset_log_node_lengths(const indexset_log *log, size_t *out, size_t places);
 
 /* The handle of a replica: a copy of the nodes of a logged map, which follows the map by its changes. Both
  * fields are the library's own. */
@@ -350,10 +456,24 @@ uint32_t indexset_replica_new(indexset_replica *replica, uint64_t next);
 /* Makes a replica with the nodes of a logged map, which awaits its next change. INDEXSET_YES, or
  * INDEXSET_MEMORY, or INDEXSET_NONE where `log` leads to none, or else INDEXSET_HELD where `replica` leads to
  * a replica. `log` never changes, and `replica` only where it is INDEXSET_YES. */
-uint32_t indexset_replica_from_log(indexset_replica *replica, indexset_log *log);
+uint32_t indexset_replica_from_log(indexset_replica *replica, const indexset_log *log);
 
 /* Frees the replica, and leaves the handle with none. Of a handle with none it does nothing. */
 void indexset_replica_free(indexset_replica *replica);
+
+/* Makes a replica as indexset_replica_new does, under a handle on the heap, and writes where the handle lies. INDEXSET_YES, or INDEXSET_MEMORY; unless it is
+ * INDEXSET_YES, nothing is written. Each call takes this handle too. */
+uint32_t indexset_replica_create(indexset_replica **replica, uint64_t next);
+
+/* Frees a handle that indexset_replica_create made, and what it leads to, and writes a null pointer. */
+void indexset_replica_destroy(indexset_replica **replica);
+
+/* Moves a replica from one handle to another: frees what `to` leads to, has `to` lead to what `from` leads to, and
+ * leaves `from` with none. */
+void indexset_replica_move(indexset_replica *to, indexset_replica *from);
+
+/* Swaps what two handles lead to. */
+void indexset_replica_swap(indexset_replica *one, indexset_replica *other);
 
 /* Makes a change of the logged map, and awaits the next. INDEXSET_YES, or the first of these that applies:
  * INDEXSET_NONE; INDEXSET_UNFIT where the kind is none of enum indexset_kind; INDEXSET_NO where the number is
@@ -370,28 +490,28 @@ uint32_t indexset_replica_apply_all(indexset_replica *replica, const indexset_ev
 
 /* Returns how many pairs there are, how many nodes, and the number of the change that is awaited. The first
  * takes a time that grows with the number of nodes. */
-size_t indexset_replica_len(indexset_replica *replica);
-size_t indexset_replica_node_count(indexset_replica *replica);
-uint64_t indexset_replica_next(indexset_replica *replica);
+size_t indexset_replica_len(const indexset_replica *replica);
+size_t indexset_replica_node_count(const indexset_replica *replica);
+uint64_t indexset_replica_next(const indexset_replica *replica);
 
 /* Writes the value of a key. True, or false where the key is not there, and then nothing is written. */
-bool indexset_replica_get(indexset_replica *replica, uint64_t key, uint64_t *out);
+bool indexset_replica_get(const indexset_replica *replica, uint64_t key, uint64_t *out);
 
 /* Tells whether a key is there. */
-bool indexset_replica_contains(indexset_replica *replica, uint64_t key);
+bool indexset_replica_contains(const indexset_replica *replica, uint64_t key);
 
 /* Writes the pair of the least or the greatest key. True, or false where the replica is empty, and then
  * nothing is written. */
-bool indexset_replica_first(indexset_replica *replica, uint64_t *key, uint64_t *value);
-bool indexset_replica_last(indexset_replica *replica, uint64_t *key, uint64_t *value);
+bool indexset_replica_first(const indexset_replica *replica, uint64_t *key, uint64_t *value);
+bool indexset_replica_last(const indexset_replica *replica, uint64_t *key, uint64_t *value);
 
 /* Writes the pairs of the keys from `low` to `high`, both included, in order into two arrays, as many as
  * both have room for. Returns how many it wrote. */
-size_t indexset_replica_range(indexset_replica *replica, uint64_t low, uint64_t high, uint64_t *keys, size_t key_places, uint64_t *values, size_t value_places);
+size_t indexset_replica_range(const indexset_replica *replica, uint64_t low, uint64_t high, uint64_t *keys, size_t key_places, uint64_t *values, size_t value_places);
 
 /* Writes how many pairs each node has, in order into an array of `places` places, as many as it has room
  * for. Returns how many it wrote. */
-size_t indexset_replica_node_lengths(indexset_replica *replica, size_t *out, size_t places);
+size_t indexset_replica_node_lengths(const indexset_replica *replica, size_t *out, size_t places);
 
 /* The handle of an ordered map from byte strings to uint64_t. Both fields are the library's own.
  *
@@ -404,6 +524,12 @@ typedef struct indexset_text_map {
     bool live;
 } indexset_text_map;
 
+/* Compares two byte strings in this order. Returns a number below 0, 0 or one above 0, as memcmp. */
+static inline int indexset_bytes_compare(const void *one, size_t one_len, const void *other, size_t other_len) {
+    int order = memcmp(one, other, one_len < other_len ? one_len : other_len);
+    return order != 0 ? order : (one_len > other_len) - (one_len < other_len);
+}
+
 /* Makes an empty map. INDEXSET_YES, or INDEXSET_MEMORY, or INDEXSET_HELD where the handle leads to a
  * map; unless it is INDEXSET_YES, nothing changes. */
 uint32_t indexset_text_map_new(indexset_text_map *map);
@@ -412,58 +538,86 @@ uint32_t indexset_text_map_new(indexset_text_map *map);
  * other's changes. INDEXSET_YES, or INDEXSET_MEMORY, or INDEXSET_NONE where `map` leads to none, or else
  * INDEXSET_HELD where `to` leads to a map. `map` never changes, and `to` only where it is INDEXSET_YES. Both
  * are for one thread. */
-uint32_t indexset_text_map_clone(indexset_text_map *map, indexset_text_map *to);
+uint32_t indexset_text_map_clone(const indexset_text_map *map, indexset_text_map *to);
 
 /* Frees the map, and leaves the handle with none. Of a handle with none it does nothing. */
 void indexset_text_map_free(indexset_text_map *map);
+
+/* Makes an empty map, under a handle on the heap, and writes where the handle lies. INDEXSET_YES, or INDEXSET_MEMORY; unless it is
+ * INDEXSET_YES, nothing is written. Each call takes this handle too. */
+uint32_t indexset_text_map_create(indexset_text_map **map);
+
+/* Frees a handle that indexset_text_map_create made, and what it leads to, and writes a null pointer. */
+void indexset_text_map_destroy(indexset_text_map **map);
+
+/* Moves a map from one handle to another: frees what `to` leads to, has `to` lead to what `from` leads to, and
+ * leaves `from` with none. */
+void indexset_text_map_move(indexset_text_map *to, indexset_text_map *from);
+
+/* Swaps what two handles lead to. */
+void indexset_text_map_swap(indexset_text_map *one, indexset_text_map *other);
 
 /* Removes all pairs. It takes no memory. */
 void indexset_text_map_clear(indexset_text_map *map);
 
 /* Returns how many pairs there are. */
-size_t indexset_text_map_len(indexset_text_map *map);
+size_t indexset_text_map_len(const indexset_text_map *map);
 
 /* Makes a value that of a key. INDEXSET_YES where the key was not there; INDEXSET_NO where it was, and
  * then the value before is written to `before`, and no memory is taken; or INDEXSET_MEMORY or INDEXSET_NONE,
  * and then nothing changes. `before` is written for INDEXSET_NO alone. */
 uint32_t indexset_text_map_insert(indexset_text_map *map, const void *key, size_t key_len, uint64_t value, uint64_t *before);
 
+/* Makes a value that of a key in the same way, and writes the key's rank to `rank`, which is the position where
+ * its pair stands then, also where it was there. `rank` is written for INDEXSET_YES and INDEXSET_NO alone. It
+ * costs a search more. */
+uint32_t indexset_text_map_insert_ranked(indexset_text_map *map, const void *key, size_t key_len, uint64_t value, uint64_t *before, size_t *rank);
+
 /* Removes a key and writes its value. True, or false where the key is not there, and then nothing
  * changes and nothing is written. */
 bool indexset_text_map_remove(indexset_text_map *map, const void *key, size_t key_len, uint64_t *out);
 
 /* Tells whether a key is there. */
-bool indexset_text_map_contains(indexset_text_map *map, const void *key, size_t key_len);
+bool indexset_text_map_contains(const indexset_text_map *map, const void *key, size_t key_len);
 
 /* Writes the value of a key. True, or false where the key is not there, and then nothing is written. */
-bool indexset_text_map_get(indexset_text_map *map, const void *key, size_t key_len, uint64_t *out);
+bool indexset_text_map_get(const indexset_text_map *map, const void *key, size_t key_len, uint64_t *out);
 
 /* Returns how many keys are below a key. */
-size_t indexset_text_map_rank(indexset_text_map *map, const void *key, size_t key_len);
+size_t indexset_text_map_rank(const indexset_text_map *map, const void *key, size_t key_len);
+
+/* Returns how many keys are not above a key. The pairs of the keys from `low` to `high` stand at the positions
+ * from the rank of `low` on, up to this number of `high`. */
+size_t indexset_text_map_count_up_to(const indexset_text_map *map, const void *key, size_t key_len);
 
 /* Writes the pair at a position, counted from 0: its key's bytes into an array of `places` places, as many
  * as it has room for; how many bytes the key has to `len`, which may be more; and its value. True, or false
  * where there is none, and then nothing is written. */
-bool indexset_text_map_at(indexset_text_map *map, size_t position, void *key, size_t places, size_t *len, uint64_t *value);
+bool indexset_text_map_at(const indexset_text_map *map, size_t position, void *key, size_t places, size_t *len, uint64_t *value);
+
+/* Removes the pair at a position and writes it in the same way. True, or false where there is none, and then
+ * nothing changes and nothing is written. */
+bool indexset_text_map_remove_at(indexset_text_map *map, size_t position, void *key, size_t places, size_t *len, uint64_t *value);
 
 /* Writes the pair of the least or the greatest key in the same way. True, or false where the map is empty,
  * and then nothing is written. */
-bool indexset_text_map_first(indexset_text_map *map, void *key, size_t places, size_t *len, uint64_t *value);
-bool indexset_text_map_last(indexset_text_map *map, void *key, size_t places, size_t *len, uint64_t *value);
+bool indexset_text_map_first(const indexset_text_map *map, void *key, size_t places, size_t *len, uint64_t *value);
+bool indexset_text_map_last(const indexset_text_map *map, void *key, size_t places, size_t *len, uint64_t *value);
 
-/* Writes the pair of the first key that is not below `from`, which has `from_len` bytes, in the same way.
- * True, or false where there is none, and then nothing is written. */
-bool indexset_text_map_lower_bound(indexset_text_map *map, const void *from, size_t from_len, void *key, size_t places, size_t *len, uint64_t *value);
+/* Writes the pair of the first key that is not below `from`, which has `from_len` bytes, or of the first that
+ * is above it, in the same way. True, or false where there is none, and then nothing is written. */
+bool indexset_text_map_lower_bound(const indexset_text_map *map, const void *from, size_t from_len, void *key, size_t places, size_t *len, uint64_t *value);
+bool indexset_text_map_upper_bound(const indexset_text_map *map, const void *from, size_t from_len, void *key, size_t places, size_t *len, uint64_t *value);
 
 /* Writes the values of the pairs from a position on, in the order of their keys, into an array of `places`
  * places, as many as it has room for. Returns how many it wrote. */
-size_t indexset_text_map_range_by_position(indexset_text_map *map, size_t from, uint64_t *values, size_t places);
+size_t indexset_text_map_range_by_position(const indexset_text_map *map, size_t from, uint64_t *values, size_t places);
 
 /* Writes how many bytes each key from a position on has, in order into an array of `length_places` places,
  * as many as it has room for, and the bytes of those keys, one key behind another, into an array of
  * `byte_places` places, as many as it has room for: what has no room is cut, also within a key. Returns how
  * many lengths it wrote. */
-size_t indexset_text_map_keys_by_position(indexset_text_map *map, size_t from, void *bytes, size_t byte_places, size_t *lengths, size_t length_places);
+size_t indexset_text_map_keys_by_position(const indexset_text_map *map, size_t from, void *bytes, size_t byte_places, size_t *lengths, size_t length_places);
 
 #ifdef __cplusplus
 }

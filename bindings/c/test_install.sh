@@ -1,6 +1,6 @@
 #!/usr/bin/env bash
-# Installs the library in a folder, builds a program outside the repository on it, by pkg-config and by CMake, and looks
-# at the names that the libraries export. The last line counts.
+# Installs the library in a folder, builds programs in C and C++ outside the repository on it, by pkg-config and by CMake,
+# and looks at the names that the libraries export. The last line counts.
 set -u
 cd "$(dirname "$0")"
 room=$(mktemp -d)
@@ -33,9 +33,22 @@ by_pkg_config() {
         test "$(LD_LIBRARY_PATH="$room/to/lib" "$room/shared")" = 7
 }
 
+by_pkg_config_in_cpp() {
+    export PKG_CONFIG_PATH="$room/to/lib/pkgconfig"
+    local words
+    words=$(pkg-config --cflags --libs indexset) &&
+        "$1" -std=c++17 -Wall -Wextra -Wpedantic -Werror "$room/middle.cpp" $words -o "$room/$1" &&
+        test "$(LD_LIBRARY_PATH="$room/to/lib" "$room/$1")" = "7 20 30"
+}
+
 by_cmake() {
     cmake -S "$room" -B "$room/built" -DCMAKE_PREFIX_PATH="$room/to" && cmake --build "$room/built" &&
         test "$("$room/built/shared")" = 7 && test "$("$room/built/alone")" = 7
+}
+
+by_cmake_in_cpp() {
+    cmake -S "$room/cpp" -B "$room/built_cpp" -DCMAKE_PREFIX_PATH="$room/to" && cmake --build "$room/built_cpp" &&
+        test "$("$room/built_cpp/shared")" = "7 20 30" && test "$("$room/built_cpp/alone")" = "7 20 30"
 }
 
 # An older series is no library for a newer program.
@@ -77,10 +90,40 @@ target_link_libraries(shared PRIVATE indexset::indexset)
 add_executable(alone least.c)
 target_link_libraries(alone PRIVATE indexset::static)
 C
+cat > "$room/middle.cpp" << 'C'
+#include <indexset.hpp>
+#include <cstdio>
+
+int main() {
+    indexset::set<int> numbers{30, 7, 20};
+    for (int number : numbers) std::printf(number == *numbers.begin() ? "%d" : " %d", number);
+    return *numbers.find_by_order(1) == 20 && std::printf("\n") == 1 ? 0 : 1;
+}
+C
+mkdir "$room/cpp"
+cat > "$room/cpp/CMakeLists.txt" << 'C'
+cmake_minimum_required(VERSION 3.13)
+project(middle CXX)
+find_package(indexset 0.2 REQUIRED)
+set(CMAKE_CXX_STANDARD 17)
+add_executable(shared ../middle.cpp)
+target_link_libraries(shared PRIVATE indexset::indexset)
+add_executable(alone ../middle.cpp)
+target_link_libraries(alone PRIVATE indexset::static)
+C
 
 try make -s install PREFIX="$room/to"
 try exports
-has pkg-config && try by_pkg_config
-has cmake && try by_cmake && try refuses_another_version
+if has pkg-config; then
+    try by_pkg_config
+    for compiler in g++ clang++; do
+        has "$compiler" && try by_pkg_config_in_cpp "$compiler"
+    done
+fi
+if has cmake; then
+    try by_cmake
+    has c++ && try by_cmake_in_cpp
+    try refuses_another_version
+fi
 echo "$passed passed, $failed failed"
 test "$failed" = 0

@@ -81,7 +81,7 @@ static void make_change(const indexset_event *event) {
     }
 }
 
-static void compare(indexset_log *log) {
+static void compare(const indexset_log *log) {
     static uint64_t keys[ROOM], values[ROOM];
     static size_t lengths[ROOM];
     size_t first = 0;
@@ -93,17 +93,34 @@ static void compare(indexset_log *log) {
         CHECK(memcmp(values + first, nodes[at].values, lengths[at] * sizeof *values) == 0);
     }
     CHECK(first == count);
+    for (size_t draws = 0; draws < 8; draws++) {
+        size_t at = (size_t)(draw() % (count + 2)), past = count - (at < count ? at : count), wrote = past < 3 ? past : 3;
+        uint64_t key = 77, value = 78, some_keys[4] = {77, 77, 77, 77}, some_values[4] = {78, 78, 78, 78};
+        CHECK(indexset_log_at(log, at, &key, &value) == (at < count));
+        CHECK(at < count ? key == keys[at] && value == values[at] : key == 77 && value == 78);
+        CHECK(indexset_log_range_by_position(log, at, some_keys, 4, some_values, 3) == wrote);
+        CHECK(memcmp(some_keys, keys + at, wrote * sizeof *keys) == 0 && some_keys[wrote] == 77);
+        CHECK(memcmp(some_values, values + at, wrote * sizeof *values) == 0 && some_values[wrote] == 78);
+        uint64_t sought = key_of((size_t)(draw() % KEYS));
+        size_t below = 0;
+        while (below < count && keys[below] < sought) below++;
+        CHECK(indexset_log_rank(log, sought) == below);
+    }
 }
 
 /* ---- a handle that leads to none, and worked changes: nodes of at most 2 pairs */
 static void test_life(void) {
-    indexset_log log = INDEXSET_HANDLE;
+    indexset_log log = INDEXSET_HANDLE, other = INDEXSET_HANDLE;
     indexset_event events[INDEXSET_CHANGES];
     uint64_t out = 7;
     size_t told = 9, length = 5;
     CHECK(indexset_log_len(&log) == 0 && indexset_log_node_count(&log) == 0 && indexset_log_next(&log) == 0);
     CHECK(!indexset_log_get(&log, 1, &out) && !indexset_log_contains(&log, 1) && out == 7);
     CHECK(indexset_log_range(&log, 0, UINT64_MAX, &out, 1, &out, 1) == 0);
+    CHECK(indexset_log_rank(&log, UINT64_MAX) == 0);
+    uint64_t key = 6;
+    CHECK(!indexset_log_at(&log, 0, &key, &out) && key == 6 && out == 7);
+    CHECK(indexset_log_range_by_position(&log, 0, &key, 1, &out, 1) == 0);
     CHECK(indexset_log_node_lengths(&log, &length, 1) == 0 && length == 5);
     CHECK(indexset_log_insert(&log, 1, 2, &out, events, 3, &told) == INDEXSET_NONE && told == 0);
     told = 9;
@@ -131,10 +148,20 @@ static void test_life(void) {
     CHECK(events[0].number == 107 && events[0].kind == INDEXSET_DROP && events[0].node_key == 10);
     CHECK(indexset_log_remove(&log, 10, &out, events, 3, &told) == INDEXSET_NO && told == 0);
     CHECK(indexset_log_next(&log) == 108 && indexset_log_len(&log) == 2);
+    CHECK(indexset_log_new(&other, 4, 7) == INDEXSET_YES);
+    indexset_log_swap(&log, &other);
+    CHECK(indexset_log_next(&log) == 7 && indexset_log_next(&other) == 108);
+    indexset_log_move(&log, &other);
+    CHECK(!other.live && indexset_log_next(&log) == 108 && indexset_log_len(&log) == 2);
     indexset_log_free(&log);
     CHECK(!log.live);
     CHECK(indexset_log_new(&log, 2, UINT64_MAX) == INDEXSET_YES);
     CHECK(indexset_log_insert(&log, 1, 2, &out, events, 3, &told) == INDEXSET_NUMBERS && told == 0);
+    indexset_log *heap = NULL;
+    CHECK(indexset_log_create(&heap, 1, 0) == INDEXSET_UNFIT && heap == NULL);
+    CHECK(indexset_log_create(&heap, 2, 50) == INDEXSET_YES && indexset_log_next(heap) == 50);
+    indexset_log_destroy(&heap);
+    CHECK(heap == NULL);
     indexset_log_free(&log);
 }
 

@@ -44,7 +44,7 @@ static uint64_t draw_key(void) {
     return key == 127 ? UINT64_MAX : key;
 }
 
-static bool same_as_model(indexset_multi *multi) {
+static bool same_as_model(const indexset_multi *multi) {
     static uint64_t keys[ROOM], values[ROOM];
     if (indexset_multi_len(multi) != count) return false;
     if (indexset_multi_range(multi, 0, UINT64_MAX, keys, ROOM, values, ROOM) != count) return false;
@@ -53,7 +53,7 @@ static bool same_as_model(indexset_multi *multi) {
 
 /* ---- a handle that leads to none, and the life of a multimap */
 static void test_life(void) {
-    indexset_multi multi = INDEXSET_HANDLE;
+    indexset_multi multi = INDEXSET_HANDLE, other = INDEXSET_HANDLE;
     uint64_t key = 7, value = 8;
     CHECK(indexset_multi_len(&multi) == 0 && indexset_multi_count(&multi, 1) == 0);
     CHECK(!indexset_multi_contains(&multi, 1, 2) && !indexset_multi_contains_key(&multi, 1));
@@ -77,8 +77,17 @@ static void test_life(void) {
     indexset_multi_clear(&multi);
     CHECK(multi.live && indexset_multi_len(&multi) == 0);
     CHECK(indexset_multi_insert(&multi, 5, 6) == INDEXSET_YES);
+    CHECK(indexset_multi_new(&other) == INDEXSET_YES);
+    indexset_multi_swap(&multi, &other);
+    CHECK(indexset_multi_len(&multi) == 0 && indexset_multi_contains(&other, 5, 6));
+    indexset_multi_move(&multi, &other);
+    CHECK(!other.live && indexset_multi_contains(&multi, 5, 6));
     indexset_multi_free(&multi);
     CHECK(!multi.live && indexset_multi_len(&multi) == 0);
+    indexset_multi *heap = NULL;
+    CHECK(indexset_multi_create(&heap) == INDEXSET_YES && indexset_multi_insert(heap, 1, 2) == INDEXSET_YES);
+    indexset_multi_destroy(&heap);
+    CHECK(heap == NULL);
 }
 
 /* ---- many calls, every nth request for memory refused */
@@ -105,7 +114,7 @@ static void step_change(indexset_multi *multi, uint64_t key) {
     }
 }
 
-static void step_read(indexset_multi *multi, uint64_t key) {
+static void step_read(const indexset_multi *multi, uint64_t key) {
     uint64_t out[5] = {77, 77, 77, 77, 77}, k = 77, v = 78, value = draw() >> 20 & 7;
     size_t first = below(key), many = upto(key) - first, wrote = many < 4 ? many : 4;
     CHECK(indexset_multi_contains(multi, key, value) == (place_of(key, value) != upto(key)));
@@ -120,7 +129,7 @@ static void step_read(indexset_multi *multi, uint64_t key) {
     CHECK(count != 0 ? k == model_keys[count - 1] && v == model_values[count - 1] : k == 77 && v == 78);
 }
 
-static void step_range(indexset_multi *multi, uint64_t low, uint64_t high) {
+static void step_range(const indexset_multi *multi, uint64_t low, uint64_t high) {
     uint64_t keys[9], values[9];
     for (size_t i = 0; i < 9; i++) keys[i] = values[i] = 77;
     size_t first = below(low), wanted = 0;

@@ -22,6 +22,11 @@ static void test_none(void) {
     CHECK(indexset_replica_apply(&replica, &event) == INDEXSET_NONE && !replica.live);
     CHECK(indexset_replica_apply_all(&replica, &event, 1, &taken) == INDEXSET_NONE && taken == 0);
     CHECK(indexset_replica_from_log(&replica, &log) == INDEXSET_NONE && !replica.live);
+    indexset_replica *heap = NULL;
+    CHECK(indexset_replica_create(&heap, 50) == INDEXSET_YES && indexset_replica_next(heap) == 50);
+    CHECK(indexset_replica_from_log(heap, &log) == INDEXSET_NONE);
+    indexset_replica_destroy(&heap);
+    CHECK(heap == NULL);
     indexset_replica_free(&replica);
     CHECK(!replica.live);
 }
@@ -38,7 +43,7 @@ static void refuses(indexset_replica *replica, indexset_event event, uint32_t st
 }
 
 static void test_worked(void) {
-    indexset_replica replica = INDEXSET_HANDLE;
+    indexset_replica replica = INDEXSET_HANDLE, other = INDEXSET_HANDLE;
     /* nodes {10, 20} and {30} */
     indexset_event events[] = {
         {100, 10, 1, 0, 0, 0, INDEXSET_CREATE},
@@ -61,6 +66,11 @@ static void test_worked(void) {
     CHECK(indexset_replica_last(&replica, &key, &value) && key == 30 && value == 3);
     CHECK(indexset_replica_get(&replica, 20, &value) && value == 2 && !indexset_replica_get(&replica, 21, &value) && value == 2);
     CHECK(indexset_replica_contains(&replica, 30) && !indexset_replica_contains(&replica, 0));
+    CHECK(indexset_replica_new(&other, 7) == INDEXSET_YES);
+    indexset_replica_swap(&replica, &other);
+    CHECK(indexset_replica_next(&replica) == 7 && indexset_replica_next(&other) == 104);
+    indexset_replica_move(&replica, &other);
+    CHECK(!other.live && indexset_replica_next(&replica) == 104 && indexset_replica_len(&replica) == 3);
     CHECK(indexset_replica_range(&replica, 11, 30, keys, 4, values, 4) == 2 && keys[0] == 20 && keys[1] == 30 && values[1] == 3);
     CHECK(indexset_replica_range(&replica, 10, 30, keys, 4, values, 1) == 1 && indexset_replica_range(&replica, 30, 10, keys, 4, values, 4) == 0);
     refuses(&replica, (indexset_event){104, 30, 3, 0, 0, 0, 0}, INDEXSET_UNFIT);
@@ -87,7 +97,7 @@ static void test_worked(void) {
 }
 
 /* ---- a sum of all that a replica holds, pairs and nodes */
-static uint64_t sum_of(indexset_replica *replica) {
+static uint64_t sum_of(const indexset_replica *replica) {
     static uint64_t keys[ROOM], values[ROOM];
     static size_t lengths[ROOM];
     size_t nodes = indexset_replica_node_lengths(replica, lengths, ROOM), first = 0;
@@ -100,7 +110,7 @@ static uint64_t sum_of(indexset_replica *replica) {
     return sum;
 }
 
-static void same_as_log(indexset_replica *replica, indexset_log *log) {
+static void same_as_log(const indexset_replica *replica, const indexset_log *log) {
     static uint64_t keys[2][ROOM], values[2][ROOM];
     static size_t lengths[2][ROOM];
     size_t pairs = indexset_log_range(log, 0, UINT64_MAX, keys[0], ROOM, values[0], ROOM);

@@ -13,8 +13,9 @@ static uint64_t model_values[ROOM];
 static size_t count;
 
 static int compare(const key *a, const key *b) {
-    int order = memcmp(a->bytes, b->bytes, a->len < b->len ? a->len : b->len);
-    return order != 0 ? order : (a->len > b->len) - (a->len < b->len);
+    for (size_t i = 0; i < a->len && i < b->len; i++)
+        if (a->bytes[i] != b->bytes[i]) return a->bytes[i] < b->bytes[i] ? -1 : 1;
+    return (a->len > b->len) - (a->len < b->len);
 }
 
 static size_t model_rank(const key *k) {
@@ -27,6 +28,10 @@ static bool model_has(const key *k) {
     size_t at = model_rank(k);
     return at < count && compare(&model[at], k) == 0;
 }
+
+static size_t model_count_up_to(const key *k) { return model_rank(k) + model_has(k); }
+
+static int sign(int order) { return (order > 0) - (order < 0); }
 
 static void model_put(const key *k, uint64_t value) {
     size_t at = model_rank(k);
@@ -73,7 +78,7 @@ static bool unwritten(const uint8_t *bytes, size_t len, uint64_t value) {
     return len == 55 && value == 66;
 }
 
-static bool same_as_model(indexset_text_map *map) {
+static bool same_as_model(const indexset_text_map *map) {
     static uint64_t values[ROOM];
     if (indexset_text_map_len(map) != count) return false;
     if (indexset_text_map_range_by_position(map, 0, values, ROOM) != count) return false;
@@ -94,17 +99,20 @@ static void test_life(void) {
     indexset_text_map map = INDEXSET_HANDLE, other = INDEXSET_HANDLE;
     const char *apple = "apple", *none = "";
     char out[8] = "#######";
-    size_t len = 55;
+    size_t len = 55, rank = 44;
     uint64_t value = 66;
     CHECK(indexset_text_map_len(&map) == 0 && indexset_text_map_rank(&map, apple, 5) == 0);
     CHECK(!indexset_text_map_contains(&map, apple, 5));
     CHECK(!indexset_text_map_get(&map, apple, 5, &value) && !indexset_text_map_remove(&map, apple, 5, &value));
-    CHECK(!indexset_text_map_at(&map, 0, out, 8, &len, &value));
+    CHECK(!indexset_text_map_at(&map, 0, out, 8, &len, &value) && !indexset_text_map_remove_at(&map, 0, out, 8, &len, &value));
     CHECK(!indexset_text_map_first(&map, out, 8, &len, &value) && !indexset_text_map_last(&map, out, 8, &len, &value));
     CHECK(!indexset_text_map_lower_bound(&map, none, 0, out, 8, &len, &value));
+    CHECK(!indexset_text_map_upper_bound(&map, none, 0, out, 8, &len, &value));
+    CHECK(indexset_text_map_count_up_to(&map, apple, 5) == 0);
     CHECK(indexset_text_map_range_by_position(&map, 0, &value, 1) == 0);
     CHECK(indexset_text_map_keys_by_position(&map, 0, out, 8, &len, 1) == 0);
     CHECK(indexset_text_map_insert(&map, apple, 5, 1, &value) == INDEXSET_NONE);
+    CHECK(indexset_text_map_insert_ranked(&map, apple, 5, 1, &value, &rank) == INDEXSET_NONE && rank == 44);
     CHECK(indexset_text_map_clone(&map, &other) == INDEXSET_NONE && !other.live);
     CHECK(memcmp(out, "#######", 8) == 0 && len == 55 && value == 66);
     indexset_text_map_clear(&map);
@@ -123,24 +131,46 @@ static void test_life(void) {
     CHECK(indexset_text_map_clone(&map, &other) == INDEXSET_HELD);
     indexset_text_map_clear(&map);
     CHECK(map.live && indexset_text_map_len(&map) == 0 && indexset_text_map_len(&other) == 3);
+    indexset_text_map_swap(&map, &other);
+    CHECK(indexset_text_map_len(&map) == 3 && indexset_text_map_len(&other) == 0);
+    indexset_text_map_move(&other, &map);
+    CHECK(!map.live && indexset_text_map_len(&other) == 3);
     indexset_text_map_free(&map);
     CHECK(indexset_text_map_get(&other, apple, 3, &value) && value == 3);
     indexset_text_map_free(&other);
     CHECK(!other.live);
+    indexset_text_map *heap = NULL;
+    CHECK(indexset_text_map_create(&heap) == INDEXSET_YES && indexset_text_map_insert(heap, apple, 5, 1, &value) == INDEXSET_YES);
+    indexset_text_map_destroy(&heap);
+    CHECK(heap == NULL);
 }
 
 /* ---- many calls, every nth request for memory refused */
 static void step_change(indexset_text_map *map, key k) {
     uint64_t value = draw(), before = 78;
     bool there = model_has(&k);
-    size_t at = model_rank(&k);
-    if (draw() % 5 < 2) {
+    size_t at = model_rank(&k), rank = 99;
+    uint64_t which = draw() % 6;
+    if (which == 0) {
+        uint8_t bytes[LONGEST + 4];
+        size_t place = (size_t)(draw() % (count + 2)), len = 55, places = draw() % (LONGEST + 1);
+        memset(bytes, 0x77, sizeof bytes);
+        value = 66;
+        bool found = indexset_text_map_remove_at(map, place, bytes, places, &len, &value);
+        CHECK(found == (place < count));
+        CHECK(found ? wrote(place, bytes, places, len, value) : unwritten(bytes, len, value));
+        if (found) model_remove_at(place);
+        return;
+    }
+    if (which < 3) {
         CHECK(indexset_text_map_remove(map, k.bytes, k.len, &before) == there);
         CHECK(before == (there ? model_values[at] : 78));
         if (there) model_remove_at(at);
         return;
     }
-    uint32_t status = indexset_text_map_insert(map, k.bytes, k.len, value, &before);
+    uint32_t status = which == 3 ? indexset_text_map_insert_ranked(map, k.bytes, k.len, value, &before, &rank)
+                                 : indexset_text_map_insert(map, k.bytes, k.len, value, &before);
+    CHECK(rank == (which == 3 && status != INDEXSET_MEMORY ? at : 99));
     CHECK(there ? status == INDEXSET_NO : status == INDEXSET_YES || (nth != 0 && status == INDEXSET_MEMORY));
     CHECK(before == (there ? model_values[at] : 78));
     if (status != INDEXSET_MEMORY) model_put(&k, value);
@@ -148,7 +178,7 @@ static void step_change(indexset_text_map *map, key k) {
     memset(k.bytes, 0x55, LONGEST);
 }
 
-static void step_read(indexset_text_map *map, key k) {
+static void step_read(const indexset_text_map *map, key k) {
     uint64_t value = 78;
     bool there = model_has(&k);
     size_t below = model_rank(&k);
@@ -156,12 +186,16 @@ static void step_read(indexset_text_map *map, key k) {
     CHECK(indexset_text_map_get(map, k.bytes, k.len, &value) == there);
     CHECK(value == (there ? model_values[below] : 78));
     CHECK(indexset_text_map_rank(map, k.bytes, k.len) == below);
+    CHECK(indexset_text_map_count_up_to(map, k.bytes, k.len) == model_count_up_to(&k));
+    key other = draw_key();
+    CHECK(sign(indexset_bytes_compare(k.bytes, k.len, other.bytes, other.len)) == compare(&k, &other));
+    CHECK(indexset_bytes_compare(k.bytes, k.len, k.bytes, k.len) == 0);
 }
 
-static void step_pair(indexset_text_map *map, key from) {
+static void step_pair(const indexset_text_map *map, key from) {
     size_t below = model_rank(&from), drawn = (size_t)(draw() % (count + 2)), places = draw() % (LONGEST + 1);
-    size_t positions[4] = {drawn, 0, count - (count != 0), below};
-    for (int call = 0; call < 4; call++) {
+    size_t positions[5] = {drawn, 0, count - (count != 0), below, model_count_up_to(&from)};
+    for (int call = 0; call < 5; call++) {
         uint8_t bytes[LONGEST + 4];
         size_t len = 55;
         uint64_t value = 66;
@@ -170,13 +204,14 @@ static void step_pair(indexset_text_map *map, key from) {
         if (call == 0) found = indexset_text_map_at(map, drawn, bytes, places, &len, &value);
         else if (call == 1) found = indexset_text_map_first(map, bytes, places, &len, &value);
         else if (call == 2) found = indexset_text_map_last(map, bytes, places, &len, &value);
-        else found = indexset_text_map_lower_bound(map, from.bytes, from.len, bytes, places, &len, &value);
+        else if (call == 3) found = indexset_text_map_lower_bound(map, from.bytes, from.len, bytes, places, &len, &value);
+        else found = indexset_text_map_upper_bound(map, from.bytes, from.len, bytes, places, &len, &value);
         CHECK(found == (positions[call] < count));
         CHECK(found ? wrote(positions[call], bytes, places, len, value) : unwritten(bytes, len, value));
     }
 }
 
-static void step_range(indexset_text_map *map) {
+static void step_range(const indexset_text_map *map) {
     uint64_t values[8] = {77, 77, 77, 77, 77, 77, 77, 77};
     size_t from = (size_t)(draw() % (count + 2)), rest = from < count ? count - from : 0, wanted = rest < 5 ? rest : 5;
     CHECK(indexset_text_map_range_by_position(map, from, values, 5) == wanted);
@@ -185,7 +220,7 @@ static void step_range(indexset_text_map *map) {
 }
 
 /* The keys of a part, one behind another, also where they are cut. */
-static void step_keys(indexset_text_map *map) {
+static void step_keys(const indexset_text_map *map) {
     uint8_t bytes[41], wanted[5 * LONGEST];
     size_t lengths[6] = {55, 55, 55, 55, 55, 55}, places = draw() % 41, end = 0;
     size_t from = (size_t)(draw() % (count + 2)), rest = from < count ? count - from : 0, many = rest < 5 ? rest : 5;

@@ -1,5 +1,5 @@
 #!/usr/bin/env python3
-"""Sends 100,000 lines that mean harm to a follower, and compares each answer with that of a model.
+"""Fuzzes the follower with 100,000 adversarial lines, and compares each answer with that of a model.
 
 The lines are events in turn and out of turn, events with a number, a name, an item, an index or a word
 altered, whole nodes that do not fit, snapshots cut short, requests, and bytes of any kind. The model is
@@ -41,7 +41,7 @@ class Counts:
 
 
 class Hostile:
-    """Lines that mean harm, some of them from what the model holds."""
+    """Adversarial lines, some of them from what the model holds."""
 
     def __init__(self, model: Model, seed: int) -> None:
         self.model, self.random = model, random.Random(seed)
@@ -217,7 +217,7 @@ def long_lines(program: pathlib.Path, run: Run) -> Counts:
 
 
 def main() -> int:
-    ask = argparse.ArgumentParser(description="Sends lines that mean harm to a follower.")
+    ask = argparse.ArgumentParser(description="Fuzzes the follower with adversarial lines.")
     ask.add_argument("--seed", type=int, default=1)
     ask.add_argument("--sanitized", action="store_true", help="the program is one that the sanitizer checks")
     given = ask.parse_args()

@@ -6,9 +6,9 @@
 -- |---|---|
 -- | item, element, pair | what a node holds: an element of a set, or a key with its value |
 -- | node | an ascending list of items, at most the node size of them. It is a type with the trait `NodeLike`: `Vec<T>`, which allocates, or `ArrayNode<T, N>`, which holds up to N items in place and never allocates |
--- | node list | the nodes in order; their concatenation is the collection's list. No node is empty, but the only one of an empty plain collection |
--- | index | of a plain collection, the Fenwick tree of the node lengths, by which positions are found |
--- | plain family, logged family | set and map with positions; set, map and multimap that report changes as events |
+-- | node list | the nodes in order; their concatenation is the collection's list. No node is empty, except the only one of an empty plain collection |
+-- | index | the Fenwick tree of the node lengths, by which positions are found |
+-- | plain family, logged family | set and map; set, map and multimap that return their changes as events |
 -- | position, offset, place | an index in the whole list, counted from 0; an index in a node; a node with an offset in it |
 -- | equal, identical | the order returns Equal, as it may for two different items; the same value |
 -- | lawful | of an order: total and agreeing with `==`; of nodes: a node list within the node size |
@@ -17,7 +17,7 @@
 -- | small neighbours | two nodes, one directly after the other, of at most half the node size together: a removal in a logged tree merges them |
 -- | event | a numbered change of a node list: an item inserted or removed, a node created, removed, split or merged with the next. It names a node by its last item before the change |
 -- | event table | the definition of each call's events: `put_events`, `checked_put_events`, `removal_events` |
--- | replay | the steps of events in turn; undefined from the first event that names no node, does not fit, or leaves no node list |
+-- | replay | the steps of events in order; undefined from the first event that does not apply |
 -- | replica | a copy that holds a node list and the number of the event that it expects |
 -- | text of a value | of a type that is `Spelled`, the bytes that `{}` writes, of which the identical value is read, and no other; a `Word`'s texts may stand in that of a pair |
 -- | clone premise | that a clone is the same value as its source |
@@ -25,22 +25,7 @@
 --
 -- Names in the code, by the standard term: `Probe` is a comparator, which compares items with what it seeks, returns Less, Equal or Greater, and counts its comparisons; `Spine` is a node list with its length and index; `Spot` is a position in a node; `Refusal` is an error, and `Refused` an error with the value that the call was given; `digits` is the bit length; `_cdc` marks a call that returns its events (change data capture).
 --
--- Words that say what a contract is about; `cmp` is the comparison, l a list, v a value, ns nodes:
---
--- | Word | Meaning |
--- |---|---|
--- | `items s`, `m.pairs`, `joined ns` | the list of a set; of a map; of nodes |
--- | `put cmp l v`, `keep cmp l v`, `without cmp l v` | l with v, replacing an equal element; l if one is present, else `put`; l without it |
--- | `cut nodes size` | what contracts see of a set: its nodes and node size; of a map it is `Contents`: pairs, node lengths, node size; of a logged tree `Tree`: nodes, node size, number of the next event; of a multimap `MultiTree`, with the number of the next new pair; of a replica `ReplicaState` |
--- | `IsNodeList cmp ns`, `IsLawful cmp size ns` | no node is empty and the items of all ascend; besides, each is within the size |
--- | `step cmp ns e`, `replay cmp ns es` | the nodes after an event; after events in turn |
--- | `event_text text e`, `event_reading read line` | the text of an event, where that of an item is known; the event of which a line is the text |
--- | `EventInRange P e` | its numbers are of 64 bits, and P holds of its items |
--- | `is_item text`, `is_word text` | the text has no end of line, and no space but before a `#`; it has no end of line, no space and no colon |
--- | `IsFeed`, `IsAt`, `IsDelivered` | events numbered in turn that lead from given nodes; a replica that holds what the first j lead to; one that holds what the longest beginning leads to whose events came in turn |
--- | `IsBeginning`, `HoldsAll` | a replica that holds what some beginning of a feed leads to, and awaits the event after it; one that holds what all events lead to |
--- | `IsCopy`, `AreCopies` | an item is another one, or an equal clone of it, or one of such a clone, and so on; nodes hold copies of the items of other nodes, one for each |
--- | `AreClonesEqual`, `LeadsToCopies`, `CopiesBeginning`, `CopiesAll` | each clone of a type equals its source; events lead to copies of given nodes; a replica that holds copies of what a beginning of a feed leads to, or all events |
+-- What contracts see of a value: of a set `cut nodes size`, whose list is `items s`; of a map `Contents`: `pairs`, node lengths, node size; of a logged tree `Tree`: nodes, node size, number of the next event, whose list is `joined t.nodes`; of a multimap `MultiTree`, with the number of the next new pair; of a replica `ReplicaState`: nodes and the number of the event that it expects.
 
 pub use Rattle.indexset_spine.specs.Cut.{items}
 pub use Rattle.indexset_core.specs.Order.{IsAscending, below, above, rank, has_equal, index_of, equal_element, lower_element, put, keep, without}

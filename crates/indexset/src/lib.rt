@@ -1,23 +1,23 @@
-//! Ordered sets and maps kept as a two-level B-tree, with look-ups by key and by position, and a
-//! logged family whose changes go out as numbered events.
+//! Order-statistic B-tree sets and maps, with look-ups by key and by position, and a logged family
+//! that returns its changes as numbered events.
 //!
-//! This is the crate that a user lists; it holds paths alone, those of the Rust crate. [`BTreeSet`] and
-//! [`BTreeMap`] with their types stand at the root, the logged set, map and multimap in
-//! [`concurrent`], their events in [`cdc`], what both families stand on in [`base`], look-ups by borrowed
-//! text in [`text`], and the copy that follows a tree by its events in [`replica`]; laws of sets are in
-//! [`laws`]. `Rattle.indexset.specs.Words` has the words of its contracts, and `docs/CALLING.md` is the
-//! page for callers.
+//! This is the crate that a user lists; it holds paths alone, those of the Rust crate. [`BTreeSet`]
+//! and [`BTreeMap`] with their types stand at the root, the logged set, map and multimap in
+//! [`concurrent`], their events in [`cdc`], what both families use in [`base`], look-ups by
+//! borrowed text in [`text`], and the replica that follows a tree by its events in [`replica`];
+//! laws of sets are in [`laws`]. `Rattle.indexset.specs.Words` has the words of its contracts, and
+//! `docs/CALLING.md` is the page for callers.
 #![tactic(auto)]
 
-/// What the collections stand on. The Rust crate calls this module `core`.
+/// What the collections are made of.
 pub mod base {
     pub use indexset_core::{
         array_node, bounds, constants, laws, multipair, node, pair, probe, refusal, search, steps,
     };
 }
 
-/// Trees whose changes go out as events. There are no threads: each has one owner. The module has the
-/// Rust crate's name.
+/// Trees that return their changes as events. There are no threads: each has one owner. The module
+/// has the Rust crate's name.
 pub mod concurrent {
     /// The logged set, its iterators, and its nodes.
     pub mod set {
@@ -47,14 +47,14 @@ pub mod cdc {
     pub use indexset_events::{change, laws, spelling};
 }
 
-/// Comparators by which sets and maps look a `&str` up among text keys. (They are not in the Rust crate.)
+/// Comparators by which sets and maps look a `&str` up among text keys.
 pub mod text {
-    pub use indexset_text::{ByStr, OnKey};
+    pub use indexset_core::text::{ByStr, OnKey};
 }
 
-/// A copy kept elsewhere that follows a tree by its events. (In the Rust crate a helper of the tests.)
+/// A replica, which follows a tree by its events.
 pub mod replica {
-    pub use indexset_replica::{Replica, iter, laws, lookup};
+    pub use indexset_replica::{Replica, iter, keys, laws, lookup};
 }
 
 pub use indexset_map::{

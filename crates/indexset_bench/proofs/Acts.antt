@@ -11,7 +11,7 @@ use Rattle.indexset_multi.specs.Tree.{MultiTree}
 use Rattle.indexset_bench.specs.LoggedMulti.{MultiState}
 use Rattle.indexset_bench.specs.Told.{nodes_after, tree_after}
 
--- either of two refusals for want of numbers
+-- either of two refusals for lack of numbers
 pub either_lack : (a b : Bool) {X : Type 0} (x y : X) → cond a x (cond b x y) ≡ cond (a || b) x y
 either_lack true b x y = refl
 either_lack false b x y = refl

@@ -1,4 +1,4 @@
 -- What crates above this one may cite of its proofs.
 pub use Rattle.indexset_bench.proofs.Meanings.{sound}
 pub use Rattle.indexset_bench.proofs.PairMeanings.{pair_sound}
-pub use Rattle.indexset_bench.proofs.Written.{lead_after, more_lines, more_joined, next_lead, on_ok_given, one_line, one_read}
+pub use Rattle.indexset_bench.proofs.Written.{lead_after, on_ok_given, one_read}

@@ -33,7 +33,7 @@ module _ {K V : Type 0} (cmp : K → K → Ordering) (eq : V → V → Bool) whe
   logged_multi_pairs s (RemoveSome k) = without_named cmp s.pairs (first_pair cmp s.pairs k)
   logged_multi_pairs s (Remove k w) = without_named cmp s.pairs (equal_pair cmp eq s.pairs k w)
 
-  -- the number of the next new pair after it: one more where a new pair was put in
+  -- the number of the next new pair after it: one more where a new pair was inserted
   abbrev pub logged_multi_next : MultiState K V → LoggedMultiCommand K V → ℕ
   logged_multi_next s (Insert k w) = if is_none (kept_number cmp eq s.pairs k w) then s.pair_next + 1 else s.pair_next
   logged_multi_next s (RemoveSome k) = s.pair_next
@@ -58,7 +58,7 @@ module _ {K V : Type 0} (cmp : K → K → Ordering) (eq : V → V → Bool) whe
     pair_next = logged_multi_next (record { pairs = joined m.nodes; pair_next = m.pair_next }) c;
   }
 
-  -- it needs a number for a new pair, and none is left
+  -- it needs a number for a new pair, and none remains
   abbrev pub lacks_pair_number : MultiTree K V → LoggedMultiCommand K V → Bool
   lacks_pair_number m (Insert k w) = lacks_number cmp eq m k w
   lacks_pair_number m (RemoveSome k) = false

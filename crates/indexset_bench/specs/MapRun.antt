@@ -11,12 +11,12 @@ use Rattle.indexset_bench.specs.declared.map_run.MapReply.{MapReply}
 use Rattle.indexset_bench.specs.declared.map_run.MapReply.TheVariants.{Value, Entry, Flag, Count, Done}
 
 module _ {K V : Type 0} where
-  -- a clone of the value, where there is one
+  -- a clone of the value, if any
   abbrev pub IsValueClone : (V → V → Type 0) → Option V → MapReply K V → Type 0
   IsValueClone D None r = r ≡ Value None
   IsValueClone D (Some w) r = (copy : V) × (r ≡ Value (Some copy)) × D w copy
 
-  -- clones of the key and the value of the pair, where there is one
+  -- clones of the key and the value of the pair, if any
   abbrev pub IsEntryClone : (K → K → Type 0) → (V → V → Type 0) → Option (Pair K V) → MapReply K V → Type 0
   IsEntryClone C D None r = r ≡ Entry None
   IsEntryClone C D (Some p) r = (k : K) × (w : V) × (r ≡ Entry (Some (k, w))) × C p.key k × D p.value w
@@ -56,7 +56,7 @@ module _ {K V : Type 0} (cmp : K → K → Ordering) where
   map_after l Len = l
   map_after l Clear = []
 
-  -- the replies to the commands in turn
+  -- the replies to the commands, in order
   abbrev pub map_replies : List (Pair K V) → List (MapCommand K V) → List (MapReply K V)
   map_replies l commands = scan map_after map_reply l commands
 

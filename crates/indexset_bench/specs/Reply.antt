@@ -8,7 +8,7 @@ use Rattle.indexset_bench.specs.declared.command.Command.TheVariants.{Add, Del, 
 use Rattle.indexset_bench.specs.declared.reply.Reply.{Reply}
 use Rattle.indexset_bench.specs.declared.reply.Reply.TheVariants.{New, Old, OldValue, Gone, GoneValue, Yes, No, Count, Item, Nothing, Empty, Bad}
 
--- the element, where there is one
+-- the element, if any
 abbrev pub item_reply : Option ℕ → Reply
 item_reply None = Nothing
 item_reply (Some n) = Item n
@@ -33,7 +33,7 @@ contents_after s (Some (At i)) = s
 contents_after s (Some Len) = s
 contents_after s None = s
 
--- the command puts in a number that is not there
+-- the command inserts a number that is absent
 abbrev pub AddsNew : List ℕ → Option Command → Type 0
 AddsNew s (Some (Add n)) = has_equal nat_cmp s n ≡ false
 AddsNew s other = ⊥

@@ -8,7 +8,7 @@ use Rattle.indexset_bench.specs.declared.set_run.SetCommand.TheVariants.{Insert,
 use Rattle.indexset_bench.specs.declared.set_run.SetReply.{SetReply}
 use Rattle.indexset_bench.specs.declared.set_run.SetReply.TheVariants.{Flag, Item, Count, Done}
 
--- a clone of the element, where there is one
+-- a clone of the element, if any
 abbrev pub IsItemClone : {T : Type 0} → (T → T → Type 0) → Option T → SetReply T → Type 0
 IsItemClone C None r = r ≡ Item None
 IsItemClone {T} C (Some x) r = (y : T) × (r ≡ Item (Some y)) × C x y
@@ -59,7 +59,7 @@ module _ {T : Type 0} (cmp : T → T → Ordering) where
   set_after l Len = l
   set_after l Clear = []
 
-  -- the replies to the commands in turn
+  -- the replies to the commands, in order
   abbrev pub set_replies : List T → List (SetCommand T) → List (SetReply T)
   set_replies l commands = scan set_after set_reply l commands
 

@@ -29,7 +29,7 @@ reply_line s line = option_map_or (pair_reply s.pairs) (pair_meaning line) (repl
 abbrev pub stores_after : Stores → List ℕ → Stores
 stores_after s line = option_map_or (λ c. stores s.numbers (pairs_after s.pairs c)) (pair_meaning line) (stores (contents_after s.numbers (meaning line)) s.pairs)
 
--- the line changes the map, or is none to the map and puts in a number that is not there
+-- the line changes the map, or is none to the map and inserts a number that is absent
 abbrev pub Changes : Stores → List ℕ → Type 0
 Changes s line = MatchOption (pair_meaning line) (AddsNew s.numbers (meaning line)) (λ c. pair_events s.pairs c ≢ [])
 

@@ -13,7 +13,7 @@ nodes_after cmp ns s es = unwrap_or (replay cmp ns (numbered_from s es)) ns
 abbrev pub tree_after : {T : Type 0} → (T → T → Ordering) → Tree T → List (ChangeEventUnassigned T) → Tree T
 tree_after cmp t es = record { nodes = nodes_after cmp t.nodes t.next es; size = t.size; next = t.next + length es }
 
--- the events of commands in turn, one after the other, where `left` is the tree that a command leaves
+-- the events of commands, in order, where `left` is the tree that a command leaves
 abbrev pub events_in_turn : {S C E : Type 0} → (S → C → S) → (S → C → List E) → S → List C → List E
 events_in_turn left events t [] = []
 events_in_turn left events t (c ∷ cs) = events t c ++ events_in_turn left events (left t c) cs

@@ -1,4 +1,4 @@
-//! Logged trees, as a list of commands meets them.
+//! Logged trees, as a list of commands uses them.
 ghost use Rattle.std.specs.Prelude.{◌≡◌, ◌+◌, ◌/◌, ◌≤◌, ℕ, List, Bool, false, Some, IfOk, OnOk, IfErr, OnErr, if◌then◌else◌, length};
 ghost use Rattle.std.specs.List.{AllZip};
 ghost use Rattle.indexset_events.specs.Clones.{IsEventClone};
@@ -13,7 +13,7 @@ pub mod set;
 use indexset_core::refusal::Refusal;
 use indexset_events::change::ChangeEvent;
 
-/// A tree whose changes come out as events.
+/// A tree that returns its changes as events.
 pub trait Logged {
     /// What its nodes hold.
     type Item: Ord + Drop;
@@ -22,7 +22,7 @@ pub trait Logged {
     /// What it answers.
     type Reply: Drop;
 
-    /// What a command sees and changes, whatever the nodes are.
+    /// The state that a command reads and changes, whatever the nodes are.
     ghost State: { Type 0 };
 
     /// Its nodes.

@@ -16,7 +16,7 @@ use std::alloc::Global;
 /// The replies to a list of commands, and the events of its changes.
 #[derive(Drop)]
 pub struct LogRun<L: Logged> {
-    /// The replies, in turn, to the commands before the failed one, or to all of them.
+    /// The replies, in order, to the commands before the failed one, or to all of them.
     pub replies: Vec<L::Reply>,
     /// The events of these commands, in order.
     pub events: Vec<ChangeEvent<L::Item>>,
@@ -24,12 +24,12 @@ pub struct LogRun<L: Logged> {
     pub refused: Option<Refusal>,
 }
 
-/// Carries out the commands in turn, and stops at the first that fails: then the replies and the
+/// Carries out the commands in order, and stops at the first that fails: then the replies and the
 /// events are those of the commands before it, and the tree is as they left it.
 ///
 /// Room for a reply and for three events is reserved before a command acts.
 pub fn run_logged<L: Logged>(alloc: Global, tree: &mut L, commands: Vec<L::Command>) -> LogRun<L>
-    // The events are those of the table, with clones of its items, and are numbered in turn.
+    // The events are those of the table, with clones of its items, and are numbered without a gap.
     ensures clones { AllZip (IsEventClone L.cloned)
         (numbered_from (L.next tree.old) (events_in_turn L.left L.events tree.old
         (take (length result.replies.items) commands.items))) result.events.items }

@@ -33,7 +33,7 @@ pub enum MapCommand<K, V> {
     Rank(K),
     /// Returns the number of pairs: a `Count`.
     Len,
-    /// Takes all pairs out: `Done`.
+    /// Removes all pairs: `Done`.
     Clear,
 }
 
@@ -52,7 +52,7 @@ pub enum MapReply<K, V> {
     Done,
 }
 
-/// Carries out the commands in turn, and stops at the first that fails: then the replies are those
+/// Carries out the commands in order, and stops at the first that fails: then the replies are those
 /// to the commands before it, and the map is as they left it.
 ///
 /// Room for a reply is reserved before its command acts. Keys and values that stay in the map are

@@ -18,7 +18,7 @@ pub enum PairCommand {
     Nodes,
 }
 
-/// Returns the numbers of which this is the text: two, parted by one space.
+/// Returns the numbers of which this is the text: two, separated by one space.
 fn two_numbers(text: &[u8]) -> Option<(u64, u64)>
     ensures { MatchOption result
         ((m n : ℕ) → m < 2 ^ 64 → n < 2 ^ 64 → text.now ≢ decimal m ++ 32 ∷ decimal n)

@@ -17,8 +17,8 @@ use std::io::Write;
 /// A map of numbers, which returns its changes as events.
 pub type Pairs = BTreeMap<u64, u64, Vec<Pair<u64, u64>>>;
 
-/// Does what a line says to the map, and writes the reply to it. A failed call changes nothing, and
-/// nothing is written.
+/// Carries out a line's command to the map, and writes the reply to it. A failed call changes
+/// nothing, and nothing is written.
 pub fn answer_pairs<W: Write>(
     writer: &mut W,
     pairs: &mut Pairs,

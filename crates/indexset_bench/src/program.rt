@@ -24,8 +24,8 @@ use std::alloc::Global;
 use std::io::{BufRead, Write};
 
 /// Writes the reply to each line of the reader to the writer, over a set and a map that start
-/// empty. The writer is flushed where the reader's buffer is used up, so that each reply is out
-/// before more is waited for.
+/// empty. The writer is flushed where the reader's buffer is empty, so that each reply is out
+/// before the next read.
 ///
 /// A fault ends the run at once, and the first fault is returned. A line past the first 2^64 - 1 is
 /// a fault of the reader. After a failed write nothing is said of what was written.

@@ -41,7 +41,7 @@ pub enum SetCommand<T> {
     Rank(T),
     /// Returns the number of elements: a `Count`.
     Len,
-    /// Takes all elements out: `Done`.
+    /// Removes all elements: `Done`.
     Clear,
 }
 
@@ -58,7 +58,7 @@ pub enum SetReply<T> {
     Done,
 }
 
-/// Carries out the commands in turn, and stops at the first that fails: then the replies are those
+/// Carries out the commands in order, and stops at the first that fails: then the replies are those
 /// to the commands before it, and the set is as they left it.
 ///
 /// Room for a reply is reserved before its command acts. Elements that stay in the set are cloned

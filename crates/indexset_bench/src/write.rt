@@ -50,7 +50,7 @@ pub fn write_nodes<W: Write>(writer: &mut W, pairs: &Pairs) -> Result<(), RunFau
     Ok(())
 }
 
-/// Writes a node as a line: its pairs, parted by one space.
+/// Writes a node as a line: its pairs, separated by one space.
 pub fn write_node<W: Write>(writer: &mut W, node: &[Pair<u64, u64>]) -> Result<(), RunFault>
     ensures told { OnOk result (Appends (W.contents writer.old) (W.contents writer.new)
         (ended (node_text node.now))) }

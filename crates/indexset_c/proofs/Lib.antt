@@ -1,3 +1,4 @@
 mod MultiLemmas
 pub mod PairLemmas
 mod StatusLemmas
+pub mod WrittenLemmas

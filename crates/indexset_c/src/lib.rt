@@ -9,6 +9,7 @@ ghost use Rattle.std.specs.Prelude.{◌≡◌};
 
 mod log_edits;
 mod log_life;
+mod log_positions;
 mod log_reads;
 mod map_batch;
 mod map_keys;

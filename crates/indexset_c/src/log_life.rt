@@ -1,12 +1,14 @@
 //! Calls that make and free a logged map, and tell its length and its next number.
-ghost use Rattle.std.specs.Prelude.{◌≡◌, ◌≢◌, ◌<◌, ◌↔◌, [], Some, None, false, true, length, is_some};
+ghost use Rattle.std.specs.Prelude.{◌≡◌, ◌≢◌, ◌<◌, ◌↔◌, [], Some, None, false, true, length, is_some, option_map};
 ghost use Rattle.std.specs.Option.{option_map_or};
 ghost use Rattle.indexset_handle.specs.Elements.{logged_pairs};
 
 use indexset_handle::log_handle::LogHandle;
+use indexset_handle::log_owner::LogOwner;
 use indexset_handle::status::{HELD, MEMORY, UNFIT, YES};
 use indexset_log::map::BTreeMap;
 use std::alloc::Global;
+use std::mem::swap;
 
 /// Makes an empty map, whose nodes hold at most `size` pairs and whose first change has the number
 /// `next`. A handle that leads to a map is refused, and a size below 2.
@@ -46,6 +48,62 @@ pub extern "C" fn indexset_log_free(alloc: Global, log: &mut LogHandle)
     ensures { log.new.slot.value ≡ None }
 {
     drop(log.take(alloc));
+}
+
+/// Makes an empty map, as `indexset_log_new` does, under a handle on the heap.
+#[unsafe(no_mangle)]
+pub extern "C" fn indexset_log_create(
+    alloc: Global,
+    log: &mut LogOwner,
+    size: usize,
+    next: u64,
+) -> u32
+    ensures made { result ≡ YES → option_map (λ h. h.slot.value) log.new.value
+        ≡ Some (Some (record { nodes = []; size = size; next = next })) }
+    ensures refused { result ≢ YES → log.new.value ≡ log.old.value }
+    ensures unfit { result ≡ UNFIT ↔ (size < 2) }
+    ensures status { result ≢ YES → result ≢ UNFIT → result ≡ MEMORY }
+{
+    if size < 2 {
+        return UNFIT;
+    }
+    let Ok(mut handle) = Box::new(alloc, LogHandle::none(alloc)) else {
+        return MEMORY;
+    };
+    let status = indexset_log_new(alloc, &mut *handle, size, next);
+    if status == YES {
+        log.put(handle);
+    }
+    status
+}
+
+/// Frees a handle on the heap, and what it leads to.
+#[unsafe(no_mangle)]
+pub extern "C" fn indexset_log_destroy(alloc: Global, log: &mut LogOwner)
+    requires { is_some log.old.value ≡ true }
+    ensures { log.new.value ≡ None }
+{
+    let mut handle = log.take(alloc);
+    indexset_log_free(alloc, &mut *handle);
+}
+
+/// Moves a logged map to the handle `to`, whose own is freed, and leaves the handle `from` with none.
+#[unsafe(no_mangle)]
+pub extern "C" fn indexset_log_move(alloc: Global, to: &mut LogHandle, from: &mut LogHandle)
+    ensures moved { to.new.slot.value ≡ from.old.slot.value }
+    ensures left { from.new.slot.value ≡ None }
+{
+    drop(to.take(alloc));
+    swap(to, from);
+}
+
+/// Swaps what two handles lead to.
+#[unsafe(no_mangle)]
+pub extern "C" fn indexset_log_swap(one: &mut LogHandle, other: &mut LogHandle)
+    ensures one { one.new.slot.value ≡ other.old.slot.value }
+    ensures other { other.new.slot.value ≡ one.old.slot.value }
+{
+    swap(one, other);
 }
 
 /// Returns how many pairs there are.

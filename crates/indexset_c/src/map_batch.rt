@@ -5,6 +5,7 @@ ghost use Rattle.indexset_handle.specs.Elements.{pairs, put_all, value_or, writt
 use indexset_handle::map_calls::{put_each, value_each};
 use indexset_handle::map_handle::MapHandle;
 use indexset_handle::status::{MEMORY, NO, NONE, YES};
+use indexset_handle::write::write_same;
 use std::alloc::Global;
 
 /// Makes each value that of its key, first to last and as far as there are both. Writes how many were
@@ -43,6 +44,7 @@ pub extern "C" fn indexset_map_insert_all(
 /// Writes the value of each key, or `absent` where the key is not there, as far as there is room.
 /// Returns how many it wrote.
 #[unsafe(no_mangle)]
+#[tactic(auto, using(crate::proofs::WrittenLemmas::no_values))]
 pub extern "C" fn indexset_map_gets(
     alloc: Global,
     handle: &mut MapHandle,
@@ -50,14 +52,13 @@ pub extern "C" fn indexset_map_gets(
     absent: u64,
     out: &mut [u64],
 ) -> usize
-    ensures count { handle.old.slot.value ≢ None → result ≡ min (length keys.now) (length out.old) }
+    ensures count { result ≡ min (length keys.now) (length out.old) }
     ensures written { out.new ≡ written result
         (map (value_or (pairs handle.old.slot.value) absent) keys.now) out.old }
-    ensures none { handle.old.slot.value ≡ None → result ≡ 0 }
     ensures same { handle.new.slot.value ≡ handle.old.slot.value }
 {
     let Some(held) = handle.take(alloc) else {
-        return 0;
+        return write_same(keys.len(), absent, out);
     };
     let count = value_each(&held, keys, absent, out);
     handle.put(held);

@@ -2,8 +2,9 @@
 ghost use Rattle.std.specs.Prelude.{◌≡◌, ◌≢◌, ◌≤◌, ◌↔◌, Some, None, true, false, is_some};
 ghost use Rattle.std.specs.Ordering.{nat_cmp};
 ghost use Rattle.indexset_core.specs.Pairs.{has_key, key_rank, put_value, value_of, without_key};
-ghost use Rattle.indexset_handle.specs.Elements.{pairs};
+ghost use Rattle.indexset_handle.specs.Elements.{key_count_up_to, pairs};
 
+use indexset_handle::map_calls::count_to;
 use indexset_handle::map_handle::MapHandle;
 use indexset_handle::status::{MEMORY, NO, NONE, YES};
 use indexset_handle::write::write;
@@ -42,6 +43,39 @@ pub extern "C" fn indexset_map_insert(
         Err(_) => MEMORY,
     };
     map.put(held);
+    status
+}
+
+/// Inserts a pair, or replaces the value of a present key and writes the old one, and writes the rank of
+/// the key: where its pair stands then.
+#[unsafe(no_mangle)]
+#[tactic(auto, using(crate::proofs::PairLemmas::no_value_no_key))]
+pub extern "C" fn indexset_map_insert_ranked(
+    alloc: Global,
+    map: &mut MapHandle,
+    key: u64,
+    value: u64,
+    before: &mut u64,
+    rank: &mut usize,
+) -> u32
+    ensures added { result ≡ YES → value_of nat_cmp (pairs map.old.slot.value) key ≡ None }
+    ensures replaced { result ≡ NO → value_of nat_cmp (pairs map.old.slot.value) key
+        ≡ Some before.new }
+    ensures rank { result ≤ YES → rank.new ≡ key_rank nat_cmp (pairs map.old.slot.value) key }
+    ensures ok { result ≤ YES → pairs map.new.slot.value
+        ≡ put_value nat_cmp (pairs map.old.slot.value) key value }
+    ensures unwritten { result ≢ NO → before.new ≡ before.old }
+    ensures same { MEMORY ≤ result
+        → (rank.new ≡ rank.old) × (map.new.slot.value ≡ map.old.slot.value) }
+    ensures none { result ≡ NONE ↔ (map.old.slot.value ≡ None) }
+    ensures no_memory { has_key nat_cmp (pairs map.old.slot.value) key ≡ true → result ≡ NO }
+    ensures status { result ≤ NONE }
+{
+    let below = indexset_map_rank(alloc, map, key);
+    let status = indexset_map_insert(alloc, map, key, value, before);
+    if status <= YES {
+        *rank = below;
+    }
     status
 }
 
@@ -116,4 +150,18 @@ pub extern "C" fn indexset_map_rank(alloc: Global, map: &mut MapHandle, key: u64
     let below = held.rank(&key);
     map.put(held);
     below
+}
+
+/// Returns how many keys are not above a key.
+#[unsafe(no_mangle)]
+pub extern "C" fn indexset_map_count_up_to(alloc: Global, map: &mut MapHandle, key: u64) -> usize
+    ensures value { result ≡ key_count_up_to nat_cmp (pairs map.old.slot.value) key }
+    ensures same { map.new.slot.value ≡ map.old.slot.value }
+{
+    let Some(held) = map.take(alloc) else {
+        return 0;
+    };
+    let count = count_to(&held, key);
+    map.put(held);
+    count
 }

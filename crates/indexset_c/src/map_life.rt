@@ -1,13 +1,15 @@
 //! Calls that make, empty, clone and free a map, and return its length.
-ghost use Rattle.std.specs.Prelude.{◌≡◌, ◌≢◌, ◌↔◌, [], Some, None, true, length, is_some, IfSome};
+ghost use Rattle.std.specs.Prelude.{◌≡◌, ◌≢◌, ◌↔◌, [], Some, None, true, length, is_some, IfSome, option_map};
 ghost use Rattle.indexset_core.specs.declared.constants.TheConstants.{DEFAULT_INNER_SIZE};
 ghost use Rattle.indexset_map.specs.Contents.{no_pairs};
 ghost use Rattle.indexset_handle.specs.Elements.{pairs};
 
 use indexset_handle::map_handle::MapHandle;
+use indexset_handle::map_owner::MapOwner;
 use indexset_handle::status::{HELD, MEMORY, NONE, YES};
 use indexset_map::BTreeMap;
 use std::alloc::Global;
+use std::mem::swap;
 
 /// Makes an empty map. Fails where the handle leads to a map.
 #[unsafe(no_mangle)]
@@ -73,6 +75,53 @@ pub extern "C" fn indexset_map_free(alloc: Global, map: &mut MapHandle)
     ensures { map.new.slot.value ≡ None }
 {
     drop(map.take(alloc));
+}
+
+/// Makes an empty map under a handle on the heap.
+#[unsafe(no_mangle)]
+pub extern "C" fn indexset_map_create(alloc: Global, map: &mut MapOwner) -> u32
+    ensures made { result ≡ YES → option_map (λ h. h.slot.value) map.new.value
+        ≡ Some (Some (no_pairs DEFAULT_INNER_SIZE)) }
+    ensures refused { result ≢ YES → map.new.value ≡ map.old.value }
+    ensures status { result ≢ YES → result ≡ MEMORY }
+{
+    let Ok(mut handle) = Box::new(alloc, MapHandle::none(alloc)) else {
+        return MEMORY;
+    };
+    let status = indexset_map_new(alloc, &mut *handle);
+    if status == YES {
+        map.put(handle);
+    }
+    status
+}
+
+/// Frees a handle on the heap, and what it leads to.
+#[unsafe(no_mangle)]
+pub extern "C" fn indexset_map_destroy(alloc: Global, map: &mut MapOwner)
+    requires { is_some map.old.value ≡ true }
+    ensures { map.new.value ≡ None }
+{
+    let mut handle = map.take(alloc);
+    indexset_map_free(alloc, &mut *handle);
+}
+
+/// Moves a map to the handle `to`, whose own is freed, and leaves the handle `from` with none.
+#[unsafe(no_mangle)]
+pub extern "C" fn indexset_map_move(alloc: Global, to: &mut MapHandle, from: &mut MapHandle)
+    ensures moved { to.new.slot.value ≡ from.old.slot.value }
+    ensures left { from.new.slot.value ≡ None }
+{
+    drop(to.take(alloc));
+    swap(to, from);
+}
+
+/// Swaps what two handles lead to.
+#[unsafe(no_mangle)]
+pub extern "C" fn indexset_map_swap(one: &mut MapHandle, other: &mut MapHandle)
+    ensures one { one.new.slot.value ≡ other.old.slot.value }
+    ensures other { other.new.slot.value ≡ one.old.slot.value }
+{
+    swap(one, other);
 }
 
 /// Removes all pairs.

@@ -1,7 +1,11 @@
 //! Calls of a map that go by a position, and those at its two ends.
-ghost use Rattle.std.specs.Prelude.{◌≡◌, ◌-◌, Some, None, true, false, drop, length, take, is_some};
+ghost use Rattle.std.specs.Prelude.{◌≡◌, ◌-◌, Some, None, true, false, drop, length, remove, take, is_some};
+ghost use Rattle.std.specs.Ordering.{nat_cmp};
+ghost use Rattle.std.specs.declared.ops.Bound.TheVariants.{Included, Excluded, Unbounded};
+ghost use Rattle.indexset_core.specs.Pairs.{pairs_within};
 ghost use Rattle.indexset_handle.specs.Elements.{entry_at, pairs};
 
+use indexset_handle::map_calls::{first_from, first_past, take_index};
 use indexset_handle::map_handle::MapHandle;
 use indexset_handle::write::write_pair;
 use std::alloc::Global;
@@ -29,6 +33,84 @@ pub extern "C" fn indexset_map_at(
         Some((k, v)) => Some((*k, *v)),
         None => None,
     };
+    map.put(held);
+    write_pair(found, key, value)
+}
+
+/// Writes the pair of the first key that is not below `from`, where there is one.
+#[unsafe(no_mangle)]
+pub extern "C" fn indexset_map_lower_bound(
+    alloc: Global,
+    map: &mut MapHandle,
+    from: u64,
+    key: &mut u64,
+    value: &mut u64,
+) -> bool
+    ensures found { result ≡ true → entry_at
+        (pairs_within nat_cmp (pairs map.old.slot.value) (Included from) Unbounded) 0
+        ≡ Some (key.new, value.new) }
+    ensures absent { result ≡ false → entry_at
+        (pairs_within nat_cmp (pairs map.old.slot.value) (Included from) Unbounded) 0 ≡ None }
+    ensures no_key { result ≡ false → key.new ≡ key.old }
+    ensures no_value { result ≡ false → value.new ≡ value.old }
+    ensures same { map.new.slot.value ≡ map.old.slot.value }
+{
+    let Some(held) = map.take(alloc) else {
+        return false;
+    };
+    let found = first_from(&held, from);
+    map.put(held);
+    write_pair(found, key, value)
+}
+
+/// Writes the pair of the first key that is above `from`, where there is one.
+#[unsafe(no_mangle)]
+pub extern "C" fn indexset_map_upper_bound(
+    alloc: Global,
+    map: &mut MapHandle,
+    from: u64,
+    key: &mut u64,
+    value: &mut u64,
+) -> bool
+    ensures found { result ≡ true → entry_at
+        (pairs_within nat_cmp (pairs map.old.slot.value) (Excluded from) Unbounded) 0
+        ≡ Some (key.new, value.new) }
+    ensures absent { result ≡ false → entry_at
+        (pairs_within nat_cmp (pairs map.old.slot.value) (Excluded from) Unbounded) 0 ≡ None }
+    ensures no_key { result ≡ false → key.new ≡ key.old }
+    ensures no_value { result ≡ false → value.new ≡ value.old }
+    ensures same { map.new.slot.value ≡ map.old.slot.value }
+{
+    let Some(held) = map.take(alloc) else {
+        return false;
+    };
+    let found = first_past(&held, from);
+    map.put(held);
+    write_pair(found, key, value)
+}
+
+/// Removes the pair at a position, counted from 0, and writes it, where there is one.
+#[unsafe(no_mangle)]
+pub extern "C" fn indexset_map_remove_at(
+    alloc: Global,
+    map: &mut MapHandle,
+    position: usize,
+    key: &mut u64,
+    value: &mut u64,
+) -> bool
+    ensures found { result ≡ true → entry_at (pairs map.old.slot.value) position
+        ≡ Some (key.new, value.new) }
+    ensures absent { result ≡ false → entry_at (pairs map.old.slot.value) position ≡ None }
+    ensures rest { pairs map.new.slot.value ≡ remove (pairs map.old.slot.value) position }
+    ensures there { is_some map.new.slot.value ≡ is_some map.old.slot.value }
+    ensures no_key { result ≡ false → key.new ≡ key.old }
+    ensures no_value { result ≡ false → value.new ≡ value.old }
+    ensures same { result ≡ false → map.new.slot.value ≡ map.old.slot.value }
+{
+    let Some(mut held) = map.take(alloc) else {
+        return false;
+    };
+    let found = take_index(&mut held, position);
     map.put(held);
     write_pair(found, key, value)
 }

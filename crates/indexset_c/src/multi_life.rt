@@ -1,11 +1,13 @@
 //! Calls that make, empty and free a multimap, and tell its length.
-ghost use Rattle.std.specs.Prelude.{◌≡◌, ◌≢◌, ◌↔◌, [], Some, None, true, length, is_some};
+ghost use Rattle.std.specs.Prelude.{◌≡◌, ◌≢◌, ◌↔◌, [], Some, None, true, length, is_some, option_map};
 ghost use Rattle.indexset_handle.specs.Elements.{fresh_multi, numbered_pairs};
 
 use indexset_handle::multi_handle::MultiHandle;
+use indexset_handle::multi_owner::MultiOwner;
 use indexset_handle::status::{HELD, MEMORY, YES};
 use indexset_multi::multimap::BTreeMultiMap;
 use std::alloc::Global;
+use std::mem::swap;
 
 /// Makes an empty multimap. A handle that leads to a multimap is refused.
 #[unsafe(no_mangle)]
@@ -35,6 +37,53 @@ pub extern "C" fn indexset_multi_free(alloc: Global, multi: &mut MultiHandle)
     ensures { multi.new.slot.value ≡ None }
 {
     drop(multi.take(alloc));
+}
+
+/// Makes an empty multimap under a handle on the heap.
+#[unsafe(no_mangle)]
+pub extern "C" fn indexset_multi_create(alloc: Global, multi: &mut MultiOwner) -> u32
+    ensures made { result ≡ YES → option_map (λ h. h.slot.value) multi.new.value
+        ≡ Some (Some fresh_multi) }
+    ensures refused { result ≢ YES → multi.new.value ≡ multi.old.value }
+    ensures status { result ≢ YES → result ≡ MEMORY }
+{
+    let Ok(mut handle) = Box::new(alloc, MultiHandle::none(alloc)) else {
+        return MEMORY;
+    };
+    let status = indexset_multi_new(alloc, &mut *handle);
+    if status == YES {
+        multi.put(handle);
+    }
+    status
+}
+
+/// Frees a handle on the heap, and what it leads to.
+#[unsafe(no_mangle)]
+pub extern "C" fn indexset_multi_destroy(alloc: Global, multi: &mut MultiOwner)
+    requires { is_some multi.old.value ≡ true }
+    ensures { multi.new.value ≡ None }
+{
+    let mut handle = multi.take(alloc);
+    indexset_multi_free(alloc, &mut *handle);
+}
+
+/// Moves a multimap to the handle `to`, whose own is freed, and leaves the handle `from` with none.
+#[unsafe(no_mangle)]
+pub extern "C" fn indexset_multi_move(alloc: Global, to: &mut MultiHandle, from: &mut MultiHandle)
+    ensures moved { to.new.slot.value ≡ from.old.slot.value }
+    ensures left { from.new.slot.value ≡ None }
+{
+    drop(to.take(alloc));
+    swap(to, from);
+}
+
+/// Swaps what two handles lead to.
+#[unsafe(no_mangle)]
+pub extern "C" fn indexset_multi_swap(one: &mut MultiHandle, other: &mut MultiHandle)
+    ensures one { one.new.slot.value ≡ other.old.slot.value }
+    ensures other { other.new.slot.value ≡ one.old.slot.value }
+{
+    swap(one, other);
 }
 
 /// Removes all pairs.

@@ -1,15 +1,17 @@
 //! Calls that make and free a replica, and return its length, its node count and the number that it
 //! awaits.
-ghost use Rattle.std.specs.Prelude.{◌≡◌, ◌≢◌, ◌↔◌, [], Some, None, length, is_some, min, option_map, true};
+ghost use Rattle.std.specs.Prelude.{◌≡◌, ◌≢◌, ◌↔◌, [], Some, None, length, is_some, min, option_map, true, option_map};
 ghost use Rattle.std.specs.Option.{option_map_or};
 ghost use Rattle.indexset_handle.specs.Replicas.{copied_nodes, copied_pairs, replica_of};
 
 use indexset_handle::log_handle::LogHandle;
 use indexset_handle::replica_calls::replica_of;
 use indexset_handle::replica_handle::ReplicaHandle;
+use indexset_handle::replica_owner::ReplicaOwner;
 use indexset_handle::status::{HELD, MEMORY, NONE, YES};
 use indexset_replica::Replica;
 use std::alloc::Global;
+use std::mem::swap;
 
 /// Makes a replica without nodes, which awaits the change of the number `next`. Fails where the handle
 /// leads to a replica.
@@ -79,6 +81,61 @@ pub extern "C" fn indexset_replica_free(alloc: Global, replica: &mut ReplicaHand
     ensures { replica.new.slot.value ≡ None }
 {
     drop(replica.take(alloc));
+}
+
+/// Makes a replica without nodes, as `indexset_replica_new` does, under a handle on the heap.
+#[unsafe(no_mangle)]
+pub extern "C" fn indexset_replica_create(
+    alloc: Global,
+    replica: &mut ReplicaOwner,
+    next: u64,
+) -> u32
+    ensures made { result ≡ YES → option_map (λ h. h.slot.value) replica.new.value
+        ≡ Some (Some (record { nodes = []; next = next })) }
+    ensures refused { result ≢ YES → replica.new.value ≡ replica.old.value }
+    ensures status { result ≢ YES → result ≡ MEMORY }
+{
+    let Ok(mut handle) = Box::new(alloc, ReplicaHandle::none(alloc)) else {
+        return MEMORY;
+    };
+    let status = indexset_replica_new(alloc, &mut *handle, next);
+    if status == YES {
+        replica.put(handle);
+    }
+    status
+}
+
+/// Frees a handle on the heap, and what it leads to.
+#[unsafe(no_mangle)]
+pub extern "C" fn indexset_replica_destroy(alloc: Global, replica: &mut ReplicaOwner)
+    requires { is_some replica.old.value ≡ true }
+    ensures { replica.new.value ≡ None }
+{
+    let mut handle = replica.take(alloc);
+    indexset_replica_free(alloc, &mut *handle);
+}
+
+/// Moves a replica to the handle `to`, whose own is freed, and leaves the handle `from` with none.
+#[unsafe(no_mangle)]
+pub extern "C" fn indexset_replica_move(
+    alloc: Global,
+    to: &mut ReplicaHandle,
+    from: &mut ReplicaHandle,
+)
+    ensures moved { to.new.slot.value ≡ from.old.slot.value }
+    ensures left { from.new.slot.value ≡ None }
+{
+    drop(to.take(alloc));
+    swap(to, from);
+}
+
+/// Swaps what two handles lead to.
+#[unsafe(no_mangle)]
+pub extern "C" fn indexset_replica_swap(one: &mut ReplicaHandle, other: &mut ReplicaHandle)
+    ensures one { one.new.slot.value ≡ other.old.slot.value }
+    ensures other { other.new.slot.value ≡ one.old.slot.value }
+{
+    swap(one, other);
 }
 
 /// Returns how many pairs there are, in time linear in the number of nodes.

@@ -8,6 +8,7 @@ ghost use Rattle.indexset_handle.specs.Elements.{element_at, elements, written};
 use indexset_handle::set_calls::{element_each, insert_each, rank_each};
 use indexset_handle::set_handle::SetHandle;
 use indexset_handle::status::{MEMORY, NO, NONE, YES};
+use indexset_handle::write::write_same;
 use std::alloc::Global;
 
 /// Adds each key, first to last. Writes how many were taken: all, or those before the one at which
@@ -41,20 +42,20 @@ pub extern "C" fn indexset_set_insert_all(
 
 /// Writes the rank of each key, as far as there is room. Returns how many it wrote.
 #[unsafe(no_mangle)]
+#[tactic(auto, using(crate::proofs::WrittenLemmas::no_ranks))]
 pub extern "C" fn indexset_set_ranks(
     alloc: Global,
     set: &mut SetHandle,
     keys: &[u64],
     out: &mut [usize],
 ) -> usize
-    ensures count { set.old.slot.value ≢ None → result ≡ min (length keys.now) (length out.old) }
+    ensures count { result ≡ min (length keys.now) (length out.old) }
     ensures written { out.new ≡ written result
         (map (rank nat_cmp (elements set.old.slot.value)) keys.now) out.old }
-    ensures none { set.old.slot.value ≡ None → result ≡ 0 }
     ensures same { set.new.slot.value ≡ set.old.slot.value }
 {
     let Some(held) = set.take(alloc) else {
-        return 0;
+        return write_same(keys.len(), 0, out);
     };
     let count = rank_each(&held, keys, out);
     set.put(held);

@@ -1,9 +1,12 @@
 //! Calls of a set that go by a key.
 ghost use Rattle.std.specs.Prelude.{◌≡◌, ◌≢◌, ◌≤◌, ◌↔◌, Some, None, true, false, is_some};
 ghost use Rattle.std.specs.Ordering.{nat_cmp};
+ghost use Rattle.indexset_core.specs.Order as order;
 ghost use Rattle.indexset_core.specs.Order.{has_equal, keep, lower_element, rank, without};
-ghost use Rattle.indexset_handle.specs.Elements.{elements};
+ghost use Rattle.indexset_set.specs.SetRanges.{upper_element};
+ghost use Rattle.indexset_handle.specs.Elements.{count_up_to, elements};
 
+use indexset_handle::set_calls::count_to;
 use indexset_handle::set_handle::SetHandle;
 use indexset_handle::status::{MEMORY, NO, NONE, YES};
 use indexset_handle::write::write;
@@ -30,6 +33,33 @@ pub extern "C" fn indexset_set_insert(alloc: Global, set: &mut SetHandle, key: u
         Err(_) => MEMORY,
     };
     set.put(held);
+    status
+}
+
+/// Inserts a key, and writes its rank: where it stands then. A present one stays.
+#[unsafe(no_mangle)]
+pub extern "C" fn indexset_set_insert_ranked(
+    alloc: Global,
+    set: &mut SetHandle,
+    key: u64,
+    rank: &mut usize,
+) -> u32
+    ensures added { result ≡ YES → has_equal nat_cmp (elements set.old.slot.value) key ≡ false }
+    ensures there { result ≡ NO → has_equal nat_cmp (elements set.old.slot.value) key ≡ true }
+    ensures rank { result ≤ YES → rank.new ≡ order.rank nat_cmp (elements set.old.slot.value) key }
+    ensures ok { result ≡ YES → elements set.new.slot.value
+        ≡ keep nat_cmp (elements set.old.slot.value) key }
+    ensures same { result ≢ YES → set.new.slot.value ≡ set.old.slot.value }
+    ensures unranked { MEMORY ≤ result → rank.new ≡ rank.old }
+    ensures none { result ≡ NONE ↔ (set.old.slot.value ≡ None) }
+    ensures no_memory { has_equal nat_cmp (elements set.old.slot.value) key ≡ true → result ≡ NO }
+    ensures status { result ≤ NONE }
+{
+    let below = indexset_set_rank(alloc, set, key);
+    let status = indexset_set_insert(alloc, set, key);
+    if status <= YES {
+        *rank = below;
+    }
     status
 }
 
@@ -99,4 +129,41 @@ pub extern "C" fn indexset_set_lower_bound(
     let found = held.lower_bound(&key).copied();
     set.put(held);
     write(found, out)
+}
+
+/// Writes the first element that is above a key, where there is one.
+#[unsafe(no_mangle)]
+pub extern "C" fn indexset_set_upper_bound(
+    alloc: Global,
+    set: &mut SetHandle,
+    key: u64,
+    out: &mut u64,
+) -> bool
+    ensures found { result ≡ true → upper_element nat_cmp (elements set.old.slot.value) key
+        ≡ Some out.new }
+    ensures absent { result ≡ false → upper_element nat_cmp (elements set.old.slot.value) key
+        ≡ None }
+    ensures unwritten { result ≡ false → out.new ≡ out.old }
+    ensures same { set.new.slot.value ≡ set.old.slot.value }
+{
+    let Some(held) = set.take(alloc) else {
+        return false;
+    };
+    let found = held.upper_bound(&key).copied();
+    set.put(held);
+    write(found, out)
+}
+
+/// Returns how many elements are not above a key.
+#[unsafe(no_mangle)]
+pub extern "C" fn indexset_set_count_up_to(alloc: Global, set: &mut SetHandle, key: u64) -> usize
+    ensures value { result ≡ count_up_to nat_cmp (elements set.old.slot.value) key }
+    ensures same { set.new.slot.value ≡ set.old.slot.value }
+{
+    let Some(held) = set.take(alloc) else {
+        return 0;
+    };
+    let count = count_to(&held, key);
+    set.put(held);
+    count
 }

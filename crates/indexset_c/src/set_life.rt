@@ -1,13 +1,15 @@
 //! Calls that make, empty, clone and free a set, and return its length.
-ghost use Rattle.std.specs.Prelude.{◌≡◌, ◌≢◌, ◌↔◌, [], Some, None, true, length, is_some, IfSome, ◌∷◌};
+ghost use Rattle.std.specs.Prelude.{◌≡◌, ◌≢◌, ◌↔◌, [], Some, None, true, length, is_some, IfSome, ◌∷◌, option_map};
 ghost use Rattle.indexset_core.specs.declared.constants.TheConstants.{DEFAULT_INNER_SIZE};
 ghost use Rattle.indexset_spine.specs.Cut.{cut};
 ghost use Rattle.indexset_handle.specs.Elements.{elements};
 
 use indexset_handle::set_handle::SetHandle;
+use indexset_handle::set_owner::SetOwner;
 use indexset_handle::status::{HELD, MEMORY, NONE, YES};
 use indexset_set::BTreeSet;
 use std::alloc::Global;
+use std::mem::swap;
 
 /// Makes an empty set. Fails where the handle leads to a set.
 #[unsafe(no_mangle)]
@@ -73,6 +75,53 @@ pub extern "C" fn indexset_set_free(alloc: Global, set: &mut SetHandle)
     ensures { set.new.slot.value ≡ None }
 {
     drop(set.take(alloc));
+}
+
+/// Makes an empty set under a handle on the heap.
+#[unsafe(no_mangle)]
+pub extern "C" fn indexset_set_create(alloc: Global, set: &mut SetOwner) -> u32
+    ensures made { result ≡ YES → option_map (λ h. h.slot.value) set.new.value
+        ≡ Some (Some (cut ([] ∷ []) DEFAULT_INNER_SIZE)) }
+    ensures refused { result ≢ YES → set.new.value ≡ set.old.value }
+    ensures status { result ≢ YES → result ≡ MEMORY }
+{
+    let Ok(mut handle) = Box::new(alloc, SetHandle::none(alloc)) else {
+        return MEMORY;
+    };
+    let status = indexset_set_new(alloc, &mut *handle);
+    if status == YES {
+        set.put(handle);
+    }
+    status
+}
+
+/// Frees a handle on the heap, and what it leads to.
+#[unsafe(no_mangle)]
+pub extern "C" fn indexset_set_destroy(alloc: Global, set: &mut SetOwner)
+    requires { is_some set.old.value ≡ true }
+    ensures { set.new.value ≡ None }
+{
+    let mut handle = set.take(alloc);
+    indexset_set_free(alloc, &mut *handle);
+}
+
+/// Moves a set to the handle `to`, whose own is freed, and leaves the handle `from` with none.
+#[unsafe(no_mangle)]
+pub extern "C" fn indexset_set_move(alloc: Global, to: &mut SetHandle, from: &mut SetHandle)
+    ensures moved { to.new.slot.value ≡ from.old.slot.value }
+    ensures left { from.new.slot.value ≡ None }
+{
+    drop(to.take(alloc));
+    swap(to, from);
+}
+
+/// Swaps what two handles lead to.
+#[unsafe(no_mangle)]
+pub extern "C" fn indexset_set_swap(one: &mut SetHandle, other: &mut SetHandle)
+    ensures one { one.new.slot.value ≡ other.old.slot.value }
+    ensures other { other.new.slot.value ≡ one.old.slot.value }
+{
+    swap(one, other);
 }
 
 /// Removes all elements.

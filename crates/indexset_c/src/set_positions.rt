@@ -1,7 +1,8 @@
 //! Calls of a set that go by a position, and those at its two ends.
-ghost use Rattle.std.specs.Prelude.{◌≡◌, ◌-◌, Some, None, true, false, drop, length, slice_get, take, is_some};
+ghost use Rattle.std.specs.Prelude.{◌≡◌, ◌-◌, Some, None, true, false, drop, length, remove, slice_get, take, is_some};
 ghost use Rattle.indexset_handle.specs.Elements.{elements};
 
+use indexset_handle::set_calls::take_index;
 use indexset_handle::set_handle::SetHandle;
 use indexset_handle::write::write;
 use std::alloc::Global;
@@ -24,6 +25,30 @@ pub extern "C" fn indexset_set_at(
         return false;
     };
     let found = held.get_index(position).copied();
+    set.put(held);
+    write(found, out)
+}
+
+/// Removes the element at a position, counted from 0, and writes it, where there is one.
+#[unsafe(no_mangle)]
+pub extern "C" fn indexset_set_remove_at(
+    alloc: Global,
+    set: &mut SetHandle,
+    position: usize,
+    out: &mut u64,
+) -> bool
+    ensures found { result ≡ true → slice_get (elements set.old.slot.value) position
+        ≡ Some out.new }
+    ensures absent { result ≡ false → slice_get (elements set.old.slot.value) position ≡ None }
+    ensures rest { elements set.new.slot.value ≡ remove (elements set.old.slot.value) position }
+    ensures there { is_some set.new.slot.value ≡ is_some set.old.slot.value }
+    ensures unwritten { result ≡ false → out.new ≡ out.old }
+    ensures same { result ≡ false → set.new.slot.value ≡ set.old.slot.value }
+{
+    let Some(mut held) = set.take(alloc) else {
+        return false;
+    };
+    let found = take_index(&mut held, position);
     set.put(held);
     write(found, out)
 }

@@ -3,11 +3,12 @@ ghost use Rattle.std.specs.Prelude.{◌≡◌, ◌≢◌, ◌≤◌, ◌↔◌, 
 ghost use Rattle.std.specs.Cmp.Lexicographic.{slice_cmp};
 ghost use Rattle.std.specs.Ordering.{nat_cmp};
 ghost use Rattle.indexset_core.specs.Pairs.{has_key, key_rank, put_value, value_of, without_key};
+ghost use Rattle.indexset_handle.specs.Elements.{key_count_up_to};
 ghost use Rattle.indexset_handle.specs.Text.{text_pairs};
 
 use indexset_handle::status::{MEMORY, NO, NONE, YES};
 use indexset_handle::text_edits::{put, take};
-use indexset_handle::text_find::{get, rank_of};
+use indexset_handle::text_find::{count_to, get, rank_of};
 use indexset_handle::text_handle::TextHandle;
 use indexset_handle::write::write;
 use std::alloc::Global;
@@ -48,6 +49,41 @@ pub extern "C" fn indexset_text_map_insert(
         Err(_) => MEMORY,
     };
     map.put(held);
+    status
+}
+
+/// Inserts a pair, or replaces the value of a present key and writes the old one, and writes the rank of
+/// the key: where its pair stands then.
+#[unsafe(no_mangle)]
+pub extern "C" fn indexset_text_map_insert_ranked(
+    alloc: Global,
+    map: &mut TextHandle,
+    key: &[u8],
+    value: u64,
+    before: &mut u64,
+    rank: &mut usize,
+) -> u32
+    ensures added { result ≡ YES → value_of (slice_cmp nat_cmp) (text_pairs map.old.slot.value)
+        key.now ≡ None }
+    ensures replaced { result ≡ NO → value_of (slice_cmp nat_cmp) (text_pairs map.old.slot.value)
+        key.now ≡ Some before.new }
+    ensures rank { result ≤ YES → rank.new
+        ≡ key_rank (slice_cmp nat_cmp) (text_pairs map.old.slot.value) key.now }
+    ensures ok { result ≤ YES → text_pairs map.new.slot.value
+        ≡ put_value (slice_cmp nat_cmp) (text_pairs map.old.slot.value) key.now value }
+    ensures unwritten { result ≢ NO → before.new ≡ before.old }
+    ensures same { MEMORY ≤ result
+        → (rank.new ≡ rank.old) × (map.new.slot.value ≡ map.old.slot.value) }
+    ensures none { result ≡ NONE ↔ (map.old.slot.value ≡ None) }
+    ensures no_memory { has_key (slice_cmp nat_cmp) (text_pairs map.old.slot.value) key.now ≡ true
+        → result ≡ NO }
+    ensures status { result ≤ NONE }
+{
+    let below = indexset_text_map_rank(alloc, map, key);
+    let status = indexset_text_map_insert(alloc, map, key, value, before);
+    if status <= YES {
+        *rank = below;
+    }
     status
 }
 
@@ -132,4 +168,23 @@ pub extern "C" fn indexset_text_map_rank(alloc: Global, map: &mut TextHandle, ke
     let below = rank_of(&held, key);
     map.put(held);
     below
+}
+
+/// Returns how many keys are not above a key.
+#[unsafe(no_mangle)]
+pub extern "C" fn indexset_text_map_count_up_to(
+    alloc: Global,
+    map: &mut TextHandle,
+    key: &[u8],
+) -> usize
+    ensures value { result
+        ≡ key_count_up_to (slice_cmp nat_cmp) (text_pairs map.old.slot.value) key.now }
+    ensures same { map.new.slot.value ≡ map.old.slot.value }
+{
+    let Some(held) = map.take(alloc) else {
+        return 0;
+    };
+    let count = count_to(&held, key);
+    map.put(held);
+    count
 }

@@ -1,13 +1,15 @@
 //! Calls that make, empty, clone and free a map from byte strings, and return its length.
-ghost use Rattle.std.specs.Prelude.{◌≡◌, ◌≢◌, ◌↔◌, [], Some, None, true, length, is_some, IfSome};
+ghost use Rattle.std.specs.Prelude.{◌≡◌, ◌≢◌, ◌↔◌, [], Some, None, true, length, is_some, IfSome, option_map};
 ghost use Rattle.indexset_core.specs.declared.constants.TheConstants.{DEFAULT_INNER_SIZE};
 ghost use Rattle.indexset_map.specs.Contents.{no_pairs};
 ghost use Rattle.indexset_handle.specs.Text.{text_pairs};
 
 use indexset_handle::status::{HELD, MEMORY, NONE, YES};
 use indexset_handle::text_handle::TextHandle;
+use indexset_handle::text_owner::TextOwner;
 use indexset_map::BTreeMap;
 use std::alloc::Global;
+use std::mem::swap;
 
 /// Makes an empty map. Fails where the handle leads to a map.
 #[unsafe(no_mangle)]
@@ -77,6 +79,53 @@ pub extern "C" fn indexset_text_map_free(alloc: Global, map: &mut TextHandle)
     ensures { map.new.slot.value ≡ None }
 {
     drop(map.take(alloc));
+}
+
+/// Makes an empty map from byte strings under a handle on the heap.
+#[unsafe(no_mangle)]
+pub extern "C" fn indexset_text_map_create(alloc: Global, map: &mut TextOwner) -> u32
+    ensures made { result ≡ YES → option_map (λ h. h.slot.value) map.new.value
+        ≡ Some (Some (no_pairs DEFAULT_INNER_SIZE)) }
+    ensures refused { result ≢ YES → map.new.value ≡ map.old.value }
+    ensures status { result ≢ YES → result ≡ MEMORY }
+{
+    let Ok(mut handle) = Box::new(alloc, TextHandle::none(alloc)) else {
+        return MEMORY;
+    };
+    let status = indexset_text_map_new(alloc, &mut *handle);
+    if status == YES {
+        map.put(handle);
+    }
+    status
+}
+
+/// Frees a handle on the heap, and what it leads to.
+#[unsafe(no_mangle)]
+pub extern "C" fn indexset_text_map_destroy(alloc: Global, map: &mut TextOwner)
+    requires { is_some map.old.value ≡ true }
+    ensures { map.new.value ≡ None }
+{
+    let mut handle = map.take(alloc);
+    indexset_text_map_free(alloc, &mut *handle);
+}
+
+/// Moves a map from byte strings to the handle `to`, whose own is freed, and leaves the handle `from` with none.
+#[unsafe(no_mangle)]
+pub extern "C" fn indexset_text_map_move(alloc: Global, to: &mut TextHandle, from: &mut TextHandle)
+    ensures moved { to.new.slot.value ≡ from.old.slot.value }
+    ensures left { from.new.slot.value ≡ None }
+{
+    drop(to.take(alloc));
+    swap(to, from);
+}
+
+/// Swaps what two handles lead to.
+#[unsafe(no_mangle)]
+pub extern "C" fn indexset_text_map_swap(one: &mut TextHandle, other: &mut TextHandle)
+    ensures one { one.new.slot.value ≡ other.old.slot.value }
+    ensures other { other.new.slot.value ≡ one.old.slot.value }
+{
+    swap(one, other);
 }
 
 /// Removes all pairs.

@@ -1,12 +1,14 @@
 //! Calls of a map from byte strings that go by a position, and those at its two ends.
-ghost use Rattle.std.specs.Prelude.{◌≡◌, ◌-◌, Some, None, true, false, length};
+ghost use Rattle.std.specs.Prelude.{◌≡◌, ◌-◌, Some, None, true, false, length, remove, is_some};
 ghost use Rattle.std.specs.Cmp.Lexicographic.{slice_cmp};
 ghost use Rattle.std.specs.Ordering.{nat_cmp};
 ghost use Rattle.indexset_core.specs.Pairs.{key_rank};
+ghost use Rattle.indexset_handle.specs.Elements.{key_count_up_to};
 ghost use Rattle.indexset_handle.specs.Text.{key_at, text_pairs, value_at, written_over};
 
-use crate::text_keys::indexset_text_map_rank;
+use crate::text_keys::{indexset_text_map_count_up_to, indexset_text_map_rank};
 use crate::text_life::indexset_text_map_len;
+use indexset_handle::map_calls::take_index;
 use indexset_handle::text_handle::TextHandle;
 use indexset_handle::write::write_bytes;
 use std::alloc::Global;
@@ -49,6 +51,45 @@ pub extern "C" fn indexset_text_map_at(
     found
 }
 
+/// Removes the pair at a position, counted from 0, and writes it as `indexset_text_map_at` does, where there
+/// is one.
+#[unsafe(no_mangle)]
+pub extern "C" fn indexset_text_map_remove_at(
+    alloc: Global,
+    map: &mut TextHandle,
+    position: usize,
+    key: &mut [u8],
+    len: &mut usize,
+    value: &mut u64,
+) -> bool
+    ensures found { result ≡ true → value_at (text_pairs map.old.slot.value) position
+        ≡ Some value.new }
+    ensures long { result ≡ true → len.new
+        ≡ length (key_at (text_pairs map.old.slot.value) position) }
+    ensures bytes { key.new ≡ written_over (key_at (text_pairs map.old.slot.value) position)
+        key.old }
+    ensures absent { result ≡ false → value_at (text_pairs map.old.slot.value) position ≡ None }
+    ensures rest { text_pairs map.new.slot.value ≡ remove (text_pairs map.old.slot.value) position }
+    ensures there { is_some map.new.slot.value ≡ is_some map.old.slot.value }
+    ensures unwritten { result ≡ false → (len.new ≡ len.old) × (value.new ≡ value.old) }
+    ensures same { result ≡ false → map.new.slot.value ≡ map.old.slot.value }
+{
+    let Some(mut held) = map.take(alloc) else {
+        return false;
+    };
+    let found = match take_index(&mut held, position) {
+        Some((taken, number)) => {
+            write_bytes(taken.as_slice(), key);
+            *len = taken.len();
+            *value = number;
+            true
+        }
+        None => false,
+    };
+    map.put(held);
+    found
+}
+
 /// Writes the pair of the first key that is not below a key, where there is one, as `indexset_text_map_at`
 /// does.
 #[unsafe(no_mangle)]
@@ -75,6 +116,36 @@ pub extern "C" fn indexset_text_map_lower_bound(
     ensures same { map.new.slot.value ≡ map.old.slot.value }
 {
     let position = indexset_text_map_rank(alloc, map, from);
+    indexset_text_map_at(alloc, map, position, key, len, value)
+}
+
+/// Writes the pair of the first key that is above a key, where there is one, as `indexset_text_map_at`
+/// does.
+#[unsafe(no_mangle)]
+pub extern "C" fn indexset_text_map_upper_bound(
+    alloc: Global,
+    map: &mut TextHandle,
+    from: &[u8],
+    key: &mut [u8],
+    len: &mut usize,
+    value: &mut u64,
+) -> bool
+    ensures found { result ≡ true → value_at (text_pairs map.old.slot.value)
+        (key_count_up_to (slice_cmp nat_cmp) (text_pairs map.old.slot.value) from.now)
+        ≡ Some value.new }
+    ensures long { result ≡ true → len.new
+        ≡ length (key_at (text_pairs map.old.slot.value)
+        (key_count_up_to (slice_cmp nat_cmp) (text_pairs map.old.slot.value) from.now)) }
+    ensures bytes { key.new ≡ written_over
+        (key_at (text_pairs map.old.slot.value)
+        (key_count_up_to (slice_cmp nat_cmp) (text_pairs map.old.slot.value) from.now)) key.old }
+    ensures absent { result ≡ false → value_at (text_pairs map.old.slot.value)
+        (key_count_up_to (slice_cmp nat_cmp) (text_pairs map.old.slot.value) from.now) ≡ None }
+    ensures no_len { result ≡ false → len.new ≡ len.old }
+    ensures no_value { result ≡ false → value.new ≡ value.old }
+    ensures same { map.new.slot.value ≡ map.old.slot.value }
+{
+    let position = indexset_text_map_count_up_to(alloc, map, from);
     indexset_text_map_at(alloc, map, position, key, len, value)
 }
 

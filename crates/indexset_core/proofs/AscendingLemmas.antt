@@ -89,7 +89,7 @@ module _ {T : Type 0} (answer : T → Ordering) where
           ap is_eq (greater_from _ (fails_above is_le front-is_le answer l parted i at (λ e. not_le _ (parts.after i e (omega arith) at) (unequal_here l i h at e)) k d (omega arith) high))
     ]
 
-    -- the first item answered Equal, and where there is none
+    -- the first item found Equal, and where there is none
     pub position_found : equal_at answer l i ≡ true → position (λ x. is_eq (answer x)) l ≡ Some i
     position_found h = position_is (λ x. is_eq (answer x)) l i (equal_inside l i h) before_unequal (equal_here l i h)
 

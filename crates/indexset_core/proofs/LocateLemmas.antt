@@ -29,7 +29,7 @@ module _ {X : Type 0} (answer : X → Ordering) where
       let same : get_or n (length n - 1) d ≡ get_or n (length n - 1) (get_or n (length n - 1) d) = get_or_default n (length n - 1) d _ inside in
       rw (slice_get_read n (length n) (length n - 1) (get_or n (length n - 1) d) refl inside same) refl
 
-  -- a node that ends Less is answered Less throughout
+  -- a node that ends Less is found Less throughout
   less_all : (n : List X) → IsParted answer n → ends_less answer n ≡ true → less_count answer n ≡ length n
   less_all [] h e = absurd (false≢true e)
   less_all (x ∷ xs) h e =
@@ -93,7 +93,7 @@ module _ {X : Type 0} (answer : X → Ordering) where
   place_here : (n : List X) (ns : List (List X)) → less_count answer (joined ns) ≡ 0 → Place (n ∷ ns) 0
   place_here n ns none = omega (arith, less_count-append n (joined ns))
 
-  -- all before the spot are answered Less, and no others
+  -- all before the spot are found Less, and no others
   pub place_for : (ns : List (List X)) → 1 ≤ length ns → Filled ns → IsParted answer (joined ns) → Place ns (node_for answer ns)
   place_for [] some filled h = absurd (omega arith)
   place_for (n ∷ []) some filled h = rw (node_for-one n) (place_here n [] refl)
@@ -184,7 +184,7 @@ pub small_at : {X : Type 0} (ns : List (List X)) (size k : ℕ) → k < length n
 small_at ns size k lt small =
     omega (arith, get_or-map (λ n. length n) ns k [] 0 lt, small k 0 (omega (arith, lt, length-map ns (λ n. length n))))
 
--- what is read at a position tells whether the item there is answered Equal
+-- what is read at a position tells whether the item there is found Equal
 pub equal_read : {X : Type 0} (answer : X → Ordering) (l : List X) (i : ℕ) (x : X) → slice_get l i ≡ Some x → equal_at answer l i ≡ is_eq (answer x)
 equal_read answer l i x e = rw e refl
 

@@ -34,7 +34,7 @@ module _ {T : Type 0} (answer : T → Ordering) (ns : List (List T)) (some : 1 �
   pub equal_joined : equal_at answer (joined ns) (less_count answer (joined ns)) ≡ equal_at answer (node_at ns (node_for answer ns)) (less_count answer (node_at ns (node_for answer ns)))
   equal_joined = rw read_joined refl
 
--- where a search ends: the place before the first item not answered Less, which the next one follows where it is answered Equal
+-- where a search ends: the place before the first item not found Less, which the next one follows where it is found Equal
 module _ {T : Type 0} (answer : T → Ordering) where
   pub record IsEnd (found : Bool) (ns : List (List T)) (p : ℕ × ℕ) : Type 0 where
     pub node_is : p.0 ≡ node_for answer ns

@@ -1,4 +1,4 @@
--- Whether a value has an equal one, or a key a pair, once it was put in or taken out.
+-- Whether a value has an equal one, or a key a pair, once it was inserted or removed.
 use Rattle.std.proofs.Common.{◌≡◌, ℕ, Bool, true, false, not, ◌||◌, List, [], ◌∷◌, ◌++◌, Ordering, if◌then◌else◌, Option, Some, None, find, is_some, refl, ap, sym, ◌∙◌}
 use Rattle.std.specs.Cmp.{IsTotalOrder}
 use Rattle.std.specs.List.{filter, list_any}

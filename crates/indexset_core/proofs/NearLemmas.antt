@@ -1,4 +1,4 @@
--- What a search knows that keeps the place of the item last answered Equal: whether the item at its bound
+-- What a search knows that keeps the place of the item last found Equal: whether the item at its bound
 -- is, and that this is the place.
 use Rattle.std.proofs.Common.{◌≡◌, ℕ, ◌+◌, ◌/◌, ◌%◌, ◌<◌, ◌≤◌, true, false, cond, List, length, get_or, slice_get, Some, nat_lt, Ordering, refl, ap, sym, ◌∙◌, arith}
 use Rattle.std.specs.declared.cmp.Ordering.TheVariants.{Less, Equal, Greater}
@@ -10,7 +10,7 @@ use Rattle.indexset_core.specs.Parted.{IsParted}
 use Rattle.indexset_core.proofs.AscendingLemmas.{equal_here, equal_inside}
 use Rattle.indexset_core.proofs.LocateLemmas.{equal_read}
 
--- at is the place of an item answered Equal, which is then at the bound, or past the end
+-- at is the place of an item found Equal, which is then at the bound, or past the end
 pub record IsEqualAt {T : Type 0} (answer : T → Ordering) (xs : List T) (at bound : ℕ) : Type 0 where
   pub told : nat_lt at (length xs) ≡ equal_at answer xs bound
   pub place : nat_lt at (length xs) ≡ true → at ≡ bound
@@ -21,7 +21,7 @@ equal_past o Equal le greater equal = let late : 2 ≤ 1 = rw greater at le in a
 equal_past o Greater le greater equal = false≢true equal
 
 module _ {T : Type 0} (answer : T → Ordering) (xs : List T) (parted : IsParted answer xs) where
-  -- from one that is answered Greater on, none is answered Equal
+  -- from one that is found Greater on, none is found Equal
   none_from : (m i : ℕ) (x : T) → answer (get_or xs m x) ≡ Greater → m ≤ i → equal_at answer xs i ≡ false
   none_from m i x greater le =
       elim (equal_at answer xs i) as (λ b. equal_at answer xs i ≡ b → b ≡ false) [

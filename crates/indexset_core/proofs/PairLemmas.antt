@@ -65,7 +65,7 @@ module _ {X : Type 0} (p : X → Bool) where
   any_absent : (xs : List X) → position p xs ≡ None → list_any p xs ≡ false
   any_absent xs h = sym (is_some-find p xs) ∙ ap is_some (find_absent xs h)
 
-  any_position : (xs : List X) (i : ℕ) → position p xs ≡ Some i → slice_get xs i ≡ find p xs → i < length xs → list_any p xs ≡ true
+  pub any_position : (xs : List X) (i : ℕ) → position p xs ≡ Some i → slice_get xs i ≡ find p xs → i < length xs → list_any p xs ≡ true
   any_position xs i h e lt = sym (is_some-find p xs) ∙ (ap is_some (sym e) ∙ some_within xs i lt) where
     some_within : (xs : List X) (i : ℕ) → i < length xs → is_some (slice_get xs i) ≡ true
     some_within [] i lt = absurd (omega arith)

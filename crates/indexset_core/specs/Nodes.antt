@@ -35,14 +35,14 @@ module _ {X : Type 0} where
     pub nodes : IsNodeList cmp ns
     pub bounded : All (λ n. n ≤ size) (node_lengths ns)
 
-  -- the last item of a node is answered Less
+  -- the last item of a node is found Less
   abbrev pub ends_less : (X → Ordering) → List X → Bool
   ends_less answer n = option_map_or (λ x. is_lt (answer x)) (slice_get n (length n - 1)) false
 
-  -- the index of the first node whose last item is not answered Less, else of the last node
+  -- the index of the first node whose last item is not found Less, else of the last node
   abbrev pub node_for : (X → Ordering) → List (List X) → ℕ
   node_for answer ns = min (position_or_len (λ n. not (ends_less answer n)) ns) (length ns - 1)
 
-  -- the item at the position is answered Equal
+  -- the item at the position is found Equal
   abbrev pub equal_at : (X → Ordering) → List X → ℕ → Bool
   equal_at answer l i = option_map_or (λ x. is_eq (answer x)) (slice_get l i) false

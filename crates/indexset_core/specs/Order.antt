@@ -23,19 +23,19 @@ above cmp l v = filter (λ x. is_gt (cmp x v)) l
 abbrev pub rank : {T : Type 0} → (T → T → Ordering) → List T → T → ℕ
 rank cmp l v = count_by (λ x. is_lt (cmp x v)) l
 
--- an equal element is there
+-- an equal element is present
 abbrev pub has_equal : {T : Type 0} → (T → T → Ordering) → List T → T → Bool
 has_equal cmp l v = list_any (λ x. is_eq (cmp x v)) l
 
--- the index of the element equal to v, where there is one
+-- the index of the element equal to v, if any
 abbrev pub index_of : {T : Type 0} → (T → T → Ordering) → List T → T → Option ℕ
 index_of cmp l v = if has_equal cmp l v then Some (rank cmp l v) else None
 
--- the element equal to v, where there is one
+-- the element equal to v, if any
 abbrev pub equal_element : {T : Type 0} → (T → T → Ordering) → List T → T → Option T
 equal_element cmp l v = find (λ x. is_eq (cmp x v)) l
 
--- the first element not below v, where there is one
+-- the first element not below v, if any
 abbrev pub lower_element : {T : Type 0} → (T → T → Ordering) → List T → T → Option T
 lower_element cmp l v = find (λ x. not (is_lt (cmp x v))) l
 
@@ -43,7 +43,7 @@ lower_element cmp l v = find (λ x. not (is_lt (cmp x v))) l
 unfoldable pub put : {T : Type 0} → (T → T → Ordering) → List T → T → List T
 put cmp l v = below cmp l v ++ v ∷ above cmp l v
 
--- the same, where no equal element is there
+-- `put`, unless an equal element is present
 unfoldable pub keep : {T : Type 0} → (T → T → Ordering) → List T → T → List T
 keep cmp l v = if has_equal cmp l v then l else put cmp l v
 
@@ -51,7 +51,7 @@ keep cmp l v = if has_equal cmp l v then l else put cmp l v
 unfoldable pub without : {T : Type 0} → (T → T → Ordering) → List T → T → List T
 without cmp l v = filter (λ x. not (is_eq (cmp x v))) l
 
--- how many elements stand strictly outside the bound, seen from the start of the list or from its end
+-- how many elements are strictly outside the bound, seen from the start of the list or from its end
 abbrev pub outside_count : {T : Type 0} → (T → T → Ordering) → List T → Bound T → Bool → ℕ
 outside_count cmp l (Included v) true = count_by (λ x. is_lt (cmp x v)) l
 outside_count cmp l (Excluded v) true = count_by (λ x. is_le (cmp x v)) l
@@ -59,7 +59,7 @@ outside_count cmp l (Included v) false = count_by (λ x. is_gt (cmp x v)) l
 outside_count cmp l (Excluded v) false = count_by (λ x. not (is_lt (cmp x v))) l
 outside_count cmp l Unbounded from_start = 0
 
--- the index of the last of n things, where there is one
+-- the index of the last of n things, if any
 abbrev pub last_index : ℕ → Option ℕ
 last_index n = if n == 0 then None else Some (n - 1)
 

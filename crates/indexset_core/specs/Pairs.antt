@@ -13,6 +13,7 @@ use Rattle.indexset_core.specs.Bounds.{is_within}
 use Rattle.indexset_core.specs.Order.{put}
 
 module _ {K V : Type 0} where
+  -- the pair of a key and a value
   abbrev pub pair : K → V → Pair K V
   pair k w = record { key = k; value = w }
 
@@ -44,7 +45,7 @@ module _ {K V : Type 0} where
   abbrev pub pair_values : List (Pair K V) → List V
   pair_values l = map (λ p. p.value) l
 
-  -- a call of the closure at the key and the value of p may answer b, and leave the value of q
+  -- a call of the closure at the key and the value of p may return b, and leave the value of q
   abbrev pub CalledOnPair : {F : Type 0} → Mut F (Bor K × (MutBor V × Unit {0})) (Bool × (MutBor V × Unit {0})) → F → Pair K V → Bool → F → Pair K V → Type 0
   CalledOnPair g f p b f' q = CalledAtPair g f p.key p.value b q.value f' × (q.key ≡ p.key)
 
@@ -53,11 +54,11 @@ module _ {K V : Type 0} where
     abbrev pub has_key : List (Pair K V) → K → Bool
     has_key l k = list_any (λ p. is_eq (cmp p.key k)) l
 
-    -- the pair of the key, where there is one
+    -- the pair of the key, if any
     abbrev pub pair_of : List (Pair K V) → K → Option (Pair K V)
     pair_of l k = find (λ p. is_eq (cmp p.key k)) l
 
-    -- its value
+    -- the value of the key, if any
     abbrev pub value_of : List (Pair K V) → K → Option V
     value_of l k = option_map (λ p. p.value) (pair_of l k)
 
@@ -65,10 +66,11 @@ module _ {K V : Type 0} where
     abbrev pub key_rank : List (Pair K V) → K → ℕ
     key_rank l k = count_by (λ p. is_lt (cmp p.key k)) l
 
-    -- the pairs whose keys are below k, and those whose keys are not
+    -- the pairs whose keys are below k
     abbrev pub pairs_below : List (Pair K V) → K → List (Pair K V)
     pairs_below l k = filter (λ p. is_lt (cmp p.key k)) l
 
+    -- the pairs whose keys are not below k
     abbrev pub pairs_from : List (Pair K V) → K → List (Pair K V)
     pairs_from l k = filter (λ p. not (is_lt (cmp p.key k))) l
 

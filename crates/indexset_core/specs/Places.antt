@@ -10,11 +10,11 @@ module _ {T : Type 0} where
     pub node_in : p.0 < max 1 (length ns)
     pub offset_in : p.1 ≤ length (node_at ns p.0)
 
-  -- how many items stand before the place
+  -- how many items are before the place
   abbrev pub items_before : List (List T) → ℕ × ℕ → ℕ
   items_before ns p = length (joined (take p.0 ns)) + p.1
 
-  -- the node and the offset of the first item not answered Less, and whether it is answered Equal: a place behind all stands in the last node
+  -- the node and the offset of the first item not found Less, and whether it is found Equal: a place behind all stands in the last node
   abbrev pub located : (T → Ordering) → List (List T) → Result (ℕ × ℕ) (ℕ × ℕ)
   located answer ns =
       let node = node_for answer ns in

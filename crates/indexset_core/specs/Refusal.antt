@@ -3,7 +3,7 @@ use Rattle.std.specs.Prelude.{ℕ, List, codes}
 use Rattle.indexset_core.specs.declared.refusal.Refusal.{Refusal}
 use Rattle.indexset_core.specs.declared.refusal.Refusal.TheVariants.{Memory, Numbers, Empty, TooLarge, Unsorted, Overlaps, PairNumber, Gap, NoSuchNode, IndexOutside, ValueDiffers, WouldBeEmpty, OutOfOrder, BadSplit, NotNeighbours}
 
--- its number
+-- the number of an error
 abbrev pub number_of : Refusal → ℕ
 number_of Memory = 1
 number_of Numbers = 2
@@ -21,7 +21,7 @@ number_of OutOfOrder = 16
 number_of BadSplit = 17
 number_of NotNeighbours = 18
 
--- its text
+-- the text of an error
 abbrev pub message_of : Refusal → List ℕ
 message_of Memory = codes "memory was refused"
 message_of Numbers = codes "too few numbers are left"

@@ -8,6 +8,6 @@ use Rattle.indexset_core.specs.declared.pair.Pair.{Pair}
 abbrev pub pair_shown : {K V : Type 0} → (K → Option (List ℕ)) → (V → Option (List ℕ)) → Pair K V → Option (List ℕ)
 pair_shown key value p = key p.key ++? Some (codes ":") ++? value p.value
 
--- the same, and the number after a sharp
+-- the key, a colon, the value, and the number after a sharp
 abbrev pub multi_pair_shown : {K V : Type 0} → (K → Option (List ℕ)) → (V → Option (List ℕ)) → MultiPair K V → Option (List ℕ)
 multi_pair_shown key value p = key p.key ++? Some (codes ":") ++? value p.value ++? Some (codes " #") ++? Some (decimal p.discriminator)

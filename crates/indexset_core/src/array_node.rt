@@ -12,7 +12,8 @@ use std::ops::Bound;
 use std::{mem, slice};
 
 /// A node of at most `N` items, which lie in the node itself: it allocates nothing, and none of its
-/// calls fails. A node of fewer than two items can't be cut, so a tree wants `N` to be 2 or more.
+/// calls fails. A node of fewer than two items can't be halved, so a tree needs an `N` of at least
+/// 2.
 #[derive(Drop)]
 pub struct ArrayNode<T, const N: usize> {
     items: ArrayVec<T, N>,
@@ -146,7 +147,7 @@ impl<T: Ord + Default + Drop, const N: usize> NodeLike<T> for ArrayNode<T, N> {
     }
 }
 
-/// Moves the items from an index on behind those of another list that has room for them.
+/// Moves the items from an index on to the end of another list that has capacity for them.
 fn move_tail<T: Default + Drop, const N: usize>(
     items: &mut ArrayVec<T, N>,
     index: usize,

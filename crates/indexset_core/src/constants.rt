@@ -1,6 +1,6 @@
-//! Sizes that a collection takes where none is named.
+//! The default node size.
 
-/// The maximum node size of a collection whose maker names none, in items.
+/// The default maximum node size, in items.
 pub const DEFAULT_INNER_SIZE: usize = 1024;
 
 /// Half the default node size: the length of each half of a full node that is halved, in items.

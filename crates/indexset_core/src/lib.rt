@@ -1,13 +1,13 @@
-//! What both families of collections stand on: order, searches with counted comparisons, and nodes.
+//! What both families of collections use: order, searches with counted comparisons, and nodes.
 //!
 //! [`probe::Probe`] is a comparator with a counter: it compares an item with what is sought, and
 //! counts the comparisons; [`search::first_not_less`] and [`search::first_greater`] make at most as
 //! many as the length of a slice has binary digits. [`node::NodeLike`] is an ascending list of
 //! bounded length: a `Vec`, or an [`array_node::ArrayNode`], which never allocates. [`locate`]
-//! searches a list of nodes, and [`walk::Walk`] iterates over their items, from both ends.
+//! searches a list of nodes, and [`walk::Walk`] is a double-ended iterator over their items.
 //! [`pair::Pair`] and [`multipair::MultiPair`] are what maps hold. [`refusal::Refusal`] names every
-//! error of a call, and [`refusal::Refused`] hands back what the call was given. Begin with `node`
-//! and `search`; `moves` and `halve` move items by blocks for all layers above.
+//! error of a call, and [`refusal::Refused`] has what the call was given. Begin with `node` and
+//! `search`; `moves` and `halve` move items by blocks for all layers above.
 #![tactic(auto)]
 
 pub mod array_node;
@@ -26,6 +26,7 @@ pub mod probe;
 pub mod refusal;
 pub mod search;
 pub mod steps;
+pub mod text;
 pub mod walk;
 
 const _: () = prove!(size_of::<steps::Steps>() == 0);

@@ -38,9 +38,9 @@ pub fn node_by<T, Node, R: ReadNode<T, Node>, P: Probe<T>>(nodes: &[Node], probe
     low
 }
 
-/// Returns the place before the first item that is not found Less, by two binary searches: one among
-/// the nodes and one in a node, or by none where there is no node. With `near` the search in the node
-/// takes no branch on a comparison: faster where the items are in the cache.
+/// Returns the place before the first item that is not found Less, by two binary searches: one
+/// among the nodes and one in a node, or by none where there is no node. With `near` the search in
+/// the node takes no branch on a comparison: faster where the items are in the cache.
 pub fn place_by<T, Node, R: ReadNode<T, Node>, P: Probe<T>>(
     nodes: &[Node],
     probe: &mut P,
@@ -122,8 +122,8 @@ pub fn last_place<T, Node, R: ReadNode<T, Node>>(nodes: &[Node]) -> (usize, usiz
     (last, items.len())
 }
 
-/// Returns where the probe finds what it seeks, by two binary searches: the node and the offset in
-/// it. It makes no comparison where there is no node.
+/// Returns the node and the offset of the first item that the probe finds Equal, or its insertion
+/// point, by two binary searches. It makes no comparison where there is no node.
 pub fn locate_by<T, Node, R: ReadNode<T, Node>, P: Probe<T>>(
     nodes: &[Node],
     probe: &mut P,

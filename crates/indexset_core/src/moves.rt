@@ -1,9 +1,9 @@
-//! Insertion, removal and block moves of items, in lists that have room for them.
+//! Insertion, removal and block moves of items, in lists that have capacity for them.
 ghost use Rattle.std.specs.Prelude.{◌≡◌, ◌+◌, ◌-◌, ◌<◌, ◌≤◌, ◌++◌, length, take, drop, insert, remove, slice_index_or, vec_len, vec_capacity};
 
 use std::mem;
 
-/// Inserts an item at an index of a list that has room.
+/// Inserts an item at an index of a list that has capacity for it.
 pub fn insert_item<T>(items: &mut Vec<T>, index: usize, item: T)
     requires within { index ≤ length items.old.items }
     requires room { vec_len items.old < vec_capacity items.old }
@@ -35,7 +35,7 @@ pub fn remove_item<T>(items: &mut Vec<T>, index: usize) -> T
     items.take_last()
 }
 
-/// Moves the items from an index on behind those of another list that has room for them.
+/// Moves the items from an index on to the end of another list that has capacity for them.
 pub fn move_tail<T: Drop>(items: &mut Vec<T>, index: usize, other: &mut Vec<T>)
     requires within { index ≤ length items.old.items }
     requires room { vec_len other.old + (length items.old.items - index) ≤ vec_capacity other.old }
@@ -49,7 +49,7 @@ pub fn move_tail<T: Drop>(items: &mut Vec<T>, index: usize, other: &mut Vec<T>)
     }
 }
 
-/// Moves the first items of a list behind those of another list that has room for them.
+/// Moves the first items of a list to the end of another list that has capacity for them.
 pub fn move_front<T: Drop>(items: &mut Vec<T>, count: usize, other: &mut Vec<T>)
     requires within { count ≤ length items.old.items }
     requires room { vec_len other.old + count ≤ vec_capacity other.old }

@@ -13,8 +13,7 @@ use std::fmt;
 use std::hash::{Hash, Hasher};
 
 /// A key with its value and a number that tells apart the pairs of one key. Its order, equality and
-/// hash are those of the key, and then of the number. (The Rust crate compares values too, and draws
-/// the number at random.)
+/// hash are those of the key, and then of the number.
 #[derive(Clone, Default, Debug, Drop)]
 pub struct MultiPair<K, V> {
     /// The key.
@@ -39,8 +38,7 @@ impl<K, V> MultiPair<K, V> {
 }
 
 impl<K, V> Pair<K, V> {
-    /// Returns the same key and value with a number. (It stands for the Rust crate's conversion
-    /// that draws a number.)
+    /// Returns the same key and value with a number.
     pub fn numbered(self, discriminator: u64) -> MultiPair<K, V>
         ensures { result ≡ record {
           key = self.key;

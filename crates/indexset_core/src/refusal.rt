@@ -19,7 +19,8 @@ pub enum Refusal {
     TooLarge,
     /// The node that was attached is not strictly ascending.
     Unsorted,
-    /// The node that was attached does not lie wholly before, after or between two neighbouring nodes.
+    /// The node that was attached does not lie wholly before, after or between two neighbouring
+    /// nodes.
     Overlaps,
     /// The node that was attached holds a pair whose number is `u64::MAX`.
     PairNumber,
@@ -31,11 +32,11 @@ pub enum Refusal {
     IndexOutside,
     /// The item at the event's index does not equal the event's value.
     ValueDiffers,
-    /// The event would take the only item out of a node.
+    /// The event would remove the only item of a node.
     WouldBeEmpty,
     /// The nodes would not be ascending as a whole afterwards.
     OutOfOrder,
-    /// The event would cut a node at its start or at or past its end.
+    /// The event would split a node at its start, or at or past its end.
     BadSplit,
     /// The second node that the event names does not follow the first directly.
     NotNeighbours,
@@ -44,7 +45,7 @@ pub enum Refusal {
 impl Refusal {
     ghost use Rattle.indexset_core.specs.Refusal.{number_of};
 
-    /// Returns the number by which this refusal is known, from 1 to 18; 8 to 10 are not in use.
+    /// Returns the number of this error, from 1 to 18; 8 to 10 are not in use.
     pub fn number(self) -> u8
         ensures { result ≡ number_of self }
     {
@@ -97,7 +98,7 @@ impl fmt::Display for Refusal {
 
 impl Error for Refusal {}
 
-/// The value that a failed call was given, handed back, and the error. Its text is that of the
+/// The error of a failed call, with the value that the call was given. Its text is that of the
 /// error alone.
 #[derive(Drop)]
 pub struct Refused<X> {

@@ -1,4 +1,4 @@
-//! A walk over the items of nodes, from both ends.
+//! A double-ended iterator over the items of nodes.
 ghost use Rattle.std.specs.Prelude.{◌≡◌, ◌<◌, ◌≤◌, ◌++◌, List, IfSome, length, map};
 ghost use Rattle.std.specs.List.{between};
 ghost use Rattle.std.specs.Iterator.{UpTo, at_most};
@@ -14,7 +14,7 @@ use std::alloc::AllocError;
 use std::iter::FusedIterator;
 use std::marker::{Model, PhantomData};
 
-/// How a walk reads the items of a node: one way for `Vec`s of any items, one for nodes.
+/// How an iterator reads the items of a node: one way for `Vec`s of any items, one for nodes.
 pub trait ReadNode<T, Node> {
     /// The items, in order.
     ghost list: { Node → List T };

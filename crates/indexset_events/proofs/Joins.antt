@@ -1,4 +1,4 @@
--- What joining two neighbours makes of lawful nodes.
+-- What merging two neighbours makes of lawful nodes.
 use Rattle.std.proofs.Common.{◌≡◌, ℕ, zero, suc, ◌+◌, ◌-◌, ◌/◌, ◌<◌, ◌≤◌, ◌&&◌, ◌⊎◌, Bool, true, false, if◌then◌else◌, List, [], ◌∷◌, ◌++◌, length, map, get_or, set, remove, eqb, ltb, leb, Option, Some, None, Ordering, refl, ap, sym, inl, inr, ◌∙◌, subst, arith, append_assoc, length-append}
 use Rattle.std.specs.Cmp.{IsTotalOrder}
 use Rattle.std.proofs.lemmas.Bool.{false≢true, lt-ltb, ltb-true, leb-true, leb-false, eqb-false}

@@ -73,7 +73,7 @@ module _ {T : Type 0} (cmp : T → T → Ordering) (o : IsTotalOrder cmp) (size 
       ] refl
 
 module _ {T : Type 0} (h : ℕ) where
-  -- an item fewer, where nothing is joined
+  -- an item fewer, where nothing is merged
   shorter_spaced : (ns : List (List T)) (k : ℕ) (m : List T) → join_place h (set ns k m) k ≡ None → IsSpaced h ns → IsSpaced h (set ns k m)
   shorter_spaced ns k m none s j lt =
       elim (cases_eq j k) [

@@ -119,7 +119,7 @@ module _ {T : Type 0} (cmp : T → T → Ordering) (o : IsTotalOrder cmp) where
   edit_step ns e r h c = rw (h, ruled_tested cmp r c) refl
 
   module _ (b : List (List T)) (a : List (List T)) where
-    -- the joining around a place in the node
+    -- the merge around a place in the node
     regroup : (l r : List T) → joined b ++ ((l ++ r) ++ joined a) ≡ (joined b ++ l) ++ (r ++ joined a)
     regroup l r = simp append_assoc
 

@@ -107,7 +107,7 @@ pub replay-append : {T : Type 0} (cmp : T → T → Ordering) (ns : List (List T
 replay-append cmp ns [] b = refl
 replay-append cmp ns (e ∷ a) b = replay_rest cmp a b (step cmp ns e) (λ r. replay-append cmp r a b)
 
--- a list with no joining event
+-- a list with no event of a merge
 earlier_rest : {T : Type 0} (cmp : T → T → Ordering) (es : List (ChangeEvent T)) (o : Option (List (List T))) → ((ns : List (List T)) → earlier_replay cmp ns es ≡ replay cmp ns es) → option_and_then (λ r. earlier_replay cmp r es) o ≡ option_and_then (λ r. replay cmp r es) o
 earlier_rest cmp es None h = refl
 earlier_rest cmp es (Some ns) h = h ns

@@ -14,6 +14,6 @@ module _ {T : Type 0} where
     pub offset_in : p.1 < length (node_at ns p.0)
     pub before : items_before ns p ≡ i
 
-  -- the events of the removal of the item at position i, where there is one
+  -- the events of the removal of the item at position i, if any
   unfoldable pub removal_events_at : (T → T → Ordering) → ℕ → List (List T) → ℕ → List (ChangeEventUnassigned T)
   removal_events_at cmp size ns i = option_map_or (λ x. removal_events cmp size ns x) (slice_get (joined ns) i) []

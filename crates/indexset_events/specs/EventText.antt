@@ -44,35 +44,35 @@ module _ {T : Type 0} (reading : List ℕ → Option T) where
   unfoldable pub place_reading : List ℕ → Option (T × ℕ × T)
   place_reading text = option_and_then (λ cut. option_and_then (λ v. option_and_then (λ rest. option_and_then (λ more. option_and_then (λ i. option_map (λ m. (v, i, m)) (option_and_then reading (behind (codes "in the node of ") more.1))) (number_of more.0)) (cut_at 32 rest)) (behind (codes "at ") cut.1)) (reading cut.0)) (cut_item text)
 
-  -- the event of a merge, by its node and what stands behind that
+  -- the event of a merge, by its node and what follows that
   unfoldable pub merge_reading : Id → List ℕ → T → List ℕ → Option (ChangeEvent T)
   merge_reading id word m rest = if bytes_eq word (codes "merge") then option_map (MergeNodes id m) (option_and_then reading (behind (codes "with the node of ") rest)) else None
 
-  -- the event of a word, by its node and what stands behind that
+  -- the event of a word, by its node and what follows that
   unfoldable pub rest_reading : Id → List ℕ → T → List ℕ → Option (ChangeEvent T)
   rest_reading id word m rest =
       if bytes_eq word (codes "split") then option_map (SplitNode id m) (option_and_then number_of (behind (codes "at ") rest))
       else merge_reading id word m rest
 
-  -- the event of a word, by what stands behind `the node of `
+  -- the event of a word, by what follows `the node of `
   unfoldable pub node_reading : Id → List ℕ → List ℕ → Option (ChangeEvent T)
   node_reading id word text =
       if bytes_eq word (codes "create") then option_map (CreateNode id) (reading text)
       else if bytes_eq word (codes "drop") then option_map (RemoveNode id) (reading text)
       else option_and_then (λ cut. option_and_then (λ m. rest_reading id word m cut.1) (reading cut.0)) (cut_item text)
 
-  -- the event of a word, by what stands behind it and names a node
+  -- the event of a word, by what follows it and names a node
   unfoldable pub named_reading : Id → List ℕ → List ℕ → Option (ChangeEvent T)
   named_reading id word text = option_and_then (node_reading id word) (behind (codes "the node of ") text)
 
-  -- the event of a word, by what stands behind it
+  -- the event of a word, by what follows it
   unfoldable pub word_reading : Id → List ℕ → List ℕ → Option (ChangeEvent T)
   word_reading id word text =
       if bytes_eq word (codes "insert") then option_map (λ p. InsertAt id p.2 p.0 p.1) (place_reading text)
       else if bytes_eq word (codes "remove") then option_map (λ p. RemoveAt id p.2 p.0 p.1) (place_reading text)
       else named_reading id word text
 
-  -- the event of a number, by what stands behind it
+  -- the event of a number, by what follows it
   unfoldable pub change_reading : Id → List ℕ → Option (ChangeEvent T)
   change_reading id text = option_and_then (λ cut. word_reading id cut.0 cut.1) (cut_at 32 text)
 
@@ -84,13 +84,14 @@ module _ {T : Type 0} (reading : List ℕ → Option T) where
 abbrev pub pair_text : {K V : Type 0} → (K → List ℕ) → (V → List ℕ) → Pair K V → List ℕ
 pair_text key value p = key p.key ++ 58 ∷ value p.value
 
--- that of a numbered pair
+-- the text of a numbered pair
 abbrev pub multi_pair_text : {K V : Type 0} → (K → List ℕ) → (V → List ℕ) → MultiPair K V → List ℕ
 multi_pair_text key value p = key p.key ++ 58 ∷ (value p.value ++ 32 ∷ (codes "#" ++ decimal p.discriminator))
 
--- how they are read
+-- how pairs are read
 abbrev pub pair_reading : {K V : Type 0} → (List ℕ → Option K) → (List ℕ → Option V) → List ℕ → Option (Pair K V)
 pair_reading key value text = option_and_then (λ cut. option_and_then (λ k. option_map (pair k) (value cut.1)) (key cut.0)) (cut_at 58 text)
 
+-- how numbered pairs are read
 abbrev pub multi_pair_reading : {K V : Type 0} → (List ℕ → Option K) → (List ℕ → Option V) → List ℕ → Option (MultiPair K V)
 multi_pair_reading key value text = option_and_then (λ cut. option_and_then (λ k. option_and_then (λ more. option_and_then (λ v. option_and_then (λ digits. option_map (λ n. record { key = k; value = v; discriminator = n }) (number_of digits)) (behind (codes "#") more.1)) (value more.0)) (cut_at 32 cut.1)) (key cut.0)) (cut_at 58 text)

@@ -16,7 +16,7 @@ module _ {T : Type 0} where
   abbrev pub with_joined : List (List T) → ℕ → List (List T)
   with_joined ns j = splice ns j (j + 2) ((node_at ns j ++ node_at ns (j + 1)) ∷ [])
 
-  -- the nodes without the item at place i of the node at place k: an emptied node goes too
+  -- the nodes without the item at place i of the node at place k: an emptied node is removed too
   abbrev pub item_removed : List (List T) → ℕ → ℕ → List (List T)
   item_removed ns k i = if length (node_at ns k) == 1 then remove ns k else set ns k (remove (node_at ns k) i)
 

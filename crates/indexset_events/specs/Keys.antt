@@ -9,7 +9,7 @@ use Rattle.indexset_events.specs.declared.change.ChangeEventUnassigned.{ChangeEv
 use Rattle.indexset_events.specs.Table.{removal_events}
 
 module _ {K V : Type 0} where
-  -- the events of the removal of the pair of the key, where there is one
+  -- the events of the removal of the pair of the key, if any
   unfoldable pub key_removal_events : (K → K → Ordering) → ℕ → List (List (Pair K V)) → K → List (ChangeEventUnassigned (Pair K V))
   key_removal_events cmp size ns k = option_map_or (λ p. removal_events (by_key cmp) size ns p) (pair_of cmp (joined ns) k) []
 

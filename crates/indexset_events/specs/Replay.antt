@@ -37,7 +37,7 @@ edit cmp ns (plain.RemoveNode m) = at_named cmp ns m (λ n. Some [])
 edit cmp ns (plain.SplitNode m k) = at_named cmp ns m (λ n. if ltb 0 k && ltb k (length n) then Some (take k n ∷ drop k n ∷ []) else None)
 edit cmp ns (plain.MergeNodes m w) = option_and_then (λ p. option_and_then (λ q. if q == p + 1 then Some (with_joined ns p) else None) (node_named cmp ns w)) (node_named cmp ns m)
 
--- only what leaves a list of nodes is a step
+-- the nodes after an event without a number, if it applies: it must leave a node list
 unfoldable pub step_plain : {T : Type 0} → (T → T → Ordering) → List (List T) → ChangeEventUnassigned T → Option (List (List T))
 step_plain cmp ns e = option_and_then (λ r. if are_nodes cmp r then Some r else None) (edit cmp ns e)
 
@@ -45,7 +45,7 @@ abbrev pub replay_plain : {T : Type 0} → (T → T → Ordering) → List (List
 replay_plain cmp ns [] = Some ns
 replay_plain cmp ns (e ∷ es) = option_and_then (λ r. replay_plain cmp r es) (step_plain cmp ns e)
 
--- an event and its number
+-- an event without its number
 abbrev pub unassigned : {T : Type 0} → ChangeEvent T → ChangeEventUnassigned T
 unassigned (numbered.InsertAt id m v i) = plain.InsertAt m v i
 unassigned (numbered.RemoveAt id m v i) = plain.RemoveAt m v i
@@ -54,6 +54,7 @@ unassigned (numbered.RemoveNode id m) = plain.RemoveNode m
 unassigned (numbered.SplitNode id m k) = plain.SplitNode m k
 unassigned (numbered.MergeNodes id m w) = plain.MergeNodes m w
 
+-- the number of an event, as an `Id`
 abbrev pub event_id : {T : Type 0} → ChangeEvent T → Id
 event_id (numbered.InsertAt id m v i) = id
 event_id (numbered.RemoveAt id m v i) = id
@@ -62,6 +63,7 @@ event_id (numbered.RemoveNode id m) = id
 event_id (numbered.SplitNode id m k) = id
 event_id (numbered.MergeNodes id m w) = id
 
+-- the event with a number
 abbrev pub with_id : {T : Type 0} → Id → ChangeEventUnassigned T → ChangeEvent T
 with_id s (plain.InsertAt m v i) = numbered.InsertAt s m v i
 with_id s (plain.RemoveAt m v i) = numbered.RemoveAt s m v i
@@ -70,6 +72,7 @@ with_id s (plain.RemoveNode m) = numbered.RemoveNode s m
 with_id s (plain.SplitNode m k) = numbered.SplitNode s m k
 with_id s (plain.MergeNodes m w) = numbered.MergeNodes s m w
 
+-- the number of an event
 abbrev pub event_number : {T : Type 0} → ChangeEvent T → ℕ
 event_number e = (event_id e).0
 
@@ -77,9 +80,11 @@ event_number e = (event_id e).0
 abbrev pub assigned : {T : Type 0} → ℕ → ChangeEventUnassigned T → ChangeEvent T
 assigned s e = with_id (record { 0 = s }) e
 
+-- the nodes after an event, if it applies
 abbrev pub step : {T : Type 0} → (T → T → Ordering) → List (List T) → ChangeEvent T → Option (List (List T))
 step cmp ns e = step_plain cmp ns (unassigned e)
 
+-- the nodes after the events in order, if each applies
 abbrev pub replay : {T : Type 0} → (T → T → Ordering) → List (List T) → List (ChangeEvent T) → Option (List (List T))
 replay cmp ns [] = Some ns
 replay cmp ns (e ∷ es) = option_and_then (λ r. replay cmp r es) (step cmp ns e)

@@ -23,11 +23,11 @@ signed_below half text =
     if get_or text 0 0 == 45 then option_and_then (λ n. if nat_lt 0 n && nat_le n half then Some (negsuc (n - 1)) else None) (number_of (drop 1 text))
     else option_and_then (λ n. if nat_lt n half then Some (pos n) else None) (number_of text)
 
--- what stands before the first such byte, and what behind it
+-- what is before the first such byte, and what is after it
 abbrev pub cut_at : ℕ → List ℕ → Option (List ℕ × List ℕ)
 cut_at c text = option_map (λ i. (take i text, drop (i + 1) text)) (position (λ b. b == c) text)
 
--- what stands behind the front, where the text begins with it
+-- the rest after a prefix, where the text begins with it
 unfoldable pub behind : List ℕ → List ℕ → Option (List ℕ)
 behind front text = if bytes_eq (take (length front) text) front then Some (drop (length front) text) else None
 
@@ -40,7 +40,7 @@ abbrev pub item_end : List ℕ → Option ℕ
 item_end [] = None
 item_end (c ∷ text) = if c == 32 && not (is_sharp text) then Some 0 else option_map (λ i. i + 1) (item_end text)
 
--- the text of an item, and what stands behind it and a space
+-- the text of an item, and the rest after it and a space
 abbrev pub cut_item : List ℕ → Option (List ℕ × List ℕ)
 cut_item text = option_map (λ i. (take i text, drop (i + 1) text)) (item_end text)
 

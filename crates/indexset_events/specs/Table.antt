@@ -51,7 +51,7 @@ target_events cmp size n v = halving_events size n v ++ node_events cmp (part_fo
 unfoldable pub put_events : {T : Type 0} → (T → T → Ordering) → ℕ → List (List T) → T → List (ChangeEventUnassigned T)
 put_events cmp size ns v = if is_filled ns then target_events cmp size (node_at ns (target cmp ns v)) v else CreateNode v ∷ []
 
--- a checked put: nothing changes where an equal item is there
+-- a checked put: nothing changes where an equal item is present
 unfoldable pub checked_put_events : {T : Type 0} → (T → T → Ordering) → ℕ → List (List T) → T → List (ChangeEventUnassigned T)
 checked_put_events cmp size ns v = if has_equal cmp (joined ns) v then [] else put_events cmp size ns v
 
@@ -72,6 +72,7 @@ abbrev pub count_with : Option ℕ → ℕ
 count_with None = 1
 count_with (Some j) = 2
 
+-- how many events the removal of the item at place i of the node at place k gives
 abbrev pub taking_count : {T : Type 0} → ℕ → List (List T) → ℕ → ℕ → ℕ
 taking_count size ns k i = count_with (join_after size ns k i)
 

@@ -51,9 +51,9 @@ impl From<Id> for u64 {
     }
 }
 
-/// A change, numbered. A node is named by its last item before the change. Two events are equal where
-/// kind, number and index are the same and the items are equal by their own `==`: pairs by their keys,
-/// and numbered pairs by keys and numbers, whatever their values are.
+/// A change, numbered. A node is named by its last item before the change. Two events are equal
+/// where kind, number and index are the same and the items are equal by their own `==`: pairs by
+/// their keys, and numbered pairs by keys and numbers, whatever their values are.
 #[derive(Clone, Debug, PartialEq, Eq, Drop)]
 pub enum ChangeEvent<T> {
     /// In the node named, the value is inserted at the index.
@@ -64,7 +64,7 @@ pub enum ChangeEvent<T> {
         max_value: T,
         /// The item that is inserted.
         value: T,
-        /// Where in the node it stands after the change; at most the node's length before it.
+        /// Its index in the node after the change; at most the node's length before it.
         index: usize,
     },
     /// In the node named, the value at the index is removed.
@@ -75,7 +75,7 @@ pub enum ChangeEvent<T> {
         max_value: T,
         /// The item that is removed.
         value: T,
-        /// Where in the node it stands before the change.
+        /// Its index in the node before the change.
         index: usize,
     },
     /// A node of this item alone is inserted in its place.
@@ -121,7 +121,7 @@ pub enum ChangeEventUnassigned<T> {
         max_value: T,
         /// The item that is inserted.
         value: T,
-        /// Where in the node it stands after the change; at most the node's length before it.
+        /// Its index in the node after the change; at most the node's length before it.
         index: usize,
     },
     /// In the node named, the value at the index is removed.
@@ -130,7 +130,7 @@ pub enum ChangeEventUnassigned<T> {
         max_value: T,
         /// The item that is removed.
         value: T,
-        /// Where in the node it stands before the change.
+        /// Its index in the node before the change.
         index: usize,
     },
     /// A node of this item alone is inserted in its place.

@@ -22,21 +22,22 @@ ghost use Rattle.indexset_events.specs.declared.change.ChangeEventUnassigned.The
 
 use crate::spelling::Spelled;
 
-/// Events replayed in two parts lead where they lead in one.
+/// Replay of a concatenation is replay of its parts.
 pub fn replay_in_parts<T: Ord>()
     ensures { (ns : List (List T)) (first rest : List (ChangeEvent T))
         → replay T.cmp ns (first ++ rest) ≡ option_and_then (λ middle. replay T.cmp middle rest)
         (replay T.cmp ns first) }
 {}
 
-/// Events among which none merges nodes lead where they led before nodes were merged.
+/// Events without `MergeNodes` replay as before there was that event.
 pub fn earlier_events_replayed<T: Ord>()
     ensures { (ns : List (List T)) (events : List (ChangeEvent T))
         → list_any is_joining events ≡ false → earlier_replay T.cmp ns events
         ≡ replay T.cmp ns events }
 {}
 
-/// Events numbered from s, and then others numbered from the number after theirs, are numbered from s.
+/// Events numbered from s, and then others numbered from the number after theirs, are numbered from
+/// s.
 pub fn numbered_in_parts<T>()
     ensures { (s : ℕ) (first rest : List (ChangeEvent T)) → IsNumberedFrom s first
         → IsNumberedFrom (s + length first) rest → IsNumberedFrom s (first ++ rest) }
@@ -52,8 +53,8 @@ pub fn numbered_by_place<T>()
         → length (numbered_from s events) ≡ length events }
 {}
 
-/// The test of nodes holds just where no node is empty and the items of all ascend, and a step leads
-/// to nothing else.
+/// The test of nodes holds just where no node is empty and the items of all ascend, and a step
+/// leads to nothing else.
 pub fn steps_lead_to_nodes<T: Ord>()
     ensures passed { (ns : List (List T)) → are_nodes T.cmp ns ≡ true → IsNodeList T.cmp ns }
     ensures passes { (ns : List (List T)) → IsNodeList T.cmp ns → are_nodes T.cmp ns ≡ true }
@@ -61,7 +62,7 @@ pub fn steps_lead_to_nodes<T: Ord>()
         → step T.cmp ns event ≡ Some after → IsNodeList T.cmp after }
 {}
 
-/// The table of events, at numbers.
+/// The event table, at numbers.
 #[tactic(auto, unfolding(crate::specs::Nodes::are_nodes, crate::specs::Replay::step_plain, crate::specs::Table::put_events, crate::specs::Table::target_events, crate::specs::Table::node_events, crate::specs::Table::replace_events, crate::specs::Table::removal_events))]
 pub fn events_at_numbers()
     ensures first { put_events nat_cmp 4 [] 7 ≡ CreateNode 7 ∷ [] }
@@ -155,8 +156,8 @@ pub fn three_events_by_key<K: Ord, V>()
         length (key_removal_events K.cmp size ns k) ≤ 3 }
 {}
 
-/// The text of an event, where its items have texts: it is what `{}` writes, it is one line, and it is
-/// read as the identical event; nothing else is read as that.
+/// The text of an event, where its items have texts: it is what `{}` writes, it is one line, and it
+/// is read as the identical event; nothing else is read as that.
 pub fn texts_are_read<T: Spelled>()
     ensures written { (e : ChangeEvent T) → event_shown T.output e
         ≡ Some (event_text T.spelling e) }

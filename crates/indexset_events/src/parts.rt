@@ -32,7 +32,8 @@ pub fn read_number(text: &[u8]) -> Option<u64>
     number(text)
 }
 
-/// Returns the text where it is the plain decimal of a signed number, at least -half and below half.
+/// Returns the text where it is the plain decimal of a signed number, at least -half and below
+/// half.
 pub(crate) fn signed_text(text: &[u8], half: u64) -> Option<&str>
     requires { half ≤ 2 ^ 63 }
     ensures { MatchOption result (signed_below half text.now ≡ None) (λ s. (s.now ≡ text.now)
@@ -64,7 +65,7 @@ fn is_signed(text: &[u8], half: u64) -> bool
     }
 }
 
-/// Returns what stands before the first such byte, and what behind it.
+/// Returns what is before the first such byte, and what is after it.
 pub fn cut(text: &[u8], byte: u8) -> Option<(&[u8], &[u8])>
     ensures { option_map (λ cut. (cut.0.now, cut.1.now)) result ≡ cut_at byte text.now }
 {
@@ -72,21 +73,21 @@ pub fn cut(text: &[u8], byte: u8) -> Option<(&[u8], &[u8])>
     Some((&text[..place], &text[place + 1..]))
 }
 
-// Returns where a byte stands first.
+// Returns the index of the first such byte.
 fn first_place(text: &[u8], byte: u8) -> Option<usize>
     ensures { result ≡ position (λ b. b == byte) text.now }
 {
     text.iter().position(|b| *b == byte)
 }
 
-/// Returns what stands behind the front, where the text begins with it.
+/// Returns the rest after a prefix, where the text begins with it.
 pub(crate) fn after<'a>(text: &'a [u8], front: &[u8]) -> Option<&'a [u8]>
     ensures { option_map (λ rest. rest.now) result ≡ behind front.now text.now }
 {
     text.strip_prefix(front)
 }
 
-/// Returns the text of an item, and what stands behind it and a space.
+/// Returns the text of an item, and the rest after it and a space.
 pub(crate) fn cut_off(text: &[u8]) -> Option<(&[u8], &[u8])>
     ensures { option_map (λ cut. (cut.0.now, cut.1.now)) result ≡ cut_item text.now }
 {

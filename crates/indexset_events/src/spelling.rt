@@ -24,7 +24,7 @@ pub trait Spelled: fmt::Display {
     fn read(text: &[u8]) -> Option<Self>
         ensures { result ≡ reading text.now };
 
-    /// Does nothing. A caller's proof learns that a value which the program has is in range.
+    /// Does nothing. From its contract a proof learns that the value is in range.
     fn attest(&self)
         ensures { in_range self.now };
 
@@ -43,8 +43,8 @@ pub trait Spelled: fmt::Display {
     ghost apart: { (x : Self) → in_range x → is_item (spelling x) ≡ true };
 }
 
-/// A type whose texts are words: they have no space and no colon, so that they may stand in the text
-/// of a pair.
+/// A type whose texts are words: they have no space and no colon, so that they may stand in the
+/// text of a pair.
 pub trait Word: Spelled {
     /// The text has no end of line, no space and no colon.
     ghost whole: { (x : Self) → Self.in_range x → is_word (Self.spelling x) ≡ true };

@@ -1,9 +1,9 @@
 -- What a search for bytes says of the pairs of a map from byte strings.
 use Rattle.std.proofs.Common.{◌≡◌, ℕ, ◌≤◌, Bool, true, false, cond, is_some, List, [], ◌∷◌, length, not, Option, Some, None, Ordering, slice_get, refl, ap, sym, ◌∙◌, arith}
 use Rattle.std.specs.Cmp.{IsTotalOrder, on_total}
-use Rattle.std.specs.List.{count_by, find, position, remove}
+use Rattle.std.specs.List.{count_by, find, list_any, position, remove}
 use Rattle.std.specs.Option.{option_map}
-use Rattle.std.specs.Ordering.{is_eq, is_lt, ordering_index}
+use Rattle.std.specs.Ordering.{is_eq, is_le, is_lt, ordering_index}
 use Rattle.std.proofs.lemmas.Bool.{false≢true}
 use Rattle.std.proofs.lemmas.List.Sums.{sum_by-cons}
 use Rattle.std.specs.declared.cmp.Ordering.TheVariants.{Less, Equal, Greater}
@@ -44,6 +44,15 @@ counted p [] h = refl
 counted p (x ∷ xs) h = elim (p x) as (λ b. p x ≡ b → length (x ∷ xs) ≡ count_by p (x ∷ xs)) [
   | true ↦ λ e. let rest = counted p xs (rw e at h) in rw (sum_by-cons (λ y. cond (p y) 1 0) x xs, e) (omega (arith, rest))
   | false ↦ λ e. let none : Some x ≡ None = rw e at h in absurd (grind (arith, none))
+] refl
+
+-- where no item is Equal, those that are not above are below
+pub none_equal : {T : Type 0} (answer : T → Ordering) (xs : List T) → list_any (λ x. is_eq (answer x)) xs ≡ false → count_by (λ x. is_le (answer x)) xs ≡ count_by (λ x. is_lt (answer x)) xs
+none_equal answer [] h = refl
+none_equal answer (x ∷ xs) h = elim (answer x) as (λ o. answer x ≡ o → count_by (λ y. is_le (answer y)) (x ∷ xs) ≡ count_by (λ y. is_lt (answer y)) (x ∷ xs)) [
+  | Less ↦ λ e. let rest = none_equal answer xs (rw e at h) in rw (sum_by-cons (λ y. cond (is_le (answer y)) 1 0) x xs, sum_by-cons (λ y. cond (is_lt (answer y)) 1 0) x xs, e) (omega (arith, rest))
+  | Equal ↦ λ e. let no : true ≡ false = rw e at h in absurd (false≢true (sym no))
+  | Greater ↦ λ e. let rest = none_equal answer xs (rw e at h) in rw (sum_by-cons (λ y. cond (is_le (answer y)) 1 0) x xs, sum_by-cons (λ y. cond (is_lt (answer y)) 1 0) x xs, e) (omega (arith, rest))
 ] refl
 
 module _ {K V : Type 0} where

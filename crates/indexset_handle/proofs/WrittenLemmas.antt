@@ -1,5 +1,5 @@
 -- What a loop leaves in a caller's slice, and what a walk has left.
-use Rattle.std.proofs.Common.{◌≡◌, ℕ, zero, suc, ◌+◌, ◌<◌, ◌≤◌, List, [], ◌∷◌, length, map, drop, slice_set, slice_get, slice_index_or, get_or, Some, None, refl, sym, ap, ◌∙◌, arith, subst, add-one}
+use Rattle.std.proofs.Common.{◌≡◌, ℕ, zero, suc, ◌+◌, ◌<◌, ◌≤◌, List, [], ◌∷◌, length, map, drop, replicate, slice_set, slice_get, slice_index_or, get_or, Some, None, refl, sym, ap, ◌∙◌, arith, subst, add-one}
 use Rattle.std.proofs.lemmas.Bool.{cases_lt}
 use Rattle.std.proofs.lemmas.List.{get_or_default}
 use Rattle.std.proofs.Math.Logic.{inl, inr}
@@ -40,6 +40,12 @@ pub answer_at : {X Y : Type 0} (f : X → Y) (l : List X) (i : ℕ) (d : X) → 
 answer_at f [] i d h = let no : ⊥ = omega (arith, h) in absurd no
 answer_at f (y ∷ ys) zero d h = refl
 answer_at f (y ∷ ys) (suc i) d h = answer_at f ys i d (omega (arith, h))
+
+-- an answer that is the same everywhere
+pub same_at : {X : Type 0} (n : ℕ) (x : X) (i : ℕ) → i < n → slice_get (replicate n x) i ≡ Some x
+same_at zero x i h = let no : ⊥ = omega (arith, h) in absurd no
+same_at (suc n) x zero h = refl
+same_at (suc n) x (suc i) h = same_at n x i (omega (arith, h))
 
 -- past the end there is none
 pub none_past : (l : List ℕ) (i : ℕ) → slice_get l i ≡ None → length l ≤ i

@@ -1,7 +1,8 @@
 -- What is behind a handle, and what a call leaves in a caller's slice.
-use Rattle.std.specs.Prelude.{ℕ, List, [], ◌∷◌, ◌++◌, Option, take, drop, slice_get, slice_index_or}
+use Rattle.std.specs.Prelude.{ℕ, List, [], ◌∷◌, ◌++◌, Option, take, drop, slice_get, slice_index_or, count_by}
 use Rattle.std.specs.Option.{option_map, option_map_or, unwrap_or}
-use Rattle.std.specs.Ordering.{nat_cmp}
+use Rattle.std.specs.Ordering.{is_le, nat_cmp}
+use Rattle.std.specs.declared.cmp.Ordering.{Ordering}
 use Rattle.indexset_core.specs.declared.constants.TheConstants.{DEFAULT_INNER_SIZE}
 use Rattle.indexset_core.specs.declared.multipair.MultiPair.{MultiPair}
 use Rattle.indexset_core.specs.declared.pair.Pair.{Pair}
@@ -24,6 +25,13 @@ written n answers before = take n answers ++ drop n before
 -- the element at a position, or 0 where there is none
 abbrev pub element_at : List ℕ → ℕ → ℕ
 element_at es i = slice_index_or es i 0
+
+-- how many elements, or keys, are not above v
+abbrev pub count_up_to : {T : Type 0} → (T → T → Ordering) → List T → T → ℕ
+count_up_to cmp l v = count_by (λ x. is_le (cmp x v)) l
+
+abbrev pub key_count_up_to : {K V : Type 0} → (K → K → Ordering) → List (Pair K V) → K → ℕ
+key_count_up_to cmp l k = count_by (λ p. is_le (cmp p.key k)) l
 
 -- the pairs in order: none where there is no map
 abbrev pub pairs : Option (Contents ℕ ℕ) → List (Pair ℕ ℕ)

@@ -20,7 +20,8 @@ pub struct LogHandle {
 }
 
 impl LogHandle {
-    fn none(alloc: Global) -> LogHandle
+    /// Returns a handle that leads to none.
+    pub fn none(alloc: Global) -> LogHandle
         ensures { result.slot.value ≡ None }
     {
         LogHandle {

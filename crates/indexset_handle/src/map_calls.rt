@@ -1,9 +1,13 @@
 //! What the calls of a map do with it.
-ghost use Rattle.std.specs.Prelude.{◌≡◌, ◌<◌, ◌≤◌, length, map, min, take};
-ghost use Rattle.indexset_handle.specs.Elements.{put_all, value_or, written};
-ghost use Rattle.indexset_core.specs.Pairs.{pair_keys, pair_values};
+ghost use Rattle.std.specs.Prelude.{◌≡◌, ◌<◌, ◌≤◌, None, length, map, min, remove, slice_get, take};
+ghost use Rattle.std.specs.Option.{option_map};
+ghost use Rattle.std.specs.Ordering.{nat_cmp};
+ghost use Rattle.std.specs.declared.ops.Bound.TheVariants.{Included, Excluded, Unbounded};
+ghost use Rattle.indexset_core.specs.Pairs.{entry_of, pair_keys, pair_values, pairs_within};
+ghost use Rattle.indexset_handle.specs.Elements.{entry_at, key_count_up_to, put_all, value_or, written};
 
 use indexset_map::{BTreeMap, RangeMap};
+use std::ops::Bound;
 
 /// Makes each value that of its key, until memory is refused, and returns how many were taken.
 #[tactic(auto, unfolding(crate::specs::Elements::put_all))]
@@ -54,4 +58,47 @@ pub fn write_pairs(mut walk: RangeMap<'_, u64, u64>, keys: &mut [u64], values: &
         count += 1;
     }
     count
+}
+
+/// Returns the first pair whose key is not below `from`, or `None` where there is none.
+pub fn first_from(map: &BTreeMap<u64, u64>, from: u64) -> Option<(u64, u64)>
+    ensures { result ≡ entry_at (pairs_within nat_cmp map.now.pairs (Included from) Unbounded) 0 }
+{
+    let (key, value) = map
+        .range((Bound::Included(&from), Bound::Unbounded))
+        .next()?;
+    Some((*key, *value))
+}
+
+/// Returns the first pair whose key is above `from`, or `None` where there is none.
+pub fn first_past(map: &BTreeMap<u64, u64>, from: u64) -> Option<(u64, u64)>
+    ensures { result ≡ entry_at (pairs_within nat_cmp map.now.pairs (Excluded from) Unbounded) 0 }
+{
+    let (key, value) = map
+        .range((Bound::Excluded(&from), Bound::Unbounded))
+        .next()?;
+    Some((*key, *value))
+}
+
+/// Returns how many keys are not above a key.
+pub fn count_to(map: &BTreeMap<u64, u64>, key: u64) -> usize
+    ensures { result ≡ key_count_up_to nat_cmp map.now.pairs key }
+{
+    map.range((Bound::Unbounded, Bound::Included(&key))).len()
+}
+
+/// Removes the pair at a position and returns it, or returns `None` where there is none.
+pub fn take_index<K: Ord + Drop, V: Drop>(
+    map: &mut BTreeMap<K, V>,
+    position: usize,
+) -> Option<(K, V)>
+    ensures value { result ≡ option_map entry_of (slice_get map.old.pairs position) }
+    ensures rest { map.new.pairs ≡ remove map.old.pairs position }
+    ensures same { result ≡ None → map.new ≡ map.old }
+{
+    if position < map.len() {
+        Some(map.pop_index(position))
+    } else {
+        None
+    }
 }

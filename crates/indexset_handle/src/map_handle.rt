@@ -21,7 +21,8 @@ pub struct MapHandle {
 }
 
 impl MapHandle {
-    fn none(alloc: Global) -> MapHandle
+    /// Returns a handle that leads to none.
+    pub fn none(alloc: Global) -> MapHandle
         ensures { result.slot.value ≡ None }
     {
         MapHandle {

@@ -20,7 +20,8 @@ pub struct MultiHandle {
 }
 
 impl MultiHandle {
-    fn none(alloc: Global) -> MultiHandle
+    /// Returns a handle that leads to none.
+    pub fn none(alloc: Global) -> MultiHandle
         ensures { result.slot.value ≡ None }
     {
         MultiHandle {

@@ -20,7 +20,8 @@ pub struct ReplicaHandle {
 }
 
 impl ReplicaHandle {
-    fn none(alloc: Global) -> ReplicaHandle
+    /// Returns a handle that leads to none.
+    pub fn none(alloc: Global) -> ReplicaHandle
         ensures { result.slot.value ≡ None }
     {
         ReplicaHandle {

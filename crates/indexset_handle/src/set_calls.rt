@@ -1,13 +1,14 @@
 //! What the calls of a set do with it.
-ghost use Rattle.std.specs.Prelude.{◌≡◌, ◌<◌, ◌≤◌, false, length, map, min, slice_index_or, take};
+ghost use Rattle.std.specs.Prelude.{◌≡◌, ◌<◌, ◌≤◌, None, false, length, map, min, remove, slice_get, slice_index_or, take};
 ghost use Rattle.std.specs.List.{AllWithin, fold};
 ghost use Rattle.std.specs.Ordering.{nat_cmp};
 ghost use Rattle.indexset_core.specs.Order.{has_equal, keep, rank};
 ghost use Rattle.indexset_spine.specs.Cut.{items};
-ghost use Rattle.indexset_handle.specs.Elements.{element_at, written};
+ghost use Rattle.indexset_handle.specs.Elements.{count_up_to, element_at, written};
 
 use indexset_set::BTreeSet;
 use indexset_set::range::Range;
+use std::ops::Bound;
 
 /// Writes what an iterator gives, as far as there is room, and returns how much that is.
 pub fn write_each(mut walk: Range<'_, u64>, out: &mut [u64]) -> usize
@@ -75,4 +76,24 @@ pub fn element_each(set: &BTreeSet<u64>, positions: &[usize], out: &mut [u64]) -
         count += 1;
     }
     count
+}
+
+/// Returns how many elements are not above a key.
+pub fn count_to(set: &BTreeSet<u64>, key: u64) -> usize
+    ensures { result ≡ count_up_to nat_cmp (items set.now) key }
+{
+    set.range((Bound::Unbounded, Bound::Included(&key))).len()
+}
+
+/// Removes the element at a position and returns it, or returns `None` where there is none.
+pub fn take_index(set: &mut BTreeSet<u64>, position: usize) -> Option<u64>
+    ensures value { result ≡ slice_get (items set.old) position }
+    ensures rest { items set.new ≡ remove (items set.old) position }
+    ensures same { result ≡ None → set.new ≡ set.old }
+{
+    if position < set.len() {
+        Some(set.pop_index(position))
+    } else {
+        None
+    }
 }

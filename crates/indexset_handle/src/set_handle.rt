@@ -21,7 +21,8 @@ pub struct SetHandle {
 }
 
 impl SetHandle {
-    fn none(alloc: Global) -> SetHandle
+    /// Returns a handle that leads to none.
+    pub fn none(alloc: Global) -> SetHandle
         ensures { result.slot.value ≡ None }
     {
         SetHandle {

@@ -5,6 +5,7 @@ ghost use Rattle.std.specs.Cmp.Lexicographic.{slice_cmp};
 ghost use Rattle.std.specs.Ordering.{is_eq, nat_cmp};
 ghost use Rattle.indexset_core.specs.Order.{IsAscending};
 ghost use Rattle.indexset_core.specs.Pairs.{by_key, key_rank, value_of};
+ghost use Rattle.indexset_handle.specs.Elements.{key_count_up_to};
 
 use crate::text_probe::{ByBytes, FromBytes};
 use crate::text_slot::TextMap;
@@ -30,6 +31,18 @@ pub fn rank_of(map: &TextMap, key: &[u8]) -> usize
     match map.get_key_value_by(&mut FromBytes::new(key)) {
         Some((stored, _)) => map.rank(stored),
         None => len,
+    }
+}
+
+/// Returns how many keys are not above a key.
+pub fn count_to(map: &TextMap, key: &[u8]) -> usize
+    ensures { result ≡ key_count_up_to (slice_cmp nat_cmp) map.now.pairs key.now }
+{
+    // Tells how long the map is at most.
+    let _len = map.len();
+    match position_of(map, key) {
+        Some(i) => i + 1,
+        None => rank_of(map, key),
     }
 }
 

@@ -20,7 +20,8 @@ pub struct TextHandle {
 }
 
 impl TextHandle {
-    fn none(alloc: Global) -> TextHandle
+    /// Returns a handle that leads to none.
+    pub fn none(alloc: Global) -> TextHandle
         ensures { result.slot.value ≡ None }
     {
         TextHandle {

@@ -1,5 +1,6 @@
 //! What is written where C points, if there is anything to write.
-ghost use Rattle.std.specs.Prelude.{◌≡◌, Some, None, true, false};
+ghost use Rattle.std.specs.Prelude.{◌≡◌, Some, None, true, false, length, min, replicate};
+ghost use Rattle.indexset_handle.specs.Elements.{written};
 ghost use Rattle.indexset_handle.specs.Text.{written_over};
 
 /// Writes an element, if any, and returns whether there was one.
@@ -40,4 +41,17 @@ pub fn write_bytes(bytes: &[u8], out: &mut [u8])
 {
     let count = bytes.len().min(out.len());
     out[..count].copy_from_slice(&bytes[..count]);
+}
+
+/// Writes the same answer to each of `asked` questions, as far as there is room, and returns how many
+/// those are.
+pub fn write_same<T: Copy>(asked: usize, answer: T, out: &mut [T]) -> usize
+    ensures count { result ≡ min asked (length out.old) }
+    ensures written { out.new ≡ written result (replicate asked answer) out.old }
+{
+    let count = asked.min(out.len());
+    for i in 0..count {
+        out[i] = answer;
+    }
+    count
 }

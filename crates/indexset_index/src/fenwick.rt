@@ -1,4 +1,4 @@
-//! A Fenwick index: lengths, kept as sums that are quick to add up, to search and to change.
+//! A Fenwick tree of lengths, whose prefix sums are read, searched and changed in logarithmic time.
 ghost use Rattle.std.specs.Prelude.{◌≡◌, ◌+◌, ◌-◌, ◌<◌, ◌≤◌, ◌^◌, [], ◌∷◌, ◌++◌, length, map, sum, take, slice_index, slice_set, IfOk, IfErr, OnOk};
 ghost use Rattle.indexset_core.specs.Nodes.{node_lengths};
 
@@ -16,7 +16,8 @@ use std::marker::Model;
 /// An index of lengths, whose sum is at most `usize::MAX`.
 #[derive(Drop)]
 pub struct Fenwick {
-    // Cell i, counted from 1, is the sum of as many lengths up to the i-th as the lowest one bit of i says.
+    // Cell i, counted from 1, is the sum of as many lengths up to the i-th as the lowest one bit of
+    // i says.
     cells: Vec<usize>,
 }
 
@@ -44,7 +45,7 @@ impl Fenwick {
         }
     }
 
-    /// No length, and room for some.
+    /// Returns the index of no lengths, with capacity for some.
     pub fn with_capacity(alloc: Global, capacity: usize) -> Result<Self, Refusal>
         ensures empty { IfOk result (λ f. f.lengths ≡ []) }
         ensures room { IfOk result (λ f. capacity ≤ f.room) }
@@ -68,7 +69,7 @@ impl Fenwick {
         Ok(index)
     }
 
-    /// Returns the number of lengths: at most as many as there is room for.
+    /// Returns the number of lengths: at most the capacity.
     pub fn len(&self) -> usize
         ensures value { result ≡ length self.now.lengths }
         ensures within { length self.now.lengths ≤ self.now.room }
@@ -77,7 +78,7 @@ impl Fenwick {
         self.cells.len()
     }
 
-    /// Makes room for one more length. A failed call changes nothing.
+    /// Reserves capacity for one more length. A failed call changes nothing.
     pub fn reserve_one(&mut self) -> Result<(), Refusal>
         ensures room { OnOk result (length self.new.lengths < self.new.room) }
         ensures lengths { self.new.lengths ≡ self.old.lengths }
@@ -87,7 +88,7 @@ impl Fenwick {
         self.reserve(1)
     }
 
-    /// Makes room for `additional` more lengths. A failed call changes nothing.
+    /// Reserves capacity for `more` further lengths. A failed call changes nothing.
     pub fn reserve(&mut self, more: usize) -> Result<(), Refusal>
         ensures room { OnOk result (length self.new.lengths + more ≤ self.new.room) }
         ensures lengths { self.new.lengths ≡ self.old.lengths }
@@ -98,7 +99,7 @@ impl Fenwick {
         Ok(())
     }
 
-    /// One length more, where there is room. It allocates nothing.
+    /// Appends a length, where there is capacity. It allocates nothing.
     pub fn push(&mut self, last: usize)
         requires room { length self.old.lengths < self.old.room }
         requires fits { sum self.old.lengths + last < 2 ^ 64 }
@@ -128,7 +129,7 @@ impl Fenwick {
         table::raise(self.cells.as_mut_slice(), i, n);
     }
 
-    /// Takes from the i-th length, counted from 0.
+    /// Subtracts from the i-th length, counted from 0.
     pub fn sub(&mut self, i: usize, n: usize)
         requires inside { i < length self.old.lengths }
         requires enough { n ≤ slice_index self.old.lengths i }
@@ -139,7 +140,7 @@ impl Fenwick {
         table::lower(self.cells.as_mut_slice(), i, n);
     }
 
-    /// Writes the lengths of these nodes, where there is room. It allocates nothing.
+    /// Writes the lengths of these nodes, where there is capacity. It allocates nothing.
     pub fn rebuild<T, Node, R: ReadNode<T, Node>>(&mut self, nodes: &[Node])
         requires room { length nodes.now ≤ self.old.room }
         requires fits { sum (node_lengths (map R.list nodes.now)) < 2 ^ 64 }

@@ -19,7 +19,7 @@ word_of Numbers = codes "numbers"
 word_of Read = codes "read"
 word_of Write = codes "write"
 
--- the fault of a run whose call was refused: a run meets want of memory and of numbers alone
+-- the fault of a run whose call was refused: a run meets lack of memory and of numbers alone
 abbrev pub fault_of : Refusal → RunFault
 fault_of refusal.Numbers = Numbers
 fault_of other = Memory

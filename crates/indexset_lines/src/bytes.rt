@@ -5,7 +5,7 @@ ghost use Rattle.std.specs.List.{position};
 
 use memchr::memchr;
 
-/// Returns where a byte stands first.
+/// Returns the index of the first such byte.
 pub fn first_place(bytes: &[u8], sought: u8) -> Option<usize>
     ensures { result ≡ position (λ b. b == sought) bytes.now }
 {

@@ -21,7 +21,7 @@ impl RunFault {
     ghost use Rattle.std.specs.Prelude.{◌≡◌};
     ghost use Rattle.indexset_lines.specs.Fault.{status_of, word_of};
 
-    /// Returns the exit status that tells this fault.
+    /// Returns the exit status of this fault.
     pub fn status(self) -> u8
         ensures { result ≡ status_of self }
     {
@@ -33,7 +33,7 @@ impl RunFault {
         }
     }
 
-    /// Returns the word that tells this fault.
+    /// Returns the word for this fault.
     pub fn word(self) -> &'static str
         ensures { result.now ≡ word_of self }
     {

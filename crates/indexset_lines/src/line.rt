@@ -14,7 +14,7 @@ use std::io::{BufRead, ErrorKind, Write};
 /// What a read of a line found.
 #[derive(Clone, Copy, Debug, PartialEq, Eq)]
 pub enum Part {
-    /// A line and its end. Where the reader's buffer is used up, the next look may read.
+    /// A line and its end. Where the reader's buffer is empty, the next look may read.
     Whole { is_used_up: bool },
     /// A line without an end, the last.
     Last,
@@ -22,7 +22,8 @@ pub enum Part {
     End,
 }
 
-/// Reads the next line, without its end. Within the line, the writer is flushed before more is read.
+/// Reads the next line, without its end. Within the line, the writer is flushed before more is
+/// read.
 pub fn next_line<R: BufRead, W: Write>(
     reader: &mut R,
     writer: &mut W,
@@ -90,7 +91,7 @@ fn take_piece<R: BufRead>(reader: &mut R, line: &mut Vec<u8>) -> Result<Option<P
     }
 }
 
-/// Returns how many bytes stand before the first line end.
+/// Returns how many bytes are before the first line end.
 fn line_len(bytes: &[u8]) -> usize
     ensures { result ≡ position_or_len (λ b. b == 10) bytes.now }
 {

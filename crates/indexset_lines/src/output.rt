@@ -1,4 +1,4 @@
-//! What a writer holds back.
+//! Flushing a writer.
 
 ghost use Rattle.std.specs.Prelude.{◌≡◌, IfErr};
 ghost use Rattle.std.specs.Io.KnownBytes.{Keeps};
@@ -6,7 +6,7 @@ ghost use Rattle.std.specs.Io.KnownBytes.{Keeps};
 use crate::fault::RunFault;
 use std::io::Write;
 
-/// Passes on what the writer holds back.
+/// Writes out what the writer has buffered.
 pub fn flush<W: Write>(writer: &mut W) -> Result<(), RunFault>
     ensures unwritten { Keeps (W.contents writer.old) (W.contents writer.new) }
     ensures fault { IfErr result (λ fault. fault ≡ RunFault.Write) }

@@ -12,7 +12,7 @@ use std::io::{BufRead, Write};
 
 /// What answers lines, one after another.
 pub trait Answers {
-    /// What a line sees and changes.
+    /// The state that a line reads and changes.
     ghost State: { Type 0 };
 
     ghost state: { Self → Self.State };
@@ -20,10 +20,10 @@ pub trait Answers {
     /// The reply to a line.
     ghost reply: { Self → Self.State → List ℕ → List ℕ };
 
-    /// What is left after a line.
+    /// The state after a line.
     ghost after: { Self.State → List ℕ → Self.State };
 
-    /// There are fewer numbers than were to be given out.
+    /// Too few event numbers remain.
     ghost lacks_numbers: { Self.State → Type 0 };
 
     /// Writes the reply to a line. Where memory or numbers run out, nothing is written.
@@ -41,10 +41,10 @@ pub trait Answers {
         ensures no_read { result ≢ Err RunFault.Read };
 }
 
-/// Has each line of the reader answered, and uses `line` as the room for one.
+/// Writes the reply to each line of the reader, and uses `line` as the buffer for one.
 ///
-/// The writer is flushed where the reader's buffer is used up, so that each reply is out before more is
-/// waited for, and is left to be flushed at the end. A fault ends the run at once. A line past the first
+/// The writer is flushed where the reader's buffer is empty, so that each reply is out before the
+/// next read; at the end the caller flushes it. A fault ends the run at once. A line past the first
 /// 2^64 - 1 is a fault of the reader. After a failed write nothing is said of what was written.
 pub fn answer_lines<A: Answers, R: BufRead, W: Write>(
     answers: &mut A,

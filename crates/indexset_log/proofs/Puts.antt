@@ -1,8 +1,8 @@
 -- A put into a tree, by what its call aims at.
-use Rattle.std.proofs.Common.{◌≡◌, ℕ, suc, ◌+◌, ◌/◌, ◌<◌, ◌≤◌, Bool, true, false, cond, if◌then◌else◌, List, [], ◌∷◌, ◌++◌, length, map, get_or, set, take, eqb, Option, Some, None, is_some, is_ok, Ordering, refl, ap, sym, ◌∙◌, subst, arith, length-append}
+use Rattle.std.proofs.Common.{◌≡◌, ℕ, suc, ◌+◌, ◌/◌, ◌<◌, ◌≤◌, Bool, true, false, cond, if◌then◌else◌, List, [], ◌∷◌, ◌++◌, length, set, take, eqb, Option, Some, None, is_some, is_err, is_ok, Ordering, Result, Ok, Err, refl, ap, sym, ◌∙◌, subst, arith, length-append}
 use Rattle.std.specs.Cmp.{IsTotalOrder}
 use Rattle.std.specs.Ordering.{is_eq}
-use Rattle.std.proofs.lemmas.Bool.{eqb-false}
+use Rattle.std.proofs.lemmas.Bool.{eqb-false, false≢true}
 use Rattle.indexset_core.specs.Nodes.{joined, node_at}
 use Rattle.indexset_core.specs.Order.{IsAscending, put, has_equal, equal_element}
 use Rattle.indexset_core.proofs.CallerLemmas.{is_some-find, has_equal_found}
@@ -15,13 +15,18 @@ use Rattle.indexset_events.specs.Nodes.{is_filled, last_of}
 use Rattle.indexset_log.specs.Tree.{IsTree}
 use Rattle.indexset_events.specs.Replay.{numbered_from, assigned}
 use Rattle.indexset_events.specs.Table.{target, half_of, part_for, is_past, halving_events, node_events, target_events, put_events}
-use Rattle.indexset_events.proofs.CallerLemmas.{Roomy, Ruled, ascends, each_all, equal_in_target, filled_length, half_and, lawful_bounded, lawful_ruled, lawful_small, length_filled, length_view, ne_from, node_count, node_is, put_events_none, roomy, set_view, up_node}
+use Rattle.indexset_events.proofs.CallerLemmas.{Roomy, Ruled, ascends, each_all, equal_in_target, filled_length, half_and, lawful_bounded, lawful_ruled, lawful_small, length_filled, ne_from, node_count, put_events_none, roomy, up_node}
 
 numbered-append : {T : Type 0} (s : ℕ) (xs ys : List (ChangeEventUnassigned T)) → numbered_from s (xs ++ ys) ≡ numbered_from s xs ++ numbered_from (s + length xs) ys
 numbered-append s [] ys = ap (λ k. numbered_from k ys) (omega arith)
 numbered-append s (x ∷ xs) ys =
     let next : s + 1 + length xs ≡ s + suc (length xs) = omega arith in
     ap (λ q. assigned s x ∷ q) (numbered-append (s + 1) xs ys ∙ ap (λ k. numbered_from (s + 1) xs ++ numbered_from k ys) next)
+
+-- an item that is put where none equals it is one more
+pub grown : (at : Result ℕ ℕ) → is_err at ≡ true → 1 ≤ cond (is_ok at) 0 1
+grown (Ok i) none = absurd (false≢true none)
+grown (Err i) none = omega arith
 
 -- a put into a tree, as the code meets it
 module _ {T : Type 0} {cmp : T → T → Ordering} {most size len : ℕ} {ns : List (List T)} (o : IsTotalOrder cmp) (t : IsTree cmp most ns size len) where
@@ -85,26 +90,27 @@ module _ {T : Type 0} {cmp : T → T → Ordering} {most size len : ℕ} {ns : L
     pub whole_room : a.full ≡ false → length (node_at ns a.node) < size
     whole_room e = omega (arith, ne_from (length (node_at ns a.node)) size (eqb-false (length (node_at ns a.node)) size (sym h.full_is ∙ e)) (lawful_small cmp size ns t.lawful a.node h.node_in))
 
-    -- the nodes as the code holds them after it made room, and the place of the one that the item goes into
-    module _ {N : Type 0} (f : N → List T) (items : List N) (p : ℕ) where
+    -- the nodes after the code made room, and the place of the one that the item goes into
+    module _ (seen : List (List T)) (p : ℕ) where
       pub record Spot : Type 0 where
-        pub inside : p < length items
-        pub part : (n : N) → n ≡ get_or items p n → f n ≡ part_for cmp size (node_at ns a.node) v
-        pub made : (n m : N) → n ≡ get_or items p n → f m ≡ put cmp (f n) v → map f (set items p m) ≡ with_put cmp size ns v
+        pub inside : p < length seen
+        pub part : node_at seen p ≡ part_for cmp size (node_at ns a.node) v
+        pub same : joined seen ≡ joined ns
+        pub made : set seen p (put cmp (node_at seen p) v) ≡ with_put cmp size ns v
 
-      pub spot : {olds : List (List T)} → olds ≡ ns → map f items ≡ (if a.full then with_halved olds a.node else olds) → p ≡ a.node + cond a.right 1 0 → Spot
+      pub spot : {olds : List (List T)} → olds ≡ ns → seen ≡ (if a.full then with_halved olds a.node else olds) → p ≡ a.node + cond a.right 1 0 → Spot
       unfolding with_put
       spot same held place =
           let d = r in
           let ms = with_room cmp size ns v in
-          let sees : map f items ≡ ms = held ∙ rw (same, h.full_is, h.node_is) refl in
+          let sees : seen ≡ ms = held ∙ rw (same, h.full_is, h.node_is) refl in
           let aims : p ≡ target cmp ms v = place ∙ rw (h.right_is, h.node_is) (sym d.place) in
-          let inside : p < length items = omega (arith, aims, place_in, length_view f items ms sees) in
-          record {
-            inside = inside;
-            part = λ n is. node_is f items ms p n sees inside is ∙ (ap (node_at ms) aims ∙ part_is);
-            made = λ n m is e. rw some (set_view f items ms p m (put cmp (node_at ms p) v) sees (e ∙ ap (λ q. put cmp q v) (node_is f items ms p n sees inside is)) ∙ ap (λ k. set ms k (put cmp (node_at ms k) v)) aims);
-          }
+          rw sees (record {
+            inside = omega (arith, aims, place_in);
+            part = ap (node_at ms) aims ∙ part_is;
+            same = d.same;
+            made = rw some (ap (λ k. set ms k (put cmp (node_at ms k) v)) aims);
+          })
 
   -- by what its call aims at
   pub count_aimed : (v : T) (aim : Option Aim) → IsAimed cmp size ns v aim → length (put_events cmp size ns v) ≡ count_for aim

@@ -1,17 +1,17 @@
 -- A tree as its contract sees it, and as the code holds it.
-use Rattle.std.proofs.Common.{◌≡◌, ℕ, ◌+◌, ◌-◌, ◌<◌, Option, Some, None, List, cond, map, length, get_or, slice_get, take, Ordering, ap, subst, sym, ◌∙◌, arith}
+use Rattle.std.proofs.Common.{◌≡◌, ℕ, ◌+◌, ◌-◌, ◌<◌, ◌≤◌, Option, Some, None, List, cond, map, length, get_or, slice_get, take, Ordering, ap, refl, subst, sym, ◌∙◌, arith}
 use Rattle.std.specs.Cmp.{IsTotalOrder}
 use Rattle.std.specs.Iterator.Runs.{ItemsAre, Run}
 use Rattle.std.proofs.lemmas.List.{get_or-take, length-take-le, same_lists}
 use Rattle.std.proofs.lemmas.Option.{same_Some}
-use Rattle.indexset_core.specs.Nodes.{IsLawful, joined, node_at}
+use Rattle.indexset_core.specs.Nodes.{IsLawful, joined, node_at, node_lengths}
 use Rattle.indexset_core.specs.Order.{has_equal}
 use Rattle.indexset_events.specs.Attach.{attach_refusal, attached}
 use Rattle.indexset_events.specs.Edits.{with_put, with_taken}
 use Rattle.std.proofs.lemmas.Bool.Decides.{nat_tests}
 use Rattle.std.below.core.specs.declared.int.u64.TheConstants.{MAX}
 use Rattle.indexset_core.specs.declared.refusal.Refusal.TheVariants.{Numbers}
-use Rattle.indexset_log.specs.Tree.{Tree, IsTree, refusal_for}
+use Rattle.indexset_log.specs.Tree.{Tree, IsIndexed, IsTree, refusal_for}
 use Rattle.indexset_events.proofs.CallerLemmas.{added, length_view, node_is, put_counted, put_lawful, taken_counted, taken_lawful}
 
 -- where a call is refused for want of numbers, its events do not fit
@@ -25,26 +25,32 @@ front_of_run p xs are =
     let here : k < p.len = omega (arith, p.long, inside) in
     same_Some _ _ (sym (p.reads k d here) ∙ are.2 k d here) ∙ sym (get_or-take p.len xs k d here))
 
+-- what the lemmas ask of a tree, from what a caller learns
+pub tree_of : {T : Type 0} {cmp : T → T → Ordering} {size : ℕ} {ns : List (List T)} → IsLawful cmp size ns → 2 ≤ size → IsTree cmp size ns size (length (joined ns))
+tree_of law two = record { lawful = law; two = two; within = omega arith; counted = refl }
+
 -- f tells the list of each node that the code holds
-pub record Held {T N : Type 0} (cmp : T → T → Ordering) (most : ℕ) (f : N → List T) (items : List N) (size len next : ℕ) (t : Tree T) : Type 0 where
+pub record Held {T N : Type 0} (cmp : T → T → Ordering) (most : ℕ) (f : N → List T) (items : List N) (size len next : ℕ) (index : List ℕ) (t : Tree T) : Type 0 where
   pub same : map f items ≡ t.nodes
   pub many : length t.nodes ≡ length items
   pub sized : size ≡ t.size
   pub numbered : next ≡ t.next
   pub rule : IsTree cmp most t.nodes t.size len
+  pub indexed : index ≡ node_lengths t.nodes
 
-module _ {T N : Type 0} {cmp : T → T → Ordering} {most size len next : ℕ} {t : Tree T} where
-  pub held : (f : N → List T) (items : List N) → (let seen : Tree T = record { nodes = map f items; size = size; next = next } in seen) ≡ t → IsTree cmp most (map f items) size len → Held cmp most f items size len next t
+module _ {T N : Type 0} {cmp : T → T → Ordering} {most size len next : ℕ} {index : List ℕ} {t : Tree T} where
+  pub held : (f : N → List T) (items : List N) → (let seen : Tree T = record { nodes = map f items; size = size; next = next } in seen) ≡ t → IsIndexed cmp most (map f items) size len index → Held cmp most f items size len next index t
   held f items seen rule = record {
     same = ap (λ t. t.nodes) seen;
     many = length_view f items t.nodes (ap (λ t. t.nodes) seen);
     sized = ap (λ t. t.size) seen;
     numbered = ap (λ t. t.next) seen;
-    rule = subst (λ t. IsTree cmp most t.nodes t.size len) seen rule;
+    rule = subst (λ t. IsTree cmp most t.nodes t.size len) seen rule.tree;
+    indexed = subst (λ t. index ≡ node_lengths t.nodes) seen rule.index_is;
   }
 
   -- the node at a place, as the code reads it
-  pub node_held : {f : N → List T} {items : List N} {n : N} → Held cmp most f items size len next t → (k : ℕ) → k < length t.nodes → n ≡ get_or items k n → f n ≡ node_at t.nodes k
+  pub node_held : {f : N → List T} {items : List N} {n : N} → Held cmp most f items size len next index t → (k : ℕ) → k < length t.nodes → n ≡ get_or items k n → f n ≡ node_at t.nodes k
   node_held {f = f} {items = items} {n = n} h k lt is = node_is f items t.nodes k n h.same (omega (arith, lt, h.many)) is
 
 -- the rule of a tree after a put, after a removal, and with a node added

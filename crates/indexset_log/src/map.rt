@@ -15,6 +15,7 @@ ghost use Rattle.indexset_core.specs.Places.{located};
 
 mod ends;
 pub mod iter;
+mod positions;
 mod put;
 pub mod range;
 mod remove;
@@ -60,9 +61,8 @@ impl<K: Ord + Clone + Drop, V: Clone + Drop, Node: NodeLike<Pair<K, V>>> BTreeMa
     }
 
     /// Returns the map of these nodes, whose first event has the number `next`, as the set makes
-    /// it: the nodes are taken as they are, nothing is allocated, and no number is used up. A
-    /// failed call returns the nodes in the error, and no call fails where the nodes are lawful for
-    /// this size and the number of items is a usize.
+    /// it: the nodes are taken as they are, one number for each is allocated, and no event number
+    /// is used up. A failed call returns the nodes in the error.
     pub fn from_nodes(nodes: Vec<Node>, size: usize, next: u64) -> Result<Self, Refused<Vec<Node>>>
         requires two { 2 ≤ size }
         requires within { size ≤ Node.most }
@@ -72,11 +72,6 @@ impl<K: Ord + Clone + Drop, V: Clone + Drop, Node: NodeLike<Pair<K, V>>> BTreeMa
             ≡ None) }
         ensures refusal { IfErr result (λ e. e.cause ≡ unwrap_or
             (nodes_refusal (by_key K.cmp) size (map Node.list nodes.items)) Memory) }
-        ensures memory { IfErr result (λ e. nodes_refusal (by_key K.cmp) size
-            (map Node.list nodes.items) ≡ None → usize.MAX
-            < length (joined (map Node.list nodes.items))) }
-        ensures lawful { IsLawful (by_key K.cmp) size (map Node.list nodes.items)
-            → length (joined (map Node.list nodes.items)) ≤ usize.MAX → IsOk result }
         ensures given_back { IfErr result (λ e. e.value ≡ nodes) }
     {
         match BTreeSet::from_nodes(nodes, size, next) {
@@ -195,9 +190,7 @@ impl<K: Ord + Clone + Drop, V: Clone + Drop, Node: NodeLike<Pair<K, V>>> BTreeMa
     pub fn get(&self, key: &K) -> Option<&Pair<K, V>>
         ensures { option_copied result ≡ pair_of K.cmp (joined self.now.nodes) key.now }
     {
-        // The contract of `node_count` says that the pairs ascend, as a search by key requires.
-        let _nodes = self.set.node_count();
-        self.set.get_by(&mut ByKey::new(key))
+        self.set.get_by(&mut self.by_key(key))
     }
 
     /// Returns the first pair that the comparator finds equal, or `None` where there is none, by
@@ -220,6 +213,16 @@ impl<K: Ord + Clone + Drop, V: Clone + Drop, Node: NodeLike<Pair<K, V>>> BTreeMa
         self.get(key).is_some()
     }
 
+    // Returns a probe for a key, which finds the pairs in order.
+    fn by_key<'a>(&self, key: &'a K) -> ByKey<'a, K>
+        ensures probe { result ≡ (key.now, 0) }
+        ensures parted { IsParted (λ p. K.cmp p.key key.now) (joined self.now.nodes) }
+    {
+        // The contract of `node_count` says that the pairs ascend.
+        let _nodes = self.set.node_count();
+        ByKey::new(key)
+    }
+
     // Returns where a search for a key ends.
     fn locate(&self, key: &K) -> Result<(usize, usize), (usize, usize)>
         ensures place { result ≡ located (λ p. K.cmp p.key key.now) self.now.nodes }
@@ -227,10 +230,8 @@ impl<K: Ord + Clone + Drop, V: Clone + Drop, Node: NodeLike<Pair<K, V>>> BTreeMa
         ensures two { 2 ≤ self.now.size }
         ensures number { self.now.next ≤ u64.MAX }
     {
-        // The contract of `node_count` says that the pairs ascend, as a search by key requires.
-        let _nodes = self.set.node_count();
-        let _size = self.set.maximum_node_size();
+        // The counter fits a u64, so a call without events lacks no number.
         let _next = self.set.events_issued();
-        self.set.locate_by(&mut ByKey::new(key))
+        self.set.locate(&mut self.by_key(key))
     }
 }

@@ -1,15 +1,18 @@
 //! What is done to the nodes.
-ghost use Rattle.std.specs.Prelude.{◌≡◌, ◌+◌, ◌/◌, ◌<◌, ◌≤◌, ◌++◌, Bool, true, false, IsTrue, [], vec_len, vec_capacity, length, map, set, cond, if◌then◌else◌, min, sum_by, Option, Some, nat_le, ◌⊎◌, remove, slice_get, IfOk, OnOk, IfErr, OnErr, IsOk, is_err};
+ghost use Rattle.std.specs.Prelude.{◌≡◌, ◌+◌, ◌/◌, ◌<◌, ◌≤◌, ◌++◌, Bool, true, false, IsTrue, [], vec_len, vec_capacity, length, map, set, cond, if◌then◌else◌, min, sum_by, Option, Some, nat_le, ◌⊎◌, insert, remove, slice_get, IfOk, OnOk, IfErr, OnErr, IsOk, is_err};
 ghost use Rattle.std.specs.List.{HoldsAt};
-ghost use Rattle.indexset_core.specs.Nodes.{joined, node_at};
+ghost use Rattle.indexset_core.specs.Nodes.{joined, node_at, node_lengths};
 ghost use Rattle.indexset_core.specs.Order.{IsAscending, IsFoundAt, IsGapFor, put, equal_element};
 ghost use Rattle.indexset_events.specs.Edits.{with_halved};
-ghost use Rattle.indexset_events.specs.Joining.{with_joined};
+ghost use Rattle.indexset_events.specs.Joining.{item_removed, with_joined};
 ghost use Rattle.indexset_events.specs.Table.{half_of};
 
 use crate::aim::Aim;
 use indexset_core::node::NodeLike;
-use indexset_core::refusal::Refusal;
+use indexset_core::refusal::{Refusal, Refused};
+use indexset_core::walk::ReadAny;
+use indexset_index::fenwick::Fenwick;
+use std::alloc::Global;
 
 /// A node that stays whole, or the half of one that is full.
 pub(crate) fn part_of<T>(items: &[T], full: bool, right: bool) -> &[T]
@@ -29,25 +32,33 @@ pub(crate) fn part_of<T>(items: &[T], full: bool, right: bool) -> &[T]
 /// Halves a node. A failed call leaves the items as they are.
 pub(crate) fn halve_at<T: Ord + Drop, Node: NodeLike<T>>(
     nodes: &mut Vec<Node>,
+    index: &mut Fenwick,
     place: usize,
 ) -> Result<(), Refusal>
     requires place { place < length nodes.old.items }
     requires two { 2 ≤ length (node_at (map Node.list nodes.old.items) place) }
+    requires index { index.old.lengths ≡ node_lengths (map Node.list nodes.old.items) }
+    requires fits { length (joined (map Node.list nodes.old.items)) ≤ usize.MAX }
     ensures nodes { OnOk result (map Node.list nodes.new.items
         ≡ with_halved (map Node.list nodes.old.items) place) }
     ensures left_room { OnOk result (HoldsAt (λ n. length (Node.list n)
         < Node.room n) nodes.new.items place) }
     ensures right_room { OnOk result (HoldsAt (λ n. length (Node.list n)
         < Node.room n) nodes.new.items (place + 1)) }
+    ensures index { index.new.lengths ≡ node_lengths (map Node.list nodes.new.items) }
     ensures refusal { IfErr result (λ e. e ≡ Refusal.Memory) }
     ensures unchanged { OnErr result (map Node.list nodes.new.items
         ≡ map Node.list nodes.old.items) }
 {
     nodes.reserve(1)?;
+    index.reserve_one()?;
     let node = &mut nodes[place];
     let right = node.halve()?;
     match nodes.insert(place + 1, right) {
-        Ok(()) => Ok(()),
+        Ok(()) => {
+            index.rebuild_from::<T, Node, ReadAny>(place, nodes.as_slice());
+            Ok(())
+        }
         Err(_) => unreachable!(),
     }
 }
@@ -56,6 +67,7 @@ pub(crate) fn halve_at<T: Ord + Drop, Node: NodeLike<T>>(
 /// the items as they are.
 pub(crate) fn make_room<T: Ord + Drop, Node: NodeLike<T>>(
     nodes: &mut Vec<Node>,
+    index: &mut Fenwick,
     aim: &Aim,
 ) -> Result<usize, Refusal>
     requires place { aim.now.node < length nodes.old.items }
@@ -64,18 +76,21 @@ pub(crate) fn make_room<T: Ord + Drop, Node: NodeLike<T>>(
     requires most { (aim.now.full ≡ false) → length (node_at
         (map Node.list nodes.old.items) aim.now.node) < Node.most }
     requires right { (aim.now.full ≡ false) → aim.now.right ≡ false }
+    requires index { index.old.lengths ≡ node_lengths (map Node.list nodes.old.items) }
+    requires fits { length (joined (map Node.list nodes.old.items)) ≤ usize.MAX }
     ensures nodes { OnOk result (map Node.list nodes.new.items
         ≡ (if aim.now.full then with_halved
         (map Node.list nodes.old.items) aim.now.node else map Node.list nodes.old.items)) }
     ensures place { IfOk result (λ place. place ≡ aim.now.node + cond aim.now.right 1 0) }
     ensures room { IfOk result (λ place. is_err aim.now.at ≡ true
         → HoldsAt (λ n. length (Node.list n) < Node.room n) nodes.new.items place) }
+    ensures index { index.new.lengths ≡ node_lengths (map Node.list nodes.new.items) }
     ensures refusal { IfErr result (λ e. e ≡ Refusal.Memory) }
     ensures unchanged { OnErr result (map Node.list nodes.new.items
         ≡ map Node.list nodes.old.items) }
 {
     if aim.full {
-        halve_at(nodes, aim.node)?;
+        halve_at(nodes, index, aim.node)?;
         return Ok(if aim.right { aim.node + 1 } else { aim.node });
     }
     if aim.at.is_err() {
@@ -88,38 +103,56 @@ pub(crate) fn make_room<T: Ord + Drop, Node: NodeLike<T>>(
 /// Inserts an item into its place in a node that has room, and returns the equal item that it
 /// replaces.
 pub(crate) fn put_in<T: Ord + Drop, Node: NodeLike<T>>(
-    node: &mut Node,
+    nodes: &mut Vec<Node>,
+    index: &mut Fenwick,
+    place: usize,
     at: Result<usize, usize>,
     value: T,
 ) -> Option<T>
-    requires ascending { IsAscending T.cmp (Node.list node.old) }
-    requires found { IfOk at (IsFoundAt T.cmp (Node.list node.old) value) }
-    requires gap { IfErr at (IsGapFor T.cmp (Node.list node.old) value) }
-    requires room { is_err at ≡ true → length (Node.list node.old) < Node.room node.old }
-    ensures answer { result ≡ equal_element T.cmp (Node.list node.old) value }
-    ensures list { Node.list node.new ≡ put T.cmp (Node.list node.old) value }
+    requires place { place < length nodes.old.items }
+    requires ascending { IsAscending T.cmp (node_at (map Node.list nodes.old.items) place) }
+    requires found { IfOk at (IsFoundAt T.cmp (node_at (map Node.list nodes.old.items) place)
+        value) }
+    requires gap { IfErr at (IsGapFor T.cmp (node_at (map Node.list nodes.old.items) place)
+        value) }
+    requires room { is_err at ≡ true → HoldsAt (λ n. length (Node.list n)
+        < Node.room n) nodes.old.items place }
+    requires index { index.old.lengths ≡ node_lengths (map Node.list nodes.old.items) }
+    requires fits { is_err at ≡ true → length (joined (map Node.list nodes.old.items))
+        < usize.MAX }
+    ensures answer { result ≡ equal_element T.cmp
+        (node_at (map Node.list nodes.old.items) place) value }
+    ensures nodes { map Node.list nodes.new.items ≡ set (map Node.list nodes.old.items) place
+        (put T.cmp (node_at (map Node.list nodes.old.items) place) value) }
+    ensures index { index.new.lengths ≡ node_lengths (map Node.list nodes.new.items) }
 {
+    let node = &mut nodes[place];
     match at {
-        Ok(index) => node.replace(index, value),
-        Err(index) => {
-            node.insert_at(index, value);
+        Ok(offset) => node.replace(offset, value),
+        Err(offset) => {
+            node.insert_at(offset, value);
+            index.add(place, 1);
             None
         }
     }
 }
 
-/// Returns an empty node with room for one item, and room for it in the list.
+/// Returns an empty node with room for one item, and makes room for it in the list and the index.
 pub(crate) fn first_node<T: Ord + Drop, Node: NodeLike<T>>(
     nodes: &mut Vec<Node>,
+    index: &mut Fenwick,
 ) -> Result<Node, Refusal>
     requires { 1 ≤ Node.most }
     ensures empty { IfOk result (λ node. Node.list node ≡ []) }
     ensures room { IfOk result (λ node. 1 ≤ Node.room node) }
     ensures nodes { nodes.new.items ≡ nodes.old.items }
     ensures capacity { OnOk result (vec_len nodes.new < vec_capacity nodes.new) }
+    ensures index { index.new.lengths ≡ index.old.lengths }
+    ensures index_room { OnOk result (length index.new.lengths < index.new.room) }
     ensures refusal { IfErr result (λ e. e ≡ Refusal.Memory) }
 {
     nodes.reserve(1)?;
+    index.reserve_one()?;
     Node::with_capacity(*nodes.allocator(), 1)
 }
 
@@ -130,10 +163,73 @@ pub(crate) fn fit_together(left: usize, right: usize, most: usize) -> bool
     left <= most && right <= most - left
 }
 
+/// Inserts a whole node at a place. A failed call returns it in the error and changes nothing.
+pub(crate) fn insert_node<T: Ord + Drop, Node: NodeLike<T>>(
+    nodes: &mut Vec<Node>,
+    index: &mut Fenwick,
+    place: usize,
+    node: Node,
+) -> Result<(), Refused<Node>>
+    requires place { place ≤ length nodes.old.items }
+    requires index { index.old.lengths ≡ node_lengths (map Node.list nodes.old.items) }
+    requires fits { length (joined (map Node.list nodes.old.items)) + length (Node.list node)
+        ≤ usize.MAX }
+    ensures nodes { OnOk result (map Node.list nodes.new.items
+        ≡ insert (map Node.list nodes.old.items) place (Node.list node)) }
+    ensures index { index.new.lengths ≡ node_lengths (map Node.list nodes.new.items) }
+    ensures refusal { IfErr result (λ e. e.cause ≡ Refusal.Memory) }
+    ensures given_back { IfErr result (λ e. e.value ≡ node) }
+    ensures unchanged { OnErr result (nodes.new.items ≡ nodes.old.items) }
+{
+    if index.reserve_one().is_err() {
+        return Err(Refused {
+            value: node,
+            cause: Refusal::Memory,
+        });
+    }
+    match nodes.insert(place, node) {
+        Ok(()) => {
+            index.rebuild_from::<T, Node, ReadAny>(place, nodes.as_slice());
+            Ok(())
+        }
+        Err(refused) => Err(Refused {
+            value: refused.value,
+            cause: Refusal::Memory,
+        }),
+    }
+}
+
+/// Removes the item at a place, and a node that it leaves empty.
+pub(crate) fn take_out<T: Ord + Drop, Node: NodeLike<T>>(
+    nodes: &mut Vec<Node>,
+    index: &mut Fenwick,
+    node: usize,
+    offset: usize,
+) -> T
+    requires node { node < length nodes.old.items }
+    requires offset { offset < length (node_at (map Node.list nodes.old.items) node) }
+    requires index { index.old.lengths ≡ node_lengths (map Node.list nodes.old.items) }
+    ensures item { slice_get (node_at (map Node.list nodes.old.items) node) offset ≡ Some result }
+    ensures nodes { map Node.list nodes.new.items
+        ≡ item_removed (map Node.list nodes.old.items) node offset }
+    ensures index { index.new.lengths ≡ node_lengths (map Node.list nodes.new.items) }
+{
+    if nodes[node].len() == 1 {
+        let mut emptied = nodes.remove(node);
+        // There is room for as many lengths as there were, and their sum fits.
+        let _count = index.len();
+        index.rebuild_from::<T, Node, ReadAny>(node, nodes.as_slice());
+        return emptied.remove_at(offset);
+    }
+    index.sub(node, 1);
+    nodes[node].remove_at(offset)
+}
+
 /// Removes the item at a place, and merges the node at `left` with the one after it: the item is in
 /// either. Room is reserved first. A failed call leaves the items as they are.
 pub(crate) fn take_and_join<T: Ord + Drop, Node: NodeLike<T>>(
     nodes: &mut Vec<Node>,
+    index: &mut Fenwick,
     node: usize,
     offset: usize,
     left: usize,
@@ -147,11 +243,13 @@ pub(crate) fn take_and_join<T: Ord + Drop, Node: NodeLike<T>>(
         (remove (node_at (map Node.list nodes.old.items) node) offset)) left
         ++ node_at (set (map Node.list nodes.old.items) node
         (remove (node_at (map Node.list nodes.old.items) node) offset)) (left + 1)) }
+    requires index { index.old.lengths ≡ node_lengths (map Node.list nodes.old.items) }
     ensures item { IfOk result (λ item. slice_get (node_at
         (map Node.list nodes.old.items) node) offset ≡ Some item) }
     ensures nodes { OnOk result (map Node.list nodes.new.items
         ≡ with_joined (set (map Node.list nodes.old.items) node
         (remove (node_at (map Node.list nodes.old.items) node) offset)) left) }
+    ensures index { index.new.lengths ≡ node_lengths (map Node.list nodes.new.items) }
     ensures refusal { IfErr result (λ e. e ≡ Refusal.Memory) }
     ensures never { Node.allocates ≡ false → IsOk result }
     ensures unchanged { OnErr result (map Node.list nodes.new.items
@@ -168,7 +266,25 @@ pub(crate) fn take_and_join<T: Ord + Drop, Node: NodeLike<T>>(
         next.remove_at(offset)
     };
     first.absorb(next);
+    // There is room for as many lengths as there were, and their sum fits.
+    let _count = index.len();
+    index.rebuild_from::<T, Node, ReadAny>(left, nodes.as_slice());
     Ok(item)
+}
+
+/// Returns the index of the nodes.
+pub(crate) fn index_of<T: Ord + Drop, Node: NodeLike<T>>(
+    alloc: Global,
+    nodes: &[Node],
+) -> Result<Fenwick, Refusal>
+    requires { length (joined (map Node.list nodes.now)) ≤ usize.MAX }
+    ensures index { IfOk result (λ index. index.lengths ≡ node_lengths
+        (map Node.list nodes.now)) }
+    ensures refusal { IfErr result (λ e. e ≡ Refusal.Memory) }
+{
+    let mut index = Fenwick::with_capacity(alloc, nodes.len())?;
+    index.rebuild::<T, Node, ReadAny>(nodes);
+    Ok(index)
 }
 
 /// Returns how many items the nodes have room for, up to `usize::MAX`.

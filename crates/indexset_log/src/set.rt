@@ -16,6 +16,7 @@ mod from_nodes;
 pub mod iter;
 mod make;
 pub mod nodes;
+mod positions;
 mod put;
 pub mod range;
 mod removal_log;
@@ -28,6 +29,7 @@ use indexset_core::locate::locate_by;
 use indexset_core::node::NodeLike;
 use indexset_core::probe::{ByItem, Probe};
 use indexset_core::walk::ReadAny;
+use indexset_index::fenwick::Fenwick;
 use std::alloc::Global;
 use std::marker::{Model, PhantomData};
 
@@ -39,6 +41,8 @@ pub struct BTreeSet<T: Ord + Clone + Drop, Node: NodeLike<T>> {
     size: usize,
     // How many items there are.
     len: usize,
+    // The lengths of the nodes.
+    index: Fenwick,
     // The number of the next event.
     next: u64,
     items: PhantomData<T>,
@@ -46,7 +50,7 @@ pub struct BTreeSet<T: Ord + Clone + Drop, Node: NodeLike<T>> {
 
 impl<T: Ord + Clone + Drop, Node: NodeLike<T>> Model for BTreeSet<T, Node> {
     ghost use Rattle.std.specs.Prelude.{map};
-    ghost use Rattle.indexset_log.specs.Tree.{Tree, IsTree};
+    ghost use Rattle.indexset_log.specs.Tree.{Tree, IsIndexed};
 
     ghost Value = { Tree T };
 
@@ -56,7 +60,8 @@ impl<T: Ord + Clone + Drop, Node: NodeLike<T>> Model for BTreeSet<T, Node> {
       next = s.next;
     } };
 
-    ghost invariant = { λ s. IsTree T.cmp Node.most (map Node.list s.nodes.items) s.size s.len };
+    ghost invariant = { λ s. IsIndexed T.cmp Node.most (map Node.list s.nodes.items) s.size s.len
+        s.index.lengths };
 }
 
 impl<T: Ord + Clone + Drop, Node: NodeLike<T>> BTreeSet<T, Node> {
@@ -70,6 +75,7 @@ impl<T: Ord + Clone + Drop, Node: NodeLike<T>> BTreeSet<T, Node> {
             nodes: Vec::new(alloc),
             size,
             len: 0,
+            index: Fenwick::new(alloc),
             next,
             items: PhantomData,
         }
@@ -156,17 +162,45 @@ impl<T: Ord + Clone + Drop, Node: NodeLike<T>> BTreeSet<T, Node> {
             (digits (length self.now.nodes) + digits self.now.size + 1) }
         ensures unasked { self.now.nodes ≡ [] → P.asked probe.new ≡ P.asked probe.old }
     {
+        self.locate(probe)
+    }
+
+    // Does the same, and its caller learns that the nodes are lawful.
+    pub(crate) fn locate<P: Probe<T>>(
+        &self,
+        probe: &mut P,
+    ) -> Result<(usize, usize), (usize, usize)>
+        requires { IsParted (P.answer probe.old) (joined self.now.nodes) }
+        ensures place { result ≡ located (P.answer probe.old) self.now.nodes }
+        ensures lawful { IsLawful T.cmp self.now.size self.now.nodes }
+        ensures two { 2 ≤ self.now.size }
+        ensures fixed { P.answer probe.new ≡ P.answer probe.old }
+        ensures few { P.asked probe.new ≤ P.asked probe.old +
+            (digits (length self.now.nodes) + digits self.now.size + 1) }
+        ensures unasked { self.now.nodes ≡ [] → P.asked probe.new ≡ P.asked probe.old }
+    {
         locate_by::<T, Node, ReadAny, P>(self.nodes.as_slice(), probe)
+    }
+
+    // Returns a probe for an item, which finds the items in order.
+    fn by_item<'a>(&self, value: &'a T) -> ByItem<'a, T>
+        ensures probe { result ≡ (value.now, 0) }
+        ensures parted { IsParted (λ x. T.cmp x value.now) (joined self.now.nodes) }
+    {
+        // The nodes are lawful.
+        let _nodes = &self.nodes;
+        ByItem::new(value)
     }
 
     // Returns where the equal item is: its node, and the offset in it.
     fn place_of(&self, value: &T) -> Option<(usize, usize)>
-        ensures { MatchOption result (equal_element T.cmp (joined self.now.nodes) value.now ≡ None)
+        ensures place { MatchOption result (equal_element T.cmp
+            (joined self.now.nodes) value.now ≡ None)
             (λ p. IsFoundIn T.cmp self.now.nodes value.now p.0 p.1) }
+        ensures lawful { IsLawful T.cmp self.now.size self.now.nodes }
+        ensures two { 2 ≤ self.now.size }
     {
-        // The nodes are lawful, so a search by an item may go by them.
-        let _nodes = &self.nodes;
-        self.locate_by(&mut ByItem::new(value)).ok()
+        self.locate(&mut self.by_item(value)).ok()
     }
 
     /// Returns whether an equal item is present.
@@ -180,9 +214,7 @@ impl<T: Ord + Clone + Drop, Node: NodeLike<T>> BTreeSet<T, Node> {
     pub fn get(&self, value: &T) -> Option<&T>
         ensures { option_copied result ≡ equal_element T.cmp (joined self.now.nodes) value.now }
     {
-        // The nodes are lawful, so a search by an item may go by them.
-        let _nodes = &self.nodes;
-        self.get_by(&mut ByItem::new(value))
+        self.get_by(&mut self.by_item(value))
     }
 
     /// Returns the first item that the comparator finds equal, or `None` where there is none. It

@@ -43,7 +43,7 @@ get_or_inside : {X : Type 0} (l : List X) (i : ℕ) → i < length l → X
 get_or_inside [] i lt = absurd (omega arith)
 get_or_inside (x ∷ l) i lt = x
 
--- what is taken out of the set is taken out of the map
+-- what is removed from the set is removed from the map
 pub contents_removed : {K V : Type 0} (s t : Cut (Pair K V)) (m : Contents K V) (i : ℕ) → contents s ≡ m → items t ≡ remove (items s) i
     → IsWithoutAt s.nodes i t.nodes → t.size ≡ s.size → contents t ≡ without_at m i
 contents_removed {K = K} {V = V} s t m i e is nodes size =

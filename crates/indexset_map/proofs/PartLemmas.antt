@@ -17,7 +17,7 @@ parted_back (n ∷ ns) = rw (take_at n (joined ns) (length n) refl, drop_at n (j
 pub set_seen : {K V : Type 0} (s : Cut (Pair K V)) → set_of (contents s) ≡ s
 set_seen s = ap (λ ns. cut ns s.size) (parted_back s.nodes)
 
--- pairs that were put in the set s of a map m were put in the map
+-- pairs that were inserted into the set s of a map m were inserted into the map
 module _ {K V : Type 0} (cmp : K → K → Ordering) (s t : Cut (Pair K V)) (m : Contents K V) (e : contents s ≡ m) (sizes : t.size ≡ s.size) where
   pub all_put : (ps : List (Pair K V)) → t.nodes ≡ nodes_put_all (by_key cmp) s ps → contents t ≡ with_pairs_put cmp m ps
   all_put ps nodes =

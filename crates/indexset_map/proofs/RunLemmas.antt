@@ -70,7 +70,7 @@ module _ {K V : Type 0} (cmp : K → K → Ordering) (total : IsTotalOrder cmp) 
         ∙ (fold-append (λ n e. with_entry cmp n e.0 e.1) (contents s) (map entry_of run) (entry_of p ∷ [])
         ∙ ap (λ (n : Contents K V). with_entry cmp (with_all cmp n (map entry_of run)) p.key p.value) e)))))
 
-    -- with q put in once nothing is left of the run, which is p
+    -- with q inserted once nothing is left of the run, which is p
     pub run_then_put : (p q : Pair K V) (n : Contents K V) → q ≡ p → others ≡ [] → IsAscending (by_key cmp) (items s ++ run) → t.nodes ≡ with_all_last s.size s.nodes run → n ≡ with_entry cmp (contents t) q.key q.value
         → with_all cmp n (map entry_of others) ≡ with_entry cmp (with_all cmp m (map entry_of run)) p.key p.value
     run_then_put p q n same none up moved put =

@@ -58,7 +58,7 @@ module _ {K V : Type 0} where
     pub value_placed : (w : V) → contents (cut.with_value_at s (position_of s.nodes spot) w) ≡ with_written m (place_of m.lengths spot) w
     value_placed w = contents_written s m (position_of s.nodes spot) w e ∙ ap (λ i. with_written m i w) (sym place_at)
 
-    -- what is taken out of the set there is taken out of the map
+    -- what is removed from the set there is removed from the map
     pub taken_out : (t : Cut (Pair K V)) → IsItemPlace m.lengths spot → items t ≡ remove (items s) (position_of s.nodes spot) → t.nodes ≡ without_item s.nodes spot → t.size ≡ s.size → contents t ≡ without_at m (place_of m.lengths spot)
     taken_out t h is nodes size =
         contents_removed s t m (place_of m.lengths spot) e (is ∙ ap (remove (items s)) (sym place_at)) (spot, item_in h, sym place_at, nodes) size

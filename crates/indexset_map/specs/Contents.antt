@@ -23,6 +23,7 @@ parts [] l = []
 parts (n ∷ ns) l = take n l ∷ parts ns (drop n l)
 
 module _ {K V : Type 0} where
+  -- the map of a set of pairs
   abbrev pub contents : Cut (Pair K V) → Contents K V
   contents s = record { pairs = items s; lengths = node_lengths s.nodes; size = s.size }
 
@@ -51,7 +52,7 @@ module _ {K V : Type 0} where
     abbrev pub with_value : Contents K V → K → V → Contents K V
     with_value m k w = with_pairs m (set_value cmp m.pairs k w)
 
-    -- the map, once w is the value of the key, which is put where it is not there
+    -- the map, once w is the value of the key, inserted where it is absent
     abbrev pub with_entry : Contents K V → K → V → Contents K V
     with_entry m k w = record {
       pairs = put_value cmp m.pairs k w;
@@ -59,15 +60,15 @@ module _ {K V : Type 0} where
       size = m.size;
     }
 
-    -- the map, once each entry was put in its place in turn
+    -- the map, once the entries were inserted in order
     abbrev pub with_all : Contents K V → List (K × V) → Contents K V
     with_all m entries = fold (λ n e. with_entry n e.0 e.1) m entries
 
-    -- the map, once each pair of ps was put in its place in turn, for any pair of an equal key
+    -- the map, once the pairs of ps were inserted in order, replacing pairs of equal keys
     abbrev pub with_pairs_put : Contents K V → List (Pair K V) → Contents K V
     with_pairs_put m ps = contents (cut (nodes_put_all (by_key cmp) (set_of m) ps) m.size)
 
-    -- some first pairs of ps were put in turn, which made n of the map, and the others are left
+    -- a prefix of ps was inserted in order, which made n of the map, and the others remain
     abbrev pub PutsSomePairs : Contents K V → List (Pair K V) → Contents K V → List (Pair K V) → Type 0
     PutsSomePairs m ps n rest = (k : ℕ) × (n ≡ with_pairs_put m (take k ps)) × (rest ≡ drop k ps)
 

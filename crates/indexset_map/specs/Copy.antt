@@ -15,7 +15,7 @@ module _ {K V : Type 0} (C : K → K → Type 0) (D : V → V → Type 0) where
   abbrev pub IsPairClone : Pair K V → Pair K V → Type 0
   IsPairClone p q = C p.key q.key × D p.value q.value
 
-  -- clones whose keys ascend stand in nodes as long as those of their sources; others are put in one by one, where no equal key is there
+  -- clones whose keys ascend stand in nodes as long as those of their sources; others are inserted one by one, unless an equal key is present
   pub record IsMapCopy (cmp : K → K → Ordering) (m copy : Contents K V) : Type 0 where
     pub clones : List (Pair K V)
     pub cloned : AllZip IsPairClone m.pairs clones

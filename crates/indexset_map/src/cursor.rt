@@ -22,7 +22,8 @@ use std::ops::Bound;
 /// assert!(rt; cursor.key() == Some(&3) && cursor.peek_prev() == Some((&1, &'a')));
 /// ```
 ///
-/// A cursor wraps around: after the last pair comes the position past the end, and then the first pair.
+/// A cursor wraps around: after the last pair comes the position past the end, and then the first
+/// pair.
 #[derive(Drop)]
 pub struct CursorMap<'a, K: Ord, V> {
     cursor: Cursor<'a, Pair<K, V>>,
@@ -39,8 +40,8 @@ impl<'a, K: Ord, V> Model for CursorMap<'a, K, V> {
 }
 
 impl<K: Ord, V> BTreeMap<K, V> {
-    /// Returns a cursor at the first pair whose key is within the bound, or past the end if there is
-    /// none.
+    /// Returns a cursor at the first pair whose key is within the bound, or past the end if there
+    /// is none.
     ///
     /// ```
     /// let map = BTreeMap::from_iter(alloc, [(10, 'a'), (20, 'b')])?;
@@ -61,8 +62,8 @@ impl<K: Ord, V> BTreeMap<K, V> {
         }
     }
 
-    /// Returns a cursor at the first pair whose key is past the bound, as the end of a range, or past
-    /// the end if there is none: above an included key, and at or above an excluded one.
+    /// Returns a cursor at the first pair whose key is past the bound, as the end of a range, or
+    /// past the end if there is none: above an included key, and at or above an excluded one.
     ///
     /// ```
     /// let map = BTreeMap::from_iter(alloc, [(10, 'a'), (20, 'b')])?;
@@ -86,6 +87,13 @@ impl<K: Ord, V> BTreeMap<K, V> {
 
 impl<'a, K: Ord, V> CursorMap<'a, K, V> {
     /// Moves to the next pair; from past the end, to the first.
+    ///
+    /// ```
+    /// let map = BTreeMap::from_iter(alloc, [(1, 'a'), (3, 'b')])?;
+    /// let mut cursor = map.lower_bound(Bound::Unbounded);
+    /// cursor.move_next();
+    /// assert_eq!(rt; cursor.key(), Some(&3));
+    /// ```
     pub fn move_next(&mut self)
         ensures { self.new ≡ one_on self.old }
     {
@@ -93,6 +101,13 @@ impl<'a, K: Ord, V> CursorMap<'a, K, V> {
     }
 
     /// Moves to the previous pair; from the first, past the end.
+    ///
+    /// ```
+    /// let map = BTreeMap::from_iter(alloc, [(1, 'a'), (3, 'b')])?;
+    /// let mut cursor = map.lower_bound(Bound::Unbounded);
+    /// cursor.move_prev();
+    /// assert!(rt; cursor.key().is_none());
+    /// ```
     pub fn move_prev(&mut self)
         ensures { self.new ≡ one_back self.old }
     {
@@ -100,6 +115,13 @@ impl<'a, K: Ord, V> CursorMap<'a, K, V> {
     }
 
     /// Moves to a position, or past the end if there is no such pair.
+    ///
+    /// ```
+    /// let map = BTreeMap::from_iter(alloc, [(1, 'a'), (3, 'b')])?;
+    /// let mut cursor = map.lower_bound(Bound::Unbounded);
+    /// cursor.move_index(1);
+    /// assert_eq!(rt; cursor.key(), Some(&3));
+    /// ```
     pub fn move_index(&mut self, i: usize)
         ensures { self.new ≡ standing_at self.old.list i }
     {
@@ -107,6 +129,12 @@ impl<'a, K: Ord, V> CursorMap<'a, K, V> {
     }
 
     /// Returns the key of the pair that the cursor points at, or `None` past the end.
+    ///
+    /// ```
+    /// let map = BTreeMap::from_iter(alloc, [(1, 'a'), (3, 'b')])?;
+    /// let cursor = map.lower_bound(Bound::Included(&3));
+    /// assert_eq!(rt; cursor.key(), Some(&3));
+    /// ```
     pub fn key(&self) -> Option<&'a K>
         ensures { option_copied result ≡ option_map (λ p. p.key) (item_at self.now) }
     {
@@ -114,6 +142,12 @@ impl<'a, K: Ord, V> CursorMap<'a, K, V> {
     }
 
     /// Returns the value of the pair that the cursor points at, or `None` past the end.
+    ///
+    /// ```
+    /// let map = BTreeMap::from_iter(alloc, [(1, 'a'), (3, 'b')])?;
+    /// let cursor = map.lower_bound(Bound::Included(&3));
+    /// assert_eq!(rt; cursor.value(), Some(&'b'));
+    /// ```
     pub fn value(&self) -> Option<&'a V>
         ensures { option_copied result ≡ option_map (λ p. p.value) (item_at self.now) }
     {
@@ -121,6 +155,12 @@ impl<'a, K: Ord, V> CursorMap<'a, K, V> {
     }
 
     /// Returns the pair that the cursor points at, or `None` past the end.
+    ///
+    /// ```
+    /// let map = BTreeMap::from_iter(alloc, [(1, 'a'), (3, 'b')])?;
+    /// let cursor = map.lower_bound(Bound::Included(&3));
+    /// assert_eq!(rt; cursor.key_value(), Some((&3, &'b')));
+    /// ```
     pub fn key_value(&self) -> Option<(&'a K, &'a V)>
         ensures { option_map (λ p. (p.0.now, p.1.now)) result
             ≡ option_map entry_of (item_at self.now) }
@@ -129,8 +169,14 @@ impl<'a, K: Ord, V> CursorMap<'a, K, V> {
         Some((&pair.key, &pair.value))
     }
 
-    /// Returns the pair that `move_next` would move to, past the end the first, or `None` if there is
-    /// none.
+    /// Returns the pair that `move_next` would move to, past the end the first, or `None` if there
+    /// is none.
+    ///
+    /// ```
+    /// let map = BTreeMap::from_iter(alloc, [(1, 'a'), (3, 'b')])?;
+    /// let cursor = map.lower_bound(Bound::Included(&3));
+    /// assert!(rt; cursor.peek_next().is_none());
+    /// ```
     pub fn peek_next(&self) -> Option<(&'a K, &'a V)>
         ensures { option_map (λ p. (p.0.now, p.1.now)) result
             ≡ option_map entry_of (item_at (one_on self.now)) }
@@ -140,6 +186,12 @@ impl<'a, K: Ord, V> CursorMap<'a, K, V> {
     }
 
     /// Returns the previous pair, or `None` at the first.
+    ///
+    /// ```
+    /// let map = BTreeMap::from_iter(alloc, [(1, 'a'), (3, 'b')])?;
+    /// let cursor = map.lower_bound(Bound::Included(&3));
+    /// assert_eq!(rt; cursor.peek_prev(), Some((&1, &'a')));
+    /// ```
     pub fn peek_prev(&self) -> Option<(&'a K, &'a V)>
         ensures { option_map (λ p. (p.0.now, p.1.now)) result
             ≡ (if self.now.position == 0 then None else option_map entry_of
@@ -150,6 +202,12 @@ impl<'a, K: Ord, V> CursorMap<'a, K, V> {
     }
 
     /// Returns the pair at another position, if any. The cursor stays.
+    ///
+    /// ```
+    /// let map = BTreeMap::from_iter(alloc, [(1, 'a'), (3, 'b')])?;
+    /// let cursor = map.lower_bound(Bound::Included(&3));
+    /// assert_eq!(rt; cursor.peek_index(0), Some((&1, &'a')));
+    /// ```
     pub fn peek_index(&self, i: usize) -> Option<(&'a K, &'a V)>
         ensures { option_map (λ p. (p.0.now, p.1.now)) result
             ≡ option_map entry_of (slice_get self.now.list i) }

@@ -13,9 +13,9 @@ use std::mem;
 
 impl<K: Ord + Drop, V: Drop> BTreeMap<K, V> {
     /// Inserts a pair and returns `None`. If the key is present, keeps the stored key, replaces its
-    /// value, allocates nothing and returns the old value. It costs two binary searches at most, one
-    /// comparison where the key is above all keys. Fails with `Memory`: a failed call returns both
-    /// in the error and changes nothing.
+    /// value, allocates nothing and returns the old value. It makes two binary searches at most,
+    /// one comparison where the key is above all keys. Fails with `Memory`: a failed call returns
+    /// both in the error and changes nothing.
     ///
     /// ```
     /// let mut prices = BTreeMap::new(alloc)?;
@@ -42,8 +42,13 @@ impl<K: Ord + Drop, V: Drop> BTreeMap<K, V> {
         Ok(None)
     }
 
-    /// Removes the pair of a key and returns it, or returns `None`, by two binary searches. It
-    /// allocates nothing.
+    /// Removes the pair of a key and returns it, if any, by two binary searches. It allocates
+    /// nothing.
+    ///
+    /// ```
+    /// let mut prices = BTreeMap::from_iter(alloc, [("pear", 120), ("fig", 45)])?;
+    /// assert_eq!(rt; prices.remove_entry(&"fig"), Some(("fig", 45)));
+    /// ```
     pub fn remove_entry(&mut self, key: &K) -> Option<(K, V)>
         ensures value { result ≡ option_map entry_of (pair_of K.cmp self.old.pairs key.now) }
         ensures rest { self.new ≡ without_entry K.cmp self.old key.now }
@@ -60,8 +65,8 @@ impl<K: Ord + Drop, V: Drop> BTreeMap<K, V> {
         }
     }
 
-    /// Removes the pair of a key and returns its value, or returns `None`, by two binary searches.
-    /// It allocates nothing.
+    /// Removes the pair of a key and returns its value, if any, by two binary searches. It
+    /// allocates nothing.
     ///
     /// ```
     /// let mut prices = BTreeMap::from_iter(alloc, [("pear", 120)])?;
@@ -79,8 +84,7 @@ impl<K: Ord + Drop, V: Drop> BTreeMap<K, V> {
         Some(value)
     }
 
-    /// Removes the pair of the least key and returns it, or returns `None` where the map is empty.
-    /// It allocates nothing.
+    /// Removes the pair of the first key and returns it, if any. It allocates nothing.
     ///
     /// ```
     /// let mut prices = BTreeMap::from_iter(alloc, [("pear", 120), ("fig", 45)])?;
@@ -98,8 +102,12 @@ impl<K: Ord + Drop, V: Drop> BTreeMap<K, V> {
         Some((key, value))
     }
 
-    /// Removes the pair of the greatest key and returns it, or returns `None` where the map is
-    /// empty. It allocates nothing.
+    /// Removes the pair of the last key and returns it, if any. It allocates nothing.
+    ///
+    /// ```
+    /// let mut prices = BTreeMap::from_iter(alloc, [("pear", 120), ("fig", 45)])?;
+    /// assert_eq!(rt; prices.pop_last(), Some(("pear", 120)));
+    /// ```
     pub fn pop_last(&mut self) -> Option<(K, V)>
         ensures value { result ≡ option_map entry_of
             (slice_get self.old.pairs (length self.old.pairs - 1)) }
@@ -113,7 +121,12 @@ impl<K: Ord + Drop, V: Drop> BTreeMap<K, V> {
         Some((key, value))
     }
 
-    /// Removes the pair at a position. It allocates nothing.
+    /// Removes the pair at a position and returns it. It allocates nothing.
+    ///
+    /// ```
+    /// let mut prices = BTreeMap::from_iter(alloc, [("pear", 120), ("fig", 45)])?;
+    /// assert_eq!(rt; prices.pop_index(0), ("fig", 45));
+    /// ```
     pub fn pop_index(&mut self, i: usize) -> (K, V)
         requires { i < length self.old.pairs }
         ensures value { option_map entry_of (slice_get self.old.pairs i) ≡ Some result }
@@ -124,14 +137,20 @@ impl<K: Ord + Drop, V: Drop> BTreeMap<K, V> {
     }
 
     /// Removes all pairs, and keeps one empty node. It allocates nothing.
+    ///
+    /// ```
+    /// let mut prices = BTreeMap::from_iter(alloc, [("pear", 120), ("fig", 45)])?;
+    /// prices.clear();
+    /// assert!(rt; prices.is_empty());
+    /// ```
     pub fn clear(&mut self)
         ensures empty { self.new ≡ no_pairs self.old.size }
     {
         self.set.clear();
     }
 
-    /// Calls the closure once for each pair, in order, and keeps the pairs for which it returned
-    /// true, with the values that it left. It allocates nothing.
+    /// Retains the pairs for which the closure returns true, with the values that it left. It is
+    /// called once for each pair, in order. It allocates nothing.
     ///
     /// ```
     /// let mut prices = BTreeMap::from_iter(alloc, [("pear", 120), ("fig", 45)])?;

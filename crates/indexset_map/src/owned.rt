@@ -172,6 +172,11 @@ impl<K: Drop, V: Drop> FusedIterator for IntoValues<K, V> {}
 
 impl<K: Ord + Drop, V: Drop> BTreeMap<K, V> {
     /// Returns an iterator over the keys, in order, and drops the values.
+    ///
+    /// ```
+    /// let prices = BTreeMap::from_iter(alloc, [("pear", 120), ("fig", 45)])?;
+    /// assert!(rt; prices.into_keys().eq(["fig", "pear"]));
+    /// ```
     pub fn into_keys(self) -> IntoKeys<K, V>
         ensures rest { result ≡ pair_keys self.pairs }
         ensures runs { GivesInOrder K }
@@ -184,6 +189,11 @@ impl<K: Ord + Drop, V: Drop> BTreeMap<K, V> {
     }
 
     /// Returns an iterator over the values, in the order of their keys, and drops the keys.
+    ///
+    /// ```
+    /// let prices = BTreeMap::from_iter(alloc, [("pear", 120), ("fig", 45)])?;
+    /// assert!(rt; prices.into_values().eq([45, 120]));
+    /// ```
     pub fn into_values(self) -> IntoValues<K, V>
         ensures rest { result ≡ pair_values self.pairs }
         ensures runs { GivesInOrder V }

@@ -19,8 +19,9 @@ use std::ops::Bound;
 pub type RangeMap<'a, K, V> = IterMap<'a, K, V>;
 
 impl<K: Ord, V> BTreeMap<K, V> {
-    /// Returns the pairs whose keys satisfy both bounds, in order. The start must not be past the
-    /// end, nor at it where both are excluded (see `base::bounds::bounds_are_ordered`).
+    /// Returns a double-ended iterator over the pairs whose keys are within the range, in order.
+    /// The start must not be past the end, nor at it where both are excluded (see
+    /// `base::bounds::bounds_are_ordered`).
     ///
     /// ```
     /// let map = BTreeMap::from_iter(alloc, [(5, 'a'), (10, 'b'), (15, 'c'), (20, 'd')])?;
@@ -39,8 +40,8 @@ impl<K: Ord, V> BTreeMap<K, V> {
         IterMap::of(self.set.range_by_key(bounds))
     }
 
-    /// Returns the pairs at the positions that satisfy both bounds, in order. There is none where
-    /// the bounds are the wrong way round, and positions past the end have none.
+    /// Returns a double-ended iterator over the pairs at the positions within the bounds, in order.
+    /// It is empty where the start is past the end; the bounds are clipped to the length.
     ///
     /// ```
     /// let map = BTreeMap::from_iter(alloc, [(5, 'a'), (10, 'b'), (15, 'c')])?;

@@ -16,9 +16,9 @@ pub type RangeMut<'a, K, V> = IterMut<'a, K, V>;
 impl<K: Ord, V> BTreeMap<K, V> {
     ghost use Rattle.indexset_map.specs.Walk.{IsSpan, walk_back, walk_front, walk_map, walk_rest};
 
-    /// Returns the pairs whose keys satisfy both bounds, in order, with mutable references to the
-    /// values. The start must not be past the end, nor at it where both are excluded (see
-    /// `base::bounds::bounds_are_ordered`).
+    /// Returns a double-ended iterator over the pairs whose keys are within the range, in order,
+    /// with mutable references to the values. The start must not be past the end, nor at it where
+    /// both are excluded (see `base::bounds::bounds_are_ordered`).
     ///
     /// ```
     /// let mut map = BTreeMap::from_iter(alloc, [(5, 1), (10, 1), (15, 1)])?;
@@ -40,7 +40,7 @@ impl<K: Ord, V> BTreeMap<K, V> {
         self.within_mut(range.start_bound(), range.end_bound())
     }
 
-    // Does the same of two bounds.
+    // Returns the same for two bounds.
     fn within_mut(&mut self, start: Bound<&K>, end: Bound<&K>) -> RangeMut<'_, K, V>
         requires { IsTrue (are_ordered K.cmp (bound_map (λ k. k.now) start)
             (bound_map (λ k. k.now) end)) }
@@ -65,9 +65,18 @@ impl<K: Ord, V> BTreeMap<K, V> {
         }
     }
 
-    /// Returns the pairs at the positions that satisfy both bounds, in order, with mutable
-    /// references to the values. There is none where the bounds are the wrong way round, and
-    /// positions past the end have none.
+    /// Returns a double-ended iterator over the pairs at the positions within the bounds, in order,
+    /// with mutable references to the values. It is empty where the start is past the end; the
+    /// bounds are clipped to the length.
+    ///
+    /// ```
+    /// let mut map = BTreeMap::from_iter(alloc, [(5, 1), (10, 1), (15, 1)])?;
+    /// let mut last = map.range_mut_idx((Bound::Included(2), Bound::Unbounded));
+    /// if let Some((_, value)) = last.next() {
+    ///     *value += 1;
+    /// }
+    /// assert!(rt; map.values().copied().eq([1, 1, 2]));
+    /// ```
     pub fn range_mut_idx(&mut self, range: (Bound<usize>, Bound<usize>)) -> RangeMut<'_, K, V>
         ensures same_map { (walk_map result).ghost_name ≡ self.entry.ghost_name }
         ensures unchanged { (walk_map result).now ≡ self.old }

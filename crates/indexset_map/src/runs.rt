@@ -1,4 +1,4 @@
-//! Entries whose keys ascend, gathered in a run that goes in by blocks.
+//! Entries whose keys ascend, gathered in a run that is appended by blocks.
 ghost use Rattle.std.specs.Prelude.{◌≡◌, ◌++◌, OnOk, IfErr, map};
 ghost use Rattle.indexset_core.specs.Order.{IsAscending};
 ghost use Rattle.indexset_core.specs.Pairs.{by_key, entry_of};

@@ -18,7 +18,7 @@ impl<K: Ord + fmt::Debug, V: fmt::Debug> fmt::Debug for BTreeMap<K, V> {
 impl<K: Ord + Clone, V: Clone> Clone for BTreeMap<K, V> {
     ghost is_clone = { λ m copy. IsMapClone K.is_clone V.is_clone K.cmp m copy };
 
-    /// Does as the inherent `clone` does, and fails with `AllocError`.
+    /// Returns what the inherent `clone` returns; fails with `AllocError`.
     fn clone(&self) -> Result<BTreeMap<K, V>, AllocError> {
         match BTreeMap::clone(self) {
             Ok(copy) => Ok(copy),

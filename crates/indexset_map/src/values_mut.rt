@@ -21,7 +21,7 @@ pub struct ValuesMut<'a, K: Ord, V> {
     map: &'a mut BTreeMap<K, V>,
     front: usize,
     back: usize,
-    // The node of the value that was given last, and how many values stand before that node.
+    // The node of the value that was given last, and how many values are before that node.
     node: usize,
     start: usize,
     ghost within: { back ≤ length map.now.pairs },
@@ -64,6 +64,11 @@ impl<'a, K: Ord, V> ValuesMut<'a, K, V> {
     ghost use Rattle.indexset_map.specs.ValuesWalk.{lends_next_value, lends_next_value_back, lends_next_value_back_if, lends_next_value_if, values_walk};
 
     /// Returns the number of remaining values.
+    ///
+    /// ```
+    /// let mut map = BTreeMap::from_iter(alloc, [(1, 10), (2, 20)])?;
+    /// assert_eq!(rt; map.values_mut().len(), 2);
+    /// ```
     pub fn len(&self) -> usize
         ensures value { result ≡ length (walk_rest (values_walk self.now)) }
         ensures places { result ≡ walk_back (values_walk self.now)
@@ -73,6 +78,11 @@ impl<'a, K: Ord, V> ValuesMut<'a, K, V> {
     }
 
     /// Returns whether a value remains.
+    ///
+    /// ```
+    /// let mut map = BTreeMap::from_iter(alloc, [(1, 10), (2, 20)])?;
+    /// assert!(rt; map.values_mut().has_next());
+    /// ```
     pub fn has_next(&self) -> bool
         ensures { result ≡ nat_lt (walk_front (values_walk self.now))
             (walk_back (values_walk self.now)) }
@@ -81,6 +91,14 @@ impl<'a, K: Ord, V> ValuesMut<'a, K, V> {
     }
 
     /// Returns a mutable reference to the next value, or `None` where none remains.
+    ///
+    /// ```
+    /// let mut map = BTreeMap::from_iter(alloc, [(1, 10), (2, 20)])?;
+    /// if let Some(value) = map.values_mut().next() {
+    ///     *value = 11;
+    /// }
+    /// assert_eq!(rt; map.get(&1), Some(&11));
+    /// ```
     pub fn next(&mut self) -> Option<&mut V>
         ensures* writes_back { sem 𝓛 (lends_next_value_if K.row V.row self.entry result) }
         ensures value { let s = values_walk self.old in MatchOption result
@@ -96,6 +114,14 @@ impl<'a, K: Ord, V> ValuesMut<'a, K, V> {
     }
 
     /// Returns a mutable reference to the last remaining value.
+    ///
+    /// ```
+    /// let mut map = BTreeMap::from_iter(alloc, [(1, 10), (2, 20)])?;
+    /// if let Some(value) = map.values_mut().next_back() {
+    ///     *value = 21;
+    /// }
+    /// assert_eq!(rt; map.get(&2), Some(&21));
+    /// ```
     pub fn next_back(&mut self) -> Option<&mut V>
         ensures* writes_back { sem 𝓛 (lends_next_value_back_if K.row V.row self.entry result) }
         ensures value { let s = values_walk self.old in MatchOption result
@@ -111,6 +137,15 @@ impl<'a, K: Ord, V> ValuesMut<'a, K, V> {
     }
 
     /// Returns a mutable reference to the next value.
+    ///
+    /// ```
+    /// let mut map = BTreeMap::from_iter(alloc, [(1, 10), (2, 20)])?;
+    /// let mut values = map.values_mut();
+    /// if values.has_next() {
+    ///     *values.next_value() = 11;
+    /// }
+    /// assert_eq!(rt; map.get(&1), Some(&11));
+    /// ```
     pub fn next_value(&mut self) -> &mut V
         requires { let s = values_walk self.old in walk_front s < walk_back s }
         ensures* writes_back { sem 𝓛 (lends_next_value K.row V.row self.entry result) }
@@ -126,6 +161,15 @@ impl<'a, K: Ord, V> ValuesMut<'a, K, V> {
     }
 
     /// Returns a mutable reference to the last remaining value.
+    ///
+    /// ```
+    /// let mut map = BTreeMap::from_iter(alloc, [(1, 10), (2, 20)])?;
+    /// let mut values = map.values_mut();
+    /// if values.has_next() {
+    ///     *values.next_value_back() = 21;
+    /// }
+    /// assert_eq!(rt; map.get(&2), Some(&21));
+    /// ```
     pub fn next_value_back(&mut self) -> &mut V
         requires { let s = values_walk self.old in walk_front s < walk_back s }
         ensures* writes_back { sem 𝓛 (lends_next_value_back K.row V.row self.entry result) }

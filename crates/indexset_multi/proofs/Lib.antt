@@ -1,3 +1,4 @@
+pub mod Additions
 pub mod Below
 pub mod CallerLemmas
 pub mod Ends
@@ -5,6 +6,7 @@ pub mod Free
 pub mod Inserts
 pub mod Lists
 pub mod Numbers
+pub mod Positions
 pub mod Removals
 pub mod Runs
 pub mod Searches

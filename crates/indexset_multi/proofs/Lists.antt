@@ -294,7 +294,7 @@ module _ {K V : Type 0} (cmp : K → K → Ordering) (o : IsTotalOrder cmp) (eq 
   inserted_there : ((x : V) → eq x x ≡ true) → IsAscending (by_number cmp) (joined m.nodes) → equal_pair cmp eq (put (by_number cmp) (joined m.nodes) (inserted_pair cmp eq m k w)) k w ≡ Some (inserted_pair cmp eq m k w)
   inserted_there same up = put_there cmp o k (inserted_pair cmp eq m k w) keyed (λ p. eq p.value w) (same w) (joined m.nodes) up (λ x e. rw e refl)
 
-  inserted_last : AreNumberedBelow m.pair_next (joined m.nodes) → takes_number cmp eq m k w ≡ true → pairs_of cmp (put (by_number cmp) (joined m.nodes) (inserted_pair cmp eq m k w)) k ≡ pairs_of cmp (joined m.nodes) k ++ inserted_pair cmp eq m k w ∷ []
+  pub inserted_last : AreNumberedBelow m.pair_next (joined m.nodes) → takes_number cmp eq m k w ≡ true → pairs_of cmp (put (by_number cmp) (joined m.nodes) (inserted_pair cmp eq m k w)) k ≡ pairs_of cmp (joined m.nodes) k ++ inserted_pair cmp eq m k w ∷ []
   inserted_last low new =
       let number : unwrap_or (kept_number cmp eq (joined m.nodes) k w) m.pair_next ≡ m.pair_next = no_other (kept_number cmp eq (joined m.nodes) k w) new in
       put_last cmp o k (inserted_pair cmp eq m k w) keyed (joined m.nodes) (subst (λ n. AreNumberedBelow n (joined m.nodes)) (sym number) low)
@@ -303,7 +303,7 @@ module _ {K V : Type 0} (cmp : K → K → Ordering) (o : IsTotalOrder cmp) (eq 
       no_other None e = refl
       no_other (Some n) e = absurd (false≢true e)
 
-  inserted_others : IsAscending (by_number cmp) (joined m.nodes) → (other : K) → is_eq (cmp other k) ≡ false → pairs_of cmp (put (by_number cmp) (joined m.nodes) (inserted_pair cmp eq m k w)) other ≡ pairs_of cmp (joined m.nodes) other
+  pub inserted_others : IsAscending (by_number cmp) (joined m.nodes) → (other : K) → is_eq (cmp other k) ≡ false → pairs_of cmp (put (by_number cmp) (joined m.nodes) (inserted_pair cmp eq m k w)) other ≡ pairs_of cmp (joined m.nodes) other
   inserted_others up other ne = put_others cmp o k (inserted_pair cmp eq m k w) keyed (joined m.nodes) up other ne
 
   -- the pairs after an insertion, as a caller meets them

@@ -1,5 +1,6 @@
 -- Where a search of lawful nodes ends, as the code passes it on.
-use Rattle.std.proofs.Common.{◌≡◌, ℕ, ◌<◌, zero, suc, true, List, slice_get, [], ◌∷◌, length, Result, Ok, Err, is_ok, is_some, Ordering, refl, ap, sym, ◌∙◌, arith}
+use Rattle.std.proofs.Common.{◌≡◌, ℕ, ◌<◌, ◌≤◌, zero, suc, true, List, slice_get, [], ◌∷◌, length, Option, None, Some, MatchOption, Result, Ok, Err, is_ok, is_some, Ordering, refl, ap, sym, ◌∙◌, arith}
+use Rattle.std.proofs.lemmas.Option.{slice_get_past}
 use Rattle.std.specs.Cmp.{IsTotalOrder}
 use Rattle.std.specs.List.{find, list_any}
 use Rattle.std.specs.Ordering.{is_eq}
@@ -11,8 +12,8 @@ use Rattle.indexset_core.specs.Parted.{IsParted}
 use Rattle.indexset_events.proofs.CallerLemmas.{lawful_ascends, lawful_filled}
 use Rattle.indexset_multi.specs.Places.{IsItemPlace, placed_item}
 use Rattle.indexset_multi.proofs.Numbers.{parted_keys}
-use Rattle.indexset_core.proofs.CallerLemmas.{is_some-find, end_found, end_node, end_offset, gap_found}
-use Rattle.indexset_core.specs.Places.{located}
+use Rattle.indexset_core.proofs.CallerLemmas.{is_some-find, end_found, end_node, end_offset, gap_found, get_in_node}
+use Rattle.indexset_core.specs.Places.{items_before, located}
 use Rattle.indexset_events.proofs.CallerLemmas.{lawful_ascends, lawful_filled}
 
 module _ {T : Type 0} (cmp : T → T → Ordering) (size : ℕ) (ns : List (List T)) (law : IsLawful cmp size ns) (answer : T → Ordering) (parted : IsParted answer (joined ns)) (r : Result (ℕ × ℕ) (ℕ × ℕ)) (e : r ≡ located answer ns) where
@@ -45,3 +46,16 @@ module _ {T : Type 0} (cmp : T → T → Ordering) (size : ℕ) (ns : List (List
 module _ {K V : Type 0} (cmp : K → K → Ordering) (o : IsTotalOrder cmp) (size : ℕ) (ns : List (List (MultiPair K V))) (law : IsLawful (by_number cmp) size ns) (k : K) where
   pub lawful_keys : IsParted (λ p. cmp p.key k) (joined ns)
   lawful_keys = parted_keys cmp o (joined ns) (lawful_ascends (by_number cmp) size ns law) k
+
+-- the item at a position, by its place
+module _ {T : Type 0} (ns : List (List T)) (i : ℕ) where
+  abbrev pub IsPlaceAt : Option (ℕ × ℕ) → Type 0
+  IsPlaceAt r = MatchOption r (length (joined ns) ≤ i) (λ p. (p.0 < length ns) × (p.1 < length (node_at ns p.0)) × (items_before ns p ≡ i))
+
+  pub at_place : (r : Option (ℕ × ℕ)) → IsPlaceAt r → IsItemPlace ns r
+  at_place None h = tt
+  at_place (Some p) h = (h.0, h.1)
+
+  pub at_item : (r : Option (ℕ × ℕ)) → IsPlaceAt r → placed_item ns r ≡ slice_get (joined ns) i
+  at_item None h = sym (slice_get_past (joined ns) i h)
+  at_item (Some p) h = sym (get_in_node ns p.0 p.1 h.0 h.1) ∙ ap (slice_get (joined ns)) h.2

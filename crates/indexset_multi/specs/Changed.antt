@@ -5,7 +5,7 @@ use Rattle.std.specs.Ordering.{is_eq}
 use Rattle.std.specs.declared.cmp.Ordering.{Ordering}
 use Rattle.indexset_core.specs.declared.multipair.MultiPair.{MultiPair}
 use Rattle.indexset_core.specs.declared.refusal.Refusal.{Refusal}
-use Rattle.indexset_core.specs.MultiPairs.{by_number}
+use Rattle.indexset_core.specs.MultiPairs.{by_number, numbered_pair}
 use Rattle.indexset_core.specs.Nodes.{joined}
 use Rattle.indexset_core.specs.Order.{put}
 use Rattle.indexset_log.specs.Changed.{Change, Told}
@@ -16,7 +16,7 @@ use Rattle.indexset_log.specs.Tree.{Tree, refusal_for}
 use Rattle.indexset_events.specs.declared.change.ChangeEvent.{ChangeEvent}
 use Rattle.indexset_events.specs.declared.change.ChangeEventUnassigned.{ChangeEventUnassigned}
 use Rattle.indexset_multi.specs.Keys.{equal_pair, first_pair, pairs_of, without_key, without_named}
-use Rattle.indexset_multi.specs.Tree.{IsLedBy, IsLedTo, IsPairClone, MultiTree, after_insertion, after_removal, after_removals, inserted_pair, insertion_events, key_events, pair_removal_events, takes_number}
+use Rattle.indexset_multi.specs.Tree.{IsLedBy, IsLedTo, IsPairClone, MultiTree, after_insertion, after_removal, after_removals, inserted_pair, insertion_events, insertion_refusal, key_events, pair_removal_events, takes_number}
 
 -- a change of a multimap: the multimap afterwards, its pairs, and the events that lead to it
 pub record MultiChange (K V : Type 0) : Type 0 where
@@ -27,6 +27,15 @@ pub record MultiChange (K V : Type 0) : Type 0 where
 -- an insertion
 abbrev pub insertion : {K V : Type 0} → (K → K → Ordering) → (V → V → Bool) → MultiTree K V → K → V → MultiChange K V
 insertion cmp eq m k w = record { tree = after_insertion cmp eq m k w; items = put (by_number cmp) (joined m.nodes) (inserted_pair cmp eq m k w); events = insertion_events cmp eq m k w }
+
+module _ {K V : Type 0} (cmp : K → K → Ordering) (m : MultiTree K V) (k : K) (w : V) where
+  -- an insertion that takes no two values for equal: its pair is new
+  abbrev pub addition : MultiChange K V
+  addition = insertion cmp (λ _ _. false) m k w
+
+  -- why it is refused, if it is
+  abbrev pub addition_refusal : Refusal
+  addition_refusal = insertion_refusal cmp (λ _ _. false) m k w
 
 module _ {K V : Type 0} (cmp : K → K → Ordering) where
   -- the removal of the pair that is named, where one is
@@ -96,6 +105,11 @@ module _ {K V : Type 0} (cmp : K → K → Ordering) where
   pub record IsInserted (eq : V → V → Bool) (old new : MultiTree K V) (k : K) (w : V) : Type 0 where
     pub there : equal_pair cmp eq (joined new.nodes) k w ≡ Some (inserted_pair cmp eq old k w)
     pub last : takes_number cmp eq old k w ≡ true → pairs_of cmp (joined new.nodes) k ≡ pairs_of cmp (joined old.nodes) k ++ inserted_pair cmp eq old k w ∷ []
+    pub others : KeepsOthers old new k
+
+  -- a new pair is the last of the key
+  pub record IsAdded (old new : MultiTree K V) (k : K) (w : V) : Type 0 where
+    pub last : pairs_of cmp (joined new.nodes) k ≡ pairs_of cmp (joined old.nodes) k ++ numbered_pair k w old.pair_next ∷ []
     pub others : KeepsOthers old new k
 
   -- pairs of the key were removed, the first of them again and again

@@ -12,6 +12,7 @@ mod attach;
 mod ends;
 mod from_nodes;
 pub mod iter;
+mod positions;
 mod put;
 pub mod range;
 mod remove;

@@ -12,7 +12,6 @@ pub mod SetDrainLemmas
 pub mod SetEndLemmas
 pub mod SetNodeLemmas
 pub mod SetPairLemmas
-pub mod SetPartLemmas
 pub mod SetProbeLemmas
 pub mod SetRangeLemmas
 pub mod SetRunLemmas

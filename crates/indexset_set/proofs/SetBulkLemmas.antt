@@ -64,7 +64,7 @@ pub rest_ascending : {T : Type 0} (cmp : T → T → Ordering) (l : List T) → 
 rest_ascending cmp [] up i j d lt inside = absurd (omega arith)
 rest_ascending cmp (x ∷ xs) up i j d lt inside = up (suc i) (suc j) d (omega arith) (omega arith)
 
--- elements put in one after another
+-- elements inserted one after another
 module _ {T : Type 0} (cmp : T → T → Ordering) where
   pub moves_some : (l xs m rest : List T) → TakesSome (put cmp) l xs m rest → MovesSome cmp l xs m rest
   unfolding put_all

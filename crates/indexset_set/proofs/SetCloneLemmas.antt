@@ -1,4 +1,4 @@
--- What an ascending list is while its items are put in one by one.
+-- What an ascending list is while its items are inserted one by one.
 use Rattle.std.proofs.Common.{◌≡◌, ◌<◌, List, [], ◌∷◌, ◌++◌, length, get_or, sym, ap, ◌∙◌, arith, length-append}
 use Rattle.std.proofs.lemmas.List.{get_or_append_left}
 use Rattle.std.proofs.lemmas.List.Edits.{insert_end}

@@ -94,7 +94,7 @@ module _ {T : Type 0} (cmp : T → T → Ordering) where
   adjacent_tells o [] false (k, inside, other) = absurd (omega arith)
   adjacent_tells o (x ∷ l) false (k, inside, other) = (λ e. absurd (false≢true e), λ _ up. false≢true (other x ∙ ap is_lt (up k (k + 1) x (omega arith) inside)))
 
-  -- ascending elements put in one by one stay as they are
+  -- ascending elements inserted one by one stay as they are
   pub kept_all_behind : (l xs : List T) → IsAscending cmp (l ++ xs) → fold (keep cmp) l xs ≡ l ++ xs
   kept_all_behind l [] up = sym (append-nil l)
   kept_all_behind l (x ∷ xs) up =

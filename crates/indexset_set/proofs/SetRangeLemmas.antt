@@ -10,7 +10,7 @@ use Rattle.std.proofs.lemmas.List.Elements.{filter-append}
 use Rattle.std.proofs.lemmas.Bool.{cases_lt}
 use Rattle.std.proofs.lemmas.Bool.Decides.{nat_tests}
 use Rattle.indexset_core.specs.Bounds.{is_at_position, in_positions}
-use Rattle.indexset_core.proofs.CallerLemmas.{at_position}
+use Rattle.indexset_core.proofs.CallerLemmas.{at_position, clipped}
 
 -- what passes by its position, counted from k
 module _ {T : Type 0} (r : ℕ → Bool) where
@@ -34,24 +34,6 @@ module _ {T : Type 0} (r : ℕ → Bool) where
       ∙ (ap (map (λ (p : ℕ × T). p.1)) (filter-append (λ p. r p.0) (enumerate_from k a) both) ∙ map-append (λ p. p.1) (filter (λ p. r p.0) (enumerate_from k a)) (filter (λ p. r p.0) both))
 
 module _ {T : Type 0} (l : List T) where
-  none : (n : ℕ) → take 0 l ≡ take n []
-  none zero = refl
-  none (suc n) = refl
-
-  -- what is past the end of the list adds nothing
-  pub clipped : (s e i j : ℕ) → j ≡ min e (length l) → i ≡ min (min s (length l)) j → between i j l ≡ between s e l
-  clipped s e i j to from = elim (cases_lt s (length l)) [
-    | inl inside ↦ elim (cases_lt e (length l)) [
-      | inl short ↦ elim (cases_lt s e) [
-        | inl lt ↦ let a : i ≡ s = omega arith in let b : j ≡ e = omega arith in rw (a, b) refl
-        | inr ge ↦ let a : j - i ≡ 0 = omega arith in let b : e - s ≡ 0 = omega arith in rw (a, b) refl
-      ]
-      | inr long ↦ let a : i ≡ s = omega arith in
-          rw a (take_all (j - s) (drop s l) (omega (arith, length-drop s l)) ∙ sym (take_all (e - s) (drop s l) (omega (arith, length-drop s l))))
-    ]
-    | inr past ↦ let a : j - i ≡ 0 = omega arith in rw a (none (e - s) ∙ ap (take (e - s)) (sym (drop_of_length-le l {i = s} past)))
-  ]
-
   -- the elements at the positions that satisfy both bounds
   pub positions_filter : (start end : Bound ℕ) → in_positions l start end ≡ map (λ p. p.1) (filter (λ p. is_at_position start end p.0) (enumerate_from 0 l))
   positions_filter start end =
@@ -71,5 +53,5 @@ module _ {T : Type 0} (l : List T) where
       let none_before : reads 0 a ≡ [] = none_at test 0 a (λ m low high. rw (at_position start end n m (omega arith)) (grind (arith, nat_tests))) in
       let all_between : reads (0 + length a) b ≡ b = all_at test (0 + length a) b (λ m low high. rw (at_position start end n m (omega arith)) (grind (arith, nat_tests))) in
       let none_after : reads (0 + length a + length b) d ≡ [] = none_at test (0 + length a + length b) d (λ m low high. rw (at_position start end n m (omega arith)) (grind (arith, nat_tests))) in
-      sym (clipped s e i j refl refl)
+      sym (clipped l s e i j refl refl)
       ∙ sym (ap (reads 0) (split_between l i j (omega arith)) ∙ (at_parts test 0 a (b ++ d) ∙ (ap (λ m. m ++ reads (0 + length a) (b ++ d)) none_before ∙ (at_parts test (0 + length a) b d ∙ (ap (λ m. m ++ reads (0 + length a + length b) d) all_between ∙ (ap (λ m. b ++ m) none_after ∙ append-nil b))))))

@@ -239,6 +239,6 @@ module _ {T : Type 0} (cmp : T → T → Ordering) (o : IsTotalOrder cmp) where
             let puts : List (List T) → List (List T) = λ z. fold (λ ms x. nodes_put cmp (cut ms size) x) z run in
             (run, sym (take-append-drop count xs), ap (λ v. slice_set ns k (fold (put cmp) v run)) parts.2 ∙ (sym (run_in size m run l node_order run_goes less fits) ∙ ap puts same))
 
-  -- some first elements of a list put in keep the order
+  -- a prefix of a list inserted keeps the order
   pub grown_up : (l xs m rest : List T) → IsAscending cmp l → TakesSome (put cmp) l xs m rest → IsAscending cmp m
   grown_up l xs m rest up taken = subst (IsAscending cmp) (sym taken.2) (fold_grown cmp o l taken.0 up).up

@@ -57,6 +57,7 @@ module _ {T : Type 0} (cmp : T → T → Ordering) where
   merged_from x more after [] = map Left (x ∷ more)
   merged_from x more after (y ∷ ys) = match_ordering (cmp x y) (Left x ∷ after (y ∷ ys)) (Both x y ∷ after ys) (Right y ∷ merged_from x more after ys)
 
+  -- the items of two lists, merged, each with the lists that have it
   abbrev pub merged : List T → List T → List (Side T)
   merged [] r = map Right r
   merged (x ∷ xs) r = merged_from x xs (merged xs) r

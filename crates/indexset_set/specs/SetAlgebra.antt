@@ -21,10 +21,10 @@ module _ {T : Type 0} (cmp : T → T → Ordering) where
   unfoldable pub symmetric_difference : List T → List T → List T
   symmetric_difference l r = union (difference l r) (difference r l)
 
-  -- the elements of l, with each of xs in turn put where it belongs, replacing any equal one
+  -- the elements of l, with each of xs inserted in order, replacing any equal one
   unfoldable pub put_all : List T → List T → List T
   put_all l xs = fold (put cmp) l xs
 
-  -- some first elements of xs were put into l in turn, which gave m, and the others are left
+  -- a prefix of xs was inserted into l in order, which gave m, and the others remain
   abbrev pub MovesSome : List T → List T → List T → List T → Type 0
   MovesSome l xs m rest = (k : ℕ) × (m ≡ put_all l (take k xs)) × (rest ≡ drop k xs)

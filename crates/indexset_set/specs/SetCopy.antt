@@ -8,7 +8,7 @@ use Rattle.indexset_core.specs.Order.{IsAscending, keep}
 use Rattle.indexset_spine.specs.Cut.{Cut, cut, items}
 use Rattle.indexset_set.specs.SetNodes.{nodes_kept_all}
 
--- clones that ascend stand in nodes as long as those of their sources; others are put in one by one, where no equal one is there
+-- clones that ascend stand in nodes as long as those of their sources; others are inserted one by one, unless an equal one is present
 pub record IsSetCopy {T : Type 0} (cmp : T → T → Ordering) (C : T → T → Type 0) (s copy : Cut T) : Type 0 where
   pub clones : List (List T)
   pub cloned : AllZip (AllZip C) s.nodes clones

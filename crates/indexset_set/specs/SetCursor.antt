@@ -1,4 +1,4 @@
--- A cursor in a list: it stands at a position, or at the end place, which is the length.
+-- A cursor in a list: it points at a position, or past the end, which is the length.
 use Rattle.std.specs.Prelude.{ℕ, ◌+◌, ◌-◌, ◌==◌, List, length, min, Option, refl, slice_get, if◌then◌else◌}
 use Rattle.std.specs.Coded.{Coded, code_by, coded×, coded_ℕ, coded_list}
 
@@ -10,18 +10,18 @@ module _ {X : Type 0} where
   abbrev pub standing_code : Coded X → Coded (Standing X)
   standing_code c = code_by (List X × ℕ) (coded× (coded_list c) coded_ℕ) (λ s. (s.list, s.position)) (λ p. record { list = p.0; position = p.1 }) (λ _. refl)
 
-  -- at the position, or at the end place where there is none
+  -- at the position, or past the end if there is no such item
   abbrev pub standing_at : List X → ℕ → Standing X
   standing_at l i = record { list = l; position = min i (length l) }
 
-  -- one on, and from the end place the first position
+  -- the next position; from past the end, the first
   abbrev pub one_on : Standing X → Standing X
   one_on s = record { list = s.list; position = if s.position == length s.list then 0 else s.position + 1 }
 
-  -- one back, and from the first position the end place
+  -- the previous position; from the first, past the end
   abbrev pub one_back : Standing X → Standing X
   one_back s = record { list = s.list; position = if s.position == 0 then length s.list else s.position - 1 }
 
-  -- the item there, and none at the end place
+  -- the item that the cursor points at, none past the end
   abbrev pub item_at : Standing X → Option X
   item_at s = slice_get s.list s.position

@@ -27,10 +27,10 @@ module _ (K V : RattleType) (o : OrdMembers K.Denot) (s : MutBor (Cut (Pair K.De
   abbrev pub lends_pair : Bor K.Denot × MutBor V.Denot → Fml
   lends_pair r = follows (pairs_row K V o) V s.ghost_name r.1.ghost_name (with_value_at s.now i)
 
-  -- the same where r is a reference, and at `None` the set stays
+  -- once the borrow r ends, the value at the position is the last one written through r; at `None` the set stays
   abbrev pub lends_value_if : Option (MutBor V.Denot) → Fml
   lends_value_if r = LendsIf (pairs_row K V o) V s r (with_value_at s.now i) s.now
 
-  -- the same where there may be a pair
+  -- `lends_value_if`, where r stands beside its key
   abbrev pub lends_pair_if : Option (Bor K.Denot × MutBor V.Denot) → Fml
   lends_pair_if r = follows_if (pairs_row K V o) V s.ghost_name (name_of_pair r) (with_value_at s.now i) s.now

@@ -1,4 +1,4 @@
--- The nodes of a set, once values were put in or taken out.
+-- The nodes of a set, once values were inserted or removed.
 use Rattle.std.specs.Prelude.{◌≡◌, ℕ, List, take, drop, if◌then◌else◌}
 use Rattle.std.specs.List.{fold}
 use Rattle.std.specs.declared.cmp.Ordering.{Ordering}
@@ -22,11 +22,11 @@ module _ {T : Type 0} (cmp : T → T → Ordering) where
         found = has_equal cmp (joined ns) v;
       }
 
-  -- v in its place, where no equal element is there
+  -- v inserted, unless an equal element is present
   unfoldable pub nodes_kept : Cut T → T → List (List T)
   nodes_kept s v = if has_equal cmp (items s) v then s.nodes else with_inserted s.size s.nodes (spot_of s.nodes v) v
 
-  -- v in its place, for any equal element
+  -- v inserted, replacing any equal element
   unfoldable pub nodes_put : Cut T → T → List (List T)
   nodes_put s v = if has_equal cmp (items s) v then with_replaced s.nodes (spot_of s.nodes v) v else with_inserted s.size s.nodes (spot_of s.nodes v) v
 
@@ -34,14 +34,14 @@ module _ {T : Type 0} (cmp : T → T → Ordering) where
   unfoldable pub nodes_without : Cut T → T → List (List T)
   nodes_without s v = if has_equal cmp (items s) v then without_item s.nodes (spot_of s.nodes v) else s.nodes
 
-  -- each of xs in turn in its place, where no equal element is there
+  -- each of xs in order, unless an equal element is present
   unfoldable pub nodes_kept_all : Cut T → List T → List (List T)
   nodes_kept_all s xs = fold (λ ns x. nodes_kept (cut ns s.size) x) s.nodes xs
 
-  -- each of xs in turn in its place, for any equal element
+  -- each of xs in order, replacing any equal element
   unfoldable pub nodes_put_all : Cut T → List T → List (List T)
   nodes_put_all s xs = fold (λ ns x. nodes_put (cut ns s.size) x) s.nodes xs
 
-  -- some first elements of xs were put in turn, which left the nodes, and the others are left
+  -- a prefix of xs was inserted in order, which gave the nodes, and the others remain
   abbrev pub PutsSome : Cut T → List T → List (List T) → List T → Type 0
   PutsSome s xs ns rest = (k : ℕ) × (ns ≡ nodes_put_all s (take k xs)) × (rest ≡ drop k xs)

@@ -7,6 +7,6 @@ use Rattle.std.specs.Ordering.{is_gt, is_lt}
 abbrev pub not_below : {T : Type 0} → (T → T → Ordering) → List T → T → List T
 not_below cmp l v = filter (λ x. not (is_lt (cmp x v))) l
 
--- the first element above v, where there is one
+-- the first element above v, if any
 abbrev pub upper_element : {T : Type 0} → (T → T → Ordering) → List T → T → Option T
 upper_element cmp l v = find (λ x. is_gt (cmp x v)) l

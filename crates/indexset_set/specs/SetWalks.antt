@@ -1,9 +1,9 @@
--- Pulls of a walk from both ends.
+-- Calls of `next` and `next_back` of an iterator.
 use Rattle.std.specs.Prelude.{◌≡◌, Bool, true, false, List, [], ◌∷◌, ◌++◌, Option, Some, None}
 use Rattle.std.specs.Map.Iter.{TakesFirst, TakesLast}
 
 module _ {A X : Type 0} (shows : A → X) where
-  -- turns from the front, at true, or from the back, at false, gave the answers rs, and took s to t
+  -- calls of `next`, at true, or of `next_back`, at false, returned rs, and took s to t
   abbrev pub Pulls : List Bool → List X → List (Option A) → List X → Type 0
   Pulls [] s [] t = s ≡ t
   Pulls [] s (r ∷ rs) t = ⊥
@@ -11,7 +11,7 @@ module _ {A X : Type 0} (shows : A → X) where
   Pulls (true ∷ ends) s (r ∷ rs) t = (u : List X) × TakesFirst shows s r u × Pulls ends u rs t
   Pulls (false ∷ ends) s (r ∷ rs) t = (u : List X) × TakesLast shows s r u × Pulls ends u rs t
 
-  -- what the turns from the front gave, in order
+  -- what the calls of `next` returned, in order
   abbrev pub given_in_front : List Bool → List (Option A) → List X
   given_in_front [] rs = []
   given_in_front (end ∷ ends) [] = []
@@ -19,7 +19,7 @@ module _ {A X : Type 0} (shows : A → X) where
   given_in_front (true ∷ ends) (Some x ∷ rs) = shows x ∷ given_in_front ends rs
   given_in_front (false ∷ ends) (Some x ∷ rs) = given_in_front ends rs
 
-  -- what the turns from the back gave, the last given first
+  -- what the calls of `next_back` returned, the last one first
   abbrev pub given_at_back : List Bool → List (Option A) → List X
   given_at_back [] rs = []
   given_at_back (end ∷ ends) [] = []

@@ -22,10 +22,12 @@ pub use symmetric_walk::SymmetricDifference;
 pub use union_walk::Union;
 
 impl<T: Ord> BTreeSet<T> {
-    /// Returns the elements of either set, ascending. Of two equal ones it gives this set's.
+    /// Returns an iterator over the union, ascending: the elements of either set, of two equal ones
+    /// this set's.
     ///
     /// ```
-    /// let (one, other) = (BTreeSet::from_iter(alloc, [1, 2])?, BTreeSet::from_iter(alloc, [2, 3])?);
+    /// let one = BTreeSet::from_iter(alloc, [1, 2])?;
+    /// let other = BTreeSet::from_iter(alloc, [2, 3])?;
     /// assert!(rt; one.union(&other).copied().eq([1, 2, 3]));
     /// ```
     pub fn union<'a>(&'a self, other: &'a BTreeSet<T>) -> Union<'a, T>
@@ -38,10 +40,12 @@ impl<T: Ord> BTreeSet<T> {
         }
     }
 
-    /// Returns the elements of this set that have an equal one in the other, ascending.
+    /// Returns an iterator over the intersection, ascending: the elements of this set that have an
+    /// equal one in the other.
     ///
     /// ```
-    /// let (one, other) = (BTreeSet::from_iter(alloc, [1, 2])?, BTreeSet::from_iter(alloc, [2, 3])?);
+    /// let one = BTreeSet::from_iter(alloc, [1, 2])?;
+    /// let other = BTreeSet::from_iter(alloc, [2, 3])?;
     /// assert!(rt; one.intersection(&other).copied().eq([2]));
     /// ```
     pub fn intersection<'a>(&'a self, other: &'a BTreeSet<T>) -> Intersection<'a, T>
@@ -54,10 +58,12 @@ impl<T: Ord> BTreeSet<T> {
         }
     }
 
-    /// Returns the elements of this set that have no equal one in the other, ascending.
+    /// Returns an iterator over the difference, ascending: the elements of this set that have no
+    /// equal one in the other.
     ///
     /// ```
-    /// let (one, other) = (BTreeSet::from_iter(alloc, [1, 2])?, BTreeSet::from_iter(alloc, [2, 3])?);
+    /// let one = BTreeSet::from_iter(alloc, [1, 2])?;
+    /// let other = BTreeSet::from_iter(alloc, [2, 3])?;
     /// assert!(rt; one.difference(&other).copied().eq([1]));
     /// ```
     pub fn difference<'a>(&'a self, other: &'a BTreeSet<T>) -> Difference<'a, T>
@@ -70,7 +76,14 @@ impl<T: Ord> BTreeSet<T> {
         }
     }
 
-    /// Returns the elements of either set that have no equal one in the other, ascending.
+    /// Returns an iterator over the symmetric difference, ascending: the elements of either set
+    /// that have no equal one in the other.
+    ///
+    /// ```
+    /// let one = BTreeSet::from_iter(alloc, [1, 2])?;
+    /// let other = BTreeSet::from_iter(alloc, [2, 3])?;
+    /// assert!(rt; one.symmetric_difference(&other).copied().eq([1, 3]));
+    /// ```
     pub fn symmetric_difference<'a>(&'a self, other: &'a BTreeSet<T>) -> SymmetricDifference<'a, T>
         ensures rest { result ≡ symmetric_difference T.cmp (items self.now) (items other.now) }
         ensures few { length result ≤ length (items self.now) + length (items other.now) }
@@ -81,21 +94,40 @@ impl<T: Ord> BTreeSet<T> {
         }
     }
 
-    /// Returns whether each element has an equal one in the other set.
+    /// Returns whether the set is a subset of the other: each element has an equal one there.
+    ///
+    /// ```
+    /// let one = BTreeSet::from_iter(alloc, [1, 2])?;
+    /// let other = BTreeSet::from_iter(alloc, [1])?;
+    /// assert!(rt; other.is_subset(&one) && !one.is_subset(&other));
+    /// ```
     pub fn is_subset(&self, other: &BTreeSet<T>) -> bool
         ensures { result ≡ list_all (has_equal T.cmp (items other.now)) (items self.now) }
     {
         self.difference(other).next().is_none()
     }
 
-    /// Returns whether each element of the other set has an equal one here.
+    /// Returns whether the set is a superset of the other: each element there has an equal one
+    /// here.
+    ///
+    /// ```
+    /// let one = BTreeSet::from_iter(alloc, [1, 2])?;
+    /// let other = BTreeSet::from_iter(alloc, [1])?;
+    /// assert!(rt; one.is_superset(&other) && !other.is_superset(&one));
+    /// ```
     pub fn is_superset(&self, other: &BTreeSet<T>) -> bool
         ensures { result ≡ list_all (has_equal T.cmp (items self.now)) (items other.now) }
     {
         other.is_subset(self)
     }
 
-    /// Returns whether no element has an equal one in the other set.
+    /// Returns whether the sets have no elements in common.
+    ///
+    /// ```
+    /// let one = BTreeSet::from_iter(alloc, [1, 2])?;
+    /// let other = BTreeSet::from_iter(alloc, [2, 3])?;
+    /// assert!(rt; !one.is_disjoint(&other));
+    /// ```
     pub fn is_disjoint(&self, other: &BTreeSet<T>) -> bool
         ensures { result ≡ list_all (λ x. not (has_equal T.cmp (items other.now) x))
             (items self.now) }

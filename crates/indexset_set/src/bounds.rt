@@ -8,9 +8,9 @@ ghost use Rattle.std.specs.declared.ops.Bound.TheVariants.{Excluded, Included, U
 use std::ops::{Bound, Range, RangeFrom, RangeFull, RangeInclusive, RangeTo, RangeToInclusive};
 
 /// A start and an end, as `range` of a set or a map takes them: `(Bound<&T>, Bound<&T>)`, or
-/// `a..b`, `a..=b`, `a..`, `..b`, `..=b` and `..`, of values or of references to them. It stands for
-/// `RangeBounds`, and has one impl alone for pairs, so that `(Unbounded, Unbounded)` needs no type
-/// annotation. An `a..=b` that was iterated to its end still includes both.
+/// `a..b`, `a..=b`, `a..`, `..b`, `..=b` and `..`, of values or of references to them. It stands
+/// for `RangeBounds`, and has one impl alone for pairs, so that `(Unbounded, Unbounded)` needs no
+/// type annotation. An `a..=b` that was iterated to its end still includes both.
 pub trait Bounds<T> {
     /// The bound at the start.
     ghost start: { Self → Bound T };

@@ -16,8 +16,8 @@ use super::lookup::{locate, locate_near};
 use indexset_core::refusal::Refusal;
 
 impl<T: Ord + Drop> BTreeSet<T> {
-    /// Calls the closure once for each element, in order, and keeps the elements for which it
-    /// returned true. It allocates nothing.
+    /// Retains the elements for which the closure returns true. It is called once for each element,
+    /// in order. It allocates nothing.
     ///
     /// ```
     /// let mut set = BTreeSet::from_iter(alloc, 1..=6)?;
@@ -148,9 +148,9 @@ impl<T: Ord + Drop> BTreeSet<T> {
         self.spine.append(&mut other.spine)
     }
 
-    // Moves first elements of another set into their places here, as many as one node takes at once,
-    // or one, and returns the node into which they went. The node `near` is tried first. A failed
-    // call changes neither.
+    // Moves first elements of another set into their places here, as many as one node takes at
+    // once, or one, and returns the node into which they went. The node `near` is tried first. A
+    // failed call changes neither.
     fn put_some_of(&mut self, other: &mut Self, near: usize) -> Result<usize, Refusal>
         requires some { 0 < length (items other.old) }
         ensures moved { OnOk result (TakesSome (put T.cmp) (items self.old) (items other.old)

@@ -23,14 +23,14 @@ use std::ops::Bound;
 /// assert!(rt; cursor.peek_prev() == Some(&10) && cursor.peek_next() == Some(&30));
 /// ```
 ///
-/// A cursor wraps around: after the last element comes the position past the end, and then the first
-/// element. Within a node it asks the index nothing.
+/// A cursor wraps around: after the last element comes the position past the end, and then the
+/// first element. It reads the index once a node.
 #[derive(Drop)]
 pub struct Cursor<'a, T: Ord> {
     set: &'a BTreeSet<T>,
     position: usize,
-    // The node of the element where the cursor stood last, and how many elements stand before that
-    // node.
+    // The node of the element that the cursor pointed at last, and how many elements are before
+    // that node.
     node: usize,
     start: usize,
 }
@@ -51,6 +51,11 @@ impl<'a, T: Ord> Model for Cursor<'a, T> {
 
 impl<T: Ord> BTreeSet<T> {
     /// Returns a cursor at a position, or past the end if there is no such element.
+    ///
+    /// ```
+    /// let set = BTreeSet::from_iter(alloc, [10, 20, 30])?;
+    /// assert!(rt; set.cursor_at(1).item() == Some(&20) && set.cursor_at(3).item().is_none());
+    /// ```
     pub fn cursor_at(&self, i: usize) -> Cursor<'_, T>
         ensures { result ≡ standing_at (items self.now) i }
     {
@@ -64,8 +69,15 @@ impl<T: Ord> BTreeSet<T> {
         cursor
     }
 
-    /// Returns a cursor at the first element that is not before the start, a bound on what a probe
-    /// seeks, or past the end if there is none, by two binary searches.
+    /// Returns a cursor at the first element that is not before the start, a bound given by a
+    /// comparator, or past the end if there is none, by two binary searches.
+    ///
+    /// ```
+    /// # use indexset::base::probe::ByItem;
+    /// let set = BTreeSet::from_iter(alloc, [10, 20, 30])?;
+    /// let cursor = set.cursor_from(Bound::Included(ByItem::new(&15)));
+    /// assert_eq!(rt; cursor.item(), Some(&20));
+    /// ```
     pub fn cursor_from<P: Probe<T> + Drop>(&self, start: Bound<P>) -> Cursor<'_, T>
         requires { IfBounded (λ p. FindsInOrder (P.answer p) (items self.now)) start }
         ensures { result ≡ standing_at (items self.now)
@@ -74,8 +86,15 @@ impl<T: Ord> BTreeSet<T> {
         self.cursor_in(self.spine.start_of(start))
     }
 
-    /// Returns a cursor at the first element that is past the end, a bound on what a probe seeks, or
-    /// past the end if there is none, by two binary searches.
+    /// Returns a cursor at the first element that is past the end, a bound given by a comparator,
+    /// or past the end if there is none, by two binary searches.
+    ///
+    /// ```
+    /// # use indexset::base::probe::ByItem;
+    /// let set = BTreeSet::from_iter(alloc, [10, 20, 30])?;
+    /// let cursor = set.cursor_past(Bound::Included(ByItem::new(&20)));
+    /// assert_eq!(rt; cursor.item(), Some(&30));
+    /// ```
     pub fn cursor_past<P: Probe<T> + Drop>(&self, end: Bound<P>) -> Cursor<'_, T>
         requires { IfBounded (λ p. FindsInOrder (P.answer p) (items self.now)) end }
         ensures { result ≡ standing_at (items self.now)
@@ -101,6 +120,16 @@ impl<T: Ord> BTreeSet<T> {
 
 impl<'a, T: Ord> Cursor<'a, T> {
     /// Moves to the next element; from past the end, to the first.
+    ///
+    /// ```
+    /// let set = BTreeSet::from_iter(alloc, [10, 20, 30])?;
+    /// let mut cursor = set.cursor_at(1);
+    /// cursor.move_next();
+    /// assert_eq!(rt; cursor.item(), Some(&30));
+    /// cursor.move_next();
+    /// cursor.move_next();
+    /// assert_eq!(rt; cursor.item(), Some(&10));
+    /// ```
     pub fn move_next(&mut self)
         ensures { self.new ≡ one_on self.old }
     {
@@ -108,6 +137,13 @@ impl<'a, T: Ord> Cursor<'a, T> {
     }
 
     /// Moves to the previous element; from the first, past the end.
+    ///
+    /// ```
+    /// let set = BTreeSet::from_iter(alloc, [10, 20, 30])?;
+    /// let mut cursor = set.cursor_at(1);
+    /// cursor.move_prev();
+    /// assert_eq!(rt; cursor.item(), Some(&10));
+    /// ```
     pub fn move_prev(&mut self)
         ensures { self.new ≡ one_back self.old }
     {
@@ -119,6 +155,13 @@ impl<'a, T: Ord> Cursor<'a, T> {
     }
 
     /// Moves to a position, or past the end if there is no such element.
+    ///
+    /// ```
+    /// let set = BTreeSet::from_iter(alloc, [10, 20, 30])?;
+    /// let mut cursor = set.cursor_at(0);
+    /// cursor.move_index(2);
+    /// assert_eq!(rt; cursor.item(), Some(&30));
+    /// ```
     pub fn move_index(&mut self, i: usize)
         ensures { self.new ≡ standing_at self.old.list i }
     {
@@ -127,14 +170,25 @@ impl<'a, T: Ord> Cursor<'a, T> {
     }
 
     /// Returns the element that the cursor points at, or `None` past the end.
+    ///
+    /// ```
+    /// let set = BTreeSet::from_iter(alloc, [10, 20, 30])?;
+    /// assert_eq!(rt; set.cursor_at(0).item(), Some(&10));
+    /// ```
     pub fn item(&self) -> Option<&'a T>
         ensures { option_copied result ≡ item_at self.now }
     {
         self.element_at(self.position)
     }
 
-    /// Returns the element that `move_next` would move to, past the end the first, or `None` if there
-    /// is none.
+    /// Returns the element that `move_next` would move to, past the end the first, or `None` if
+    /// there is none.
+    ///
+    /// ```
+    /// let set = BTreeSet::from_iter(alloc, [10, 20, 30])?;
+    /// assert!(rt; set.cursor_at(0).peek_next() == Some(&20));
+    /// assert!(rt; set.cursor_at(2).peek_next().is_none());
+    /// ```
     pub fn peek_next(&self) -> Option<&'a T>
         ensures { option_copied result ≡ item_at (one_on self.now) }
     {
@@ -142,6 +196,12 @@ impl<'a, T: Ord> Cursor<'a, T> {
     }
 
     /// Returns the previous element, or `None` at the first.
+    ///
+    /// ```
+    /// let set = BTreeSet::from_iter(alloc, [10, 20, 30])?;
+    /// assert!(rt; set.cursor_at(1).peek_prev() == Some(&10));
+    /// assert!(rt; set.cursor_at(0).peek_prev().is_none());
+    /// ```
     pub fn peek_prev(&self) -> Option<&'a T>
         ensures { option_copied result ≡ (if self.now.position
             == 0 then None else slice_get self.now.list (self.now.position - 1)) }
@@ -151,6 +211,11 @@ impl<'a, T: Ord> Cursor<'a, T> {
     }
 
     /// Returns the element at another position, if any. The cursor stays.
+    ///
+    /// ```
+    /// let set = BTreeSet::from_iter(alloc, [10, 20, 30])?;
+    /// assert_eq!(rt; set.cursor_at(0).peek_index(2), Some(&30));
+    /// ```
     pub fn peek_index(&self, i: usize) -> Option<&'a T>
         ensures { option_copied result ≡ slice_get self.now.list i }
     {

@@ -10,7 +10,7 @@ use indexset_core::refusal::{Refusal, Refused};
 
 impl<T: Ord + Drop> BTreeSet<T> {
     /// Inserts `value` and returns true. If an equal element is present, keeps it, drops `value`,
-    /// allocates nothing and returns false. It costs two binary searches at most, one comparison
+    /// allocates nothing and returns false. It makes two binary searches at most, one comparison
     /// where the value is above all elements, and moves items of one node. Fails with `Memory`: a
     /// failed call returns the value in the error and changes nothing.
     ///
@@ -66,8 +66,8 @@ impl<T: Ord + Drop> BTreeSet<T> {
         Ok(None)
     }
 
-    /// Removes the element equal to the value and returns it, or returns `None`, by two binary
-    /// searches. It allocates nothing.
+    /// Removes the element equal to the value and returns it, if any, by two binary searches. It
+    /// allocates nothing.
     ///
     /// ```
     /// let mut set = BTreeSet::from_iter(alloc, [7, 8])?;
@@ -106,6 +106,12 @@ impl<T: Ord + Drop> BTreeSet<T> {
     }
 
     /// Removes all elements, and keeps one empty node. It allocates nothing.
+    ///
+    /// ```
+    /// let mut set = BTreeSet::from_iter(alloc, [10, 20])?;
+    /// set.clear();
+    /// assert!(rt; set.is_empty());
+    /// ```
     pub fn clear(&mut self)
         ensures empty { self.new.nodes ≡ [] ∷ [] }
         ensures size { self.new.size ≡ self.old.size }

@@ -1,8 +1,8 @@
-//! What the crates above need of a set, and no caller meets: `indexset` does not pass it on.
+//! What the crates above need of a set: `indexset` does not re-export it.
 //!
 //! A map keeps its pairs in a set. Here it reads and edits where a search has ended (`spots`,
-//! `values`), and gathers ascending pairs in a run that goes in by blocks (`runs`). A caller has the
-//! calls of [`BTreeSet`](super::BTreeSet).
+//! `values`), and gathers ascending pairs in a run that is appended by blocks (`runs`). A caller
+//! has the calls of [`BTreeSet`](super::BTreeSet).
 
 mod runs;
 mod spots;

@@ -74,7 +74,7 @@ impl<'a, T> ExactSizeIterator for Iter<'a, T> {
 impl<'a, T> FusedIterator for Iter<'a, T> {}
 
 impl<T: Ord> BTreeSet<T> {
-    /// Returns the elements, in order.
+    /// Returns a double-ended iterator over the elements, in ascending order.
     ///
     /// ```
     /// let set = BTreeSet::from_iter(alloc, [30, 10, 20])?;

@@ -16,9 +16,16 @@ use indexset_core::probe::ByKey;
 use std::ops::Bound;
 
 impl<K: Ord, V> BTreeSet<Pair<K, V>> {
-    /// Returns the pairs whose keys satisfy both bounds, in order. The start must not be past the
-    /// end, nor at it where both are excluded (see `base::bounds::bounds_are_ordered`). (The Rust
-    /// crate's map reaches into the set.)
+    /// Returns a double-ended iterator over the pairs whose keys are within the range, in order.
+    /// The start must not be past the end, nor at it where both are excluded (see
+    /// `base::bounds::bounds_are_ordered`). (The Rust crate's map reaches into the set.)
+    ///
+    /// ```
+    /// let (one, two) = (Pair { key: 1, value: 10 }, Pair { key: 2, value: 20 });
+    /// let pairs = BTreeSet::from_iter(alloc, [one, two])?;
+    /// let range = pairs.range_by_key((Bound::Excluded(&1), Bound::Unbounded));
+    /// assert!(rt; range.map(|pair| pair.value).eq([20]));
+    /// ```
     pub fn range_by_key(&self, range: (Bound<&K>, Bound<&K>)) -> Range<'_, Pair<K, V>>
         requires { IsTrue (are_ordered K.cmp (bound_map (λ k. k.now) range.0)
             (bound_map (λ k. k.now) range.1)) }

@@ -35,7 +35,7 @@ pub(super) fn locate<T: Ord>(spine: &Spine<T>, value: &T) -> Spot
     spine.locate_by(&mut ByItem::new(value))
 }
 
-// Does the same, where the last element is compared first: it is for values that come in order.
+// Returns the same with the last element compared first. For values that come in order.
 pub(super) fn locate_from_end<T: Ord>(spine: &Spine<T>, value: &T) -> Spot
     requires { IsAscending T.cmp (items spine.now) }
     ensures spot { IsSpot spine.now.nodes result }
@@ -50,7 +50,7 @@ pub(super) fn locate_from_end<T: Ord>(spine: &Spine<T>, value: &T) -> Spot
     spine.locate_from_end_by(&mut ByItem::new(value))
 }
 
-// Does the same, where a node is tried first: it is for values that go near each other.
+// Returns the same with a node tried first. For values whose places are near each other.
 pub(super) fn locate_near<T: Ord>(spine: &Spine<T>, near: usize, value: &T) -> Spot
     requires { IsAscending T.cmp (items spine.now) }
     ensures spot { IsSpot spine.now.nodes result }
@@ -66,7 +66,7 @@ pub(super) fn locate_near<T: Ord>(spine: &Spine<T>, near: usize, value: &T) -> S
 }
 
 impl<T: Ord> BTreeSet<T> {
-    /// Returns the element equal to the value, or `None`, by two binary searches.
+    /// Returns the element equal to the value, if any, by two binary searches.
     ///
     /// ```
     /// let set = BTreeSet::from_iter(alloc, [10, 20])?;
@@ -134,7 +134,7 @@ impl<T: Ord> BTreeSet<T> {
         }
     }
 
-    /// Returns the first element that is not below the value, or `None` where there is none.
+    /// Returns the first element that is not below the value, if any.
     ///
     /// ```
     /// let set = BTreeSet::from_iter(alloc, [10, 20, 30])?;
@@ -146,8 +146,7 @@ impl<T: Ord> BTreeSet<T> {
         self.spine.item_from(&locate(&self.spine, value))
     }
 
-    /// Returns the first element that is above the value, or `None` where there is none, by two
-    /// binary searches.
+    /// Returns the first element that is above the value, if any, by two binary searches.
     ///
     /// ```
     /// let set = BTreeSet::from_iter(alloc, [10, 20, 30])?;
@@ -160,8 +159,15 @@ impl<T: Ord> BTreeSet<T> {
         self.spine.item_from(&spot)
     }
 
-    /// Returns the first element that the probe finds Equal, or `None` where there is none. It
-    /// compares as `locate_by` does.
+    /// Returns the first element that the probe finds Equal, if any. It compares as `locate_by`
+    /// does.
+    ///
+    /// ```
+    /// // An element of text, found by a &str without an allocation.
+    /// let mut names = BTreeSet::new(alloc)?;
+    /// names.insert(String::from_str(alloc, "pear")?)?;
+    /// assert!(rt; names.get_by(&mut ByStr::new("pear")).is_some());
+    /// ```
     pub fn get_by<P: Probe<T>>(&self, probe: &mut P) -> Option<&T>
         requires { FindsInOrder (P.answer probe.old) (items self.now) }
         ensures value { option_copied result
@@ -180,6 +186,13 @@ impl<T: Ord> BTreeSet<T> {
 
     /// Returns the position of the first element that the probe finds Equal, or where it finds
     /// none, how many it finds Less. It makes one comparison a step of two binary searches.
+    ///
+    /// ```
+    /// # use indexset::base::probe::ByItem;
+    /// let set = BTreeSet::from_iter(alloc, [10, 20, 30])?;
+    /// assert_eq!(rt; set.locate_by(&mut ByItem::new(&20)), Ok(1));
+    /// assert_eq!(rt; set.locate_by(&mut ByItem::new(&25)), Err(2));
+    /// ```
     pub fn locate_by<P: Probe<T>>(&self, probe: &mut P) -> Result<usize, usize>
         requires { FindsInOrder (P.answer probe.old) (items self.now) }
         ensures found { IfOk result (λ i. position (λ x. is_eq (P.answer probe.old x))

@@ -18,6 +18,11 @@ use std::alloc::Global;
 
 impl<T: Ord + Drop> BTreeSet<T> {
     /// Returns the empty set: one empty node, of the default size.
+    ///
+    /// ```
+    /// let mut set = BTreeSet::new(alloc)?;
+    /// assert!(rt; set.insert(7)? && set.contains(&7));
+    /// ```
     pub fn new(alloc: Global) -> Result<Self, Refusal>
         ensures empty { IfOk result (λ s. s.nodes ≡ [] ∷ []) }
         ensures size { IfOk result (λ s. s.size ≡ DEFAULT_INNER_SIZE) }
@@ -27,6 +32,11 @@ impl<T: Ord + Drop> BTreeSet<T> {
     }
 
     /// Returns the empty set, as `new` makes it.
+    ///
+    /// ```
+    /// let set: BTreeSet<u64> = BTreeSet::default(alloc)?;
+    /// assert!(rt; set.is_empty());
+    /// ```
     pub fn default(alloc: Global) -> Result<Self, Refusal>
         ensures empty { IfOk result (λ s. s.nodes ≡ [] ∷ []) }
         ensures size { IfOk result (λ s. s.size ≡ DEFAULT_INNER_SIZE) }
@@ -36,6 +46,11 @@ impl<T: Ord + Drop> BTreeSet<T> {
     }
 
     /// Returns the empty set, whose nodes are to hold at most `size` elements each.
+    ///
+    /// ```
+    /// let set: BTreeSet<u64> = BTreeSet::with_maximum_node_size(alloc, 64)?;
+    /// assert!(rt; set.is_empty() && set.maximum_node_size() == 64);
+    /// ```
     pub fn with_maximum_node_size(alloc: Global, size: usize) -> Result<Self, Refusal>
         requires { 2 ≤ size }
         ensures empty { IfOk result (λ s. s.nodes ≡ [] ∷ []) }
@@ -110,9 +125,9 @@ impl<T: Ord + Drop> BTreeSet<T> {
         Self::from_iter(alloc, values)
     }
 
-    /// Returns the set of values that ascend strictly, in the nodes that `from` makes of them, by two
-    /// comparisons a value and no search. Where they do not ascend, fails with `Unsorted` and returns
-    /// them in the error. Fails with `Memory`, and then drops the values.
+    /// Returns the set of values that ascend strictly, in the nodes that `from` makes of them, by
+    /// two comparisons a value and no search. Where they do not ascend, fails with `Unsorted` and
+    /// returns them in the error. Fails with `Memory`, and then drops the values.
     ///
     /// ```
     /// let set = BTreeSet::from_sorted(alloc, vec![in alloc; 10, 20, 30]?)?;
@@ -145,9 +160,15 @@ impl<T: Ord + Drop> BTreeSet<T> {
         }
     }
 
-    /// Returns clones of the elements in nodes as long as these, by one comparison an element, where
-    /// the clones ascend, as those equal to their sources do. Else it inserts each clone in turn, as
-    /// `from_iter` does. Fails with `Memory`, and then drops the clones.
+    /// Returns clones of the elements in nodes as long as these, by one comparison an element,
+    /// where the clones ascend, as those equal to their sources do. Else it inserts the clones one
+    /// by one, as `from_iter` does. Fails with `Memory`, and then drops the clones.
+    ///
+    /// ```
+    /// let set = BTreeSet::from_iter(alloc, [10, 20, 30])?;
+    /// let copy = set.clone()?;
+    /// assert!(rt; copy == set);
+    /// ```
     pub fn clone(&self) -> Result<Self, Refusal>
     where
         T: Clone,

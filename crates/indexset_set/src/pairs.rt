@@ -19,7 +19,15 @@ use indexset_core::probe::Probe;
 impl<K: Ord, V> BTreeSet<Pair<K, V>> {
     ghost use Rattle.indexset_set.specs.SetLends.{lends_value, lends_pair, lends_pair_if, lends_value_if};
 
-    /// Returns a mutable reference to the value at a position, or `None` where there is none.
+    /// Returns a mutable reference to the value at a position, if any.
+    ///
+    /// ```
+    /// let mut pairs = BTreeSet::from_iter(alloc, [Pair { key: 1, value: 10 }])?;
+    /// if let Some(value) = pairs.value_mut(0) {
+    ///     *value = 11;
+    /// }
+    /// assert!(rt; pairs.first().map(|pair| pair.value) == Some(11));
+    /// ```
     pub fn value_mut(&mut self, i: usize) -> Option<&mut V>
         ensures* writes_back { sem 𝓛 (lends_value_if K.row V.row K.Ord self.entry i result) }
         ensures value { option_copied_mut result
@@ -32,8 +40,17 @@ impl<K: Ord, V> BTreeSet<Pair<K, V>> {
         }
     }
 
-    /// Returns a mutable reference to the value of the first pair that the probe finds Equal, or
-    /// `None` where there is none. It compares as `locate_by` does.
+    /// Returns a mutable reference to the value of the first pair that the probe finds Equal, if
+    /// any. It compares as `locate_by` does.
+    ///
+    /// ```
+    /// # use indexset::base::probe::ByKey;
+    /// let mut pairs = BTreeSet::from_iter(alloc, [Pair { key: 1, value: 10 }])?;
+    /// if let Some(value) = pairs.value_mut_by(&mut ByKey::new(&1)) {
+    ///     *value = 11;
+    /// }
+    /// assert!(rt; pairs.first().map(|pair| pair.value) == Some(11));
+    /// ```
     pub fn value_mut_by<P: Probe<Pair<K, V>>>(&mut self, probe: &mut P) -> Option<&mut V>
         requires { FindsInOrder (P.answer probe.old) (items self.old) }
         ensures* writes_back { sem 𝓛 (lends_value_if K.row V.row K.Ord self.entry
@@ -54,6 +71,14 @@ impl<K: Ord, V> BTreeSet<Pair<K, V>> {
     }
 
     /// Returns the key at a position with a mutable reference to its value, or `None` past the end.
+    ///
+    /// ```
+    /// let mut pairs = BTreeSet::from_iter(alloc, [Pair { key: 1, value: 10 }])?;
+    /// if let Some((key, value)) = pairs.pair_mut(0) {
+    ///     *value += key;
+    /// }
+    /// assert!(rt; pairs.first().map(|pair| pair.value) == Some(11));
+    /// ```
     pub fn pair_mut(&mut self, i: usize) -> Option<(&K, &mut V)>
         ensures* writes_back { sem 𝓛 (lends_pair_if K.row V.row K.Ord self.entry i result) }
         ensures value { option_map deref_pair_mut result
@@ -96,8 +121,14 @@ impl<K: Ord, V> BTreeSet<Pair<K, V>> {
 }
 
 impl<K: Ord + Drop, V: Drop> BTreeSet<Pair<K, V>> {
-    /// Calls the closure once for each pair, in order, and keeps the pairs for which it returned
-    /// true, with the values that it left. It allocates nothing.
+    /// Retains the pairs for which the closure returns true, with the values that it left. It is
+    /// called once for each pair, in order. It allocates nothing.
+    ///
+    /// ```
+    /// let mut pairs = BTreeSet::from_iter(alloc, [Pair { key: 1, value: 10 }])?;
+    /// pairs.retain_pairs(|_, value| *value < 10);
+    /// assert!(rt; pairs.is_empty());
+    /// ```
     pub fn retain_pairs<F: FnMut(&K, &mut V) -> bool>(&mut self, mut f: F)
         requires { F.IsAlwaysCallable f }
         ensures kept { RetainsInTurn (CalledOnPair F.FnMut) f (items self.old) (items self.new) }

@@ -24,7 +24,7 @@ impl<T: Ord> BTreeSet<T> {
         self.spine.get(i)
     }
 
-    /// Returns the least element, or `None` where there is none.
+    /// Returns the first element, the least, if any.
     ///
     /// ```
     /// let set = BTreeSet::from_iter(alloc, [30, 10, 20])?;
@@ -41,7 +41,12 @@ impl<T: Ord> BTreeSet<T> {
         self.spine.iter().next()
     }
 
-    /// Returns the greatest element, or `None` where there is none.
+    /// Returns the last element, the greatest, if any.
+    ///
+    /// ```
+    /// let set = BTreeSet::from_iter(alloc, [10, 20, 30])?;
+    /// assert_eq!(rt; set.last(), Some(&30));
+    /// ```
     pub fn last(&self) -> Option<&T>
         ensures element { option_copied result
             ≡ slice_get (items self.now) (length (items self.now) - 1) }
@@ -58,8 +63,7 @@ impl<T: Ord> BTreeSet<T> {
 }
 
 impl<T: Ord + Drop> BTreeSet<T> {
-    /// Removes the least element and returns it, or returns `None` where the set is empty. It
-    /// allocates nothing.
+    /// Removes the first element, the least, and returns it, if any. It allocates nothing.
     ///
     /// ```
     /// let mut queue = BTreeSet::from_iter(alloc, [30, 10, 20])?;
@@ -77,8 +81,7 @@ impl<T: Ord + Drop> BTreeSet<T> {
         Some(self.spine.remove(spot))
     }
 
-    /// Removes the greatest element and returns it, or returns `None` where the set is empty. It
-    /// allocates nothing.
+    /// Removes the last element, the greatest, and returns it, if any. It allocates nothing.
     ///
     /// ```
     /// let mut board = BTreeSet::from_iter(alloc, [30, 10, 20])?;
@@ -96,7 +99,12 @@ impl<T: Ord + Drop> BTreeSet<T> {
         Some(self.spine.remove(spot))
     }
 
-    /// Removes the element at a position. It allocates nothing.
+    /// Removes the element at a position and returns it. It allocates nothing.
+    ///
+    /// ```
+    /// let mut set = BTreeSet::from_iter(alloc, [10, 20, 30])?;
+    /// assert!(rt; set.pop_index(1) == 20 && set.len() == 2);
+    /// ```
     pub fn pop_index(&mut self, i: usize) -> T
         requires { i < length (items self.old) }
         ensures value { slice_get (items self.old) i ≡ Some result }

@@ -19,8 +19,9 @@ use std::ops::Bound;
 pub type Range<'a, T> = Iter<'a, T>;
 
 impl<T: Ord> BTreeSet<T> {
-    /// Returns the elements that satisfy both bounds, in order. The start must not be past the end,
-    /// nor at it where both are excluded (see `base::bounds::bounds_are_ordered`).
+    /// Returns a double-ended iterator over the elements within the range, in order. The start must
+    /// not be past the end, nor at it where both are excluded (see
+    /// `base::bounds::bounds_are_ordered`).
     ///
     /// ```
     /// let set = BTreeSet::from_iter(alloc, [5, 10, 15, 20])?;
@@ -38,7 +39,7 @@ impl<T: Ord> BTreeSet<T> {
         self.within(range.start_bound(), range.end_bound())
     }
 
-    // Does the same of two bounds.
+    // Returns the same for two bounds.
     fn within(&self, start: Bound<&T>, end: Bound<&T>) -> Range<'_, T>
         requires { IsTrue (are_ordered T.cmp (bound_map (λ v. v.now) start)
             (bound_map (λ v. v.now) end)) }
@@ -53,8 +54,8 @@ impl<T: Ord> BTreeSet<T> {
         Iter::of(self.spine.iter_from_to(&from, &to))
     }
 
-    /// Returns the elements at the positions that satisfy both bounds, in order. There is none
-    /// where the bounds are the wrong way round, and positions past the end have none.
+    /// Returns a double-ended iterator over the elements at the positions within the bounds, in
+    /// order. It is empty where the start is past the end; the bounds are clipped to the length.
     ///
     /// ```
     /// // The second page of two elements each.
@@ -74,7 +75,13 @@ impl<T: Ord> BTreeSet<T> {
         Iter::of(self.spine.iter_between(from, to))
     }
 
-    /// Returns how many elements stand before the start, a bound on what a probe seeks.
+    /// Returns how many elements are before the start, a bound given by a comparator.
+    ///
+    /// ```
+    /// # use indexset::base::probe::ByItem;
+    /// let set = BTreeSet::from_iter(alloc, [10, 20, 30])?;
+    /// assert_eq!(rt; set.count_before(Bound::Included(ByItem::new(&20))), 1);
+    /// ```
     pub fn count_before<P: Probe<T> + Drop>(&self, start: Bound<P>) -> usize
         requires { IfBounded (λ p. FindsInOrder (P.answer p) (items self.now)) start }
         ensures { result ≡ count_by (is_before (λ x p. P.answer p x) start) (items self.now) }
@@ -82,7 +89,13 @@ impl<T: Ord> BTreeSet<T> {
         self.spine.position(&self.spine.start_of(start))
     }
 
-    /// Returns how many elements are not past the end, a bound on what a probe seeks.
+    /// Returns how many elements are not past the end, a bound given by a comparator.
+    ///
+    /// ```
+    /// # use indexset::base::probe::ByItem;
+    /// let set = BTreeSet::from_iter(alloc, [10, 20, 30])?;
+    /// assert_eq!(rt; set.count_up_to(Bound::Included(ByItem::new(&20))), 2);
+    /// ```
     pub fn count_up_to<P: Probe<T> + Drop>(&self, end: Bound<P>) -> usize
         requires { IfBounded (λ p. FindsInOrder (P.answer p) (items self.now)) end }
         ensures { result ≡ count_by (is_up_to_end (λ x p. P.answer p x) end) (items self.now) }

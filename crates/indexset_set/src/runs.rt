@@ -1,4 +1,4 @@
-//! Values kept in turn, of which those that ascend go in by blocks.
+//! Values inserted one by one, ascending runs of them by blocks.
 ghost use Rattle.std.specs.Prelude.{◌≡◌, ◌++◌, OnOk, IfErr};
 ghost use Rattle.indexset_core.specs.Order.{IsAscending, keep};
 ghost use Rattle.indexset_spine.specs.Cut.{cut, items, with_all_last};

@@ -19,7 +19,7 @@ impl<T: Ord + fmt::Debug> fmt::Debug for BTreeSet<T> {
 impl<T: Ord + Clone> Clone for BTreeSet<T> {
     ghost is_clone = { λ s copy. IsSetClone T.cmp T.is_clone s copy };
 
-    /// Does as the inherent `clone` does, and fails with `AllocError`.
+    /// Returns what the inherent `clone` returns; fails with `AllocError`.
     fn clone(&self) -> Result<BTreeSet<T>, AllocError> {
         match BTreeSet::clone(self) {
             Ok(copy) => Ok(copy),

@@ -1,12 +1,12 @@
 -- What crates above this one may cite of its proofs.
-pub use Rattle.indexset_spine.proofs.AppendLemmas.{cut_all_last, cut_last, joined_all_last, joined_last, takes_items}
-pub use Rattle.indexset_spine.proofs.CopyLemmas.{copies_joined, copies_lengths, copies_same}
+pub use Rattle.indexset_spine.proofs.AppendLemmas.{cut_all_last, cut_last, joined_all_last, joined_last}
+pub use Rattle.indexset_spine.proofs.CopyLemmas.{copies_joined, copies_lengths}
 pub use Rattle.indexset_spine.proofs.CutEdits.{joined_set, node_filled, position_inside}
 pub use Rattle.indexset_spine.proofs.CutLemmas.{joined-set}
 pub use Rattle.indexset_spine.proofs.EditSteps.{put_short}
 pub use Rattle.indexset_spine.proofs.EndLemmas.{end_node, end_offset}
 pub use Rattle.indexset_index.proofs.CallerLemmas.{count-lengths, length-at}
-pub use Rattle.indexset_spine.proofs.NodeLengthLemmas.{node_lengths-inserted, node_lengths-set_joined, node_lengths-without}
-pub use Rattle.indexset_spine.proofs.PlaceLemmas.{item_place, item_spot, lengths_placed, lengths_taken_out, place_position, place_spot, spot_place}
+pub use Rattle.indexset_spine.proofs.NodeLengthLemmas.{node_lengths-set_joined, node_lengths-without}
+pub use Rattle.indexset_spine.proofs.PlaceLemmas.{item_place, item_spot, lengths_placed, place_position, place_spot, spot_place}
 pub use Rattle.indexset_spine.proofs.PutLemmas.{fold_grown, item_in_node, last_is, last_parts, node_up, put_before}
-pub use Rattle.indexset_spine.proofs.TakenLemmas.{takes_all, takes_first, takes_more, takes_none, takes_rest}
+pub use Rattle.indexset_spine.proofs.TakenLemmas.{takes_all, takes_first, takes_more, takes_rest}

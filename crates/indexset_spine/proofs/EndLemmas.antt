@@ -1,4 +1,4 @@
--- Where a search ends that is answered Less at each item.
+-- Where a search ends that is found Less at each item.
 use Rattle.std.proofs.Common.{◌≡◌, ℕ, ◌+◌, ◌-◌, ◌<◌, ◌≤◌, true, List, [], ◌∷◌, ◌++◌, length, take, drop, get_or, Ordering, subst, ap, sym, ◌∙◌, arith, length-append}
 use Rattle.std.specs.declared.cmp.Ordering.TheVariants.{Less}
 use Rattle.std.specs.List.{All}

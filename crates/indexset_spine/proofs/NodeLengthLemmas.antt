@@ -56,7 +56,7 @@ module _ {X : Type 0} where
       let t : nat_lt i (length n) ≡ false = grind (arith, nat_tests) in
       rw t (ap (λ ls. length n ∷ ls) (put_at size (m ∷ ns) k o (i - length n) v (omega arith) inside (λ a. omega (arith, last a)) (omega arith)))
 
-  -- an item put in at a spot: at the end of a node that is the last
+  -- an item inserted at a spot: at the end of a node that is the last
   pub node_lengths-inserted : (size : ℕ) (ns : List (List X)) (s : Spot) (i : ℕ) (v : X) → IsSpot ns s → (length (node_at ns s.node) ≤ s.offset → length ns ≤ suc s.node) → position_of ns s ≡ i → node_lengths (with_inserted size ns s v) ≡ lengths_with size (node_lengths ns) i
   unfolding with_inserted
   node_lengths-inserted size ns s i v h last at = rw add-one (put_at size ns s.node s.offset i v h.node_in h.offset_in last (sym at))

@@ -212,7 +212,7 @@ module _ {T : Type 0} (cmp : T → T → Ordering) (o : IsTotalOrder cmp) where
       let more = fold_grown (put cmp l x) xs one.up in
       record { up = more.up; least = omega (arith, one.least, more.least); most = omega (arith, one.most, more.most) }
 
-  -- an item that was put in is there
+  -- an item that was inserted is there
   fold_some : (l xs : List T) → 0 < length l → 0 < length (fold (put cmp) l xs)
   fold_some l [] some = some
   fold_some l (x ∷ xs) some = fold_some (put cmp l x) xs (put_some cmp l x)

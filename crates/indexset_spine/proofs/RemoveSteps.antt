@@ -1,4 +1,4 @@
--- What is taken out of the nodes, as the code holds them.
+-- What is removed from the nodes, as the code holds them.
 use Rattle.std.proofs.Common.{◌≡◌, ℕ, suc, ◌+◌, ◌<◌, ◌≤◌, ◌==◌, ◌&&◌, true, false, List, [], ◌++◌, length, take, drop, get_or, slice_set, slice_get, Some, nat_lt, if◌then◌else◌, refl, sym, ap, ◌∙◌, subst, arith}
 use Rattle.std.proofs.lemmas.Bool.Decides.{nat_tests}
 use Rattle.std.proofs.lemmas.List.{length-set, get_or-set_same, take-set, drop-set-lt, take-map, drop-map, map-append}

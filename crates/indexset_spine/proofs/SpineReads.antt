@@ -61,7 +61,7 @@ module _ {X : Type 0} (answer : X → Ordering) (s : Cut X) (k : ℕ) (n : List 
         | inr ge ↦ slice_get_past n o ge ∙ sym (slice_get_past (items s) _ (past ge))
       ])
 
--- where the last item of a list is answered Less, all are
+-- where the last item of a list is found Less, all are
 pub all_less : {X : Type 0} (answer : X → Ordering) (xs : List X) → IsParted answer xs → ends_less answer xs ≡ true → length xs ≡ less_count answer xs
 all_less answer [] parted ends = absurd (false≢true ends)
 all_less answer (x ∷ xs) parted ends =
@@ -70,7 +70,7 @@ all_less answer (x ∷ xs) parted ends =
     sym (count_parted (λ y. is_lt (answer y)) (x ∷ xs) n (omega arith)
     (λ k d low high. front-is_lt _ _ (parted k (n - 1) d (omega (arith, high)) (omega arith)) (last d)) (λ k d low high. absurd (omega (arith, low, high))))
 
--- where the last node's last item is answered Less, the answers name that node
+-- where the last node's last item is found Less, the answers name that node
 last_named : {X : Type 0} (answer : X → Ordering) (ns : List (List X)) → 1 ≤ length ns → (2 ≤ length ns → All (λ n. 1 ≤ n) (node_lengths ns)) → IsParted answer (joined ns) → ends_less answer (node_at ns (length ns - 1)) ≡ true → length ns - 1 ≡ node_for answer ns
 last_named answer ns some filled parted ends =
     let none : length ns - 1 < length ns - 1 → HoldsAt (λ n. ends_less answer n ≡ false) ns (length ns - 1) = λ lt. absurd (omega (arith, lt)) in
@@ -84,7 +84,7 @@ pub read_named : {X Z : Type 0} (vs : List (Vec X Z)) (size : ℕ) (s : Cut X) �
     → (answer : X → Ordering) (k : ℕ) (v : Vec X Z) → k ≡ node_for answer s.nodes → v ≡ get_or vs k v → NodeFound answer s k v.items
 read_named {X} vs size s view is answer k v found = read_node vs size s view is answer k v (found ∙ ap (λ (t : Cut X). node_for answer t.nodes) (sym view))
 
--- and the node k, where the last item of the node before it is answered Less, and its own is not or it is the last node
+-- and the node k, where the last item of the node before it is found Less, and its own is not or it is the last node
 pub sought : {X Z : Type 0} (answer : X → Ordering) (vs : List (Vec X Z)) → (2 ≤ length vs → All (λ n. 1 ≤ n) (node_lengths (vec_items vs))) → IsParted answer (joined (vec_items vs))
     → (k : ℕ) → k < length vs → 1 ≤ k → (v : Vec X Z) → v ≡ get_or vs (k - 1) v → ends_less answer v.items ≡ true → (k + 1 < length vs → HoldsAt (λ n. ends_less answer n ≡ false) (vec_items vs) k) → k ≡ node_for answer (vec_items vs)
 sought answer vs filled parted k inside some v at ends here =

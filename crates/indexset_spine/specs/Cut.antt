@@ -1,4 +1,4 @@
--- A list that is cut into nodes.
+-- A list partitioned into nodes.
 use Rattle.std.specs.Prelude.{◌≡◌, ℕ, ◌+◌, ◌-◌, ◌/◌, ◌<◌, ◌≤◌, ◌==◌, ◌&&◌, true, false, List, [], ◌∷◌, length, sum, take, drop, refl, slice_set, insert, remove, if◌then◌else◌, nat_lt}
 use Rattle.std.specs.List.{All, fold, splice}
 use Rattle.std.specs.Coded.{Coded, code_by, coded×, coded_ℕ, coded_list}
@@ -17,7 +17,7 @@ pub record IsCut (lengths : List ℕ) (size : ℕ) : Type 0 where
   pub bounded : All (λ n. n ≤ size) lengths
   pub filled : 2 ≤ length lengths → All (λ n. 1 ≤ n) lengths
 
--- the same, with the sum of the lengths
+-- `IsCut`, with the sum of the lengths
 pub record IsSpine (lengths : List ℕ) (size total : ℕ) : Type 0 where
   pub is_cut : IsCut lengths size
   pub total_is : total ≡ sum lengths
@@ -32,13 +32,14 @@ abbrev pub first_spot : Spot
 first_spot = record { node = 0; offset = 0; found = true }
 
 module _ {X : Type 0} where
+  -- what contracts see of a set: its nodes and node size
   abbrev pub cut : List (List X) → ℕ → Cut X
   cut ns n = record { nodes = ns; size = n }
 
   abbrev pub cut_code : Coded X → Coded (Cut X)
   cut_code c = code_by (List (List X) × ℕ) (coded× (coded_list (coded_list c)) coded_ℕ) (λ s. (s.nodes, s.size)) (λ p. cut p.0 p.1) (λ _. refl)
 
-  -- the items
+  -- the list of a set, or of a spine
   abbrev pub items : Cut X → List X
   items s = joined s.nodes
 
@@ -52,7 +53,7 @@ module _ {X : Type 0} where
     pub node_in : s.node < length ns
     pub offset_in : s.offset < length (node_at ns s.node)
 
-  -- how many items stand before the spot
+  -- how many items are before the spot
   abbrev pub position_of : List (List X) → Spot → ℕ
   position_of ns s = length (joined (take s.node ns)) + s.offset
 
@@ -80,7 +81,7 @@ module _ {X : Type 0} where
   unfoldable pub with_all_last : ℕ → List (List X) → List X → List (List X)
   with_all_last size ns xs = fold (with_last size) ns xs
 
-  -- the nodes without the item at the spot: an emptied node goes too, unless it is the only one
+  -- the nodes without the item at the spot: an emptied node is removed too, unless it is the only one
   unfoldable pub without_item : List (List X) → Spot → List (List X)
   without_item ns s =
       if (length (node_at ns s.node) == 1) && nat_lt 1 (length ns) then remove ns s.node

@@ -13,7 +13,7 @@ module _ {X : Type 0} where
   unfoldable pub with_item_in : List (List X) → Spot → X → List (List X)
   with_item_in ns s v = slice_set ns s.node (insert (node_at ns s.node) s.offset v)
 
-  -- the nodes with the k-th cut in two at half its length
+  -- the nodes with the k-th split in two at half its length
   unfoldable pub with_halved : List (List X) → ℕ → List (List X)
   with_halved ns k =
       let half = length (node_at ns k) / 2 in
@@ -34,15 +34,15 @@ module _ {X : Type 0} where
   unfoldable pub without_emptied : List (List X) → ℕ → List (List X)
   without_emptied ns k = if (length (node_at ns k) == 0) && nat_lt 1 (length ns) then remove ns k else ns
 
-  -- the nodes that are not empty, or one empty node where none is left
+  -- the nodes that are not empty, or one empty node where none remains
   unfoldable pub without_all_emptied : List (List X) → List (List X)
   without_all_emptied ns = or_one_empty (filter (λ n. not (length n == 0)) ns)
 
-  -- the nodes up to the spot: the last ends at the offset, and goes if nothing is left of it, unless it is the only one
+  -- the nodes up to the spot: the last ends at the offset, and is removed if nothing remains of it, unless it is the only one
   unfoldable pub left_nodes : List (List X) → Spot → List (List X)
   left_nodes ns s = without_emptied (take s.node ns ++ take s.offset (node_at ns s.node) ∷ []) s.node
 
-  -- the nodes from the spot on: the first starts at the offset, and goes if nothing is left of it, unless it is the only one
+  -- the nodes from the spot on: the first starts at the offset, and is removed if nothing remains of it, unless it is the only one
   unfoldable pub right_nodes : List (List X) → Spot → List (List X)
   right_nodes ns s = without_emptied (drop s.offset (node_at ns s.node) ∷ drop (s.node + 1) ns) 0
 

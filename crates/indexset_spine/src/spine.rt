@@ -1,4 +1,4 @@
-//! A list that is cut into nodes.
+//! A list partitioned into nodes.
 ghost use Rattle.std.specs.Prelude.{◌≡◌, ◌+◌, ◌<◌, ◌≤◌, IsTrue, Some, length, max, sum, take, slice_get, MatchOption};
 ghost use Rattle.std.specs.Option.{option_copied, option_copied_mut};
 ghost use Rattle.std.specs.Borrow.{sem};
@@ -32,7 +32,7 @@ use indexset_index::fenwick::Fenwick;
 use std::alloc::Global;
 use std::marker::Model;
 
-/// A list that is cut into nodes of at most a given number of items each.
+/// A list partitioned into nodes of at most a given number of items each.
 #[derive(Drop)]
 pub struct Spine<T> {
     nodes: Vec<Vec<T>>,
@@ -67,7 +67,7 @@ impl<T> Spine<T> {
         self.size
     }
 
-    /// The allocator of the nodes.
+    /// Returns the allocator of the nodes.
     pub fn allocator(&self) -> &Global {
         self.nodes.allocator()
     }
@@ -89,7 +89,8 @@ impl<T> Spine<T> {
         self.len
     }
 
-    /// Returns where the probe finds what it seeks, by two binary searches.
+    /// Returns the spot of the first item that the probe finds Equal, or its insertion point, by
+    /// two binary searches.
     #[inline(always)]
     pub fn locate_by<P: Probe<T>>(&self, probe: &mut P) -> Spot
         requires { IsParted (P.answer probe.old) (items self.now) }
@@ -109,9 +110,8 @@ impl<T> Spine<T> {
         self.locate_among(probe, self.len)
     }
 
-    /// Does the same, with the last item compared first: if it is below what is sought, all are,
-    /// and no other comparison follows; if not, there is one comparison more. It is for items that
-    /// come in order.
+    /// Returns the same with the last item compared first: if it is Less, no other comparison
+    /// follows; if not, there is one comparison more. For items that come in order.
     pub fn locate_from_end_by<P: Probe<T>>(&self, probe: &mut P) -> Spot
         requires { IsParted (P.answer probe.old) (items self.now) }
         ensures node { result.node ≡ node_for (P.answer probe.old) self.now.nodes }
@@ -140,8 +140,8 @@ impl<T> Spine<T> {
         self.locate_among(probe, self.len.saturating_mul(4))
     }
 
-    /// Does the same, where the node `near` is tried first, by two comparisons at most: it is for
-    /// items that go near each other.
+    /// Returns the same with the node `near` tried first, by two comparisons at most. For items
+    /// whose insertion points are near each other.
     pub fn locate_near_by<P: Probe<T>>(&self, near: usize, probe: &mut P) -> Spot
         requires { IsParted (P.answer probe.old) (items self.now) }
         ensures node { result.node ≡ node_for (P.answer probe.old) self.now.nodes }
@@ -163,7 +163,8 @@ impl<T> Spine<T> {
         self.locate_by(probe)
     }
 
-    // Returns where the probe finds what it seeks, searched for as among `len` items.
+    // Returns the spot of the first item that the probe finds Equal, or its insertion point,
+    // searched for as among `len` items.
     #[inline(always)]
     fn locate_among<P: Probe<T>>(&self, probe: &mut P, len: usize) -> Spot
         requires { IsParted (P.answer probe.old) (items self.now) }
@@ -209,7 +210,7 @@ impl<T> Spine<T> {
         }
     }
 
-    /// Returns how many items stand before a spot: its position.
+    /// Returns how many items are before a spot: its position.
     pub fn position(&self, spot: &Spot) -> usize
         requires { IsSpot self.now.nodes spot.now }
         ensures { result ≡ position_of self.now.nodes spot.now }
@@ -233,8 +234,8 @@ impl<T> Spine<T> {
         })
     }
 
-    /// Returns the spot of the item at a position. It asks the index only where the item is not in
-    /// the node `near`, before which `start` items stand.
+    /// Returns the spot of the item at a position. It reads the index only where the item is not in
+    /// the node `near`, before which there are `start` items.
     pub fn spot_near(&self, near: usize, start: usize, i: usize) -> Spot
         requires near { start ≡ sum (take near (node_lengths self.now.nodes)) }
         requires inside { i < length (items self.now) }

@@ -5,8 +5,8 @@
 pub struct Spot {
     /// The index of the node.
     pub node: usize,
-    /// How many items of that node stand before the spot.
+    /// How many items of that node are before the spot.
     pub offset: usize,
-    /// Whether what was sought is the item at the spot.
+    /// Whether the item at the spot was found Equal.
     pub found: bool,
 }

@@ -2,9 +2,9 @@
 use bytes::ByteStr;
 use indexset_core::pair::Pair;
 use indexset_core::probe::Counting;
+use indexset_core::text::{ByStr, OnKey};
 use indexset_log::map::BTreeMap;
 use indexset_replica::Replica;
-use indexset_text::{ByStr, OnKey};
 use std::test::Fail;
 
 type Named = Pair<ByteStr, u64>;

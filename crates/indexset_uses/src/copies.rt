@@ -9,7 +9,7 @@ use indexset::cdc::laws::replay_in_parts;
 use indexset::replica::Replica;
 use indexset::replica::laws::step_of_clones;
 
-/// Applies events one after the other, and stops at the first that the copy refuses. Where clones are
+/// Applies events one after the other, and stops at the first that fails. Where clones are
 /// identical, the copy then has the nodes that the applied events lead to. Where clones equal their
 /// sources, a copy that held copies of a tree's nodes holds copies of the nodes after the tree's
 /// events, if these are clones of them.

@@ -1,5 +1,5 @@
-//! A map and a copy of it elsewhere, which gets the events of the map with losses, repeats and in any
-//! order.
+//! A map and a copy of it elsewhere, which gets the events of the map with losses, repeats and in
+//! any order.
 ghost use Rattle.std.specs.Prelude.{◌≡◌, ◌==◌, ◌<◌, ◌≤◌, true, [], length, take, Some, IfErr, IfOk, OnOk, OnErr};
 ghost use Rattle.std.specs.List.{All};
 ghost use Rattle.std.specs.Ordering.{nat_cmp};
@@ -30,7 +30,7 @@ pub struct Primary {
 }
 
 impl Primary {
-    /// No account, and no event. A node holds up to 4 accounts.
+    /// Returns a map of no accounts and no events. A node holds up to 4 accounts.
     pub fn new(alloc: Global) -> Self
         ensures events { result.events.items ≡ [] }
         ensures map { result.map ≡ record { nodes = []; size = 4; next = 0 } }
@@ -40,7 +40,7 @@ impl Primary {
         Primary { map, events }
     }
 
-    /// How many events there are.
+    /// Returns how many events there are.
     pub fn issued(&self) -> usize
         ensures { result ≡ length self.now.events.items }
     {
@@ -63,9 +63,9 @@ impl Primary {
         set_and_keep(&mut self.map, &mut self.events, account, balance)
     }
 
-    /// Delivers the events at these places to a copy, which passes over each that is not the next, and
-    /// returns whether it has then got all. Whatever is returned, it holds what a beginning of the events
-    /// leads to.
+    /// Delivers the events at these places to a copy, which passes over each that is not the next,
+    /// and returns whether it then has all. Whatever is returned, it holds what a prefix of the
+    /// events leads to.
     pub fn deliver(&self, copy: &mut Replica<Balance>, order: &[usize]) -> Result<bool, Refusal>
         requires at { IsBeginning (by_key nat_cmp) 0 [] self.now.events.items copy.old }
         requires inside { All (λ place. place < length self.now.events.items) order.now }
@@ -81,7 +81,8 @@ impl Primary {
     }
 }
 
-/// Sets the balance of an account in a map, and appends the events of the call to all those before it.
+/// Sets the balance of an account in a map, and appends the events of the call to all those before
+/// it.
 fn set_and_keep(
     map: &mut Balances,
     events: &mut Vec<ChangeEvent<Balance>>,
@@ -115,7 +116,7 @@ fn set_and_keep(
     Ok(())
 }
 
-/// Delivers some events of a map to a copy, and returns whether it has then got all.
+/// Delivers some events of a map to a copy, and returns whether it then has all.
 fn deliver_some(
     map: &Balances,
     events: &[ChangeEvent<Balance>],

@@ -8,9 +8,9 @@ use indexset::base::refusal::{Refusal, Refused};
 use indexset::cdc::change::ChangeEvent;
 use indexset::cdc::laws;
 
-/// Inserts a number, and appends the events of the call to the journal, which keeps all before them.
-/// Whatever it returns, the journal replayed from nothing leads to the nodes of the set. Fails for memory
-/// alone: as many events as there are numbers fit in no list.
+/// Inserts a number, and appends the events of the call to the journal, which keeps all before
+/// them. Whatever it returns, the journal replayed from nothing leads to the nodes of the set.
+/// Fails for memory alone: as many events as there are numbers fit in no list.
 pub fn insert(
     tree: &mut Numbers,
     journal: &mut Vec<ChangeEvent<u64>>,
@@ -29,8 +29,8 @@ pub fn insert(
     ensures same { OnErr result (tree.new ≡ tree.old) }
     ensures memory { IfErr result (λ refused. refused.cause ≡ Refusal.Memory) }
 {
-    // A call returns at most three events: with room for three before it, none is lost, and there are
-    // numbers for them.
+    // A call returns at most three events: with room for three before it, none is lost, and there
+    // are numbers for them.
     laws::three_events::<u64>();
     if journal.reserve(3).is_err() {
         let cause = Refusal::Memory;

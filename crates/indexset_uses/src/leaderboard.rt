@@ -35,14 +35,14 @@ pub fn add(board: &mut Board, entry: Entry) -> Result<bool, Refused<Entry>>
     board.insert(entry)
 }
 
-/// The place of an entry, counted from 0, and so how many are better; or `None` if it is absent.
+/// Returns the rank of an entry, which is how many are better, or `None` if it is absent.
 pub fn place(board: &Board, entry: Entry) -> Option<usize>
     ensures { result ≡ index_of ⟦<Entry as Ord>⟧.cmp (items board.now) entry }
 {
     board.index_of(&entry)
 }
 
-/// How many entries are better than this one, which may be absent: those before its place.
+/// Returns how many entries are better than this one, which may be absent.
 pub fn better(board: &Board, entry: Entry) -> usize
     ensures count { result ≡ rank ⟦<Entry as Ord>⟧.cmp (items board.now) entry }
     ensures inside { has_equal ⟦<Entry as Ord>⟧.cmp (items board.now) entry ≡ true
@@ -53,7 +53,7 @@ pub fn better(board: &Board, entry: Entry) -> usize
     board.rank(&entry)
 }
 
-/// A page of `size` entries. The first page has the number 0.
+/// Returns a page of `size` entries. The first page has the number 0.
 pub fn page(
     alloc: Global,
     board: &Board,

@@ -92,7 +92,8 @@ fn show_counts(rt: &HostRuntime) -> Result<()> {
 fn show_counts_of(rt: &HostRuntime, low: &BTreeSet<u64>, high: &BTreeSet<u64>) -> Result<()> {
     println!(rt; "either: {:?}", counting::count_of_either(low, high))?;
     println!(rt; "both: {}", counting::count_of_both(low, high))?;
-    // One comparison picks one of two nodes, of 512 and 588 numbers, and ten find the place in either.
+    // One comparison picks one of two nodes, of 512 and 588 numbers, and ten find the place in
+    // either.
     for key in [950, 899, 2000] {
         let (place, comparisons) = counting::place_of(high, key);
         println!(rt; "place of {key}: {place:?}, by {comparisons} comparisons")?;

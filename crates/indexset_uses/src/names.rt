@@ -19,9 +19,9 @@ pub type Named = Pair<ByteStr, ByteStr>;
 /// Texts by name. The map, its events and its copies share the bytes of names and texts.
 pub type Names = BTreeMap<ByteStr, ByteStr, Vec<Named>>;
 
-/// Sets the text of a name, in a map and in a copy with the same nodes: both then have the same nodes
-/// again, and the copy holds the text. Where it fails, nothing changed, or the map has the text and the
-/// copy is behind.
+/// Sets the text of a name, in a map and in a copy with the same nodes: both then have the same
+/// nodes again, and the copy holds the text. Where it fails, nothing changed, or the map has the
+/// text and the copy is behind.
 pub fn set_text(
     names: &mut Names,
     copy: &mut Replica<Named>,
@@ -44,9 +44,9 @@ pub fn set_text(
     apply_all(copy, events.as_slice())
 }
 
-/// Removes a name from a map and from a copy with the same nodes: both then have the same nodes again,
-/// and the copy does not hold the name. Where it fails, nothing changed, or the name is gone from the map
-/// and the copy is behind.
+/// Removes a name from a map and from a copy with the same nodes: both then have the same nodes
+/// again, and the copy does not hold the name. Where it fails, nothing changed, or the name is
+/// absent from the map and the copy is behind.
 pub fn forget(names: &mut Names, copy: &mut Replica<Named>, name: &ByteStr) -> Result<(), Refusal>
     requires { copy.old.nodes ≡ names.old.nodes }
     ensures same { OnOk result (copy.new.nodes ≡ names.new.nodes) }
@@ -64,22 +64,22 @@ pub fn forget(names: &mut Names, copy: &mut Replica<Named>, name: &ByteStr) -> R
     apply_all(copy, events.as_slice())
 }
 
-/// The text of a name, which is looked up as it is: no key is made of it.
+/// Returns the text of a name, looked up as it is: no key is made of it.
 pub fn text_of<'a>(names: &'a Names, name: &str) -> Option<&'a ByteStr>
     ensures { option_copied result ≡ value_of (slice_cmp nat_cmp) (joined names.now.nodes)
         name.now }
 {
-    // Tells that the names ascend.
+    // Its contract says that the names ascend.
     let _nodes = names.node_count();
     let pair = names.get_by(&mut OnKey::new(ByStr::new(name)))?;
     Some(&pair.value)
 }
 
-/// The text that a copy has of a name, in the same way.
+/// Returns the text that a copy has of a name, in the same way.
 pub fn copied_text_of<'a>(copy: &'a Replica<Named>, name: &str) -> Option<&'a ByteStr>
     ensures { option_copied result ≡ value_of (slice_cmp nat_cmp) (joined copy.now.nodes) name.now }
 {
-    // Tells that the names ascend.
+    // Its contract says that the names ascend.
     let _nodes = copy.nodes();
     let pair = copy.get_by(&mut OnKey::new(ByStr::new(name)))?;
     Some(&pair.value)

@@ -37,8 +37,8 @@ pub fn add(levels: &mut Levels, price: u64, quantity: u64) -> Result<u64, Refuse
     Ok(now)
 }
 
-/// Takes a quantity off a price, and returns what is left, or `None` where the price has none. A price
-/// of which nothing is left is removed.
+/// Subtracts a quantity at a price, and returns the rest, or `None` where the price has none. A
+/// price with no rest is removed.
 pub fn reduce(levels: &mut Levels, price: u64, quantity: u64) -> Option<u64>
     ensures left { IfSome result (λ left. left
         ≡ unwrap_or (value_of nat_cmp levels.old.pairs price) 0 - quantity) }
@@ -59,7 +59,7 @@ pub fn reduce(levels: &mut Levels, price: u64, quantity: u64) -> Option<u64>
     Some(left)
 }
 
-/// The highest bid, with its quantity.
+/// Returns the highest bid, with its quantity.
 pub fn best_bid(book: &Book) -> Option<(u64, u64)>
     ensures last { result ≡ option_map entry_of
         (slice_get book.now.bids.pairs (length book.now.bids.pairs - 1)) }
@@ -70,7 +70,7 @@ pub fn best_bid(book: &Book) -> Option<(u64, u64)>
     Some((*price, *quantity))
 }
 
-/// The lowest ask, with its quantity.
+/// Returns the lowest ask, with its quantity.
 pub fn best_ask(book: &Book) -> Option<(u64, u64)>
     ensures first { result ≡ option_map entry_of (slice_get book.now.asks.pairs 0) }
     ensures lowest { IfSome result (λ best. below nat_cmp (pair_keys book.now.asks.pairs) best.0

@@ -39,7 +39,7 @@ pub fn cancel(orders: &mut Orders, customer: u64, order: u64) -> Result<(), Refu
     Ok(())
 }
 
-/// How many orders a customer has.
+/// Returns how many orders a customer has.
 pub fn count(orders: &Orders, customer: u64) -> usize
     ensures { result ≡ length (pairs_of nat_cmp (joined orders.now.nodes) customer) }
 {

@@ -51,7 +51,7 @@ pub fn price_or(
     Ok(*price)
 }
 
-/// Raises each price by 10, as far as a u64 goes.
+/// Raises each price by 10, up to `u64::MAX`.
 pub fn raise(prices: &mut BTreeMap<u64, u64>)
     ensures { prices.new.pairs ≡ written (λ pair. min (pair.value + 10) (2 ^ 64 - 1))
         prices.old.pairs 0 (length prices.old.pairs) }

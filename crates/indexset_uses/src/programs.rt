@@ -1,4 +1,5 @@
-//! What the programs in small return: a time window, an order book, a leaderboard, a secondary index, a map and its copy.
+//! What the programs in small return: a time window, an order book, a leaderboard, a secondary
+//! index, a map and its copy.
 
 ghost use Rattle.std.specs.Prelude.{◌<◌};
 

@@ -16,9 +16,8 @@ use indexset_bench::logged::map::LoggedMapCommand;
 use indexset_bench::logged_run::{LogRun, run_logged};
 use std::alloc::Global;
 
-/// Carries out commands on a stock, up to the first for which memory or numbers run out. The events lead
-/// from the nodes before the run to those after it, and the stock holds what the commands with a reply
-/// make of it.
+/// Carries out commands on a stock, up to the first that fails. The events lead from the nodes
+/// before the run to those after it, and the stock holds what the commands with a reply make of it.
 pub fn run_stock(
     alloc: Global,
     stock: &mut Stock,
@@ -42,9 +41,9 @@ pub fn run_stock(
     run_logged(alloc, stock, commands)
 }
 
-/// Carries out commands on a map by `String`, up to the first for which memory or numbers run out. It
-/// holds what the commands with a reply make of it, and the events are numbered in turn. They lead from
-/// the nodes before the run to copies of those after it: the same texts and counts, each in its place.
+/// Carries out commands on a map by `String`, up to the first that fails. It holds what the
+/// commands with a reply make of it, and the events are numbered in turn. They lead from the nodes
+/// before the run to copies of those after it: the same texts and counts, each in its place.
 pub fn run_counts(
     alloc: Global,
     counts: &mut Counts,

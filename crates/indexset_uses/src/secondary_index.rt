@@ -15,8 +15,8 @@ pub type Listed = MultiPair<ByteStr, u64>;
 /// The numbers of documents by tag.
 pub type Index = BTreeMultiMap<ByteStr, u64, Vec<Listed>>;
 
-/// Lists a document under a tag, behind those that it has, and returns whether it was not listed there.
-/// All other documents stay.
+/// Lists a document under a tag, behind those that it has, and returns whether it was not listed
+/// there. All other documents stay.
 pub fn add(index: &mut Index, tag: ByteStr, document: u64) -> Result<bool, Refused<(ByteStr, u64)>>
     ensures new { IfOk result (λ new. new
         ≡ not (is_some (equal_pair (slice_cmp nat_cmp) nat_eq (joined index.old.nodes) tag
@@ -38,7 +38,7 @@ pub fn add(index: &mut Index, tag: ByteStr, document: u64) -> Result<bool, Refus
     Ok(before.is_none())
 }
 
-/// Takes a document off a tag, and returns whether it was listed there.
+/// Removes a document from a tag, and returns whether it was listed there.
 pub fn remove(index: &mut Index, tag: &ByteStr, document: u64) -> Result<bool, Refusal>
     ensures was { IfOk result (λ was. was
         ≡ is_some (equal_pair (slice_cmp nat_cmp) nat_eq (joined index.old.nodes) tag.now
@@ -61,14 +61,14 @@ pub fn remove(index: &mut Index, tag: &ByteStr, document: u64) -> Result<bool, R
     Ok(removed.is_some())
 }
 
-/// The documents of a tag, each beside the tag, in the order in which they were added.
+/// Returns the documents of a tag, each beside the tag, in the order in which they were added.
 pub fn documents<'a>(index: &'a Index, tag: &ByteStr) -> Range<'a, ByteStr, u64, Vec<Listed>>
     ensures { result ≡ entries (pairs_of (slice_cmp nat_cmp) (joined index.now.nodes) tag.now) }
 {
     index.get(tag)
 }
 
-/// How many documents a tag has.
+/// Returns how many documents a tag has.
 pub fn count(index: &Index, tag: &ByteStr) -> usize
     ensures { result ≡ length (pairs_of (slice_cmp nat_cmp) (joined index.now.nodes) tag.now) }
 {

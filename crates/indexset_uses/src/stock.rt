@@ -14,13 +14,13 @@ use indexset::replica::Replica;
 /// How many there are of each name.
 pub type Count = Pair<ByteStr, u64>;
 
-/// A stock by name. A clone of a `ByteStr` is the same text and copies no byte, so that the map, its
-/// events and its copies share their texts.
+/// A stock by name. A clone of a `ByteStr` is the same text and copies no byte, so that the map,
+/// its events and its copies share their texts.
 pub type Stock = BTreeMap<ByteStr, u64, Vec<Count>>;
 
-/// Sets how many there are of a name, in a stock and in a copy with the same nodes: both then have the
-/// same nodes again, and the copy holds the number. Where it fails, nothing changed, or the stock has the
-/// number and the copy is behind.
+/// Sets how many there are of a name, in a stock and in a copy with the same nodes: both then have
+/// the same nodes again, and the copy holds the number. Where it fails, nothing changed, or the
+/// stock has the number and the copy is behind.
 pub fn set_count(
     stock: &mut Stock,
     copy: &mut Replica<Count>,
@@ -43,8 +43,9 @@ pub fn set_count(
     apply_all(copy, events.as_slice())
 }
 
-/// Removes a name from a stock and from a copy with the same nodes: both then have the same nodes again.
-/// Where it fails, nothing changed, or the name is gone from the stock and the copy is behind.
+/// Removes a name from a stock and from a copy with the same nodes: both then have the same nodes
+/// again. Where it fails, nothing changed, or the name is absent from the stock and the copy is
+/// behind.
 pub fn forget(stock: &mut Stock, copy: &mut Replica<Count>, name: &ByteStr) -> Result<(), Refusal>
     requires { copy.old.nodes ≡ stock.old.nodes }
     ensures same { OnOk result (copy.new.nodes ≡ stock.new.nodes) }

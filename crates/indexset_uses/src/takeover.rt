@@ -1,8 +1,8 @@
 //! A follower: a copy of a set of numbers kept elsewhere, which takes over where the set is lost.
-ghost use Rattle.std.specs.Prelude.{◌≡◌, ◌<◌, ◌≤◌, ◌^◌, [], length, map, take, unwrap_or, Some, IfErr, IfOk, IsOk};
+ghost use Rattle.std.specs.Prelude.{◌≡◌, ◌<◌, ◌≤◌, [], length, take, unwrap_or, Some, IfErr, IfOk};
 ghost use Rattle.std.specs.List.{All};
 ghost use Rattle.std.specs.Ordering.{nat_cmp};
-ghost use Rattle.indexset.specs.Words.{IsBeginning, IsDelivered, IsFeed, joined, nodes_refusal, replay, vec_items};
+ghost use Rattle.indexset.specs.Words.{IsBeginning, IsDelivered, IsFeed, nodes_refusal, replay, vec_items};
 
 use crate::change_log::Numbers;
 use indexset::base::refusal::Refusal;
@@ -10,9 +10,9 @@ use indexset::cdc::change::ChangeEvent;
 use indexset::cdc::laws::steps_lead_to_nodes;
 use indexset::replica::Replica;
 
-/// Returns a copy made of a snapshot, the nodes that a set had and the number of its next event, which
-/// then follows the set's events as they came. It holds what the longest beginning of all events leads
-/// to that the snapshot and the events in turn make up.
+/// Returns a copy made of a snapshot, the nodes that a set had and the number of its next event,
+/// which then follows the set's events as they came. It holds what the longest prefix of all events
+/// leads to that the snapshot and the events in order make up.
 pub fn resume(
     nodes: Vec<Vec<u64>>,
     next: u64,
@@ -35,17 +35,15 @@ pub fn resume(
     Ok(copy)
 }
 
-/// Returns a set that goes on where the copy stopped: it has the copy's nodes, and its next event has
-/// the number that the copy waits for. Fails only where a node has more than `size` numbers, or the
-/// copy more than a usize counts.
+/// Returns a set that continues where the copy stopped: it has the copy's nodes, and its next event
+/// has the number that the copy expects. Fails where a node has more than `size` numbers, or memory
+/// runs out.
 pub fn promote(copy: Replica<u64>, size: usize) -> Result<Numbers, Refusal>
     requires { 2 ≤ size }
     ensures tree { IfOk result (λ tree. tree
         ≡ record { nodes = copy.nodes; size = size; next = copy.next }) }
     ensures cause { IfErr result (λ refusal. refusal
         ≡ unwrap_or (nodes_refusal nat_cmp size copy.nodes) Refusal.Memory) }
-    ensures taken { All (λ n. n ≤ size) (map (λ node. length node) copy.nodes)
-        → length (joined copy.nodes) < 2 ^ 64 → IsOk result }
 {
     let next = copy.next();
     Ok(Numbers::from_nodes(copy.into_nodes(), size, next)?)

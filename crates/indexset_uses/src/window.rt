@@ -44,7 +44,7 @@ pub fn expire(window: &mut Window, start: u64) -> Result<Window, Refusal>
     Ok(mem::replace(window, kept))
 }
 
-/// The oldest time with its value.
+/// Returns the oldest time with its value.
 pub fn oldest(window: &Window) -> Option<(u64, u64)>
     ensures first { result ≡ option_map entry_of (slice_get window.now.pairs 0) }
     ensures oldest { IfSome result (λ oldest. below nat_cmp (pair_keys window.now.pairs) oldest.0
@@ -58,7 +58,7 @@ pub fn oldest(window: &Window) -> Option<(u64, u64)>
     Some((*time, *value))
 }
 
-/// The values from a time on.
+/// Returns the values from a time on.
 pub fn since(window: &Window, start: u64) -> RangeMap<'_, u64, u64>
     ensures rest { result ≡ pairs_within nat_cmp window.now.pairs (Included start) Unbounded }
     ensures ascending { IsAscending (by_key nat_cmp) result }

@@ -66,7 +66,7 @@ impl Word for Side {
 /// The best price of each side.
 pub type Prices = BTreeMap<Side, i64, Vec<Pair<Side, i64>>>;
 
-/// Returns the event that is read of the line which one program sends of this one: it is the same.
+/// Returns the event read from the line that one program sends of this one: it is the same.
 pub fn resent<T: Spelled + Drop>(
     alloc: Global,
     event: &ChangeEvent<T>,

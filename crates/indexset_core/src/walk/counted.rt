@@ -1,4 +1,4 @@
-//! A walk that knows how many items remain.
+//! An iterator that knows how many items remain.
 ghost use Rattle.std.specs.Prelude.{◌≡◌, ◌<◌, ◌++◌, length, IfSome, Some};
 ghost use Rattle.std.specs.Iterator.{UpTo, at_most};
 ghost use Rattle.std.specs.Iterator.SizeHint.{IsWithinCount};
@@ -28,7 +28,7 @@ impl<'a, T, Node, R: ReadNode<T, Node>> Model for CountedWalk<'a, T, Node, R> {
 }
 
 impl<'a, T, Node, R: ReadNode<T, Node>> CountedWalk<'a, T, Node, R> {
-    /// Returns the items of a walk that has so many left.
+    /// Returns an iterator with so many items remaining.
     pub fn new(walk: Walk<'a, T, Node, R>, left: usize) -> Self
         requires { left ≡ length walk }
         ensures { result ≡ walk.entry }

@@ -53,7 +53,7 @@ pub fn read_event<T: Spelled + Drop>(text: &[u8]) -> Option<ChangeEvent<T>>
     read_change(event_id, change)
 }
 
-// Returns the event of a number, by what stands behind it.
+// Returns the event of a number, by the text after it.
 #[tactic(auto, unfolding(crate::specs::EventText::change_reading))]
 fn read_change<T: Spelled + Drop>(event_id: Id, text: &[u8]) -> Option<ChangeEvent<T>>
     ensures { result ≡ change_reading T.reading event_id text.now }
@@ -62,7 +62,7 @@ fn read_change<T: Spelled + Drop>(event_id: Id, text: &[u8]) -> Option<ChangeEve
     read_word(event_id, word, rest)
 }
 
-// Returns the event of a word, by what stands behind it.
+// Returns the event of a word, by the text after it.
 #[tactic(auto, unfolding(crate::specs::EventText::word_reading))]
 fn read_word<T: Spelled + Drop>(event_id: Id, word: &[u8], text: &[u8]) -> Option<ChangeEvent<T>>
     ensures { result ≡ word_reading T.reading event_id word.now text.now }
@@ -88,7 +88,7 @@ fn read_word<T: Spelled + Drop>(event_id: Id, word: &[u8], text: &[u8]) -> Optio
     read_named(event_id, word, text)
 }
 
-// Returns the event of a word, by what stands behind it and names a node.
+// Returns the event of a word, by the text after it, which names a node.
 #[tactic(auto, unfolding(crate::specs::EventText::named_reading))]
 fn read_named<T: Spelled + Drop>(event_id: Id, word: &[u8], text: &[u8]) -> Option<ChangeEvent<T>>
     ensures { result ≡ named_reading T.reading event_id word.now text.now }
@@ -110,7 +110,7 @@ fn read_place<T: Spelled + Drop>(text: &[u8]) -> Option<(T, usize, T)>
     Some((value, index, last))
 }
 
-// Returns the event of a word, by what stands behind `the node of `.
+// Returns the event of a word, by the text after `the node of `.
 #[tactic(auto, unfolding(crate::specs::EventText::node_reading))]
 fn read_node<T: Spelled + Drop>(event_id: Id, word: &[u8], text: &[u8]) -> Option<ChangeEvent<T>>
     ensures { result ≡ node_reading T.reading event_id word.now text.now }
@@ -133,7 +133,7 @@ fn read_node<T: Spelled + Drop>(event_id: Id, word: &[u8], text: &[u8]) -> Optio
     read_rest(event_id, word, T::read(name)?, rest)
 }
 
-// Returns the event of a word, by its node and what stands behind that.
+// Returns the event of a word, by its node and the text after that.
 #[tactic(auto, unfolding(crate::specs::EventText::rest_reading))]
 fn read_rest<T: Spelled + Drop>(
     event_id: Id,
@@ -154,7 +154,7 @@ fn read_rest<T: Spelled + Drop>(
     read_merge(event_id, word, max_value, rest)
 }
 
-// Returns the event of a merge, by its node and what stands behind that.
+// Returns the event of a merge, by its node and the text after that.
 #[tactic(auto, unfolding(crate::specs::EventText::merge_reading))]
 fn read_merge<T: Spelled + Drop>(
     event_id: Id,
@@ -192,8 +192,8 @@ fn item_behind<T: Spelled>(text: &[u8], front: &[u8]) -> Option<T>
 }
 
 impl<T: Spelled> ChangeEvent<T> {
-    /// Does nothing. A caller's proof learns that the items and numbers of the event are in range,
-    /// so that its text is read as the identical event (`laws::texts_are_read`).
+    /// Does nothing. From its contract a proof learns that the items and numbers of the event are
+    /// in range, so that its text is read as the identical event (`laws::texts_are_read`).
     pub fn attest(&self)
         ensures { EventInRange T.in_range self.now }
     {

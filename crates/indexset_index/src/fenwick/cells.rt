@@ -21,7 +21,7 @@ pub trait Cells {
     fn count(&self) -> usize
         ensures { result ≡ number self.now };
 
-    /// What cell i holds, counted from 1.
+    /// Returns cell i, counted from 1.
     fn read(&mut self, i: usize) -> usize
         requires one { 1 ≤ i }
         requires within { i ≤ number self.old }

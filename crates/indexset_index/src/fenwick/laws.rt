@@ -3,7 +3,8 @@
 ghost use Rattle.std.specs.Prelude.{◌≡◌, ◌+◌, ◌-◌, ◌*◌, ◌^◌, ◌<◌, ◌≤◌, ℕ, List, length, count_ones};
 ghost use Rattle.indexset_index.specs.Fenwick.{lowbit, prefix_sum, cell_of, cell_in, lengths_of, IsFenwickOf};
 
-/// `lowbit` is the value of the lowest one bit: 0 has none, and any bits, a one and l zeros have 2 ^ l.
+/// `lowbit` is the value of the lowest one bit: 0 has none, and any bits, a one and l zeros have
+/// 2 ^ l.
 pub fn lowbit_is_the_lowest_one()
     ensures none { lowbit 0 ≡ 0 }
     ensures value { (m l : ℕ) → lowbit ((2 * m + 1) * 2 ^ l) ≡ 2 ^ l }

@@ -16,8 +16,8 @@ impl Fenwick {
         prefix_in(&mut self.cells(), k)
     }
 
-    /// Returns the node of a position, and the offset in it, or `None` past the end. It reads at most
-    /// as many cells as their number has binary digits.
+    /// Returns the node of a position, and the offset in it, or `None` past the end. It reads at
+    /// most as many cells as their number has binary digits.
     pub fn find(&self, position: usize) -> Option<(usize, usize)>
         ensures { MatchOption result (sum self.now.lengths ≤ position)
             (λ p. (p.0 < length self.now.lengths) × (p.1 < slice_index self.now.lengths p.0)
@@ -26,7 +26,7 @@ impl Fenwick {
         find_in(&mut self.cells(), position)
     }
 
-    /// Returns how many items stand before a place, a node and an offset in it, among nodes of these
+    /// Returns how many items are before a place, a node and an offset in it, among nodes of these
     /// lengths: by one sum, as `prefix` adds it up.
     pub fn position<T>(&self, place: (usize, usize)) -> usize
         ghost nodes: { List (List T) }

@@ -34,7 +34,7 @@ pub(super) fn raise(cells: &mut [usize], i: usize, n: usize)
     }
 }
 
-/// Takes from a length.
+/// Subtracts from a length.
 pub(super) fn lower(cells: &mut [usize], i: usize, n: usize)
     requires cells { IsFenwick cells.old }
     requires inside { i < length cells.old }

@@ -10,6 +10,7 @@ ghost use Rattle.indexset_events.specs.Nodes.{is_ascending};
 ghost use Rattle.indexset_events.specs.Replay.{reaches};
 
 use super::BTreeSet;
+use crate::nodes::insert_node;
 use indexset_core::locate::node_by;
 use indexset_core::node::NodeLike;
 use indexset_core::probe::ByItem;
@@ -43,16 +44,9 @@ impl<T: Ord + Clone + Drop, Node: NodeLike<T>> BTreeSet<T, Node> {
             Err(cause) => return Err(Refused { value: node, cause }),
         };
         let count = node.len();
-        match self.nodes.insert(place, node) {
-            Ok(()) => {
-                self.len += count;
-                Ok(())
-            }
-            Err(refused) => Err(Refused {
-                value: refused.value,
-                cause: Refusal::Memory,
-            }),
-        }
+        insert_node(&mut self.nodes, &mut self.index, place, node)?;
+        self.len += count;
+        Ok(())
     }
 
     // Returns where a node goes among the others, if it may.

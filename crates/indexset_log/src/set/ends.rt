@@ -1,7 +1,7 @@
 //! The first and the last item, and calls that remove them.
 ghost use Rattle.std.specs.Prelude.{◌≡◌, ◌↔◌, ◌-◌, ◌<◌, ◌≤◌, [], length, slice_get, false, IfOk, OnOk, IfErr, OnErr, IsOk, IfSome, IsSome, MatchOption};
 ghost use Rattle.std.specs.Option.{option_copied};
-ghost use Rattle.indexset_core.specs.Nodes.{joined};
+ghost use Rattle.indexset_core.specs.Nodes.{joined, IsLawful};
 ghost use Rattle.indexset_core.specs.Order.{above, below};
 ghost use Rattle.indexset_log.specs.Changed.{Changed, Fits, ItemsTold, first_removal, last_removal, refusal_of};
 ghost use Rattle.indexset_events.specs.Ends.{IsItemAt};
@@ -19,8 +19,6 @@ impl<T: Ord + Clone + Drop, Node: NodeLike<T>> BTreeSet<T, Node> {
         ensures least { IfSome result (λ least. below T.cmp (joined self.now.nodes) least.now
             ≡ []) }
     {
-        // The nodes are lawful, so their items ascend.
-        let _nodes = &self.nodes;
         self.iter().next()
     }
 
@@ -32,8 +30,6 @@ impl<T: Ord + Clone + Drop, Node: NodeLike<T>> BTreeSet<T, Node> {
         ensures greatest { IfSome result (λ greatest. above T.cmp
             (joined self.now.nodes) greatest.now ≡ []) }
     {
-        // The nodes are lawful, so their items ascend.
-        let _nodes = &self.nodes;
         self.iter().next_back()
     }
 
@@ -52,8 +48,6 @@ impl<T: Ord + Clone + Drop, Node: NodeLike<T>> BTreeSet<T, Node> {
         ensures told { IfOk result (λ r. ItemsTold T.cmp T.is_clone self.old self.new
             (first_removal T.cmp self.old) r.1.items) }
     {
-        // The nodes are lawful.
-        let _nodes = &self.nodes;
         let place = self.first_item_place();
         self.remove_from_cdc(place)
     }
@@ -75,8 +69,6 @@ impl<T: Ord + Clone + Drop, Node: NodeLike<T>> BTreeSet<T, Node> {
         ensures changed { OnOk result (Changed T.cmp self.old self.new
             (first_removal T.cmp self.old)) }
     {
-        // The nodes are lawful.
-        let _nodes = &self.nodes;
         let place = self.first_item_place();
         self.remove_from(place)
     }
@@ -97,8 +89,6 @@ impl<T: Ord + Clone + Drop, Node: NodeLike<T>> BTreeSet<T, Node> {
         ensures told { IfOk result (λ r. ItemsTold T.cmp T.is_clone self.old self.new
             (last_removal T.cmp self.old) r.1.items) }
     {
-        // The nodes are lawful.
-        let _nodes = &self.nodes;
         let place = self.last_item_place();
         self.remove_from_cdc(place)
     }
@@ -121,16 +111,16 @@ impl<T: Ord + Clone + Drop, Node: NodeLike<T>> BTreeSet<T, Node> {
         ensures changed { OnOk result (Changed T.cmp self.old self.new
             (last_removal T.cmp self.old)) }
     {
-        // The nodes are lawful.
-        let _nodes = &self.nodes;
         let place = self.last_item_place();
         self.remove_from(place)
     }
 
     // Returns the place of the first item, if any.
     fn first_item_place(&self) -> Option<(usize, usize)>
-        ensures { MatchOption result (joined self.now.nodes ≡ [])
+        ensures place { MatchOption result (joined self.now.nodes ≡ [])
             (λ p. IsItemAt self.now.nodes p 0) }
+        ensures lawful { IsLawful T.cmp self.now.size self.now.nodes }
+        ensures two { 2 ≤ self.now.size }
     {
         if self.nodes.is_empty() {
             return None;
@@ -140,8 +130,10 @@ impl<T: Ord + Clone + Drop, Node: NodeLike<T>> BTreeSet<T, Node> {
 
     // Returns the place of the last item, if any.
     fn last_item_place(&self) -> Option<(usize, usize)>
-        ensures { MatchOption result (joined self.now.nodes ≡ [])
+        ensures place { MatchOption result (joined self.now.nodes ≡ [])
             (λ p. IsItemAt self.now.nodes p (length (joined self.now.nodes) - 1)) }
+        ensures lawful { IsLawful T.cmp self.now.size self.now.nodes }
+        ensures two { 2 ≤ self.now.size }
     {
         if self.nodes.is_empty() {
             return None;

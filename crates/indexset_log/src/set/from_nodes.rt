@@ -1,23 +1,25 @@
 //! Sets made of nodes.
-ghost use Rattle.std.specs.Prelude.{◌≡◌, ◌≤◌, ◌<◌, length, map, None, Some, MatchOption, IsOk, IfOk, OnOk, IfErr};
+ghost use Rattle.std.specs.Prelude.{◌≡◌, ◌≤◌, ◌<◌, length, map, None, Some, MatchOption, IfOk, OnOk, IfErr};
 ghost use Rattle.std.specs.Option.{unwrap_or};
-ghost use Rattle.indexset_core.specs.Nodes.{joined, IsLawful};
+ghost use Rattle.indexset_core.specs.Nodes.{joined, node_lengths};
 ghost use Rattle.indexset_events.specs.Attach.{nodes_refusal};
 
 use super::BTreeSet;
+use crate::nodes::index_of;
 use indexset_core::node::NodeLike;
 use indexset_core::refusal::{Refusal, Refused};
 use indexset_events::nodes::test_nodes;
+use indexset_index::fenwick::Fenwick;
+use std::alloc::Global;
 use std::marker::PhantomData;
 
 impl<T: Ord + Clone + Drop, Node: NodeLike<T>> BTreeSet<T, Node> {
     /// Returns the tree of these nodes, whose first event has the number `next`: it goes on where
-    /// another stopped. The nodes are taken as they are, no item is copied, nothing is allocated,
-    /// and no number is used up; neighbouring nodes are compared once. Fails at the first node that
-    /// is `Empty`, `TooLarge`, `Unsorted`, or `Overlaps` the one before, by the first of these that
-    /// holds, and after all others with `Memory` where there are more items than `usize::MAX`. A
-    /// failed call returns the nodes in the error. No call fails where the nodes are lawful for
-    /// this size and the number of items is a usize.
+    /// another stopped. The nodes are taken as they are, no item is copied, and no number is used
+    /// up; neighbouring nodes are compared once, and one number for each node is allocated. Fails
+    /// at the first node that is `Empty`, `TooLarge`, `Unsorted`, or `Overlaps` the one before, by
+    /// the first of these that holds; where none is, with `Memory`, also where there are more items
+    /// than `usize::MAX`. A failed call returns the nodes in the error.
     pub fn from_nodes(nodes: Vec<Node>, size: usize, next: u64) -> Result<Self, Refused<Vec<Node>>>
         requires two { 2 ≤ size }
         requires within { size ≤ Node.most }
@@ -26,44 +28,40 @@ impl<T: Ord + Clone + Drop, Node: NodeLike<T>> BTreeSet<T, Node> {
         ensures good { OnOk result (nodes_refusal T.cmp size (map Node.list nodes.items) ≡ None) }
         ensures refusal { IfErr result (λ e. e.cause ≡ unwrap_or
             (nodes_refusal T.cmp size (map Node.list nodes.items)) Refusal.Memory) }
-        ensures memory { IfErr result (λ e. nodes_refusal T.cmp size (map Node.list nodes.items)
-            ≡ None → usize.MAX < length (joined (map Node.list nodes.items))) }
-        ensures lawful { IsLawful T.cmp size (map Node.list nodes.items)
-            → length (joined (map Node.list nodes.items)) ≤ usize.MAX → IsOk result }
         ensures given_back { IfErr result (λ e. e.value ≡ nodes) }
     {
-        let len = match test_and_count(nodes.as_slice(), size) {
-            Ok(len) => len,
-            Err(cause) => return Err(Refused {
+        match test_and_count(*nodes.allocator(), nodes.as_slice(), size) {
+            Ok((len, index)) => Ok(BTreeSet {
+                nodes,
+                size,
+                len,
+                index,
+                next,
+                items: PhantomData,
+            }),
+            Err(cause) => Err(Refused {
                 value: nodes,
                 cause,
             }),
-        };
-        Ok(BTreeSet {
-            nodes,
-            size,
-            len,
-            next,
-            items: PhantomData,
-        })
+        }
     }
 }
 
-// Returns how many items the nodes hold, if they may be those of a tree.
+// Returns how many items the nodes hold, and their index, if they may be those of a tree.
 fn test_and_count<T: Ord + Drop, Node: NodeLike<T>>(
+    alloc: Global,
     nodes: &[Node],
     size: usize,
-) -> Result<usize, Refusal>
+) -> Result<(usize, Fenwick), Refusal>
     ensures good { OnOk result (nodes_refusal T.cmp size (map Node.list nodes.now) ≡ None) }
-    ensures len { IfOk result (λ len. len ≡ length (joined (map Node.list nodes.now))) }
+    ensures len { IfOk result (λ r. r.0 ≡ length (joined (map Node.list nodes.now))) }
+    ensures index { IfOk result (λ r. r.1.lengths ≡ node_lengths (map Node.list nodes.now)) }
     ensures refusal { IfErr result (λ e. e ≡ unwrap_or (nodes_refusal T.cmp size
         (map Node.list nodes.now)) Refusal.Memory) }
-    ensures memory { IfErr result (λ e. nodes_refusal T.cmp size (map Node.list nodes.now) ≡ None
-        → usize.MAX < length (joined (map Node.list nodes.now))) }
 {
     test_nodes(nodes, size)?;
     match count(nodes) {
-        Some(len) => Ok(len),
+        Some(len) => Ok((len, index_of(alloc, nodes)?)),
         None => Err(Refusal::Memory),
     }
 }

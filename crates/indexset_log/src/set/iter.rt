@@ -1,10 +1,11 @@
 //! Iterators over a set, from both ends.
-ghost use Rattle.std.specs.Prelude.{◌≡◌, ◌≤◌, length, List, map, IfSome, Some};
+ghost use Rattle.std.specs.Prelude.{◌≡◌, ◌+◌, length, List, map, IfSome, Some};
 ghost use Rattle.std.specs.List.{between};
 ghost use Rattle.std.specs.Iterator.{UpTo, at_most};
 ghost use Rattle.std.specs.Iterator.SizeHint.{IsWithinCount};
 ghost use Rattle.std.specs.Map.Iter.{TakesFirst, TakesLast, ShowsInOrder, ShowsInReverse, deref};
 ghost use Rattle.indexset_core.specs.Nodes.{joined};
+ghost use Rattle.indexset_core.specs.Order.{IsAscending};
 ghost use Rattle.indexset_core.specs.Places.{IsPlace, items_before};
 
 use super::BTreeSet;
@@ -32,6 +33,7 @@ impl<'a, T: Ord + Clone + Drop, Node: NodeLike<T>> Iter<'a, T, Node> {
     /// Returns all items of a set, in order.
     pub fn new(set: &'a BTreeSet<T, Node>) -> Self
         ensures rest { result ≡ joined set.now.nodes }
+        ensures ascending { IsAscending T.cmp result }
         ensures runs { ShowsInOrder (deref {X = T}) }
         ensures runs_back { ShowsInReverse (deref {X = T}) }
     {
@@ -40,20 +42,22 @@ impl<'a, T: Ord + Clone + Drop, Node: NodeLike<T>> Iter<'a, T, Node> {
         }
     }
 
-    // Returns the items from one place, a node and an offset, to before another.
-    pub(super) fn between(nodes: &'a [Node], from: (usize, usize), to: (usize, usize)) -> Self
+    // Returns the items from one place, a node and an offset, to before another: so many.
+    pub(super) fn between(
+        nodes: &'a [Node],
+        from: (usize, usize),
+        to: (usize, usize),
+        count: usize,
+    ) -> Self
         requires from { IsPlace (map Node.list nodes.now) from }
         requires to { IsPlace (map Node.list nodes.now) to }
-        requires order { items_before (map Node.list nodes.now) from
-            ≤ items_before (map Node.list nodes.now) to }
-        requires fits { length (joined (map Node.list nodes.now)) ≤ usize.MAX }
+        requires count { items_before (map Node.list nodes.now) from + count
+            ≡ items_before (map Node.list nodes.now) to }
         ensures { result ≡ between (items_before (map Node.list nodes.now) from)
             (items_before (map Node.list nodes.now) to) (joined (map Node.list nodes.now)) }
     {
-        let walk = Walk::between(nodes, from, to);
-        let left = walk.item_count();
         Iter {
-            rest: CountedWalk::new(walk, left),
+            rest: CountedWalk::new(Walk::between(nodes, from, to), count),
         }
     }
 }
@@ -98,6 +102,7 @@ impl<T: Ord + Clone + Drop, Node: NodeLike<T>> BTreeSet<T, Node> {
     /// Returns the items, in order.
     pub fn iter(&self) -> Iter<'_, T, Node>
         ensures rest { result ≡ joined self.now.nodes }
+        ensures ascending { IsAscending T.cmp result }
         ensures runs { ShowsInOrder (deref {X = T}) }
         ensures runs_back { ShowsInReverse (deref {X = T}) }
     {

@@ -1,6 +1,6 @@
 //! Insertion of items.
 ghost use Rattle.std.specs.Prelude.{◌≡◌, ◌+◌, ◌/◌, ◌≤◌, [], length, Some, None, IfOk, OnOk, IfErr, OnErr, IsOk, IfSome, is_none, not, true};
-ghost use Rattle.indexset_core.specs.Nodes.{joined};
+ghost use Rattle.indexset_core.specs.Nodes.{joined, IsLawful};
 ghost use Rattle.indexset_core.specs.Order.{equal_element, has_equal};
 ghost use Rattle.indexset_log.specs.Aim.{IsAim, IsAimed, count_for, is_present};
 ghost use Rattle.indexset_log.specs.Changed.{Changed, ItemsTold, checked_put_change, put_change, refusal_of};
@@ -44,8 +44,6 @@ impl<T: Ord + Clone + Drop, Node: NodeLike<T>> BTreeSet<T, Node> {
         ensures told { IfOk result (λ r. ItemsTold T.cmp T.is_clone self.old self.new
             (put_change T.cmp self.old value) r.1.items) }
     {
-        // The nodes are lawful.
-        let _nodes = &self.nodes;
         let aim = self.aim(&value);
         self.put_cdc_at(aim, value)
     }
@@ -68,8 +66,6 @@ impl<T: Ord + Clone + Drop, Node: NodeLike<T>> BTreeSet<T, Node> {
             ItemsTold T.cmp T.is_clone self.old self.new
             (checked_put_change T.cmp self.old value) events.items)) }
     {
-        // The nodes are lawful, and the counter fits a u64, so a call without events lacks no number.
-        let _next = self.next;
         let aim = self.aim(&value);
         if finds_equal(&aim) {
             return Ok(None);
@@ -93,8 +89,6 @@ impl<T: Ord + Clone + Drop, Node: NodeLike<T>> BTreeSet<T, Node> {
         ensures changed { OnOk result (Changed T.cmp self.old self.new
             (put_change T.cmp self.old value)) }
     {
-        // The nodes are lawful.
-        let _nodes = &self.nodes;
         let aim = self.aim(&value);
         self.put_at(aim, value)
     }
@@ -120,8 +114,6 @@ impl<T: Ord + Clone + Drop, Node: NodeLike<T>> BTreeSet<T, Node> {
         ensures changed { OnOk result (Changed T.cmp self.old self.new
             (checked_put_change T.cmp self.old value)) }
     {
-        // The nodes are lawful, and the counter fits a u64, so a call without events lacks no number.
-        let _next = self.next;
         let aim = self.aim(&value);
         if finds_equal(&aim) {
             return Ok(false);
@@ -136,7 +128,12 @@ impl<T: Ord + Clone + Drop, Node: NodeLike<T>> BTreeSet<T, Node> {
     fn aim(&self, value: &T) -> Option<Aim>
         ensures aim { IsAimed T.cmp self.now.size self.now.nodes value.now result }
         ensures present { is_present result ≡ has_equal T.cmp (joined self.now.nodes) value.now }
+        ensures lawful { IsLawful T.cmp self.now.size self.now.nodes }
+        ensures two { 2 ≤ self.now.size }
+        ensures number { self.now.next ≤ u64.MAX }
     {
+        // The counter fits a u64, so a call without events lacks no number.
+        let _next = self.next;
         if self.nodes.is_empty() {
             return None;
         }
@@ -162,8 +159,6 @@ impl<T: Ord + Clone + Drop, Node: NodeLike<T>> BTreeSet<T, Node> {
         ensures given_back { IfErr result (λ e. e.value ≡ value) }
         ensures unchanged { OnErr result (self.new ≡ self.old) }
     {
-        // The nodes are lawful.
-        let _nodes = &self.nodes;
         let next = match self.next_after(&aim) {
             Ok(next) => next,
             Err(cause) => return Err(Refused { value, cause }),
@@ -190,8 +185,6 @@ impl<T: Ord + Clone + Drop, Node: NodeLike<T>> BTreeSet<T, Node> {
         ensures given_back { IfErr result (λ e. e.value ≡ value) }
         ensures unchanged { OnErr result (self.new ≡ self.old) }
     {
-        // The nodes are lawful.
-        let _nodes = &self.nodes;
         match self.next_after(&aim) {
             Ok(next) => self.carry_out(aim, next, value),
             Err(cause) => Err(Refused { value, cause }),
@@ -205,6 +198,8 @@ impl<T: Ord + Clone + Drop, Node: NodeLike<T>> BTreeSet<T, Node> {
         ensures memory { OnOk result (refusal_for self.now.next (count_for aim.now)
             ≡ Refusal.Memory) }
         ensures refusal { IfErr result (λ e. e ≡ refusal_for self.now.next (count_for aim.now)) }
+        ensures lawful { IsLawful T.cmp self.now.size self.now.nodes }
+        ensures two { 2 ≤ self.now.size }
     {
         let count = event_count(aim);
         if count > u64::MAX - self.next {
@@ -302,11 +297,11 @@ impl<T: Ord + Clone + Drop, Node: NodeLike<T>> BTreeSet<T, Node> {
                 cause: Refusal::Memory,
             });
         }
-        match make_room(&mut self.nodes, &aim) {
+        match make_room(&mut self.nodes, &mut self.index, &aim) {
             Ok(place) => {
                 self.next = next;
                 self.len += aim.growth();
-                Ok(put_in(&mut self.nodes[place], aim.at, value))
+                Ok(put_in(&mut self.nodes, &mut self.index, place, aim.at, value))
             }
             Err(cause) => Err(Refused { value, cause }),
         }
@@ -324,10 +319,11 @@ impl<T: Ord + Clone + Drop, Node: NodeLike<T>> BTreeSet<T, Node> {
         ensures given_back { IfErr result (λ e. e.value ≡ value) }
         ensures unchanged { OnErr result (self.new ≡ self.old) }
     {
-        match first_node(&mut self.nodes) {
+        match first_node(&mut self.nodes, &mut self.index) {
             Ok(mut node) => {
                 node.insert_at(0, value);
                 self.nodes.push_reserved(node);
+                self.index.push(1);
                 self.len = 1;
                 self.next = next;
                 Ok(None)

@@ -116,8 +116,8 @@ impl<T: Ord + Clone + Drop, Node: NodeLike<T>> BTreeSet<T, Node> {
 
     /// Returns the items from one place to before another, in order. A place is a node and an
     /// offset in it of at most its length, as `locate_by` returns it; where there is no node it is
-    /// (0, 0). No fewer items may stand before the second place. The lengths of the nodes between
-    /// the two are added up, so that the iterator knows its own.
+    /// (0, 0). No fewer items may stand before the second place. The index counts the items between
+    /// the two, so that the iterator knows its length.
     pub fn range_between(&self, from: (usize, usize), to: (usize, usize)) -> Range<'_, T, Node>
         requires from { IsPlace self.now.nodes from }
         requires to { IsPlace self.now.nodes to }
@@ -127,10 +127,23 @@ impl<T: Ord + Clone + Drop, Node: NodeLike<T>> BTreeSet<T, Node> {
         ensures runs { ShowsInOrder (deref {X = T}) }
         ensures runs_back { ShowsInReverse (deref {X = T}) }
     {
-        // The number of items fits.
-        let _len = self.len;
+        let count = self.count_between(from, to);
         Range {
-            rest: Iter::between(self.nodes.as_slice(), from, to),
+            rest: Iter::between(self.nodes.as_slice(), from, to, count),
+        }
+    }
+
+    // Returns how many items stand between two places: the index is asked where they are of two nodes.
+    fn count_between(&self, from: (usize, usize), to: (usize, usize)) -> usize
+        requires from { IsPlace self.now.nodes from }
+        requires to { IsPlace self.now.nodes to }
+        requires order { items_before self.now.nodes from ≤ items_before self.now.nodes to }
+        ensures { items_before self.now.nodes from + result ≡ items_before self.now.nodes to }
+    {
+        if from.0 == to.0 {
+            to.1 - from.1
+        } else {
+            self.position(to) - self.position(from)
         }
     }
 

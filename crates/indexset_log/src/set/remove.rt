@@ -1,6 +1,6 @@
 //! Calls that remove items.
 ghost use Rattle.std.specs.Prelude.{◌≡◌, ℕ, ◌+◌, ◌/◌, ◌<◌, ◌≤◌, [], length, set, remove, slice_get, Some, None, false, IfOk, OnOk, IfErr, OnErr, IsOk, IfSome};
-ghost use Rattle.indexset_core.specs.Nodes.{joined, node_at};
+ghost use Rattle.indexset_core.specs.Nodes.{joined, node_at, IsLawful};
 ghost use Rattle.indexset_core.specs.Order.{equal_element, has_equal};
 ghost use Rattle.indexset_log.specs.Changed.{Changed, Fits, ItemsTold, refusal_of, removal_change, taken_change};
 ghost use Rattle.indexset_events.specs.Clones.{IsTold};
@@ -11,7 +11,7 @@ ghost use Rattle.indexset_log.specs.Taking.{after_taking, events_from, item_from
 ghost use Rattle.indexset_log.specs.Tree.{refusal_for};
 
 use super::BTreeSet;
-use crate::nodes::{fit_together, take_and_join};
+use crate::nodes::{fit_together, take_and_join, take_out};
 use indexset_core::node::NodeLike;
 use indexset_core::refusal::Refusal;
 use indexset_events::change::ChangeEvent;
@@ -40,8 +40,6 @@ impl<T: Ord + Clone + Drop, Node: NodeLike<T>> BTreeSet<T, Node> {
         ensures told { IfOk result (λ r. ItemsTold T.cmp T.is_clone self.old self.new
             (removal_change T.cmp self.old value.now) r.1.items) }
     {
-        // The nodes are lawful.
-        let _nodes = &self.nodes;
         let place = self.place_of(value);
         self.remove_from_cdc(place)
     }
@@ -65,8 +63,6 @@ impl<T: Ord + Clone + Drop, Node: NodeLike<T>> BTreeSet<T, Node> {
         ensures told { IfOk result (λ r. ItemsTold T.cmp T.is_clone self.old self.new
             (taken_change self.old node offset r.0) r.1.items) }
     {
-        // The nodes are lawful.
-        let _nodes = &self.nodes;
         let join = self.join_after(node);
         self.check_removal(join)?;
         let events = self.removal_log(node, offset, join)?;
@@ -93,8 +89,6 @@ impl<T: Ord + Clone + Drop, Node: NodeLike<T>> BTreeSet<T, Node> {
         ensures changed { OnOk result (Changed T.cmp self.old self.new
             (removal_change T.cmp self.old value.now)) }
     {
-        // The nodes are lawful.
-        let _nodes = &self.nodes;
         let place = self.place_of(value);
         self.remove_from(place)
     }
@@ -119,8 +113,6 @@ impl<T: Ord + Clone + Drop, Node: NodeLike<T>> BTreeSet<T, Node> {
         ensures changed { IfOk result (λ item. Changed T.cmp self.old self.new
             (taken_change self.old node offset item)) }
     {
-        // The nodes are lawful.
-        let _nodes = &self.nodes;
         let join = self.join_after(node);
         self.check_removal(join)?;
         self.take(node, offset, join)
@@ -201,8 +193,10 @@ impl<T: Ord + Clone + Drop, Node: NodeLike<T>> BTreeSet<T, Node> {
     // is.
     fn join_after(&self, node: usize) -> Option<usize>
         requires { node < length self.now.nodes }
-        ensures { (i : ℕ) → i < length (node_at self.now.nodes node)
+        ensures join { (i : ℕ) → i < length (node_at self.now.nodes node)
             → result ≡ join_after self.now.size self.now.nodes node i }
+        ensures lawful { IsLawful T.cmp self.now.size self.now.nodes }
+        ensures two { 2 ≤ self.now.size }
     {
         if self.nodes[node].len() == 1 {
             return None;
@@ -294,7 +288,7 @@ impl<T: Ord + Clone + Drop, Node: NodeLike<T>> BTreeSet<T, Node> {
         ensures never { Node.allocates ≡ false → IsOk result }
         ensures unchanged { OnErr result (self.new ≡ self.old) }
     {
-        let item = take_and_join(&mut self.nodes, node, offset, left)?;
+        let item = take_and_join(&mut self.nodes, &mut self.index, node, offset, left)?;
         self.next += 2;
         self.len -= 1;
         Ok(item)
@@ -311,11 +305,7 @@ impl<T: Ord + Clone + Drop, Node: NodeLike<T>> BTreeSet<T, Node> {
     {
         self.next += 1;
         self.len -= 1;
-        if self.nodes[node].len() == 1 {
-            let mut emptied = self.nodes.remove(node);
-            return emptied.remove_at(offset);
-        }
-        self.nodes[node].remove_at(offset)
+        take_out(&mut self.nodes, &mut self.index, node, offset)
     }
 }
 

@@ -6,6 +6,7 @@ ghost use Rattle.indexset_core.specs.Nodes.{joined};
 ghost use Rattle.indexset_log.specs.Made.{outside, without_range};
 
 use super::BTreeSet;
+use indexset_core::walk::ReadVec;
 use std::ops::Bound;
 
 impl<T: Ord + Clone + Drop> BTreeSet<T, Vec<T>> {
@@ -23,6 +24,10 @@ impl<T: Ord + Clone + Drop> BTreeSet<T, Vec<T>> {
     {
         self.len = remove_within(self.nodes.as_mut_slice(), range);
         self.nodes.retain(|node| !node.is_empty());
+        // There is room for as many lengths as there were, and their sum fits.
+        let _count = self.index.len();
+        self.index
+            .rebuild::<T, Vec<T>, ReadVec>(self.nodes.as_slice());
     }
 }
 

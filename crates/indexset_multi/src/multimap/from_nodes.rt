@@ -1,8 +1,7 @@
 //! Multimaps made of nodes.
-ghost use Rattle.std.specs.Prelude.{◌≡◌, ◌≤◌, ◌<◌, true, false, length, map, None, MatchOption, IsOk, IfOk, OnOk, IfErr};
+ghost use Rattle.std.specs.Prelude.{◌≡◌, ◌≤◌, true, false, map, None, MatchOption, IfOk, OnOk, IfErr};
 ghost use Rattle.std.specs.Option.{unwrap_or};
-ghost use Rattle.indexset_core.specs.MultiPairs.{by_number};
-ghost use Rattle.indexset_core.specs.Nodes.{joined, IsLawful};
+ghost use Rattle.indexset_core.specs.Nodes.{joined};
 ghost use Rattle.indexset_multi.specs.Attach.{free_number, has_greatest, pair_nodes_refusal};
 
 use super::BTreeMultiMap;
@@ -20,11 +19,10 @@ impl<K: Ord + Clone + Drop, V: Eq + Clone + Drop, Node: NodeLike<MultiPair<K, V>
     /// Returns the multimap of these nodes, whose first event has the number `next`: it goes on
     /// where another stopped. The number of the next new pair is one above the greatest number
     /// among all pairs, and 0 where there are none. The nodes are taken as they are, no pair is
-    /// copied, nothing is allocated, and no number is used up; each pair's number is read once, and
-    /// neighbouring nodes are compared once. Fails with `PairNumber` where a pair has the greatest
-    /// number, before all that `from_nodes` of the set refuses. A failed call returns the nodes in
-    /// the error. No call fails where the nodes are lawful for this size, no pair has the greatest
-    /// number and the number of pairs is a usize.
+    /// copied, and no number is used up; each pair's number is read once, neighbouring nodes are
+    /// compared once, and one number for each node is allocated. Fails with `PairNumber` where a
+    /// pair has the greatest number, before all that `from_nodes` of the set refuses. A failed call
+    /// returns the nodes in the error.
     pub fn from_nodes(nodes: Vec<Node>, size: usize, next: u64) -> Result<Self, Refused<Vec<Node>>>
         requires two { 2 ≤ size }
         requires within { size ≤ Node.most }
@@ -40,12 +38,6 @@ impl<K: Ord + Clone + Drop, V: Eq + Clone + Drop, Node: NodeLike<MultiPair<K, V>
             ≡ None) }
         ensures refusal { IfErr result (λ e. e.cause ≡ unwrap_or
             (pair_nodes_refusal K.cmp size (map Node.list nodes.items)) Refusal.Memory) }
-        ensures memory { IfErr result (λ e. pair_nodes_refusal K.cmp size
-            (map Node.list nodes.items) ≡ None → usize.MAX
-            < length (joined (map Node.list nodes.items))) }
-        ensures lawful { IsLawful (by_number K.cmp) size (map Node.list nodes.items)
-            → has_greatest (joined (map Node.list nodes.items)) ≡ false
-            → length (joined (map Node.list nodes.items)) ≤ usize.MAX → IsOk result }
         ensures given_back { IfErr result (λ e. e.value ≡ nodes) }
     {
         let Some(pair_next) = free_number_of_nodes(nodes.as_slice()) else {

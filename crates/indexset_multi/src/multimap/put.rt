@@ -1,8 +1,9 @@
 //! Insertion of pairs.
-ghost use Rattle.std.specs.Prelude.{◌≡◌, false, is_err, IfOk, OnOk, IfErr, OnErr};
+ghost use Rattle.std.specs.Prelude.{◌≡◌, ◌+◌, ◌==◌, false, is_err, IfOk, OnOk, IfErr, OnErr};
 ghost use Rattle.std.specs.Option.{option_map};
+ghost use Rattle.indexset_core.specs.MultiPairs.{numbered_pair};
 ghost use Rattle.indexset_core.specs.Nodes.{joined};
-ghost use Rattle.indexset_multi.specs.Changed.{IsInserted, MultiChanged, MultiTold, insertion};
+ghost use Rattle.indexset_multi.specs.Changed.{IsAdded, IsInserted, MultiChanged, MultiTold, addition, addition_refusal, insertion};
 ghost use Rattle.indexset_multi.specs.Keys.{equal_pair, kept_number};
 ghost use Rattle.indexset_multi.specs.Tree.{insertion_refusal, inserted_pair, lacks_number, pair_next_after};
 
@@ -81,6 +82,76 @@ impl<K: Ord + Clone + Drop, V: Eq + Clone + Drop, Node: NodeLike<MultiPair<K, V>
         Ok(value_in(old))
     }
 
+    /// Inserts a pair as the last of its key, whatever values the key has, and returns the events. It
+    /// compares no values, so its cost does not grow with the number of the key's pairs: one search for
+    /// the place. Fails with `Numbers` where the events do not fit or no number remains for the pair,
+    /// else with `Memory`. A failed call returns key and value in the error and changes nothing.
+    pub fn push_cdc(
+        &mut self,
+        key: K,
+        value: V,
+    ) -> Result<Vec<ChangeEvent<MultiPair<K, V>>>, Refused<(K, V)>>
+        ensures refusal { IfErr result (λ e. e.cause ≡ addition_refusal K.cmp self.old key value) }
+        ensures given_back { IfErr result (λ e. e.value ≡ (key, value)) }
+        ensures unchanged { OnErr result (self.new ≡ self.old) }
+        ensures added { OnOk result (IsAdded K.cmp self.old self.new key value) }
+        ensures changed { OnOk result (MultiChanged K.cmp self.old self.new
+            (addition K.cmp self.old key value)) }
+        ensures told { IfOk result (λ events. MultiTold K.cmp K.is_clone V.is_clone self.old
+            self.new (addition K.cmp self.old key value) events.items) }
+    {
+        // The contract of `node_count` says that the pairs ascend, with numbers below the next.
+        let _nodes = self.node_count();
+        let (pair, pair_next) = self.new_pair(key, value)?;
+        let (_, events) = self.set.put_cdc(pair)?;
+        self.pair_next = pair_next;
+        Ok(events)
+    }
+
+    /// Inserts a pair as the last of its key, as `push_cdc` does, and consumes as many event numbers. A
+    /// failed call returns key and value in the error and changes nothing.
+    ///
+    /// ```
+    /// let mut scores: multimap::BTreeMultiMap<u64, u64, Vec<MultiPair<u64, u64>>> = multimap::BTreeMultiMap::new(alloc);
+    /// for (round, score) in [(1, 100), (1, 100), (2, 50)] {
+    ///     scores.push(round, score)?;
+    /// }
+    /// assert!(rt; scores.get(&1).map(|(_, score)| *score).eq([100, 100]));
+    /// ```
+    pub fn push(&mut self, key: K, value: V) -> Result<(), Refused<(K, V)>>
+        ensures refusal { IfErr result (λ e. e.cause ≡ addition_refusal K.cmp self.old key value) }
+        ensures given_back { IfErr result (λ e. e.value ≡ (key, value)) }
+        ensures unchanged { OnErr result (self.new ≡ self.old) }
+        ensures added { OnOk result (IsAdded K.cmp self.old self.new key value) }
+        ensures changed { OnOk result (MultiChanged K.cmp self.old self.new
+            (addition K.cmp self.old key value)) }
+    {
+        // The contract of `node_count` says that the pairs ascend, with numbers below the next.
+        let _nodes = self.node_count();
+        let (pair, pair_next) = self.new_pair(key, value)?;
+        self.set.put(pair)?;
+        self.pair_next = pair_next;
+        Ok(())
+    }
+
+    // Returns a pair with the next number, and the number of the next new pair after it.
+    fn new_pair(&self, key: K, value: V) -> Result<(MultiPair<K, V>, u64), Refused<(K, V)>>
+        ensures answer { IfOk result (λ r. r
+            ≡ (numbered_pair key value self.now.pair_next, self.now.pair_next + 1)) }
+        ensures refusal { is_err result ≡ (self.now.pair_next == u64.MAX) }
+        ensures cause { IfErr result (λ e. e.cause ≡ Refusal.Numbers) }
+        ensures given_back { IfErr result (λ e. e.value ≡ (key, value)) }
+    {
+        let number = self.pair_next;
+        match number.checked_add(1) {
+            Some(pair_next) => Ok((MultiPair::new(key, value, number), pair_next)),
+            None => Err(Refused {
+                value: (key, value),
+                cause: Refusal::Numbers,
+            }),
+        }
+    }
+
     // Returns the pair that an insertion puts, and the number of the next new pair after it.
     fn pair_for(&self, key: K, value: V) -> Result<(MultiPair<K, V>, u64), Refused<(K, V)>>
         ensures answer { IfOk result (λ r.
@@ -92,17 +163,10 @@ impl<K: Ord + Clone + Drop, V: Eq + Clone + Drop, Node: NodeLike<MultiPair<K, V>
         ensures cause { IfErr result (λ e. e.cause ≡ Refusal.Numbers) }
         ensures given_back { IfErr result (λ e. e.value ≡ (key, value)) }
     {
-        let number = self.pair_next;
         if let Some(kept) = self.kept_number(&key, &value) {
-            return Ok((MultiPair::new(key, value, kept), number));
+            return Ok((MultiPair::new(key, value, kept), self.pair_next));
         }
-        match number.checked_add(1) {
-            Some(pair_next) => Ok((MultiPair::new(key, value, number), pair_next)),
-            None => Err(Refused {
-                value: (key, value),
-                cause: Refusal::Numbers,
-            }),
-        }
+        self.new_pair(key, value)
     }
 
     // Returns the number of the first pair of the key with an equal value.

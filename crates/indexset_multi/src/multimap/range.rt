@@ -2,8 +2,9 @@
 ghost use Rattle.std.specs.Prelude.{◌≡◌, ◌≤◌, IsTrue, length, IfSome, Some};
 ghost use Rattle.std.specs.Iterator.{UpTo, at_most};
 ghost use Rattle.std.specs.Iterator.SizeHint.{IsWithinCount};
-ghost use Rattle.std.specs.List.{between};
+ghost use Rattle.std.specs.List.{between, count_by};
 ghost use Rattle.std.specs.Map.Iter.{TakesFirst, TakesLast, ShowsInOrder, ShowsInReverse, deref};
+ghost use Rattle.std.specs.Ordering.{is_lt};
 ghost use Rattle.std.specs.Range.Bound.{bound_map};
 ghost use Rattle.indexset_core.specs.Bounds.{are_ordered};
 ghost use Rattle.indexset_core.specs.Nodes.{joined};
@@ -23,7 +24,7 @@ use std::ops::Bound;
 /// The remaining pairs of a part of a multimap, from both ends.
 #[derive(Drop)]
 pub struct Range<'a, K: Ord + Clone + Drop, V: Eq + Clone + Drop, Node: NodeLike<MultiPair<K, V>>> {
-    rest: range::Range<'a, MultiPair<K, V>, Node>,
+    pub(super) rest: range::Range<'a, MultiPair<K, V>, Node>,
 }
 
 impl<'a, K: Ord + Clone + Drop, V: Eq + Clone + Drop, Node: NodeLike<MultiPair<K, V>>> Model
@@ -234,6 +235,8 @@ impl<K: Ord + Clone + Drop, V: Eq + Clone + Drop, Node: NodeLike<MultiPair<K, V>
         ensures to { IsPlace self.now.nodes result.1 }
         ensures order { items_before self.now.nodes result.0
             ≤ items_before self.now.nodes result.1 }
+        ensures before { items_before self.now.nodes result.0
+            ≡ count_by (λ p. is_lt (K.cmp p.key key.now)) (joined self.now.nodes) }
         ensures pairs { between (items_before self.now.nodes result.0)
             (items_before self.now.nodes result.1) (joined self.now.nodes)
             ≡ pairs_of K.cmp (joined self.now.nodes) key.now }

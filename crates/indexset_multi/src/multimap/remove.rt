@@ -145,7 +145,7 @@ impl<K: Ord + Clone + Drop, V: Eq + Clone + Drop, Node: NodeLike<MultiPair<K, V>
     }
 
     // Returns where the first pair of a key with an equal value stands.
-    fn equal_place(&self, key: &K, value: &V) -> Option<(usize, usize)>
+    pub(super) fn equal_place(&self, key: &K, value: &V) -> Option<(usize, usize)>
         ensures place { IsItemPlace self.now.nodes result }
         ensures pair { placed_item self.now.nodes result
             ≡ equal_pair K.cmp V.eq (joined self.now.nodes) key.now value.now }
@@ -191,7 +191,7 @@ impl<K: Ord + Clone + Drop, V: Eq + Clone + Drop, Node: NodeLike<MultiPair<K, V>
     }
 
     // Removes the pair at a place, where one is given.
-    fn take(&mut self, place: Option<(usize, usize)>) -> Result<Option<(K, V)>, Refusal>
+    pub(super) fn take(&mut self, place: Option<(usize, usize)>) -> Result<Option<(K, V)>, Refusal>
         requires { IsItemPlace self.old.nodes place }
         ensures tree { OnOk result (self.new ≡ after_removal K.cmp self.old
             (placed_item self.old.nodes place)) }

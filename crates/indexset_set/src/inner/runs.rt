@@ -1,4 +1,4 @@
-//! Values in ascending order, gathered in a run that goes in by blocks.
+//! Values in ascending order, gathered in a run that is appended by blocks.
 ghost use Rattle.std.specs.Prelude.{◌≡◌, [], ◌∷◌, ◌++◌, None, true, false, ◌<◌, IsTrue, IfOk, IfSome, OnOk, IfErr, OnErr, vec_len, vec_capacity};
 ghost use Rattle.indexset_core.specs.Order.{IsAscending};
 ghost use Rattle.indexset_spine.specs.Cut.{items, with_all_last};
@@ -6,10 +6,9 @@ ghost use Rattle.indexset_spine.specs.Cut.{items, with_all_last};
 use crate::BTreeSet;
 use indexset_core::refusal::{Refusal, Refused};
 
-/// Puts a value that is above all behind a run, whose values are yet to go behind the elements, and
-/// returns `None`. Any other value it returns, once it has moved the run. It makes one comparison.
-/// Fails with `Memory`: a failed call returns the value in the error, and has moved a prefix of the
-/// run.
+/// Appends a value that is above all to a run, whose values are not yet in the set, and returns
+/// `None`; else appends the run to the set, and returns the value. It makes one comparison. Fails
+/// with `Memory`: a failed call returns the value in the error, and has moved a prefix of the run.
 pub fn join_run<T: Ord + Drop>(
     set: &mut BTreeSet<T>,
     run: &mut Vec<T>,
@@ -71,8 +70,8 @@ fn ready_run<T: Ord + Drop>(
     Ok(())
 }
 
-/// Moves the values of a run behind the elements, by blocks and with no comparison. Fails with
-/// `Memory`: a failed call has moved a prefix.
+/// Appends the values of a run to the set, by blocks and with no comparison. Fails with `Memory`: a
+/// failed call has moved a prefix.
 pub fn take_run<T: Ord + Drop>(set: &mut BTreeSet<T>, run: &mut Vec<T>) -> Result<(), Refusal>
     requires order { IsAscending T.cmp (items set.old ++ run.old.items) }
     ensures items { items set.new ++ run.new.items ≡ items set.old ++ run.old.items }

@@ -31,8 +31,8 @@ pub fn spot_by<T: Ord, P: Probe<T>>(set: &BTreeSet<T>, probe: &mut P) -> Spot
     set.spine.locate_by(probe)
 }
 
-/// Does the same, with the last element compared first: if it is below what is sought, no other
-/// comparison follows. It is for elements that come in order.
+/// Returns the same with the last element compared first: if it is Less, no other comparison
+/// follows. For elements that come in order.
 pub fn spot_from_end_by<T: Ord, P: Probe<T>>(set: &BTreeSet<T>, probe: &mut P) -> Spot
     requires { FindsInOrder (P.answer probe.old) (items set.now) }
     ensures sought { IsSought (P.answer probe.old) set.now.nodes result }
@@ -47,7 +47,7 @@ pub fn spot_from_end_by<T: Ord, P: Probe<T>>(set: &BTreeSet<T>, probe: &mut P) -
     set.spine.locate_from_end_by(probe)
 }
 
-/// Returns the spot of the least element, or `None` where there is none.
+/// Returns the spot of the least element, if any.
 pub fn first_spot<T: Ord>(set: &BTreeSet<T>) -> Option<Spot>
     ensures { MatchOption result (length (items set.now) ≡ 0)
         (λ s. IsItemSpot set.now.nodes s × (position_of set.now.nodes s ≡ 0) × IsTrue s.found) }
@@ -55,7 +55,7 @@ pub fn first_spot<T: Ord>(set: &BTreeSet<T>) -> Option<Spot>
     set.spine.first_spot()
 }
 
-/// Returns the spot of the greatest element, or `None` where there is none.
+/// Returns the spot of the greatest element, if any.
 pub fn last_spot<T: Ord>(set: &BTreeSet<T>) -> Option<Spot>
     ensures { MatchOption result (length (items set.now) ≡ 0)
         (λ s. IsItemSpot set.now.nodes s × (position_of set.now.nodes s
@@ -64,7 +64,7 @@ pub fn last_spot<T: Ord>(set: &BTreeSet<T>) -> Option<Spot>
     set.spine.last_spot()
 }
 
-/// Returns the spot after the elements before the start, a bound on what a probe seeks, by two
+/// Returns the spot after the elements before the start, a bound given by a comparator, by two
 /// binary searches.
 pub fn start_of<T: Ord, P: Probe<T> + Drop>(set: &BTreeSet<T>, start: Bound<P>) -> Spot
     requires { IfBounded (λ p. FindsInOrder (P.answer p) (items set.now)) start }
@@ -75,7 +75,7 @@ pub fn start_of<T: Ord, P: Probe<T> + Drop>(set: &BTreeSet<T>, start: Bound<P>) 
     set.spine.start_of(start)
 }
 
-/// Returns how many elements stand before a spot, which the index tells.
+/// Returns how many elements are before a spot, by the index.
 pub fn position<T: Ord>(set: &BTreeSet<T>, spot: &Spot) -> usize
     requires { IsSpot set.now.nodes spot.now }
     ensures { result ≡ position_of set.now.nodes spot.now }
@@ -83,8 +83,8 @@ pub fn position<T: Ord>(set: &BTreeSet<T>, spot: &Spot) -> usize
     set.spine.position(spot)
 }
 
-/// Returns the spot of the element at a position. It asks the index only where the element is not
-/// in the node `near`, before which `start` elements stand.
+/// Returns the spot of the element at a position. It reads the index only where the element is not
+/// in the node `near`, before which there are `start` elements.
 pub fn spot_near<T: Ord>(set: &BTreeSet<T>, near: usize, start: usize, i: usize) -> Spot
     requires near { start ≡ sum (take near (node_lengths set.now.nodes)) }
     requires inside { i < length (items set.now) }
@@ -103,9 +103,9 @@ pub fn element<'a, T: Ord>(set: &'a BTreeSet<T>, spot: &Spot) -> &'a T
     set.spine.item(spot)
 }
 
-/// Inserts a value at the spot where a search for it ended, and returns the spot where it then
-/// stands. It makes no comparison. Fails with `Memory`: a failed call returns the value in the
-/// error and changes nothing.
+/// Inserts a value at the spot where a search for it ended, and returns its spot. It makes no
+/// comparison. Fails with `Memory`: a failed call returns the value in the error and changes
+/// nothing.
 pub fn insert_at<T: Ord + Drop>(
     set: &mut BTreeSet<T>,
     spot: Spot,

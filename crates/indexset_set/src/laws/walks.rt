@@ -14,20 +14,20 @@ ghost use Rattle.indexset_set.specs.SetAlgebra.{difference, intersection, symmet
 ghost use Rattle.indexset_set.specs.SetRanges.{not_below};
 ghost use Rattle.indexset_set.specs.SetWalks.{Pulls, given_at_back, given_in_front};
 
-/// Over any turns from either end, what an iterator gave in front, what it has left, and what it
-/// gave at the back are its list: it gives each item once.
+/// Whatever calls of `next` and `next_back`, what an iterator yielded in front, what remains and
+/// what it yielded at the back are its list: it yields each item once.
 pub fn a_walk_gives_each_item_once<T>()
     ensures { (ends : List Bool) (s t : List T) (rs : List (Option _)) → Pulls deref ends s rs t
         → s ≡ given_in_front deref ends rs ++ (t ++ given_at_back deref ends rs) }
 {}
 
-/// Each turn leaves one item less, until none is left.
+/// Each call leaves one item less, until none remains.
 pub fn a_walk_ends<T>()
     ensures { (ends : List Bool) (s t : List T) (rs : List (Option _)) → Pulls deref ends s rs t
         → length t ≡ length s - length ends }
 {}
 
-/// With nothing remaining, either end returns `None`.
+/// With no item remaining, `next` and `next_back` return `None`: the iterator is fused.
 pub fn a_walk_stays_at_its_end<T>()
     ensures first { (r : Option _) (t : List T) → TakesFirst deref [] r t → (r ≡ None) × (t ≡ []) }
     ensures last { (r : Option _) (t : List T) → TakesLast deref [] r t → (r ≡ None) × (t ≡ []) }
@@ -40,7 +40,7 @@ pub fn positions_satisfy_both_bounds<T>()
         (filter (λ p. is_at_position start end p.0) (enumerate_from 0 l)) }
 {}
 
-/// A cut at a value leaves what is below it, and removes the others: nothing is lost.
+/// `split_off` at a value leaves what is below it, and returns the others: nothing is lost.
 pub fn a_cut_parts_the_list<T>()
     ensures parts { (cmp : T → T → Ordering) (l : List T) → IsTotalOrder cmp → IsAscending cmp l
         → (v : T) → below cmp l v ++ not_below cmp l v ≡ l }
@@ -50,8 +50,8 @@ pub fn a_cut_parts_the_list<T>()
         → All (λ x. is_lt (cmp x v) ≡ false) (not_below cmp l v) }
 {}
 
-/// A union ascends, has an equal one of each element of either list and of nothing else, and of equal
-/// ones the first list's.
+/// A union ascends, contains an equal one of each element of either list and of nothing else, and
+/// of equal ones the first list's.
 pub fn a_union_has_the_elements_of_either<T>()
     ensures ascending { (cmp : T → T → Ordering) (l r : List T) → IsTotalOrder cmp
         → IsAscending cmp l → IsAscending cmp (union cmp l r) }
@@ -88,7 +88,7 @@ pub fn a_symmetric_difference_has_what_either_has_alone<T>()
         (has_equal cmp r x && not (has_equal cmp l x))) }
 {}
 
-/// A union is as long as both lists, less what they have in common.
+/// The lengths of union and intersection add up to those of the lists.
 pub fn lengths_of_union_and_intersection<T>()
     ensures { (cmp : T → T → Ordering) (l r : List T) → IsTotalOrder cmp → IsAscending cmp l
         → IsAscending cmp r → length (union cmp l r) + length (intersection cmp l r)

@@ -3,7 +3,7 @@
 use super::IntoIter;
 use std::fmt;
 
-/// How many items remain: their holder lends no slice.
+/// How many items remain: `vec::IntoIter` has no `as_slice`.
 impl<T> fmt::Debug for IntoIter<T> {
     fn fmt<W: fmt::Write>(&self, f: &mut fmt::Formatter<W>) -> fmt::Result {
         f.debug_struct("IntoIter")

@@ -1,4 +1,4 @@
-//! Two iterators compared by runs, the items that stand in one node.
+//! Two iterators compared by runs, the items of one node.
 ghost use Rattle.std.specs.Prelude.{◌≡◌, ◌<◌, ◌++◌, length};
 ghost use Rattle.std.specs.Cmp.Lexicographic.{pointwise};
 
@@ -30,7 +30,7 @@ pub fn have_equal_items<'a, T: PartialEq>(mut left: Iter<'a, T>, mut right: Iter
     }
 }
 
-// Returns the run, or where it is used up, the next one of the iterator.
+// Returns the run, or where it is empty, the next one of the iterator.
 fn or_next_run<'a, T>(run: &'a [T], walk: &mut Iter<'a, T>) -> &'a [T]
     ensures taken { result.now ++ walk.new ≡ run.now ++ walk.old }
     ensures some { 0 < length (run.now ++ walk.old) → 0 < length result.now }

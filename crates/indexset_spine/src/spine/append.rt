@@ -13,8 +13,8 @@ use indexset_core::refusal::Refusal;
 use indexset_core::walk::ReadVec;
 
 impl<T: Drop> Spine<T> {
-    /// Moves the items of another spine behind those of this one, as `append_items` does, and leaves the
-    /// other one empty node.
+    /// Appends the items of another spine, as `append_items` does, and leaves the other one empty
+    /// node.
     pub fn append(&mut self, other: &mut Spine<T>) -> Result<(), Refusal>
         ensures nodes { OnOk result (self.new.nodes
             ≡ with_all_last self.old.size self.old.nodes (items other.old)) }
@@ -39,9 +39,8 @@ impl<T: Drop> Spine<T> {
         moved
     }
 
-    /// Moves the items of a list behind those of this spine, each as `insert` puts it there: only a
-    /// full node is halved. They move by blocks, as many at once as the last node has room for. A
-    /// failed call has moved some first items so, and leaves the others.
+    /// Appends the items of a list, by blocks, to the nodes that `insert` of each would leave. A
+    /// failed call has moved a prefix, and leaves the others.
     pub fn append_items(&mut self, from: &mut Vec<T>) -> Result<(), Refusal>
         ensures nodes { OnOk result (self.new.nodes
             ≡ with_all_last self.old.size self.old.nodes from.old.items) }

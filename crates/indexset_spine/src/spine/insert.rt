@@ -14,9 +14,9 @@ use indexset_core::walk::ReadVec;
 use indexset_index::fenwick::Fenwick;
 
 impl<T: Drop> Spine<T> {
-    /// Inserts an item at a spot, and returns the spot where it then stands. A full node is first
-    /// halved, and the item goes right where the offset is above half its length, else left. A
-    /// failed call returns the item in the error and changes nothing.
+    /// Inserts an item at a spot, and returns its spot. A full node is first halved, and the item
+    /// goes right where the offset is above half its length, else left. A failed call returns the
+    /// item in the error and changes nothing.
     pub fn insert(&mut self, spot: Spot, value: T) -> Result<Spot, Refused<T>>
         requires { IsSpot self.old.nodes spot }
         ensures nodes { OnOk result (self.new.nodes

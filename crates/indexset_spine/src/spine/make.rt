@@ -10,7 +10,7 @@ use indexset_index::fenwick::Fenwick;
 use std::alloc::Global;
 
 impl<T: Drop> Spine<T> {
-    /// One empty node, of at most `size` items.
+    /// Returns a spine of one empty node, of at most `size` items.
     pub fn new(alloc: Global, size: usize) -> Result<Self, Refusal>
         requires { 2 ≤ size }
         ensures nodes { IfOk result (λ s. s.nodes ≡ [] ∷ []) }
@@ -30,8 +30,9 @@ impl<T: Drop> Spine<T> {
         }
     }
 
-    /// Nodes as long as these, of clones of their items: the same nodes where clones are identical to
-    /// their sources. It fails with `Memory` alone, and then drops the clones made so far.
+    /// Returns nodes of the same lengths, of clones of the items: the same nodes where clones are
+    /// identical to their sources. It fails with `Memory` alone, and then drops the clones made so
+    /// far.
     pub fn clone(&self) -> Result<Self, Refusal>
     where
         T: Clone,

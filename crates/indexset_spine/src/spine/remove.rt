@@ -12,7 +12,7 @@ use indexset_index::fenwick::Fenwick;
 use std::mem;
 
 impl<T: Drop> Spine<T> {
-    /// Removes the item at a spot. An emptied node goes too, unless it is the only one.
+    /// Removes the item at a spot. An emptied node is removed too, unless it is the only one.
     pub fn remove(&mut self, spot: Spot) -> T
         requires { IsItemSpot self.old.nodes spot }
         ensures value { slice_get (items self.old) (position_of self.old.nodes spot) ≡ Some result }

@@ -12,8 +12,8 @@ use indexset_core::walk::ReadVec;
 
 impl<T: Drop> Spine<T> {
     /// Calls the closure once for each item, first to last, and keeps the items for which it
-    /// returned true, as it left them, each in its node. An emptied node goes, unless all are. It
-    /// allocates nothing.
+    /// returned true, as it left them, each in its node. An emptied node is removed, unless all
+    /// are. It allocates nothing.
     pub fn retain_mut<F: FnMut(&mut T) -> bool>(&mut self, f: F)
         requires { F.IsAlwaysCallable f }
         ensures nodes { RetainsNodes (CalledAtMut F.FnMut) f self.old.nodes self.new.nodes }
@@ -55,8 +55,8 @@ fn retain_nodes<T: Drop, F: FnMut(&mut T) -> bool>(nodes: &mut Vec<Vec<T>>, mut 
     }
 }
 
-// Keeps the items for which the closure returns true: once one has gone, each of them is swapped
-// with the first that went.
+// Keeps the items for which the closure returns true: once one is removed, each of them is swapped
+// with the first that was.
 fn retain_node<T: Drop, F: FnMut(&mut T) -> bool>(node: &mut Vec<T>, f: &mut F)
     requires { F.IsAlwaysCallable f.old }
     ensures kept { RetainsTo (CalledAtMut F.FnMut) f.old node.old.items node.new.items f.new }

@@ -14,8 +14,8 @@ use indexset_index::fenwick::Fenwick;
 use std::mem;
 
 impl<T: Drop> Spine<T> {
-    /// Removes the items from a spot on, as a spine of the same size. All memory is asked for
-    /// before an item moves; a failed call changes nothing.
+    /// Removes the items from a spot on, as a spine of the same size. It allocates before an item
+    /// moves; a failed call changes nothing.
     pub fn split_off(&mut self, spot: Spot) -> Result<Spine<T>, Refusal>
         requires { IsSpot self.old.nodes spot }
         ensures nodes { OnOk result (self.new.nodes ≡ left_nodes self.old.nodes spot) }

@@ -2,8 +2,8 @@
 use super::put;
 use bytes::ByteStr;
 use indexset_core::probe::Counting;
+use indexset_core::text::{ByStr, OnKey};
 use indexset_map::BTreeMap;
-use indexset_text::{ByStr, OnKey};
 use std::test::Fail;
 
 // The value of a name, and how many comparisons its look-up makes.

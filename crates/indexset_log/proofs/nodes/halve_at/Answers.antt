@@ -1,19 +1,31 @@
-use Rattle.std.proofs.Common.{◌≡◌, ◌/◌, length, map, set, get_or, take, drop, refl, ap, ◌∙◌}
+use Rattle.std.proofs.Common.{◌≡◌, ◌/◌, length, map, set, get_or, take, drop, refl, arith, ap, sym, ◌∙◌}
+use Rattle.std.proofs.lemmas.List.{length-map}
 use Rattle.std.proofs.lemmas.Option.{slice_get-get_or}
 use Rattle.std.proofs.Math.Seq.{map-set_same}
 use Rattle.indexset_core.specs.Nodes.{node_at}
 use Rattle.indexset_core.proofs.CallerLemmas.{on_err}
 use Rattle.indexset_events.proofs.CallerLemmas.{halved_view, node_is}
+use Rattle.indexset_events.specs.Edits.{with_halved}
+use Rattle.indexset_log.proofs.Indexes.{Rewrites, halved}
+use Rattle.indexset_log.proofs.nodes.halve_at.Given.{Over}
+use Rattle.indexset_log.proofs.nodes.halve_at.Goals.{After-as_slice, After-from_residual-in_err-right}
 use Rattle.indexset_log.proofs.nodes.halve_at.Goals as goal
 
-pub returns-in_err-right-clause-unchanged : goal.returns-in_err-right-clause-unchanged
-returns-in_err-right-clause-unchanged g c =
+-- a node that is not halved is as before
+kept : (g : Over) (c : After-from_residual-in_err-right g) → map g.Node.NodeLike.list (set c.reserve.new.self.items c.args.place c.halve.new.self) ≡ map g.Node.NodeLike.list c.args.nodes.now.items
+kept g c =
     let list = g.Node.NodeLike.list in
-    let kept : map list (set c.reserve.new.self.items c.args.place c.halve.new.self) ≡ map list c.args.nodes.now.items = rw c.reserve.ensures.items (map-set_same list c.args.nodes.now.items c.args.place c.halve.new.self c.index_mut-node.result.now (c.in_err-right.ensures.unchanged ∙ ap list (rw c.reserve.ensures.items at c.index_mut-node.ensures.value))) in
-    on_err _ kept
+    rw c.reserve.ensures.items (map-set_same list c.args.nodes.now.items c.args.place c.halve.new.self c.index_mut-node.result.now (c.in_err-right.ensures.unchanged ∙ ap list (rw c.reserve.ensures.items at c.index_mut-node.ensures.value)))
 
-pub returns-clause-nodes : goal.returns-clause-nodes
-returns-clause-nodes g c =
+pub returns-in_err-right-clause-unchanged : goal.returns-in_err-right-clause-unchanged
+returns-in_err-right-clause-unchanged g c = on_err _ (kept g c)
+
+pub returns-in_err-right-clause-index : goal.returns-in_err-right-clause-index
+returns-in_err-right-clause-index g c = rw (kept g c) (c.reserve_one.ensures.lengths ∙ c.requires.index)
+
+-- the nodes with the right half in its place
+made : (g : Over) (c : After-as_slice g) → map g.Node.NodeLike.list c.as_slice.result.now ≡ with_halved (map g.Node.NodeLike.list c.args.nodes.now.items) c.args.place
+made g c =
     let list = g.Node.NodeLike.list in
     let old = c.args.nodes.now.items in
     let k = c.args.place in
@@ -23,4 +35,19 @@ returns-clause-nodes g c =
     let node : list c.index_mut-node.result.now ≡ n = node_is list old (map list old) k c.index_mut-node.result.now refl c.requires.place (rw c.reserve.ensures.items at c.index_mut-node.ensures.value) in
     let left : list l ≡ take (length n / 2) n = rw node at c.in_ok-right.ensures.left in
     let right : list r ≡ drop (length n / 2) n = rw node at c.in_ok-right.ensures.right in
-    rw (c.in-Ok.ensures.items, c.reserve.ensures.items) (halved_view list old k (get_or old k l) l r (slice_get-get_or old k l c.requires.place) ∙ rw (left, right) refl)
+    rw (c.as_slice.ensures.value, c.in-Ok.ensures.items, c.reserve.ensures.items) (halved_view list old k (get_or old k l) l r (slice_get-get_or old k l c.requires.place) ∙ rw (left, right) refl)
+
+written : (g : Over) (c : After-as_slice g) → Rewrites c.reserve_one.new.self.lengths c.args.place (map g.Node.NodeLike.list c.as_slice.result.now)
+written g c =
+    let ns = map g.Node.NodeLike.list c.args.nodes.now.items in
+    halved ns c.args.place (made g c) (c.reserve_one.ensures.lengths ∙ c.requires.index) (omega (arith, c.requires.place, length-map c.args.nodes.now.items g.Node.NodeLike.list)) (omega (arith, c.requires.fits))
+
+pub rebuild_from-requires-clause-same : goal.rebuild_from-requires-clause-same
+rebuild_from-requires-clause-same g c = (written g c).same
+
+pub rebuild_from-requires-clause-fits : goal.rebuild_from-requires-clause-fits
+rebuild_from-requires-clause-fits g c = (written g c).fits
+
+pub returns-clause-nodes : goal.returns-clause-nodes
+returns-clause-nodes g c =
+    ap (map g.Node.NodeLike.list) (sym c.as_slice.ensures.value) ∙ made g (goal.at.returns-clause-nodes g c).After-as_slice

@@ -1,19 +1,28 @@
-use Rattle.std.proofs.Common.{◌≡◌, ◌+◌, ◌<◌, ◌⊎◌, ℕ, length, map, set, remove, inl, inr, refl, ap, sym, ◌∙◌, subst, arith}
+use Rattle.std.proofs.Common.{◌≡◌, ◌+◌, ◌<◌, ◌≤◌, ◌⊎◌, ℕ, length, map, set, sum, remove, inl, inr, refl, ap, sym, ◌∙◌, subst, arith}
 use Rattle.std.proofs.Math.Seq.{map-set_same}
 use Rattle.std.proofs.lemmas.List.{length-map}
 use Rattle.std.proofs.lemmas.List.Edits.{length-remove}
 use Rattle.indexset_core.specs.Nodes.{node_at}
 use Rattle.indexset_core.specs.Order.{IsAscending}
-use Rattle.indexset_core.proofs.CallerLemmas.{on_err}
+use Rattle.indexset_core.proofs.CallerLemmas.{length-joined, on_err}
 use Rattle.indexset_events.proofs.CallerLemmas.{first_list, left_joined, next_list, node_is, right_joined, two_seen}
+use Rattle.indexset_events.specs.Joining.{with_joined}
+use Rattle.indexset_log.proofs.Indexes.{Rewrites, merged}
+use Rattle.indexset_log.proofs.nodes.take_and_join.Given.{Over}
+use Rattle.indexset_log.proofs.nodes.take_and_join.Goals.{After-as_slice, After-from_residual, then-node-left, else-node-left}
 use Rattle.indexset_log.proofs.nodes.take_and_join.Goals as goal
-use Rattle.indexset_log.proofs.nodes.take_and_join.Goals.{then-node-left, else-node-left}
+
+-- a node that gets no room is as before
+kept : (g : Over) (c : After-from_residual g) → map g.Node.NodeLike.list (set c.args.nodes.now.items c.args.left c.reserve.new.self) ≡ map g.Node.NodeLike.list c.args.nodes.now.items
+kept g c =
+    let list = g.Node.NodeLike.list in
+    map-set_same list c.args.nodes.now.items c.args.left c.reserve.new.self c.index_mut-first.result.now (c.in_err-reserve.ensures.list ∙ ap list c.index_mut-first.ensures.value)
 
 pub returns-in_err-reserve-clause-unchanged : goal.returns-in_err-reserve-clause-unchanged
-returns-in_err-reserve-clause-unchanged g c =
-    let list = g.Node.NodeLike.list in
-    let kept : map list (set c.args.nodes.now.items c.args.left c.reserve.new.self) ≡ map list c.args.nodes.now.items = map-set_same list c.args.nodes.now.items c.args.left c.reserve.new.self c.index_mut-first.result.now (c.in_err-reserve.ensures.list ∙ ap list c.index_mut-first.ensures.value) in
-    on_err _ kept
+returns-in_err-reserve-clause-unchanged g c = on_err _ (kept g c)
+
+pub returns-in_err-reserve-clause-index : goal.returns-in_err-reserve-clause-index
+returns-in_err-reserve-clause-index g c = rw (kept g c) c.requires.index
 
 -- a node that is not the first is the one after it
 one_after : (k j : ℕ) → (k ≡ j) ⊎ (k ≡ j + 1) → (k ≡ j → ⊥) → k ≡ j + 1
@@ -86,8 +95,9 @@ absorb-requires-clause-order g c =
           rw (w.first-is, w.next-is) (subst (IsAscending g.T.Ord.cmp) (sym made) c.requires.order)
     ]
 
-pub returns-clause-nodes : goal.returns-clause-nodes
-returns-clause-nodes g c =
+-- the nodes once the two are one
+made : (g : Over) (c : After-as_slice g) → map g.Node.NodeLike.list c.as_slice.result.now ≡ with_joined (set (map g.Node.NodeLike.list c.args.nodes.now.items) c.args.node (remove (node_at (map g.Node.NodeLike.list c.args.nodes.now.items) c.args.node) c.args.offset)) c.args.left
+made g c =
     let list = g.Node.NodeLike.list in
     let items = c.args.nodes.now.items in
     let ns = map list items in
@@ -97,11 +107,36 @@ returns-clause-nodes g c =
     let next = next_list list items j c.requires.place c.index_mut-first.ensures.value c.in_ok-reserve.ensures.list c.remove-next.ensures.value in
     elim c.if-node-left.branch [
       | then-node-left w ↦
-          rw (c.remove-next.ensures.items, w.if-node-left.true) (two.first_made c.absorb.new.self (remove (node_at ns j) c.args.offset) (c.absorb.ensures.list ∙ rw (w.first-is, w.next-is, w.remove_at-item.ensures.list, first.1, next) refl))
+          rw (c.as_slice.ensures.value, c.remove-next.ensures.items, w.if-node-left.true) (two.first_made c.absorb.new.self (remove (node_at ns j) c.args.offset) (c.absorb.ensures.list ∙ rw (w.first-is, w.next-is, w.remove_at-item.ensures.list, first.1, next) refl))
       | else-node-left w ↦
           let place = one_after c.args.node j c.requires.node w.if-node-left.false in
-          rw (c.remove-next.ensures.items, place) (two.next_made c.absorb.new.self (remove (node_at ns (j + 1)) c.args.offset) (c.absorb.ensures.list ∙ rw (w.first-is, w.next-is, w.remove_at-item-else-node-left.ensures.list, first.1, next) refl))
+          rw (c.as_slice.ensures.value, c.remove-next.ensures.items, place) (two.next_made c.absorb.new.self (remove (node_at ns (j + 1)) c.args.offset) (c.absorb.ensures.list ∙ rw (w.first-is, w.next-is, w.remove_at-item-else-node-left.ensures.list, first.1, next) refl))
     ]
+
+-- one of the two nodes, or the other
+in_two : (k j : ℕ) → (k ≡ j) ⊎ (k ≡ j + 1) → (j ≤ k) × (k ≤ j + 1)
+in_two k j (inl same) = (omega (arith, same), omega (arith, same))
+in_two k j (inr next) = (omega (arith, next), omega (arith, next))
+
+written : (g : Over) (c : After-as_slice g) → Rewrites c.args.index.now.lengths c.args.left (map g.Node.NodeLike.list c.as_slice.result.now)
+written g c =
+    let list = g.Node.NodeLike.list in
+    let items = c.args.nodes.now.items in
+    let ns = map list items in
+    let at = in_two c.args.node c.args.left c.requires.node in
+    let many = length-map items list in
+    let less = length-remove (node_at ns c.args.node) c.args.offset c.requires.offset in
+    merged ns c.args.node _ c.args.left (made g c) c.requires.index (omega (arith, c.requires.place, many)) (omega (arith, c.requires.place, many, at.1)) at.0 (omega (arith, less)) (omega (arith, c.len-count.ensures.fits, ap sum c.requires.index, length-joined ns))
+
+pub rebuild_from-requires-clause-same : goal.rebuild_from-requires-clause-same
+rebuild_from-requires-clause-same g c = (written g c).same
+
+pub rebuild_from-requires-clause-fits : goal.rebuild_from-requires-clause-fits
+rebuild_from-requires-clause-fits g c = (written g c).fits
+
+pub returns-clause-nodes : goal.returns-clause-nodes
+returns-clause-nodes g c =
+    ap (map g.Node.NodeLike.list) (sym c.as_slice.ensures.value) ∙ made g (goal.at.returns-clause-nodes g c).After-as_slice
 
 pub returns-clause-item : goal.returns-clause-item
 returns-clause-item g c =

@@ -1,4 +1,4 @@
--- Some first elements were put in, and the others are left.
+-- A prefix was inserted, and the others remain.
 use Rattle.std.proofs.Common.{◌≡◌, length}
 use Rattle.indexset_core.specs.Order.{put}
 use Rattle.indexset_spine.specs.Cut.{cut, items}

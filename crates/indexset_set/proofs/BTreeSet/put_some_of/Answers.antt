@@ -10,7 +10,7 @@ use Rattle.indexset_spine.proofs.CallerLemmas.{takes_first}
 use Rattle.indexset_set.specs.SetNodes.{nodes_put}
 use Rattle.indexset_set.proofs.SetBulkLemmas.{item_is, rest_ascending}
 use Rattle.indexset_set.proofs.SetNodeLemmas.{put_new, put_there}
-use Rattle.indexset_set.proofs.SetPartLemmas.{tail_up}
+use Rattle.indexset_core.proofs.CallerLemmas.{tail_up}
 use Rattle.indexset_set.proofs.SetRunLemmas.{grown_up, taken_run, taken_run_nodes}
 use Rattle.indexset_set.proofs.BTreeSet.put_some_of.Given.{Over}
 use Rattle.indexset_set.proofs.BTreeSet.put_some_of.Goals as goal

@@ -1,8 +1,8 @@
 use Rattle.std.proofs.Common.{◌∙◌, length, ap, min}
 use Rattle.std.specs.Range.Bound.{start_index, end_index}
 use Rattle.indexset_spine.specs.Cut.{items}
-use Rattle.indexset_set.proofs.SetRangeLemmas.{clipped}
-use Rattle.indexset_set.proofs.SetPartLemmas.{between_up}
+use Rattle.indexset_core.proofs.CallerLemmas.{clipped}
+use Rattle.indexset_core.proofs.CallerLemmas.{between_up}
 use Rattle.indexset_set.proofs.BTreeSet.range_idx.Goals as goal
 
 pub returns-clause-ascending : goal.returns-clause-ascending

@@ -2,7 +2,7 @@ use Rattle.std.proofs.Common.{◌≡◌, ◌∙◌, false, subst, sym, true}
 use Rattle.std.specs.List.{All}
 use Rattle.std.specs.Ordering.{is_lt}
 use Rattle.indexset_set.proofs.SetBulkLemmas.{below_all, drop_not_below, not_below_all, take_below}
-use Rattle.indexset_set.proofs.SetPartLemmas.{front_up, tail_up}
+use Rattle.indexset_core.proofs.CallerLemmas.{front_up, tail_up}
 use Rattle.indexset_set.proofs.BTreeSet.split_off.Goals as goal
 
 pub invariant_of-self : goal.invariant_of-self

@@ -1,4 +1,4 @@
-use Rattle.indexset_set.proofs.SetPartLemmas.{front_up, tail_up}
+use Rattle.indexset_core.proofs.CallerLemmas.{front_up, tail_up}
 use Rattle.indexset_set.proofs.BTreeSet.split_off_index.Goals as goal
 
 pub invariant_of-self : goal.invariant_of-self

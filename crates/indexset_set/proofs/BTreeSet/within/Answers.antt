@@ -1,7 +1,7 @@
 use Rattle.std.proofs.Common.{◌∙◌}
 use Rattle.indexset_spine.specs.Cut.{items}
 use Rattle.indexset_core.proofs.CallerLemmas.{each_bounded, parted_by_item, probed_before, probed_up_to, range_order, range_is}
-use Rattle.indexset_set.proofs.SetPartLemmas.{between_up}
+use Rattle.indexset_core.proofs.CallerLemmas.{between_up}
 use Rattle.indexset_set.proofs.BTreeSet.within.Goals as goal
 
 pub start_of-from-requires : goal.start_of-from-requires

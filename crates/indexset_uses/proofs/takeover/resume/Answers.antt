@@ -15,8 +15,8 @@ led law ns after (e ∷ es) good is =
 pub returns-in_err-copy-clause-memory : goal.returns-in_err-copy-clause-memory
 returns-in_err-copy-clause-memory c =
     let good = led c.steps_lead_to_nodes.ensures.step [] _ _ (record { filled = λ k d lt. omega arith; ascending = search rules }) c.requires.snapshot in
-    let taken : false ≡ true = c.in_err-copy.ensures.lawful good in
-    cc
+    let cause = c.in_err-copy.ensures.lawful good in
+    grind (arith, common_steps, cause)
 
 -- the replica of the snapshot holds what the first events lead to
 pub returns-in_err-follow-clause-memory : goal.returns-in_err-follow-clause-memory

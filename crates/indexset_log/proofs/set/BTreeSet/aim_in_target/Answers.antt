@@ -12,10 +12,10 @@ use Rattle.indexset_log.proofs.set.BTreeSet.aim_in_target.Given.{Over}
 use Rattle.indexset_log.proofs.set.BTreeSet.aim_in_target.Goals.{After-as_slice-items, then-full, else-full}
 
 pub node_by-node-requires-clause-filled : goal.node_by-node-requires-clause-filled
-node_by-node-requires-clause-filled g c = rw c.as_slice.ensures.value (λ _. lawful_filled g.T.Ord.cmp c.self.inside.size _ c.self.invariant.lawful)
+node_by-node-requires-clause-filled g c = rw c.as_slice.ensures.value (λ _. lawful_filled g.T.Ord.cmp c.self.inside.size _ c.self.invariant.tree.lawful)
 
 pub node_by-node-requires-clause-parted : goal.node_by-node-requires-clause-parted
-node_by-node-requires-clause-parted g c = rw (c.new.ensures, c.as_slice.ensures.value) (lawful_parted g.T.Ord.cmp c.self.inside.size _ c.self.invariant.lawful g.met.T.Ord.total c.args.value.now)
+node_by-node-requires-clause-parted g c = rw (c.new.ensures, c.as_slice.ensures.value) (lawful_parted g.T.Ord.cmp c.self.inside.size _ c.self.invariant.tree.lawful g.met.T.Ord.total c.args.value.now)
 
 -- the target, as the code reads it
 read : (g : Over) (c : After-as_slice-items g) → (c.node_by-node.result ≡ node_for (λ x. g.T.Ord.cmp x c.args.value.now) c.args.self.now.nodes) × (c.node_by-node.result < length c.args.self.now.nodes) × (c.as_slice-items.result.now ≡ node_at c.args.self.now.nodes c.node_by-node.result)
@@ -48,7 +48,7 @@ returns g c =
       | then-full w ↦
           let full : eqb (length n) c.args.self.now.size ≡ true = eq-eqb _ _ (rw (held, size) at w.if-full.true) in
           let x = w.index-items-items.result in
-          let two : 2 ≤ length n = omega (arith, rw (held, size) at w.if-full.true, size, c.self.invariant.two) in
+          let two : 2 ≤ length n = omega (arith, rw (held, size) at w.if-full.true, size, c.self.invariant.tree.two) in
           let some : 1 ≤ length n / 2 = omega arith in
           let read : x ≡ get_or n (length n / 2 - 1) x = rw held at w.index-items-items.is in
           let last : last_of (take (length n / 2) n) v ≡ x = subst (λ j. last_of (take j n) v ≡ x) {x = suc (length n / 2 - 1)} {y = length n / 2} (omega arith) (last_of_take n (length n / 2 - 1) x v (omega arith) read) in

@@ -40,7 +40,7 @@ returns-then-end-items-clause-before g c =
     rw end (ends_inside (g.P.Probe.answer c.args.probe.now) c.args.self.now.nodes c.requires.parted c.args.node c.requires.node (omega (arith, some)) (omega (arith, end, c.if-end-items.true, ap (λ l. length l) is)))
 
 pub last_started-last-requires-clause-filled : goal.last_started-last-requires-clause-filled
-last_started-last-requires-clause-filled g c = rw c.as_slice.ensures.value (lawful_filled g.T.Ord.cmp c.self.inside.size _ c.self.invariant.lawful)
+last_started-last-requires-clause-filled g c = rw c.as_slice.ensures.value (lawful_filled g.T.Ord.cmp c.self.inside.size _ c.self.invariant.tree.lawful)
 
 pub last_started-last-requires-clause-parted : goal.last_started-last-requires-clause-parted
 last_started-last-requires-clause-parted g c =

@@ -21,7 +21,7 @@ last_node g c =
 pub overflow_sub-result : goal.overflow_sub-result
 overflow_sub-result g c = (last_node g c).2
 
-pub returns : goal.returns
-returns g c =
+pub returns-clause-place : goal.returns-clause-place
+returns-clause-place g c =
     let l = last_node g c in
     last_there c.args.self.now.nodes _ _ l.0 (omega (arith, l.1, l.2))

@@ -10,10 +10,10 @@ use Rattle.indexset_log.proofs.set.BTreeSet.nodes_below.Goals.{After-index, In-S
 use Rattle.indexset_log.proofs.set.BTreeSet.nodes_below.Goals as goal
 
 pub node_by-node-requires-clause-filled : goal.node_by-node-requires-clause-filled
-node_by-node-requires-clause-filled g c = rw c.as_slice.ensures.value (λ _. lawful_filled g.T.Ord.cmp c.self.inside.size _ c.self.invariant.lawful)
+node_by-node-requires-clause-filled g c = rw c.as_slice.ensures.value (λ _. lawful_filled g.T.Ord.cmp c.self.inside.size _ c.self.invariant.tree.lawful)
 
 pub node_by-node-requires-clause-parted : goal.node_by-node-requires-clause-parted
-node_by-node-requires-clause-parted g c = rw (c.new.ensures, c.as_slice.ensures.value) (lawful_parted g.T.Ord.cmp c.self.inside.size _ c.self.invariant.lawful g.met.T.Ord.total c.args.value.now)
+node_by-node-requires-clause-parted g c = rw (c.new.ensures, c.as_slice.ensures.value) (lawful_parted g.T.Ord.cmp c.self.inside.size _ c.self.invariant.tree.lawful g.met.T.Ord.total c.args.value.now)
 
 -- where the search ends
 found : (g : Over) (c : After-index g) → (c.node_by-node.result ≡ node_for (λ x. g.T.Ord.cmp x c.args.value.now) c.args.self.now.nodes) × (1 ≤ length c.args.self.now.nodes) × (c.node_by-node.result < length c.self.inside.nodes.items)
@@ -46,7 +46,7 @@ returns-in_default g c =
 pub returns-in_default-2 : goal.returns-in_default-2
 returns-in_default-2 g c =
     let f = found g (goal.at.returns-in_default-2 g c).After-index in
-    absurd (never_none g.Node.NodeLike.list c.self.inside.nodes.items c.node_by-node.result c.index.result.now f.2 c.index.ensures (lawful_filled g.T.Ord.cmp c.self.inside.size _ c.self.invariant.lawful) (sym (rw c.in_default.is at c.max.ensures)))
+    absurd (never_none g.Node.NodeLike.list c.self.inside.nodes.items c.node_by-node.result c.index.result.now f.2 c.index.ensures (lawful_filled g.T.Ord.cmp c.self.inside.size _ c.self.invariant.tree.lawful) (sym (rw c.in_default.is at c.max.ensures)))
 
 no_nodes : {T : Type 0} (ns : List (List T)) → length ns ≡ 0 → ns ≡ []
 no_nodes [] none = refl

@@ -3,7 +3,7 @@ use Rattle.indexset_events.proofs.Views.{lawful_filled}
 use Rattle.indexset_log.proofs.set.BTreeSet.place_from.Goals as goal
 
 pub place_from-requires-clause-filled : goal.place_from-requires-clause-filled
-place_from-requires-clause-filled g c = rw c.as_slice.ensures.value (λ _. lawful_filled g.T.Ord.cmp c.self.inside.size _ c.self.invariant.lawful)
+place_from-requires-clause-filled g c = rw c.as_slice.ensures.value (λ _. lawful_filled g.T.Ord.cmp c.self.inside.size _ c.self.invariant.tree.lawful)
 
 pub place_from-requires-clause-parted : goal.place_from-requires-clause-parted
 place_from-requires-clause-parted g c =

@@ -3,7 +3,7 @@ use Rattle.indexset_events.proofs.Views.{lawful_filled}
 use Rattle.indexset_log.proofs.set.BTreeSet.place_to.Goals as goal
 
 pub place_to-requires-clause-filled : goal.place_to-requires-clause-filled
-place_to-requires-clause-filled g c = rw c.as_slice.ensures.value (λ _. lawful_filled g.T.Ord.cmp c.self.inside.size _ c.self.invariant.lawful)
+place_to-requires-clause-filled g c = rw c.as_slice.ensures.value (λ _. lawful_filled g.T.Ord.cmp c.self.inside.size _ c.self.invariant.tree.lawful)
 
 pub place_to-requires-clause-parted : goal.place_to-requires-clause-parted
 place_to-requires-clause-parted g c =

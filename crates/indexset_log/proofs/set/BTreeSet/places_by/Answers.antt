@@ -64,7 +64,7 @@ found g c r =
     }
 
 pub node_by-node-requires-clause-filled : goal.node_by-node-requires-clause-filled
-node_by-node-requires-clause-filled g c = rw c.as_slice.ensures.value (λ _. lawful_filled g.T.Ord.cmp c.self.inside.size _ c.self.invariant.lawful)
+node_by-node-requires-clause-filled g c = rw c.as_slice.ensures.value (λ _. lawful_filled g.T.Ord.cmp c.self.inside.size _ c.self.invariant.tree.lawful)
 
 pub node_by-node-requires-clause-parted : goal.node_by-node-requires-clause-parted
 node_by-node-requires-clause-parted g c =

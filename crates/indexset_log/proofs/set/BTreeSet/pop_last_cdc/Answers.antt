@@ -3,23 +3,23 @@ use Rattle.indexset_core.specs.Nodes.{joined}
 use Rattle.indexset_log.proofs.Changed.{if_ok_map, on_ok_both, told}
 use Rattle.indexset_log.proofs.Ends.{last_changed, position_goes}
 use Rattle.indexset_events.proofs.CallerLemmas.{on_ok_map}
-use Rattle.indexset_log.proofs.Trees.{held}
+use Rattle.indexset_log.proofs.Trees.{tree_of}
 use Rattle.indexset_log.proofs.set.BTreeSet.pop_last_cdc.Goals as goal
 
 pub remove_from_cdc-requires : goal.remove_from_cdc-requires
 remove_from_cdc-requires g c =
-    let t = held g.Node.NodeLike.list c.self.inside.nodes.items c.self.view_is c.self.invariant in
-    let w = position_goes {old = c.args.self.now} g.met.T.Ord.total t.rule.lawful (length (joined c.args.self.now.nodes) - 1) c.last_item_place-place.result c.last_item_place-place.ensures in
+    let rule = tree_of c.last_item_place-place.ensures.lawful c.last_item_place-place.ensures.two in
+    let w = position_goes {old = c.args.self.now} g.met.T.Ord.total rule.lawful (length (joined c.args.self.now.nodes) - 1) c.last_item_place-place.result c.last_item_place-place.ensures.place in
     w.inside
 
 pub returns : goal.returns
 returns g c =
-    let t = held g.Node.NodeLike.list c.self.inside.nodes.items c.self.view_is c.self.invariant in
-    let w = position_goes {old = c.args.self.now} g.met.T.Ord.total t.rule.lawful (length (joined c.args.self.now.nodes) - 1) c.last_item_place-place.result c.last_item_place-place.ensures in
+    let rule = tree_of c.last_item_place-place.ensures.lawful c.last_item_place-place.ensures.two in
+    let w = position_goes {old = c.args.self.now} g.met.T.Ord.total rule.lawful (length (joined c.args.self.now.nodes) - 1) c.last_item_place-place.result c.last_item_place-place.ensures.place in
     let r = c.remove_from_cdc.result in
     let done = c.remove_from_cdc.ensures in
     let tree = on_ok_map r done.tree (λ e. e ∙ w.after) in
-    let d = on_ok_both r tree (rw w.events at done.fits) (last_changed g.met.T.Ord.total t.rule) in
+    let d = on_ok_both r tree (rw w.events at done.fits) (last_changed g.met.T.Ord.total rule) in
     record {
       answer = rw w.item at done.answer;
       refusal = rw w.events at done.refusal;

@@ -1,15 +1,15 @@
 use Rattle.indexset_core.specs.Nodes.{joined}
 use Rattle.indexset_log.proofs.Changed.{on_ok_both, put_changed, put_there}
 use Rattle.indexset_events.proofs.CallerLemmas.{on_ok_map}
-use Rattle.indexset_log.proofs.Trees.{held}
+use Rattle.indexset_log.proofs.Trees.{tree_of}
 use Rattle.indexset_log.proofs.set.BTreeSet.put.Goals as goal
 
 pub returns : goal.returns
 returns g c =
-    let t = held g.Node.NodeLike.list c.self.inside.nodes.items c.self.view_is c.self.invariant in
+    let rule = tree_of c.aim-aim.ensures.lawful c.aim-aim.ensures.two in
     let r = c.put_at.result in
     let done = c.put_at.ensures in
-    let d = on_ok_both r done.tree done.fits (put_changed g.met.T.Ord.total t.rule c.args.value) in
+    let d = on_ok_both r done.tree done.fits (put_changed g.met.T.Ord.total rule c.args.value) in
     record {
       answer = done.answer;
       refusal = done.refusal;

@@ -1,23 +1,23 @@
 use Rattle.indexset_log.proofs.Puts.{count_aimed}
-use Rattle.indexset_log.proofs.Trees.{held}
+use Rattle.indexset_log.proofs.Trees.{tree_of}
 use Rattle.indexset_log.proofs.set.BTreeSet.put_cdc_at.Goals as goal
 
 pub returns-in-Err-clause-refusal : goal.returns-in-Err-clause-refusal
 returns-in-Err-clause-refusal g c =
-    let t = held g.Node.NodeLike.list c.self.inside.nodes.items c.self.view_is c.self.invariant in
-    rw (count_aimed g.met.T.Ord.total t.rule c.args.value c.args.aim c.requires) c.in-Err.ensures.refusal
+    let rule = tree_of c.next_after.ensures.lawful c.next_after.ensures.two in
+    rw (count_aimed g.met.T.Ord.total rule c.args.value c.args.aim c.requires) c.in-Err.ensures.refusal
 
 pub returns-in-Ok-carry_out-clause-fits : goal.returns-in-Ok-carry_out-clause-fits
 returns-in-Ok-carry_out-clause-fits g c =
-    let t = held g.Node.NodeLike.list c.self.inside.nodes.items c.self.view_is c.self.invariant in
-    rw (count_aimed g.met.T.Ord.total t.rule c.args.value c.args.aim c.requires) c.in-Ok.ensures.fits
+    let rule = tree_of c.next_after.ensures.lawful c.next_after.ensures.two in
+    rw (count_aimed g.met.T.Ord.total rule c.args.value c.args.aim c.requires) c.in-Ok.ensures.fits
 
 pub returns-in-Err-carry_out-clause-refusal : goal.returns-in-Err-carry_out-clause-refusal
 returns-in-Err-carry_out-clause-refusal g c =
-    let t = held g.Node.NodeLike.list c.self.inside.nodes.items c.self.view_is c.self.invariant in
-    rw (count_aimed g.met.T.Ord.total t.rule c.args.value c.args.aim c.requires, c.in-Ok.ensures.memory) c.in-Err-carry_out.ensures.refusal
+    let rule = tree_of c.next_after.ensures.lawful c.next_after.ensures.two in
+    rw (count_aimed g.met.T.Ord.total rule c.args.value c.args.aim c.requires, c.in-Ok.ensures.memory) c.in-Err-carry_out.ensures.refusal
 
 pub returns-in-Err-put_log-clause-refusal : goal.returns-in-Err-put_log-clause-refusal
 returns-in-Err-put_log-clause-refusal g c =
-    let t = held g.Node.NodeLike.list c.self.inside.nodes.items c.self.view_is c.self.invariant in
-    rw (count_aimed g.met.T.Ord.total t.rule c.args.value c.args.aim c.requires, c.in-Ok.ensures.memory) c.in-Err-put_log.ensures.refusal
+    let rule = tree_of c.next_after.ensures.lawful c.next_after.ensures.two in
+    rw (count_aimed g.met.T.Ord.total rule c.args.value c.args.aim c.requires, c.in-Ok.ensures.memory) c.in-Err-put_log.ensures.refusal

@@ -1,15 +1,13 @@
-use Rattle.std.proofs.Common.{rules, ◌≤◌, refl, sym, ◌∙◌}
-use Rattle.std.below.core.specs.declared.int.u64.TheConstants.{MAX}
+use Rattle.std.proofs.Common.{refl, sym, ◌∙◌}
 use Rattle.indexset_core.specs.Nodes.{joined}
 use Rattle.indexset_log.proofs.Changed.{checked_changed, checked_told, keep_there, there_changed}
-use Rattle.indexset_log.proofs.Trees.{held}
+use Rattle.indexset_log.proofs.Trees.{tree_of}
 use Rattle.indexset_log.proofs.set.BTreeSet.put_cdc_checked.Goals as goal
 
 -- an equal item is there
 pub returns-then-finds_equal : goal.returns-then-finds_equal
 returns-then-finds_equal g c =
     let there = c.if-finds_equal.ensures ∙ c.aim-aim.ensures.present in
-    let in_range : c.args.self.now.next ≤ MAX = search rules in
     record {
       answer = there;
       refusal = tt;
@@ -17,17 +15,17 @@ returns-then-finds_equal g c =
       given_back = tt;
       unchanged = tt;
       there = sym there;
-      changed = there_changed g.T.Ord.cmp c.args.self.now c.args.value in_range there;
+      changed = there_changed g.T.Ord.cmp c.args.self.now c.args.value c.aim-aim.ensures.number there;
       told = tt;
     }
 
 -- the item was put in
 pub returns-in-Ok : goal.returns-in-Ok
 returns-in-Ok g c =
-    let t = held g.Node.NodeLike.list c.self.inside.nodes.items c.self.view_is c.self.invariant in
+    let rule = tree_of c.aim-aim.ensures.lawful c.aim-aim.ensures.two in
     let done = c.in-Ok.ensures in
     let absent = c.if-finds_equal.ensures ∙ c.aim-aim.ensures.present in
-    let d = checked_changed g.met.T.Ord.total t.rule c.args.value absent done.tree done.fits in
+    let d = checked_changed g.met.T.Ord.total rule c.args.value absent done.tree done.fits in
     record {
       answer = absent;
       refusal = tt;
@@ -36,5 +34,5 @@ returns-in-Ok g c =
       unchanged = tt;
       there = keep_there g.met.T.Ord.total (joined c.args.self.now.nodes) c.args.value absent d.contents;
       changed = d;
-      told = checked_told g.met.T.Ord.total t.rule c.args.value g.T.Clone.is_clone c.in-Ok.events.items absent d done.told;
+      told = checked_told g.met.T.Ord.total rule c.args.value g.T.Clone.is_clone c.in-Ok.events.items absent d done.told;
     }

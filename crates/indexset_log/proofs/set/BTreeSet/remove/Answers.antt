@@ -4,23 +4,23 @@ use Rattle.indexset_core.specs.Order.{has_equal}
 use Rattle.indexset_core.proofs.CallerLemmas.{has_none}
 use Rattle.indexset_log.proofs.Changed.{on_ok_both, removal_changed, value_goes}
 use Rattle.indexset_events.proofs.CallerLemmas.{on_ok_map}
-use Rattle.indexset_log.proofs.Trees.{held}
+use Rattle.indexset_log.proofs.Trees.{tree_of}
 use Rattle.indexset_log.proofs.set.BTreeSet.remove.Goals as goal
 
 pub remove_from-requires : goal.remove_from-requires
 remove_from-requires g c =
-    let t = held g.Node.NodeLike.list c.self.inside.nodes.items c.self.view_is c.self.invariant in
-    let w = value_goes {old = c.args.self.now} g.met.T.Ord.total t.rule.lawful c.args.value.now c.place_of-place.result c.place_of-place.ensures in
+    let rule = tree_of c.place_of-place.ensures.lawful c.place_of-place.ensures.two in
+    let w = value_goes {old = c.args.self.now} g.met.T.Ord.total rule.lawful c.args.value.now c.place_of-place.result c.place_of-place.ensures.place in
     w.inside
 
 pub returns : goal.returns
 returns g c =
-    let t = held g.Node.NodeLike.list c.self.inside.nodes.items c.self.view_is c.self.invariant in
-    let w = value_goes {old = c.args.self.now} g.met.T.Ord.total t.rule.lawful c.args.value.now c.place_of-place.result c.place_of-place.ensures in
+    let rule = tree_of c.place_of-place.ensures.lawful c.place_of-place.ensures.two in
+    let w = value_goes {old = c.args.self.now} g.met.T.Ord.total rule.lawful c.args.value.now c.place_of-place.result c.place_of-place.ensures.place in
     let r = c.remove_from.result in
     let done = c.remove_from.ensures in
     let tree = on_ok_map r done.tree (λ e. e ∙ w.after) in
-    let d = on_ok_both r tree (rw w.events at done.fits) (removal_changed g.met.T.Ord.total t.rule c.args.value.now) in
+    let d = on_ok_both r tree (rw w.events at done.fits) (removal_changed g.met.T.Ord.total rule c.args.value.now) in
     record {
       answer = rw w.item at done.answer;
       refusal = rw w.events at done.refusal;

@@ -33,4 +33,5 @@ pub invariant_of-self-2 : goal.invariant_of-self-2
 invariant_of-self-2 g c =
     let t = held g.Node.NodeLike.list c.self.inside.nodes.items c.self.view_is c.self.invariant in
     let x = some_read (node_at c.args.self.now.nodes c.args.node) c.args.offset c.requires.offset in
-    rw (ap (λ t. t.nodes) (returns-clause-tree g c), t.sized) (taken_tree g.met.T.Ord.total t.rule.lawful c.args.node c.args.offset c.requires.node x.1 t.rule)
+    let tree = taken_tree g.met.T.Ord.total t.rule.lawful c.args.node c.args.offset c.requires.node x.1 t.rule in
+    record { tree = rw (ap (λ t. t.nodes) (returns-clause-tree g c), t.sized) tree; index_is = c.take_and_join.ensures.index }

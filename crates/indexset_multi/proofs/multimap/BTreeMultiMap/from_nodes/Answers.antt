@@ -1,5 +1,4 @@
-use Rattle.std.proofs.Common.{◌≡◌, ◌∙◌, IfErr, Some, false, is_some, true, ap, map, refl, rules, sym}
-use Rattle.std.proofs.lemmas.Bool.{false≢true}
+use Rattle.std.proofs.Common.{◌≡◌, IfErr, Some, false, true, ap, map, refl, rules}
 use Rattle.indexset_core.specs.declared.refusal.Refusal.TheVariants.{PairNumber}
 use Rattle.indexset_core.specs.Nodes.{joined}
 use Rattle.indexset_multi.specs.Attach.{free_number, has_greatest, pair_nodes_refusal}
@@ -22,8 +21,6 @@ returns-in_default g c =
       tree = tt;
       good = tt;
       refusal = rw refused refl;
-      memory = λ good. absurd (false≢true (ap is_some (sym good ∙ refused)));
-      lawful = λ lawful none fits. sym none ∙ greatest;
       given_back = refl;
     }
 

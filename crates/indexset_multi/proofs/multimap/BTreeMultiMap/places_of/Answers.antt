@@ -33,3 +33,8 @@ pub returns-clause-pairs : goal.returns-clause-pairs
 returns-clause-pairs g c =
     let same : c.self.inside.set.nodes ≡ c.args.self.now.nodes = ap (λ m. m.nodes) c.self.view_is in
     rw same at (cut g (goal.at.returns-clause-pairs g c).After-places_by).1
+
+pub returns-clause-before : goal.returns-clause-before
+returns-clause-before g c =
+    let same : c.self.inside.set.nodes ≡ c.args.self.now.nodes = ap (λ m. m.nodes) c.self.view_is in
+    rw same at (rw c.new.ensures at c.places_by.ensures.before)

@@ -2,7 +2,7 @@ use Rattle.std.proofs.Common.{◌∙◌}
 use Rattle.indexset_core.specs.Pairs.{by_key}
 use Rattle.indexset_spine.specs.Cut.{items}
 use Rattle.indexset_core.proofs.CallerLemmas.{each_bounded, key_range_is, key_range_order, parted_by_key, probed_before, probed_up_to}
-use Rattle.indexset_set.proofs.SetPartLemmas.{between_up}
+use Rattle.indexset_core.proofs.CallerLemmas.{between_up}
 use Rattle.indexset_set.proofs.key_range.BTreeSet+Pair+K+V.range_by_key.Goals as goal
 
 pub start_of-from-requires : goal.start_of-from-requires

@@ -1,4 +1,4 @@
--- The next pair is lent as an `Option`, which the borrow checker does not cover. First `ready` is asked, of the walk lent again for a lifetime within the old one; then `next_pair` lends the pair as it is.
+-- The next pair is borrowed mutably as an `Option`, which the borrow checker does not cover. First `ready` is asked, of the iterator lent again for a lifetime within the old one; then `next_pair` lends the pair as it is.
 use Rattle.indexset_set.proofs.LentPairs.{proved, leaves, Some-of, none_of, a_type, named, dcons, dnil, Val, vptr, vstruct, vcons, vnil, of_list, inst_fn, SProp, emp, id⊢, sep, wand, apply∗, ftrue, flft, fdead, fres, Lft, GName, Item, ‵, raw, ◌⊛◌, some, later, at_ret, ◌$◌, ◌∵◌, !, qed, by, move, keep, drop, split, split3, join, fsplit, fsplit3, fjoin, pick, use0, use1, use2, use3, feq_l, await, rewrite, stop, addr, lit, of_opd, no_more, and_then, first, branches, skips, exec, returns, returns_within, enter, alloc_all, pass_all, free_all, look_at, get, through, sets, lands_as, env, agg, live, tables, fact, fact_i, ◌⊑◌, no, LentAgain, lends_again, comes_back, lft_new, lft_end, lft-common, common, mem-append_left, mem-append_right, full_share, RattleType, owns, types_at, plain, RefMutOf, bool, MutRef, ShrRef, MutBor, mut_vals, mut_Tells, nothing, only, peeks, heard, Is, shows, param, bounded, Tuple, lasts, triple_of, calls_at, framed, Stays, stay_dropped, walk_of, Goes-spent_ref, after, is_true, is_false, is_low}
 use Rattle.std.proofs.Common.{◌≡◌, ℕ, ◌<◌, Bool, false, [], ◌∷◌, ◌++◌, length, Option, Some, None, slice_get, refl, sym, ap, ◌∙◌, lit<, nat_lt, ◌≤◌, w64, arith}
 use Rattle.std.specs.Option.{option_map}

@@ -1,10 +1,13 @@
-use Rattle.std.proofs.Common.{◌≡◌, ◌==◌, Bool, not, map, filter, length, vec_len, Vec, Global, Bor, rules, arith, ap, sym, ◌∙◌}
+use Rattle.std.proofs.Common.{◌≡◌, ◌==◌, Bool, not, map, filter, length, sum, vec_len, Vec, Global, Bor, rules, arith, ap, sym, ◌∙◌}
 use Rattle.std.proofs.lemmas.Fn.{filter_same}
 use Rattle.std.proofs.lemmas.List.{with_items_is}
+use Rattle.std.proofs.lemmas.List.Sums.{count_by-le-length, length-filter}
 use Rattle.std.specs.Range.Bound.{bound_map}
 use Rattle.indexset_core.specs.Bounds.{is_within}
 use Rattle.indexset_core.specs.Nodes.{joined}
+use Rattle.indexset_core.proofs.CallerLemmas.{length-joined}
 use Rattle.indexset_log.specs.Made.{outside, without_range}
+use Rattle.indexset_log.specs.Tree.{IsTree}
 use Rattle.indexset_events.specs.Nodes.{is_filled}
 use Rattle.indexset_log.proofs.Ranges.{has_items, filled-map, joined_filled, joined-filter, ranged_lawful}
 use Rattle.indexset_log.proofs.set.remove_range.BTreeSet+T+Vec+T.remove_range.Given.{Over}
@@ -12,7 +15,7 @@ use Rattle.indexset_log.proofs.set.remove_range.BTreeSet+T+Vec+T.remove_range.Go
 use Rattle.indexset_log.proofs.set.remove_range.BTreeSet+T+Vec+T.remove_range.Goals as goal
 
 pub remove_within-self-inside-requires : goal.remove_within-self-inside-requires
-remove_within-self-inside-requires g c = rw c.as_mut_slice.ensures.value (omega (arith, c.self.invariant.counted))
+remove_within-self-inside-requires g c = rw c.as_mut_slice.ensures.value (omega (arith, c.self.invariant.tree.counted))
 
 -- the nodes that are left
 left : (g : Over) (c : After-retain g) → map (λ (v : Vec g.row.T.Denot Global). v.items) c.retain.new.self.items ≡ without_range g.T.Ord.cmp (map (λ v. v.items) c.self.inside.nodes.items) (bound_map (λ (v : Bor g.row.T.Denot). v.now) c.args.range.0) (bound_map (λ (v : Bor g.row.T.Denot). v.now) c.args.range.1)
@@ -28,12 +31,23 @@ invariant_of-self g c =
     let held = map (λ (v : Vec g.row.T.Denot Global). v.items) c.self.inside.nodes.items in
     let start = bound_map (λ (v : Bor g.row.T.Denot). v.now) c.args.range.0 in
     let end = bound_map (λ (v : Bor g.row.T.Denot). v.now) c.args.range.1 in
-    rw (left g (goal.at.invariant_of-self g c).After-retain) (record {
-      lawful = ranged_lawful g.T.Ord.cmp (λ x. not (is_within g.T.Ord.cmp start end x)) c.self.inside.size held c.self.invariant.lawful;
-      two = c.self.invariant.two;
-      within = c.self.invariant.within;
+    let tree : IsTree g.T.Ord.cmp _ (without_range g.T.Ord.cmp held start end) c.self.inside.size asked.result =
+    record {
+      lawful = ranged_lawful g.T.Ord.cmp (λ x. not (is_within g.T.Ord.cmp start end x)) c.self.inside.size held c.self.invariant.tree.lawful;
+      two = c.self.invariant.tree.two;
+      within = c.self.invariant.tree.within;
       counted = asked.ensures.count ∙ ap (λ q. length q) (ap joined (rw c.as_mut_slice.ensures.value at asked.ensures.nodes) ∙ sym (joined_filled (map (outside g.T.Ord.cmp start end) held)));
-    })
+    } in
+    record { tree = rw (left g (goal.at.invariant_of-self g c).After-retain) tree; index_is = rw c.as_slice.ensures.value at c.rebuild.ensures.lengths }
+
+pub rebuild-requires-clause-fits : goal.rebuild-requires-clause-fits
+rebuild-requires-clause-fits g c =
+    let held = map (λ (v : Vec g.row.T.Denot Global). v.items) c.self.inside.nodes.items in
+    let start = bound_map (λ (v : Bor g.row.T.Denot). v.now) c.args.range.0 in
+    let end = bound_map (λ (v : Bor g.row.T.Denot). v.now) c.args.range.1 in
+    let keep : g.row.T.Denot → Bool = λ x. not (is_within g.T.Ord.cmp start end x) in
+    let kept = ap joined (left g (goal.at.rebuild-requires-clause-fits g c).After-retain) ∙ (joined_filled (map (outside g.T.Ord.cmp start end) held) ∙ joined-filter keep held) in
+    rw c.as_slice.ensures.value (omega (arith, ap (λ l. length l) kept, length-filter keep (joined held), count_by-le-length keep (joined held), c.len-count.ensures.fits, ap sum c.self.invariant.index_is, length-joined held, length-joined (map (λ (v : Vec g.row.T.Denot Global). v.items) c.retain.new.self.items)))
 
 pub returns-clause-nodes : goal.returns-clause-nodes
 returns-clause-nodes g c =

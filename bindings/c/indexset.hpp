@@ -1,0 +1,90 @@
+// Ordered sets and maps with positions for C++17 and later: the collections of indexset.h with the habits of
+// std::set, std::map and pb_ds.
+//
+//     indexset::set<int> numbers{30, 10, 20};
+//     numbers.insert(25);
+//     *numbers.find_by_order(1);                // 20: by position
+//     numbers.order_of_key(25);                 // 2: how many are below
+//     numbers.end() - numbers.lower_bound(20);  // 3: iterators have random access
+//
+//     indexset::map<double, std::uint32_t> prices;
+//     prices[2.5] = 7;
+//     for (auto [price, amount] : prices) std::printf("%g %u\n", price, amount);
+//
+// Collections: `set<K>`, `map<K, V>` and `byte_map<V>`, whose keys are byte strings, have positions.
+// `multimap<K, V>`, whose keys may have several distinct values, `logged_map<K, V>`, which tells its changes, and
+// `replica<K, V>`, which follows such a map by them, have an order alone.
+//
+// Keys: all types of integers, `bool`, characters, enums, `float` and `double`, in the order of `<`. Of floating
+// point, -0.0 is the key 0.0, and NaN is one key, above all others. Any other type becomes a key by a specialization
+// of `key_code`. A value is of a type that is trivially copyable and has at most 8 bytes: a number, a pointer, an
+// index. A collection hands out copies: what an iterator leads to cannot be written through it.
+//
+// Iterators of set, map and byte_map are positions. They meet std::random_access_iterator of C++20, and all rules of
+// such an iterator of C++17 but one: `*it` is a value and no reference. Iterators of the others are bidirectional in
+// the same sense. A change of a collection invalidates its iterators, but for those that the change returns. As long
+// as the collection lives, to use an invalid one touches no freed memory, but it may lead to another element, or to
+// none, which an assertion refuses. After a move or a swap iterators lead into the collection that has the elements.
+// Elements are fetched in runs, so that a walk does not search for each.
+//
+// Exceptions: std::bad_alloc alone, where memory is refused, and what the caller's own iterators and functions throw.
+// Then nothing has changed, except by the calls that make several changes and say otherwise: `erase` and `insert` of
+// several pairs of a multimap, `apply_all` of a replica, and `erase_if`. Moves, swaps and `clear` take no memory, and
+// neither does `erase` of set and map, and of a key of a byte_map. An empty collection has none either.
+//
+// Threads: a collection is for one thread, the one that made it, reads too. Two collections do not touch each other,
+// except a byte_map and its copies, which share the bytes of keys.
+#ifndef INDEXSET_HPP
+#define INDEXSET_HPP
+
+#include "indexset/logged.hpp"
+#include "indexset/multimap.hpp"
+#include "indexset/sets.hpp"
+
+#include <cstdint>
+#include <iterator>
+#include <type_traits>
+#include <utility>
+#if __cplusplus >= 202002L
+#include <compare>
+#include <ranges>
+#endif
+
+namespace indexset {
+
+// Returns the version of the library: major * 65536 + minor * 256 + patch.
+inline std::uint32_t version() noexcept { return indexset_version(); }
+
+// Removes the elements for which `condition` holds, one after another. Returns how many it removed.
+template <class Collection, class Condition>
+auto erase_if(Collection &from, Condition condition) -> typename Collection::size_type {
+    const auto before = from.size();
+    for (auto it = from.begin(); it != from.end();) {
+        if (condition(*it)) {
+            it = from.erase(it);
+        } else {
+            ++it;
+        }
+    }
+    return before - from.size();
+}
+
+// What the iterators are.
+static_assert(std::is_same_v<set<int>::reference, int> && std::is_same_v<map<int, int>::reference, std::pair<int, int>>,
+              "what an iterator hands out is a value, where C++17 asks a forward iterator for a reference");
+static_assert(std::is_nothrow_move_constructible_v<set<int>> && std::is_nothrow_move_assignable_v<map<int, int>> &&
+              std::is_nothrow_swappable_v<byte_map<int>> && std::is_nothrow_default_constructible_v<set<int>>);
+#if __cplusplus >= 202002L
+static_assert(std::ranges::random_access_range<const set<int>> && std::ranges::random_access_range<const map<int, int>> &&
+              std::ranges::random_access_range<const byte_map<int>>);
+static_assert(std::ranges::sized_range<const set<int>> && std::ranges::common_range<const set<int>> &&
+              !std::ranges::contiguous_range<const set<int>>);
+static_assert(std::ranges::bidirectional_range<const multimap<int, int>> &&
+              std::ranges::bidirectional_range<const logged_map<>> && std::ranges::bidirectional_range<const replica<>>);
+static_assert(!std::indirectly_writable<set<int>::iterator, int>);
+static_assert(std::three_way_comparable<set<int>> && std::three_way_comparable<map<int, int>>);
+#endif
+
+} // namespace indexset
+
+#endif

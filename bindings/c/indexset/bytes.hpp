@@ -1,0 +1,144 @@
+// Maps from byte strings, behind the pointers of their collections. Included by indexset.hpp.
+#ifndef INDEXSET_BYTES_HPP
+#define INDEXSET_BYTES_HPP
+
+#include "common.hpp"
+#include "runs.hpp"
+
+#include <cassert>
+#include <cstddef>
+#include <cstdint>
+#include <string>
+#include <string_view>
+#include <utility>
+
+namespace indexset {
+
+namespace detail {
+
+// The calls of the library for a map from byte strings.
+struct byte_calls {
+    using handle = indexset_text_map;
+    static constexpr auto make = indexset_text_map_new;
+    static constexpr auto clone = indexset_text_map_clone;
+    static constexpr auto release = indexset_text_map_free;
+    static constexpr auto clear = indexset_text_map_clear;
+    static constexpr auto len = indexset_text_map_len;
+
+    // The library takes no null pointer.
+    static const char *bytes(std::string_view key) noexcept { return key.data() == nullptr ? "" : key.data(); }
+};
+
+// A run of byte strings and their values: as many as have room.
+struct byte_run {
+    static constexpr std::size_t room = 64;
+    std::size_t first = 0, count = 0;
+    std::size_t ends[room]; // where each key ends; the next begins there
+    std::uint64_t values[room];
+    char bytes[4096];
+
+    bool has(std::size_t position) const noexcept { return position - first < count; }
+
+    std::string_view key(std::size_t index) const noexcept {
+        const std::size_t start = index == 0 ? 0 : ends[index - 1];
+        return {bytes + start, ends[index] - start};
+    }
+
+    void read(indexset_text_map *handle, std::size_t from, std::size_t places) noexcept {
+        first = from;
+        const std::size_t wrote =
+            indexset_text_map_keys_by_position(handle, from, bytes, sizeof bytes, ends, places);
+        std::size_t end = 0;
+        for (count = 0; count < wrote && ends[count] <= sizeof bytes - end; count++) ends[count] = end += ends[count];
+        indexset_text_map_range_by_position(handle, from, values, count);
+    }
+};
+
+// A map from byte strings, behind the pointer of its collection.
+template <class V>
+class byte_store : public held<byte_calls> {
+  public:
+    using calls = byte_calls;
+    using value_type = std::pair<std::string, V>;
+    using key_type = std::string;
+    using key_argument = std::string_view;
+    using element = value_type;
+    using order = byte_store;
+    static constexpr bool notes = false;
+
+    std::uint64_t changes() const noexcept { return changes_; }
+
+    void changed() noexcept {
+        changes_++;
+        runs_.forget();
+    }
+
+    std::size_t rank(std::string_view key) const noexcept {
+        return indexset_text_map_rank(handle(), byte_calls::bytes(key), key.size());
+    }
+    bool contains(std::string_view key) const noexcept {
+        return indexset_text_map_contains(handle(), byte_calls::bytes(key), key.size());
+    }
+    std::size_t rank_past(std::string_view key) const noexcept { return rank(key) + (contains(key) ? 1 : 0); }
+    bool get(std::string_view key, std::uint64_t &value) const noexcept {
+        return indexset_text_map_get(handle(), byte_calls::bytes(key), key.size(), &value);
+    }
+    std::uint32_t put(std::string_view key, std::uint64_t value, std::uint64_t &before) noexcept {
+        return indexset_text_map_insert(handle(), byte_calls::bytes(key), key.size(), value, &before);
+    }
+
+    value_type at(std::size_t position) {
+        if (const byte_run *run = runs_.at(handle(), position)) {
+            const std::size_t index = position - run->first;
+            return {std::string(run->key(index)), value_code<V>::decode(run->values[index])};
+        }
+        std::size_t length = 0;
+        std::uint64_t value = 0;
+        char none;
+        const bool found = indexset_text_map_at(handle(), position, &none, 0, &length, &value);
+        assert(found && "an iterator at the end leads to no element");
+        static_cast<void>(found);
+        std::string key(length, '\0');
+        if (length != 0) indexset_text_map_at(handle(), position, &key[0], length, &length, &value);
+        return {std::move(key), value_code<V>::decode(value)};
+    }
+
+    bool remove(std::string_view key) noexcept {
+        std::uint64_t value;
+        const bool removed = indexset_text_map_remove(handle(), byte_calls::bytes(key), key.size(), &value);
+        if (removed) changed();
+        return removed;
+    }
+    // Removes `count` elements from a position on. Where no key of them has more bytes than a run, it takes no memory.
+    void remove_from(std::size_t position, std::size_t count) {
+        for (; count != 0; count--) {
+            const byte_run *run = runs_.at(handle(), position);
+            if (run != nullptr) {
+                remove(run->key(position - run->first));
+            } else {
+                remove(at(position).first);
+            }
+        }
+    }
+
+    static bool equal(const value_type &a, const value_type &b) { return a == b; }
+    static bool less(const value_type &a, const value_type &b) { return a < b; }
+#if __cplusplus >= 202002L
+    static constexpr bool is_ordered = ordered<V>;
+    static auto compare(const value_type &a, const value_type &b) {
+        const auto values = three_way(a.second, b.second);
+        const auto keys = a.first <=> b.first;
+        return keys != 0 ? decltype(values)(keys) : values;
+    }
+#endif
+
+  private:
+    std::uint64_t changes_ = 1;
+    runs<byte_run> runs_;
+};
+
+} // namespace detail
+
+} // namespace indexset
+
+#endif

@@ -1,0 +1,173 @@
+// The logged map and its replica. Included by indexset.hpp.
+#ifndef INDEXSET_LOGGED_HPP
+#define INDEXSET_LOGGED_HPP
+
+#include "order.hpp"
+
+#include <array>
+#include <cstddef>
+#include <cstdint>
+#include <memory>
+#include <optional>
+#include <utility>
+
+namespace indexset {
+
+// What a call of a logged map or of a replica answers.
+enum class status : std::uint32_t {
+    unchanged = INDEXSET_NO,        // there was nothing to do, or the change was made before
+    changed = INDEXSET_YES,         // it was done
+    out_of_numbers = INDEXSET_NUMBERS, // too few numbers are left
+    unfit = INDEXSET_UNFIT,         // what was given does not fit
+    gap = INDEXSET_GAP,             // changes before it are missing
+    no_such_node = INDEXSET_NO_SUCH_NODE,
+    index_outside = INDEXSET_INDEX_OUTSIDE,
+    value_differs = INDEXSET_VALUE_DIFFERS,
+    would_be_empty = INDEXSET_WOULD_BE_EMPTY,
+    out_of_order = INDEXSET_OUT_OF_ORDER,
+    bad_split = INDEXSET_BAD_SPLIT,
+    not_neighbours = INDEXSET_NOT_NEIGHBOURS
+};
+
+// A change of a logged map, with the codes of keys and values.
+using event = indexset_event;
+
+// The changes that a call of a logged map made, in order, and what it found.
+template <class V>
+class told {
+  public:
+    std::optional<V> before;     // the value that the key had
+    bool out_of_numbers = false; // whether too few numbers were left, so that nothing was done
+
+    const event *begin() const noexcept { return events_.data(); }
+    const event *end() const noexcept { return events_.data() + count_; }
+    const event *data() const noexcept { return events_.data(); }
+    std::size_t size() const noexcept { return count_; }
+    [[nodiscard]] bool empty() const noexcept { return count_ == 0; }
+    const event &operator[](std::size_t index) const noexcept { return events_[index]; }
+
+  private:
+    template <class, class>
+    friend class logged_map;
+
+    std::array<event, INDEXSET_CHANGES> events_{};
+    std::size_t count_ = 0;
+};
+
+// An ordered map that tells its changes, one number after another. It is moved, and not copied; one that was moved
+// from is as it began.
+template <class K = std::uint64_t, class V = std::uint64_t>
+class logged_map : public detail::nodes<logged_map<K, V>, detail::key_store<detail::log_calls, detail::map_code<K, V>>, K, V> {
+  public:
+    using base = typename logged_map::nodes;
+
+    // An empty map, whose nodes hold at most `node_size` pairs, at least 2, and whose first change has the number `next`.
+    explicit logged_map(std::size_t node_size = 1024, std::uint64_t next = 0) noexcept
+        : base(next), node_size_(node_size < 2 ? 2 : node_size) {}
+
+    // Makes a value that of a key, and tells the changes and the value before.
+    told<V> insert_or_assign(K key, const V &value) {
+        if (!this->store_) {
+            auto made = std::make_unique<typename base::store_type>();
+            detail::pass(indexset_log_new(made->handle(), node_size_, this->next_));
+            this->store_ = std::move(made);
+        }
+        told<V> told;
+        std::uint64_t before;
+        const std::uint32_t answer = indexset_log_insert(handle(), key_code<K>::encode(key), value_code<V>::encode(value),
+                                                         &before, told.events_.data(), told.events_.size(), &told.count_);
+        detail::pass(answer);
+        this->store_->changed();
+        told.out_of_numbers = answer == INDEXSET_NUMBERS;
+        if (answer == INDEXSET_NO) told.before = value_code<V>::decode(before);
+        return told;
+    }
+
+    // Adds a pair whose key is not there, and tells the changes: none where the key is there, and the value that it has.
+    told<V> insert(const std::pair<K, V> &pair) {
+        told<V> told;
+        told.before = this->get(pair.first);
+        return told.before ? told : insert_or_assign(pair.first, pair.second);
+    }
+
+    // Removes a key, and tells the changes and the value that it had.
+    told<V> erase(K key) {
+        told<V> told;
+        if (!this->store_) return told;
+        std::uint64_t before;
+        const std::uint32_t answer = indexset_log_remove(handle(), key_code<K>::encode(key), &before, told.events_.data(),
+                                                         told.events_.size(), &told.count_);
+        detail::pass(answer);
+        this->store_->changed();
+        told.out_of_numbers = answer == INDEXSET_NUMBERS;
+        if (answer == INDEXSET_YES) told.before = value_code<V>::decode(before);
+        return told;
+    }
+
+  private:
+    template <class, class>
+    friend class replica;
+
+    indexset_log *handle() const noexcept { return this->store_->handle(); }
+
+    std::size_t node_size_;
+};
+
+// A copy of the nodes of a logged map, which follows the map by its changes. It is moved, and not copied.
+template <class K = std::uint64_t, class V = std::uint64_t>
+class replica : public detail::nodes<replica<K, V>, detail::key_store<detail::replica_calls, detail::map_code<K, V>>, K, V> {
+  public:
+    using base = typename replica::nodes;
+
+    // A replica without nodes, which awaits the change of the number `next`.
+    explicit replica(std::uint64_t next = 0) noexcept : base(next) {}
+
+    // A replica with the nodes of a logged map, which awaits its next change.
+    explicit replica(const logged_map<K, V> &log) : base(log.next()) {
+        if (!log.store_) return;
+        auto made = std::make_unique<typename base::store_type>();
+        detail::pass(indexset_replica_from_log(made->handle(), log.handle()));
+        this->store_ = std::move(made);
+    }
+
+    // Makes a change of the logged map, and awaits the next. It answers `changed`; `unchanged` where the change was made
+    // before; or why it does not fit, and then nothing changes.
+    status apply(const event &change) {
+        const std::uint32_t answer = indexset_replica_apply(made().handle(), &change);
+        detail::pass(answer);
+        if (answer == INDEXSET_YES) this->store_->changed();
+        return static_cast<status>(answer);
+    }
+
+    // Makes changes, first to last, and passes over those that were made before. Returns `changed` where it took them
+    // all, or why the next one does not fit, and how many it took. Where memory is refused, those that were made stay,
+    // and the same changes can be given again.
+    std::pair<status, std::size_t> apply_all(const event *changes, std::size_t count) {
+        std::size_t taken = 0;
+        if (count == 0) return {status::changed, 0};
+        const std::uint32_t answer = indexset_replica_apply_all(made().handle(), changes, count, &taken);
+        this->store_->changed();
+        detail::pass(answer);
+        return {static_cast<status>(answer), taken};
+    }
+
+    // The same, of an array, a vector or what a logged map told.
+    template <class Events>
+    auto apply_all(const Events &changes) -> decltype(apply_all(changes.data(), changes.size())) {
+        return apply_all(changes.data(), changes.size());
+    }
+
+  private:
+    typename base::store_type &made() {
+        if (!this->store_) {
+            auto made = std::make_unique<typename base::store_type>();
+            detail::pass(indexset_replica_new(made->handle(), this->next_));
+            this->store_ = std::move(made);
+        }
+        return *this->store_;
+    }
+};
+
+} // namespace indexset
+
+#endif

@@ -1,0 +1,159 @@
+// What map and byte_map have alike. Included by indexset.hpp.
+#ifndef INDEXSET_MAPPED_HPP
+#define INDEXSET_MAPPED_HPP
+
+#include "positions.hpp"
+
+#include <cstddef>
+#include <cstdint>
+#include <initializer_list>
+#include <optional>
+#include <utility>
+#include <vector>
+
+namespace indexset {
+
+namespace detail {
+
+// What `map[key]` returns: the value of a key, which is made V{} if it is read where there is none.
+template <class Map>
+class value_reference {
+  public:
+    using value_type = typename Map::mapped_type;
+
+    value_reference(Map &map, typename Map::key_argument key) noexcept : map_(map), key_(key) {}
+    value_reference(const value_reference &) = default;
+
+    operator value_type() const { return map_.try_emplace(key_).first->second; }
+
+    value_reference &operator=(value_type value) {
+        map_.insert_or_assign(key_, value);
+        return *this;
+    }
+    value_reference &operator=(const value_reference &other) { return *this = static_cast<value_type>(other); }
+
+    template <class By>
+    value_reference &operator+=(const By &by) {
+        return *this = static_cast<value_type>(map_.get(key_).value_or(value_type{}) + by);
+    }
+    template <class By>
+    value_reference &operator-=(const By &by) {
+        return *this = static_cast<value_type>(map_.get(key_).value_or(value_type{}) - by);
+    }
+    value_reference &operator++() { return *this += 1; }
+    value_reference &operator--() { return *this -= 1; }
+
+  private:
+    Map &map_;
+    typename Map::key_argument key_;
+};
+
+// What map and byte_map have alike.
+template <class Self, class Store, class V>
+class mapped : public positions<Self, Store> {
+    using base = positions<Self, Store>;
+
+  public:
+    using mapped_type = V;
+    using typename base::const_iterator;
+    using typename base::iterator;
+    using typename base::key_argument;
+    using typename base::size_type;
+    using typename base::value_type;
+    using pair_argument = std::pair<key_argument, V>; // how a pair is passed
+
+    // Returns the value of a key. One search.
+    std::optional<V> get(key_argument key) const noexcept {
+        std::uint64_t code;
+        if (!this->store_ || !this->store_->get(key, code)) return std::nullopt;
+        return value_code<V>::decode(code);
+    }
+
+    // The value of a key, to be read or written: `map[key] = value`, `map[key] += 1`. It is made V{} where there is none.
+    value_reference<Self> operator[](key_argument key) noexcept { return {static_cast<Self &>(*this), key}; }
+
+    // Adds a pair whose key is not there. Returns the pair of the key, and whether it was added.
+    std::pair<iterator, bool> insert(const pair_argument &pair) { return try_emplace(pair.first, pair.second); }
+    iterator insert(const_iterator, const pair_argument &pair) { return insert(pair).first; }
+
+    template <class... Args>
+    std::pair<iterator, bool> emplace(Args &&...args) {
+        return insert(value_type(std::forward<Args>(args)...));
+    }
+    template <class... Args>
+    iterator emplace_hint(const_iterator, Args &&...args) {
+        return emplace(std::forward<Args>(args)...).first;
+    }
+
+    template <class... Args>
+    std::pair<iterator, bool> try_emplace(key_argument key, Args &&...args) {
+        const std::uint64_t value = value_code<V>::encode(V(std::forward<Args>(args)...));
+        std::uint64_t before = value;
+        const bool added = add(key, value, before);
+        return {placed(key, before), added};
+    }
+
+    // Makes a value that of a key. Returns the pair, and whether the key was not there.
+    std::pair<iterator, bool> insert_or_assign(key_argument key, const V &value) {
+        const std::uint64_t code = value_code<V>::encode(value);
+        std::uint64_t before;
+        Store &store = this->made();
+        const std::uint32_t answer = store.put(key, code, before);
+        pass(answer);
+        store.changed();
+        return {placed(key, code), answer == INDEXSET_YES};
+    }
+
+    // Adds the pairs whose keys are not there; of those of one key the first.
+    template <class It, class = only_iterators<It>>
+    void insert(It first, It last) {
+        std::vector<value_type> pairs;
+        for (; first != last; ++first) pairs.emplace_back(*first);
+        add_all(pairs);
+    }
+    void insert(std::initializer_list<pair_argument> pairs) { insert(pairs.begin(), pairs.end()); }
+
+  private:
+    // Adds a pair, or writes the value that is there to `before`. Where a key is there, a change of its value takes no
+    // memory.
+    bool add(key_argument key, std::uint64_t value, std::uint64_t &before) {
+        Store &store = this->made();
+        const std::uint32_t answer = store.put(key, value, before);
+        pass(answer);
+        if (answer == INDEXSET_NO) {
+            std::uint64_t passed;
+            store.put(key, before, passed);
+        } else {
+            store.changed();
+        }
+        return answer == INDEXSET_YES;
+    }
+
+    void add_all(std::vector<value_type> &pairs) {
+        std::size_t added = 0;
+        try {
+            for (std::size_t i = 0; i < pairs.size(); i++) {
+                std::uint64_t before;
+                if (add(pairs[i].first, value_code<V>::encode(pairs[i].second), before)) std::swap(pairs[added++], pairs[i]);
+            }
+        } catch (...) {
+            while (added != 0) this->erase(key_argument(pairs[--added].first));
+            throw;
+        }
+    }
+
+    iterator placed(key_argument key, std::uint64_t value) const noexcept {
+        if constexpr (Store::notes) {
+            return iterator(this->store_.get(), Store::note(key, value));
+        } else {
+            static_cast<void>(value);
+            return this->lower_bound(key);
+        }
+    }
+};
+
+} // namespace detail
+
+} // namespace indexset
+
+#endif

@@ -1,0 +1,158 @@
+// Sets and maps of numbers, behind the pointers of their collections. Included by indexset.hpp.
+#ifndef INDEXSET_NUMBERS_HPP
+#define INDEXSET_NUMBERS_HPP
+
+#include "common.hpp"
+#include "runs.hpp"
+
+#include <cassert>
+#include <cstddef>
+#include <cstdint>
+
+namespace indexset {
+
+namespace detail {
+
+// The calls of the library for a set of numbers.
+struct set_calls {
+    using handle = indexset_set;
+    static constexpr bool has_values = false;
+    static constexpr auto make = indexset_set_new;
+    static constexpr auto clone = indexset_set_clone;
+    static constexpr auto release = indexset_set_free;
+    static constexpr auto clear = indexset_set_clear;
+    static constexpr auto len = indexset_set_len;
+    static constexpr auto rank = indexset_set_rank;
+
+    static std::size_t read(handle *of, std::size_t from, std::uint64_t *keys, std::uint64_t *, std::size_t places) {
+        return indexset_set_range_by_position(of, from, keys, places);
+    }
+    static bool at(handle *of, std::size_t position, pair &out) { return indexset_set_at(of, position, &out.key); }
+    static bool find(handle *of, std::uint64_t key, pair &out) {
+        out = {key, 0};
+        return indexset_set_contains(of, key);
+    }
+    static bool remove(handle *of, std::uint64_t key) { return indexset_set_remove(of, key); }
+};
+
+// The calls of the library for a map of numbers.
+struct map_calls {
+    using handle = indexset_map;
+    static constexpr bool has_values = true;
+    static constexpr auto make = indexset_map_new;
+    static constexpr auto clone = indexset_map_clone;
+    static constexpr auto release = indexset_map_free;
+    static constexpr auto clear = indexset_map_clear;
+    static constexpr auto len = indexset_map_len;
+    static constexpr auto rank = indexset_map_rank;
+
+    static std::size_t read(handle *of, std::size_t from, std::uint64_t *keys, std::uint64_t *values, std::size_t places) {
+        return indexset_map_range_by_position(of, from, keys, places, values, places);
+    }
+    static bool at(handle *of, std::size_t position, pair &out) {
+        return indexset_map_at(of, position, &out.key, &out.value);
+    }
+    static bool find(handle *of, std::uint64_t key, pair &out) {
+        out.key = key;
+        return indexset_map_get(of, key, &out.value);
+    }
+    static bool remove(handle *of, std::uint64_t key) {
+        std::uint64_t value;
+        return indexset_map_remove(of, key, &value);
+    }
+};
+
+// A run of numbers, or of pairs of them.
+template <class Calls>
+struct number_run {
+    static constexpr std::size_t room = 64;
+    std::size_t first = 0, count = 0;
+    std::uint64_t keys[room], values[Calls::has_values ? room : 1];
+
+    bool has(std::size_t position) const noexcept { return position - first < count; }
+
+    void read(typename Calls::handle *handle, std::size_t from, std::size_t places) noexcept {
+        first = from;
+        count = Calls::read(handle, from, keys, values, places);
+    }
+};
+
+// A set or a map of numbers, behind the pointer of its collection.
+template <class Calls, class Code>
+class number_store : public held<Calls> {
+  public:
+    using calls = Calls;
+    using value_type = typename Code::value_type;
+    using key_type = typename Code::key_type;
+    using key_argument = key_type;
+    using element = pair; // what `at` returns
+    using order = Code;   // of elements
+    static constexpr bool notes = true; // an iterator may have an element before its position is asked for
+
+    // How many changes there were, from 1 on.
+    std::uint64_t changes() const noexcept { return changes_; }
+
+    void changed() noexcept {
+        changes_++;
+        runs_.forget();
+    }
+
+    std::size_t rank(key_type key) const noexcept { return rank_of(Code::key(key)); }
+    std::size_t rank_of(std::uint64_t key) const noexcept { return Calls::rank(this->handle(), key); }
+    std::size_t rank_past(key_type key) const noexcept {
+        const std::uint64_t code = Code::key(key);
+        return code == greatest ? this->size() : rank_of(code + 1);
+    }
+    bool find(key_type key, pair &out) const noexcept { return Calls::find(this->handle(), Code::key(key), out); }
+    bool get(key_type key, std::uint64_t &value) const noexcept {
+        return indexset_map_get(this->handle(), Code::key(key), &value);
+    }
+    std::uint32_t put(key_type key, std::uint64_t value, std::uint64_t &before) noexcept {
+        return indexset_map_insert(this->handle(), Code::key(key), value, &before);
+    }
+    static pair note(key_type key, std::uint64_t value) noexcept { return {Code::key(key), value}; }
+
+    pair at(std::size_t position) noexcept {
+        const auto *run = runs_.at(this->handle(), position);
+        pair out{0, 0};
+        if (run != nullptr) {
+            const std::size_t index = position - run->first;
+            out.key = run->keys[index];
+            if constexpr (Calls::has_values) out.value = run->values[index];
+        } else {
+            const bool found = Calls::at(this->handle(), position, out);
+            assert(found && "an iterator at the end leads to no element");
+            static_cast<void>(found);
+        }
+        return out;
+    }
+
+    static value_type decode(const pair &element) noexcept { return Code::decode(element); }
+
+    bool remove(key_type key) noexcept { return remove_of(Code::key(key)); }
+    bool remove_of(std::uint64_t key) noexcept {
+        const bool removed = Calls::remove(this->handle(), key);
+        if (removed) changed();
+        return removed;
+    }
+    // Removes `count` elements from a position on.
+    void remove_from(std::size_t position, std::size_t count) noexcept {
+        number_run<Calls> run;
+        while (count != 0) {
+            run.read(this->handle(), position, count < run.room ? count : run.room);
+            for (std::size_t i = 0; i < run.count; i++) Calls::remove(this->handle(), run.keys[i]);
+            count = run.count == 0 ? 0 : count - run.count;
+        }
+        changed();
+    }
+
+  private:
+    std::uint64_t changes_ = 1;
+    runs<number_run<Calls>> runs_;
+};
+
+} // namespace detail
+
+} // namespace indexset
+
+#endif

@@ -1,0 +1,263 @@
+// What set, map and byte_map have alike. Included by indexset.hpp.
+#ifndef INDEXSET_POSITIONS_HPP
+#define INDEXSET_POSITIONS_HPP
+
+#include "common.hpp"
+
+#include <cassert>
+#include <cstddef>
+#include <cstdint>
+#include <functional>
+#include <iterator>
+#include <limits>
+#include <memory>
+#include <optional>
+#include <type_traits>
+#include <utility>
+
+namespace indexset {
+
+namespace detail {
+
+// A position in a collection. Where a call found an element by its key, the iterator has the element, and its
+// position is found once it is asked for.
+template <class Store>
+class position_iterator {
+  public:
+    using iterator_category = std::random_access_iterator_tag;
+    using value_type = typename Store::value_type;
+    using difference_type = std::ptrdiff_t;
+    using reference = value_type;
+    using pointer = arrow<value_type>;
+
+    position_iterator() noexcept = default;
+    position_iterator(Store *store, std::size_t position) noexcept : store_(store), position_(position) {}
+    position_iterator(Store *store, const pair &element) noexcept
+        : store_(store), position_(unknown), element_(element), changes_(store->changes()) {}
+
+    reference operator*() const noexcept(Store::notes) {
+        assert(store_ != nullptr && "an iterator of an empty collection leads to no element");
+        if constexpr (Store::notes) {
+            return Store::decode(is_noted() ? element_ : store_->at(position()));
+        } else {
+            return store_->at(position_);
+        }
+    }
+    pointer operator->() const { return pointer(**this); }
+    reference operator[](difference_type by) const { return *(*this + by); }
+
+    position_iterator &operator++() noexcept { return *this += 1; }
+    position_iterator &operator--() noexcept { return *this -= 1; }
+    position_iterator operator++(int) noexcept {
+        position_iterator before = *this;
+        ++*this;
+        return before;
+    }
+    position_iterator operator--(int) noexcept {
+        position_iterator before = *this;
+        --*this;
+        return before;
+    }
+    position_iterator &operator+=(difference_type by) noexcept {
+        position_ = position() + static_cast<std::size_t>(by);
+        changes_ = 0;
+        return *this;
+    }
+    position_iterator &operator-=(difference_type by) noexcept {
+        position_ = position() - static_cast<std::size_t>(by);
+        changes_ = 0;
+        return *this;
+    }
+    friend position_iterator operator+(position_iterator it, difference_type by) noexcept { return it += by; }
+    friend position_iterator operator+(difference_type by, position_iterator it) noexcept { return it += by; }
+    friend position_iterator operator-(position_iterator it, difference_type by) noexcept { return it -= by; }
+    friend difference_type operator-(const position_iterator &a, const position_iterator &b) noexcept {
+        return static_cast<difference_type>(a.position() - b.position());
+    }
+
+    friend bool operator==(const position_iterator &a, const position_iterator &b) noexcept {
+        if (a.position_ == unknown && b.is_past(a)) return false;
+        if (b.position_ == unknown && a.is_past(b)) return false;
+        return a.position() == b.position();
+    }
+    friend bool operator!=(const position_iterator &a, const position_iterator &b) noexcept { return !(a == b); }
+    friend bool operator<(const position_iterator &a, const position_iterator &b) noexcept {
+        return a.position() < b.position();
+    }
+    friend bool operator>(const position_iterator &a, const position_iterator &b) noexcept { return b < a; }
+    friend bool operator<=(const position_iterator &a, const position_iterator &b) noexcept { return !(b < a); }
+    friend bool operator>=(const position_iterator &a, const position_iterator &b) noexcept { return !(a < b); }
+
+    // Returns how many elements are before it.
+    std::size_t position() const noexcept {
+        if constexpr (Store::notes) {
+            if (position_ == unknown) position_ = store_->rank_of(element_.key);
+        }
+        return position_;
+    }
+
+  private:
+    bool is_noted() const noexcept { return changes_ == store_->changes(); }
+
+    // Whether it is at the end, and the other one at an element: the other's position need not be found.
+    bool is_past(const position_iterator &other) const noexcept {
+        return position_ != unknown && other.is_noted() && position_ == other.store_->size();
+    }
+
+    Store *store_ = nullptr;
+    mutable std::size_t position_ = 0;
+    pair element_{0, 0};
+    std::uint64_t changes_ = 0; // of the collection, when the element was noted; 0: none is
+};
+
+// What set, map and byte_map have alike.
+template <class Self, class Store>
+class positions : public comparisons<Self, typename Store::order> {
+  public:
+    using key_type = typename Store::key_type;
+    using value_type = typename Store::value_type;
+    using key_compare = std::conditional_t<Store::notes, key_less<key_type>, std::less<>>;
+    using size_type = std::size_t;
+    using difference_type = std::ptrdiff_t;
+    using reference = value_type;
+    using const_reference = value_type;
+    using iterator = position_iterator<Store>;
+    using const_iterator = iterator;
+    using reverse_iterator = std::reverse_iterator<iterator>;
+    using const_reverse_iterator = reverse_iterator;
+    using key_argument = typename Store::key_argument; // how a key is passed: by value, and bytes as a string_view
+
+    key_compare key_comp() const noexcept { return {}; }
+
+    // Returns how many elements there are.
+    size_type size() const noexcept { return store_ ? store_->size() : 0; }
+    size_type max_size() const noexcept { return std::numeric_limits<difference_type>::max() / sizeof(pair); }
+    [[nodiscard]] bool empty() const noexcept { return size() == 0; }
+
+    // The elements in order.
+    iterator begin() const noexcept { return at_position(0); }
+    iterator end() const noexcept { return at_position(size()); }
+    iterator cbegin() const noexcept { return begin(); }
+    iterator cend() const noexcept { return end(); }
+    reverse_iterator rbegin() const noexcept { return reverse_iterator(end()); }
+    reverse_iterator rend() const noexcept { return reverse_iterator(begin()); }
+    reverse_iterator crbegin() const noexcept { return rbegin(); }
+    reverse_iterator crend() const noexcept { return rend(); }
+
+    // Returns the element at a position, counted from 0, or the end where there is none. No search.
+    iterator find_by_order(size_type position) const noexcept { return at_position(position < size() ? position : size()); }
+
+    // Returns how many keys are below a key. One search, as each call below, unless it says otherwise.
+    size_type order_of_key(key_argument key) const noexcept { return store_ ? store_->rank(key) : 0; }
+
+    // Returns the first element that is not below a key, or that is above it, or the end where there is none.
+    iterator lower_bound(key_argument key) const noexcept { return at_position(order_of_key(key)); }
+    iterator upper_bound(key_argument key) const noexcept { return at_position(store_ ? store_->rank_past(key) : 0); }
+
+    // Returns both bounds: the elements of a key. Two searches.
+    std::pair<iterator, iterator> equal_range(key_argument key) const noexcept {
+        return {lower_bound(key), upper_bound(key)};
+    }
+
+    // Returns the element of a key, or the end where there is none. Of a byte_map two searches.
+    iterator find(key_argument key) const noexcept {
+        if constexpr (Store::notes) {
+            pair element;
+            return store_ && store_->find(key, element) ? iterator(store_.get(), element) : end();
+        } else {
+            return contains(key) ? lower_bound(key) : end();
+        }
+    }
+
+    // Tells whether a key is there.
+    bool contains(key_argument key) const noexcept {
+        if constexpr (Store::notes) {
+            pair element;
+            return store_ && store_->find(key, element);
+        } else {
+            return store_ && store_->contains(key);
+        }
+    }
+    size_type count(key_argument key) const noexcept { return contains(key) ? 1 : 0; }
+
+    // Removes a key. Returns how many elements it removed: 0 or 1.
+    size_type erase(key_argument key) noexcept { return store_ && store_->remove(key) ? 1 : 0; }
+
+    // Removes an element, or those from `first` to before `last`. Returns the element after them. Each element takes
+    // a search.
+    iterator erase(iterator it) noexcept(Store::notes) {
+        const size_type position = it.position();
+        store_->remove_from(position, 1);
+        return at_position(position);
+    }
+    iterator erase(iterator first, iterator last) noexcept(Store::notes) {
+        const size_type from = first.position(), past = last.position();
+        if (from == past) return first;
+        if (from == 0 && past == size()) {
+            clear();
+        } else {
+            store_->remove_from(from, past - from);
+        }
+        return at_position(from);
+    }
+
+    // Removes all elements.
+    void clear() noexcept {
+        if (!store_) return;
+        Store::calls::clear(store_->handle());
+        store_->changed();
+    }
+
+    void swap(Self &other) noexcept { store_.swap(other.store_); }
+
+  protected:
+    positions() noexcept = default;
+    positions(positions &&) noexcept = default;
+    positions &operator=(positions &&) noexcept = default;
+    ~positions() = default;
+
+    positions(const positions &other) {
+        if (!other.store_) return;
+        auto made = std::make_unique<Store>();
+        pass(Store::calls::clone(other.store_->handle(), made->handle()));
+        store_ = std::move(made);
+    }
+    positions &operator=(const positions &other) {
+        if (this != &other) *this = positions(other);
+        return *this;
+    }
+
+    iterator at_position(size_type position) const noexcept { return iterator(store_.get(), position); }
+
+    // Returns the store, which is made where there is none.
+    Store &made() {
+        if (!store_) {
+            auto made = std::make_unique<Store>();
+            pass(Store::calls::make(made->handle()));
+            store_ = std::move(made);
+        }
+        return *store_;
+    }
+
+    std::unique_ptr<Store> store_;
+
+  private:
+    friend class comparisons<Self, typename Store::order>;
+
+    struct element_walk {
+        Store *store;
+        std::size_t position, size;
+
+        std::optional<typename Store::element> next() {
+            if (position == size) return std::nullopt;
+            return store->at(position++);
+        }
+    };
+    element_walk walk() const noexcept { return {store_.get(), 0, size()}; }
+};
+
+} // namespace detail
+
+} // namespace indexset
+
+#endif

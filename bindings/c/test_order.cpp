@@ -1,0 +1,291 @@
+// multimap, logged_map and replica of indexset.hpp beside std::multimap and std::map: random scripts, also with every Nth
+// request for memory refused.
+#include "checks.hpp"
+#include <limits>
+#include <map>
+
+// Keys near each other, and far apart; the least and the greatest of the type come up too.
+template <class K>
+K draw_key() {
+    const std::size_t drawn = draw_below(200);
+    if (drawn < 2) return drawn == 0 ? std::numeric_limits<K>::lowest() : std::numeric_limits<K>::max();
+    if constexpr (std::is_floating_point_v<K>) return (static_cast<K>(drawn) - 100) / 4;
+    return static_cast<K>(drawn) * static_cast<K>(drawn % 4 == 0 ? std::numeric_limits<K>::max() / 256 : 1);
+}
+
+template <class Ours, class Peer>
+bool same(const Ours &ours, const Peer &peer) {
+    using pair = typename Ours::value_type;
+    const auto is_pair = [](const auto &a, const auto &b) { return a == pair(b); };
+    return ours.size() == peer.size() && ours.empty() == peer.empty() &&
+           std::equal(ours.begin(), ours.end(), peer.begin(), peer.end(), is_pair) &&
+           std::equal(ours.rbegin(), ours.rend(), peer.rbegin(), peer.rend(), is_pair);
+}
+
+template <class Ours, class Peer>
+bool is_at(const Ours &ours, const Peer &peer, typename Ours::iterator it, typename Peer::const_iterator other) {
+    if (other == peer.end()) return it == ours.end();
+    if (it == ours.end() || *it != typename Ours::value_type(*other) || it->first != other->first) return false;
+    if (other != peer.begin() && *std::prev(it) != typename Ours::value_type(*std::prev(other))) return false;
+    ++it, ++other;
+    return other == peer.end() ? it == ours.end() : it != ours.end() && *it == typename Ours::value_type(*other);
+}
+
+template <class Ours, class Peer, class K>
+void check_reads(const Ours &ours, const Peer &peer, K key) {
+    CHECK(ours.contains(key) == (peer.count(key) != 0) && ours.count(key) == peer.count(key));
+    const auto found = ours.find(key);
+    CHECK(peer.count(key) == 0 ? found == ours.end() : is_at(ours, peer, found, peer.lower_bound(key)));
+    CHECK(is_at(ours, peer, ours.lower_bound(key), peer.lower_bound(key)));
+    CHECK(is_at(ours, peer, ours.upper_bound(key), peer.upper_bound(key)));
+    const auto range = ours.equal_range(key);
+    CHECK(std::distance(range.first, range.second) == static_cast<std::ptrdiff_t>(peer.count(key)));
+}
+
+// ---- a multimap
+template <class K, class V>
+struct multimap_script {
+    using Ours = indexset::multimap<K, V>;
+    using Peer = std::multimap<K, V>;
+    unsigned long refuse;
+    std::size_t bound; // of the values
+    Ours ours{}, others{};
+    Peer peer{}, other_peer{};
+
+    typename Peer::iterator find(K key, V value) {
+        const auto range = peer.equal_range(key);
+        const auto found = std::find_if(range.first, range.second, [&](const auto &pair) { return pair.second == value; });
+        return found == range.second ? peer.end() : found;
+    }
+    V draw_value() const { return static_cast<V>(draw_below(bound)); }
+
+    void insert() {
+        const K key = draw_key<K>();
+        const V value = draw_value();
+        std::pair<typename Ours::iterator, bool> found;
+        if (is_refused(refuse, [&] { found = ours.insert({key, value}); })) return;
+        auto wanted = find(key, value);
+        CHECK(found.second == (wanted == peer.end()));
+        if (found.second) wanted = peer.insert({key, value});
+        CHECK(is_at(ours, peer, found.first, wanted));
+    }
+    void insert_some() {
+        std::vector<std::pair<K, V>> pairs(draw_below(20));
+        for (auto &pair : pairs) pair = {draw_key<K>(), draw_value()};
+        const Ours before(ours);
+        if (is_refused(refuse, [&] { ours.insert(pairs.begin(), pairs.end()); })) {
+            if (ours != before) ours = before;
+            return;
+        }
+        for (const auto &pair : pairs) {
+            if (find(pair.first, pair.second) == peer.end()) peer.insert(pair);
+        }
+    }
+    void erase() {
+        const K key = draw_key<K>();
+        const V value = draw_value();
+        const auto wanted = find(key, value);
+        std::size_t removed = 0;
+        CHECK(ours.contains(key, value) == (wanted != peer.end()) && (ours.find(key, value) != ours.end()) == (wanted != peer.end()));
+        if (wanted != peer.end()) CHECK(is_at(ours, peer, ours.find(key, value), wanted));
+        if (is_refused(refuse, [&] { removed = ours.erase(key, value); })) return;
+        CHECK(removed == (wanted != peer.end()));
+        if (wanted != peer.end()) peer.erase(wanted);
+    }
+    void erase_first() {
+        const K key = draw_key<K>();
+        std::optional<V> removed;
+        if (is_refused(refuse, [&] { removed = ours.erase_first(key); })) return;
+        const auto wanted = peer.lower_bound(key);
+        CHECK(removed.has_value() == (peer.count(key) != 0) && (!removed || *removed == wanted->second));
+        if (removed) peer.erase(wanted);
+    }
+    void erase_at() {
+        if (peer.empty()) return;
+        const auto steps = static_cast<std::ptrdiff_t>(draw_below(peer.size()));
+        auto after = ours.end();
+        if (is_refused(refuse, [&] { after = ours.erase(std::next(ours.begin(), steps)); })) return;
+        CHECK(is_at(ours, peer, after, peer.erase(std::next(peer.begin(), steps))));
+    }
+    void erase_range() {
+        const auto first = static_cast<std::ptrdiff_t>(draw_below(peer.size() + 1));
+        const auto many = static_cast<std::ptrdiff_t>(draw_below(std::min<std::size_t>(peer.size() - static_cast<std::size_t>(first), 9) + 1));
+        const auto from = std::next(ours.begin(), first);
+        CHECK(is_at(ours, peer, ours.erase(from, std::next(from, many)), peer.erase(std::next(peer.begin(), first), std::next(peer.begin(), first + many))));
+        const K key = draw_key<K>();
+        CHECK(ours.erase(key) == peer.erase(key));
+    }
+
+    void check_life() {
+        Ours copy;
+        const bool is = is_refused(refuse, [&] { copy = ours; });
+        CHECK(is ? copy.empty() : copy == ours);
+        CHECK((ours == others) == (peer == other_peer) && (ours < others) == (peer < other_peer));
+#if __cplusplus >= 202002L
+        CHECK((ours <=> others) == (peer <=> other_peer));
+#endif
+#ifdef HAS_VIEWS
+        CHECK(std::ranges::equal(ours | std::views::reverse, peer | std::views::reverse, {}, {}, [](const auto &pair) { return std::pair<K, V>(pair); }));
+#endif
+        Ours moved(std::move(ours));
+        CHECK(ours.empty() && ours.begin() == ours.end() && same(moved, peer)); // NOLINT: what was moved from is empty
+        ours = std::move(moved);
+        swap(ours, others);
+        peer.swap(other_peer);
+    }
+
+    void run(unsigned steps) {
+        for (unsigned i = 0; i < steps; i++) {
+            switch (draw_below(10)) {
+            case 0: erase_first(); break;
+            case 1: erase_at(); break;
+            case 2: case 3: erase(); break;
+            case 4: insert_some(); break;
+            default: insert();
+            }
+            const K key = draw_key<K>();
+            check_reads(ours, peer, key);
+            std::vector<V> wanted;
+            for (auto it = peer.lower_bound(key); it != peer.upper_bound(key); ++it) wanted.push_back(it->second);
+            CHECK(ours.values(key) == wanted);
+            if (i % 32 == 0) {
+                CHECK(same(ours, peer));
+                check_life();
+                erase_range();
+            }
+            if (i % 700 == 699) ours.clear(), peer.clear();
+        }
+        CHECK(same(ours, peer));
+    }
+};
+
+// Many values of one key, from both ends, and iterators that were made before the walk went elsewhere.
+static void test_many_values() {
+    indexset::multimap<int, int> ours;
+    std::multimap<int, int> peer;
+    for (int value = 0; value < 1000; value++) {
+        for (int key : {7, value / 100}) {
+            if (ours.insert({key, value * 3}).second) peer.insert({key, value * 3});
+        }
+    }
+    CHECK(same(ours, peer));
+    auto one = ours.begin(), other = ours.end();
+    auto peers = peer.begin();
+    for (std::size_t i = 0; i < peer.size(); i++, ++peers) {
+        CHECK(*one++ == std::pair<int, int>(*peers));
+        CHECK(*--other == std::pair<int, int>(*std::prev(peer.end(), static_cast<std::ptrdiff_t>(i) + 1)));
+    }
+    CHECK(one == ours.end() && other == ours.begin());
+    CHECK(ours.erase(7) == peer.erase(7) && same(ours, peer));
+    CHECK(indexset::erase_if(ours, [](const auto &pair) { return pair.second % 2 == 0; }) == 450 && ours.size() == 450);
+}
+
+// Each request of a call refused in turn.
+static void test_sweep() {
+    indexset::multimap<int, int> multi, more, less, other;
+    for (int key = 0; key < 300; key++) multi.insert({key / 3, key});
+    more = less = multi;
+    more.insert({50, 1}), more.insert({7, 22}), less.erase(50, 151);
+    other.insert({1, 2});
+    indexset::multimap<int, int> one(multi);
+    one.insert({50, 1});
+    sweep(multi, one, [](auto &copy) { copy.insert({50, 1}); });
+    sweep(multi, less, [](auto &copy) { copy.erase(50, 151); });
+    sweep(multi, less, [](auto &copy) { copy.erase(copy.find(50, 151)); });
+    sweep(other, multi, [&](auto &copy) { copy = multi; });
+    CHECK(more.size() == 301 && less.size() == 299 && multi < less && multi != more);
+}
+
+// ---- a logged map and replicas that follow it
+template <class K, class V>
+struct log_script {
+    using Log = indexset::logged_map<K, V>;
+    using Replica = indexset::replica<K, V>;
+    unsigned long refuse;
+    Log log{4, 1000};
+    std::map<K, V> peer{};
+    Replica replica{1000};
+    std::vector<indexset::event> all{};
+
+    void change() {
+        const K key = draw_key<K>();
+        const V value = static_cast<V>(draw() >> 40);
+        const std::size_t kind = draw_below(5);
+        const auto found = peer.find(key);
+        const std::uint64_t next = log.next();
+        indexset::told<V> told;
+        if (is_refused(refuse, [&] { told = kind == 0 ? log.insert({key, value}) : kind < 3 ? log.insert_or_assign(key, value) : log.erase(key); })) {
+            CHECK(log.next() == next);
+            return;
+        }
+        CHECK(!told.out_of_numbers && told.before.has_value() == (found != peer.end()) && (!told.before || *told.before == found->second));
+        CHECK(told.empty() == (kind == 0 ? found != peer.end() : kind >= 3 && found == peer.end()) && log.next() == next + told.size());
+        kind == 0 ? void(peer.insert({key, value})) : kind < 3 ? void(peer[key] = value) : void(peer.erase(key));
+        all.insert(all.end(), told.begin(), told.end());
+        follow(told);
+    }
+
+    void follow(const indexset::told<V> &told) {
+        for (const indexset::event &event : told) {
+            auto answer = indexset::status::gap;
+            while (is_refused(refuse, [&] { answer = replica.apply(event); })) CHECK(replica.next() == event.number);
+            CHECK(answer == indexset::status::changed && replica.apply(event) == indexset::status::unchanged);
+            indexset::event later = event;
+            later.number += 2;
+            CHECK(replica.apply(later) == indexset::status::gap);
+        }
+    }
+
+    void compare() {
+        CHECK(same(log, peer) && same(replica, peer) && log.node_lengths() == replica.node_lengths());
+        CHECK(log.node_count() == replica.node_count() && log.next() == replica.next());
+        Replica late(0);
+        if (!is_refused(refuse, [&] { late = Replica(log); })) CHECK(late == replica && late.next() == log.next());
+        Log moved(std::move(log));
+        CHECK(log.empty() && log.next() == 1000 && log.begin() == log.end()); // NOLINT: what was moved from is as it began
+        log = std::move(moved);
+        swap(late, replica);
+        swap(late, replica);
+    }
+
+    void run(unsigned steps) {
+        for (unsigned i = 0; i < steps; i++) {
+            change();
+            const K key = draw_key<K>();
+            check_reads(log, peer, key);
+            check_reads(replica, peer, key);
+            CHECK(log.get(key) == replica.get(key) && log.get(key).has_value() == (peer.count(key) != 0));
+            if (i % 32 == 0) compare();
+        }
+        compare();
+        Replica other(1000);
+        const auto answer = other.apply_all(all);
+        CHECK(answer.first == indexset::status::changed && answer.second == all.size() && other == replica);
+        CHECK(other.apply_all(all) == std::make_pair(indexset::status::changed, all.size()) && other == replica);
+    }
+};
+
+static void test_statuses() {
+    indexset::logged_map log(2, std::numeric_limits<std::uint64_t>::max());
+    CHECK(log.insert_or_assign(1, 2).out_of_numbers && log.empty());
+    indexset::replica<> replica;
+    const indexset::event create{0, 10, 1, 0, 0, 0, INDEXSET_CREATE}, unfit{1, 10, 1, 0, 0, 0, 0}, drop{1, 9, 1, 0, 0, 0, INDEXSET_DROP};
+    CHECK(replica.apply(create) == indexset::status::changed && replica.get(10) == 1 && replica.next() == 1);
+    CHECK(replica.apply(unfit) == indexset::status::unfit && replica.apply(drop) == indexset::status::no_such_node);
+    CHECK(replica.apply_all(&drop, 1) == std::make_pair(indexset::status::no_such_node, std::size_t{0}));
+    const indexset::logged_map<> none;
+    CHECK(indexset::replica<>(none).empty() && none.node_lengths().empty() && none.find(1) == none.end() && none.rbegin() == none.rend());
+}
+
+int main() {
+    multimap_script<std::uint64_t, int>{0, 8}.run(2000);
+    multimap_script<double, double>{0, 300}.run(1500);
+    for (unsigned long refuse = 1; refuse <= 12; refuse++) multimap_script<std::uint64_t, int>{refuse, 8}.run(200);
+    test_many_values();
+    test_sweep();
+    log_script<std::uint64_t, std::uint64_t>{0}.run(2000);
+    log_script<int, float>{0}.run(1500);
+    for (unsigned long refuse = 2; refuse <= 12; refuse++) log_script<std::uint64_t, std::uint64_t>{refuse}.run(200);
+    test_statuses();
+    return told();
+}

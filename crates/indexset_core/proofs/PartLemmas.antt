@@ -1,0 +1,40 @@
+-- Parts of a list, by position.
+use Rattle.std.proofs.Common.{◌≡◌, ℕ, zero, suc, ◌+◌, ◌-◌, ◌≤◌, min, List, [], length, take, drop, Ordering, refl, ap, sym, inl, inr, ◌∙◌, arith, length-drop, length-take}
+use Rattle.std.specs.List.{between}
+use Rattle.std.proofs.Math.ListN.{drop_of_length-le}
+use Rattle.std.proofs.lemmas.Bool.{cases_lt}
+use Rattle.std.proofs.lemmas.List.{get_or-drop, get_or-take, take_all}
+use Rattle.indexset_core.specs.Order.{IsAscending}
+
+-- a part of an ascending list ascends
+module _ {T : Type 0} (cmp : T → T → Ordering) (l : List T) where
+  pub front_up : (n : ℕ) → IsAscending cmp l → IsAscending cmp (take n l)
+  front_up n up i j d lt inside =
+      rw (get_or-take n l i d (omega (arith, lt, inside, length-take n l)), get_or-take n l j d (omega (arith, inside, length-take n l))) (up i j d lt (omega (arith, inside, length-take n l)))
+
+  pub tail_up : (n : ℕ) → IsAscending cmp l → IsAscending cmp (drop n l)
+  tail_up n up i j d lt inside =
+      rw (get_or-drop n l i d, get_or-drop n l j d) (up (n + i) (n + j) d (omega (arith, lt)) (omega (arith, inside, length-drop n l)))
+
+module _ {T : Type 0} (cmp : T → T → Ordering) (l : List T) where
+  pub between_up : (i j : ℕ) → IsAscending cmp l → IsAscending cmp (between i j l)
+  between_up i j up = front_up cmp (drop i l) (j - i) (tail_up cmp l i up)
+
+module _ {T : Type 0} (l : List T) where
+  none : (n : ℕ) → take 0 l ≡ take n []
+  none zero = refl
+  none (suc n) = refl
+
+  -- what is past the end of the list adds nothing
+  pub clipped : (s e i j : ℕ) → j ≡ min e (length l) → i ≡ min (min s (length l)) j → between i j l ≡ between s e l
+  clipped s e i j to from = elim (cases_lt s (length l)) [
+    | inl inside ↦ elim (cases_lt e (length l)) [
+      | inl short ↦ elim (cases_lt s e) [
+        | inl lt ↦ let a : i ≡ s = omega arith in let b : j ≡ e = omega arith in rw (a, b) refl
+        | inr ge ↦ let a : j - i ≡ 0 = omega arith in let b : e - s ≡ 0 = omega arith in rw (a, b) refl
+      ]
+      | inr long ↦ let a : i ≡ s = omega arith in
+          rw a (take_all (j - s) (drop s l) (omega (arith, length-drop s l)) ∙ sym (take_all (e - s) (drop s l) (omega (arith, length-drop s l))))
+    ]
+    | inr past ↦ let a : j - i ≡ 0 = omega arith in rw a (none (e - s) ∙ ap (take (e - s)) (sym (drop_of_length-le l {i = s} past)))
+  ]

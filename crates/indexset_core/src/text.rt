@@ -1,0 +1,108 @@
+//! Comparators for text: keys are compared with a borrowed text.
+//!
+//! [`ByStr`] serves the calls that take a `Probe`, as `get_by` of sets and maps: they then look a
+//! `&str` up among items of any type that is `AsStr`, such as `String` and `bytes::ByteStr`,
+//! without an allocation. [`OnKey`] compares the keys of pairs by a comparator. The order of the
+//! keys must be that of the bytes of their texts, as it is for those types.
+//!
+//! ```
+//! // The price of a name, in a map from `ByteStr`.
+//! let price = prices.get_by(&mut OnKey::new(ByStr::new("pears")));
+//! ```
+ghost use Rattle.std.specs.Prelude.{◌≡◌};
+ghost use Rattle.std.specs.Cmp.Lexicographic.{slice_cmp};
+ghost use Rattle.std.specs.Ordering.{nat_cmp};
+
+use crate::multipair::MultiPair;
+use crate::pair::Pair;
+use crate::probe::Probe;
+use crate::steps::Steps;
+use std::cmp::Ordering;
+use std::convert::AsStr;
+use std::marker::Model;
+
+/// Compares the text of an item with a borrowed text, byte by byte. It allocates nothing.
+///
+/// ```
+/// // An element of text, found by a &str without an allocation.
+/// let mut names = BTreeSet::new(alloc)?;
+/// names.insert(String::from_str(alloc, "pear")?)?;
+/// assert!(rt; names.get_by(&mut ByStr::new("pear")).is_some());
+/// ```
+#[derive(Drop)]
+pub struct ByStr<'a> {
+    sought: &'a str,
+    steps: Steps,
+}
+
+impl<'a> Model for ByStr<'a> {
+    ghost use Rattle.std.specs.Prelude.{ℕ, List};
+
+    ghost Value = { List ℕ × ℕ };
+
+    ghost view = { λ b. (b.sought.now, b.steps) };
+}
+
+impl<'a> ByStr<'a> {
+    /// Returns a comparator with the text, which has made no comparison yet.
+    pub fn new(sought: &'a str) -> Self
+        ensures { result ≡ (sought.now, 0) }
+    {
+        ByStr {
+            sought,
+            steps: Steps::new(),
+        }
+    }
+}
+
+impl<'a, T: AsStr> Probe<T> for ByStr<'a> {
+    ghost answer = { λ p x. slice_cmp nat_cmp (T.text x) p.0 };
+
+    ghost asked = { λ p. p.1 };
+
+    fn place(&mut self, item: &T) -> Ordering {
+        self.steps.tick();
+        item.as_str().cmp(self.sought)
+    }
+}
+
+/// Compares the key of a pair, numbered or not, by its comparator.
+#[derive(Drop)]
+pub struct OnKey<P> {
+    probe: P,
+}
+
+impl<P> Model for OnKey<P> {
+    ghost Value = { P };
+
+    ghost view = { λ p. p.probe };
+}
+
+impl<P> OnKey<P> {
+    /// Returns the comparator of pairs whose keys this one compares.
+    pub fn new(probe: P) -> Self
+        ensures { result ≡ probe }
+    {
+        OnKey { probe }
+    }
+}
+
+impl<K, V, P: Probe<K>> Probe<Pair<K, V>> for OnKey<P> {
+    ghost answer = { λ p x. P.answer p x.key };
+
+    ghost asked = { P.asked };
+
+    fn place(&mut self, item: &Pair<K, V>) -> Ordering {
+        self.probe.place(&item.key)
+    }
+}
+
+impl<K, V, P: Probe<K>> Probe<MultiPair<K, V>> for OnKey<P> {
+    ghost answer = { λ p x. P.answer p x.key };
+
+    ghost asked = { P.asked };
+
+    fn place(&mut self, item: &MultiPair<K, V>) -> Ordering {
+        self.probe.place(&item.key)
+    }
+}

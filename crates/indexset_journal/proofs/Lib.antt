@@ -1,0 +1,6 @@
+mod Rows
+mod Steps
+mod Causes
+mod Scans
+mod Commits
+mod Opens

@@ -1,0 +1,4 @@
+pub mod Kept
+pub mod State
+pub mod Cause
+pub mod Opening

@@ -1,0 +1,55 @@
+//! What the tests share.
+
+use indexset_journal::{Journal, JournalError};
+use sqlite::{Connection, FileStore, Files, Options};
+use sqlite_disk::Disk;
+use sqlite_trees::store::Store;
+use std::alloc::Global;
+
+/// The statement that makes the table of lines.
+pub(crate) const TABLE: &str =
+    "CREATE TABLE IF NOT EXISTS kept (number INTEGER PRIMARY KEY, line TEXT NOT NULL) STRICT";
+
+/// Copies the texts, a line each.
+pub(crate) fn lines(alloc: Global, texts: &[&str]) -> Result<Vec<Vec<u8>>, JournalError> {
+    let mut lines = Vec::new(alloc);
+    for text in texts {
+        lines.push(text.as_bytes().to_vec(alloc)?)?;
+    }
+    Ok(lines)
+}
+
+/// Returns the lines as one text, with a space behind each.
+pub(crate) fn shown(alloc: Global, lines: &[Vec<u8>]) -> Result<Vec<u8>, JournalError> {
+    let mut text = Vec::new(alloc);
+    for line in lines {
+        text.extend_from_slice(line.as_slice())?;
+        text.push(b' ')?;
+    }
+    Ok(text)
+}
+
+/// Returns the store of two files, with the table of lines; new files get sums where that is asked.
+pub(crate) fn store_of<D: Disk + Drop>(
+    alloc: Global,
+    files: Files<D>,
+    has_sums: bool,
+) -> Result<FileStore<D>, JournalError> {
+    let mut conn = match Connection::open_files_with(alloc, files, Options::new(1), has_sums) {
+        Ok(conn) => conn,
+        Err((error, _left)) => return Err(JournalError::from(error)),
+    };
+    conn.execute(TABLE, &[])?;
+    Ok(conn.into_store())
+}
+
+/// Opens a journal, and drops the store where that fails.
+pub(crate) fn opened<S: Store + Drop>(
+    alloc: Global,
+    store: S,
+) -> Result<(Journal<S>, Vec<Vec<u8>>), JournalError> {
+    match Journal::open(alloc, store) {
+        Ok(both) => Ok(both),
+        Err((error, _store)) => Err(error),
+    }
+}

@@ -1,0 +1,34 @@
+//! A leaderboard: a player's rank, a page of it, and a replica that follows the scores.
+#![tactic(auto)]
+
+use anyhow::Result;
+use indexset::BTreeSet;
+use indexset::base::pair::Pair;
+use indexset::concurrent::map::BTreeMap;
+use indexset::replica::Replica;
+use std::cmp::Reverse;
+use std::ops::Bound;
+
+fn main(rt: HostRuntime) -> Result<()> {
+    let mut board = BTreeSet::new(rt.alloc())?; // the best score first
+    let mut scores: BTreeMap<&str, u64, Vec<Pair<&str, u64>>> = BTreeMap::new(rt.alloc());
+    let mut replica = Replica::new(rt.alloc(), 0);
+    for (name, score) in [("Mia", 310), ("Ben", 250), ("Zoe", 470), ("Mia", 420)] {
+        let (old, events) = scores.insert_cdc(name, score)?;
+        if let Some(old) = old {
+            board.remove(&(Reverse(old), name));
+        }
+        board.insert((Reverse(score), name))?;
+        for event in &events {
+            println!(rt; "event {event}")?;
+            replica.apply(event)?; // here, or in another process that reads the line
+        }
+    }
+    println!(rt; "better than Ben: {}", board.rank(&(Reverse(250), "Ben")))?;
+    let page = (Bound::Included(1), Bound::Excluded(3));
+    for (Reverse(score), name) in board.range_idx(page) {
+        println!(rt; "{name} has {score}")?;
+    }
+    println!(rt; "the replica: {replica}")?;
+    Ok(())
+}

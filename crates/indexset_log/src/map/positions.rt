@@ -1,0 +1,150 @@
+//! Ranks and positions of keys, and the pairs at positions.
+ghost use Rattle.std.specs.Prelude.{◌≡◌, ◌+◌, ◌<◌, ◌≤◌, true, if◌then◌else◌, None, Some, IfSome, find, length, slice_get};
+ghost use Rattle.std.specs.List.{AllWithin, count_by};
+ghost use Rattle.std.specs.Map.Iter.{ShowsInOrder, ShowsInReverse};
+ghost use Rattle.std.specs.Option.{option_map};
+ghost use Rattle.std.specs.Ordering.{is_eq};
+ghost use Rattle.std.specs.declared.cmp.Ordering.TheVariants.{Less};
+ghost use Rattle.indexset_core.specs.Bounds.{IfBounded, in_positions, is_before, is_up_to_end};
+ghost use Rattle.indexset_core.specs.Digits.{digits};
+ghost use Rattle.indexset_core.specs.Nodes.{joined};
+ghost use Rattle.indexset_core.specs.Order.{IsAscending};
+ghost use Rattle.indexset_core.specs.Pairs.{by_key, entry_of, has_key, key_rank, pair_of, pair_shown};
+ghost use Rattle.indexset_core.specs.Parted.{IsParted};
+
+use super::BTreeMap;
+use super::iter::Iter;
+use super::range::Range;
+use crate::set::range;
+use indexset_core::node::NodeLike;
+use indexset_core::pair::Pair;
+use indexset_core::probe::Probe;
+use std::ops::Bound;
+
+impl<K: Ord + Clone + Drop, V: Clone + Drop, Node: NodeLike<Pair<K, V>>> BTreeMap<K, V, Node> {
+    /// Returns the stored key and the value of a key, or `None`, by two binary searches.
+    ///
+    /// ```
+    /// let mut tree: map::BTreeMap<u64, u64, Vec<Pair<u64, u64>>> = map::BTreeMap::new(alloc);
+    /// tree.insert(1, 10)?;
+    /// assert_eq!(rt; tree.get_key_value(&1), Some((&1, &10)));
+    /// ```
+    pub fn get_key_value(&self, key: &K) -> Option<(&K, &V)>
+        ensures { option_map (λ p. (p.0.now, p.1.now)) result
+            ≡ option_map entry_of (pair_of K.cmp (joined self.now.nodes) key.now) }
+    {
+        let pair = self.get(key)?;
+        Some((&pair.key, &pair.value))
+    }
+
+    /// Returns the stored key and the value of the first pair that the comparator finds equal, or
+    /// `None` where there is none, as `get_by` finds it.
+    pub fn get_key_value_by<P: Probe<Pair<K, V>>>(&self, probe: &mut P) -> Option<(&K, &V)>
+        requires { IsParted (P.answer probe.old) (joined self.now.nodes) }
+        ensures pair { option_map (λ p. (p.0.now, p.1.now)) result
+            ≡ option_map entry_of (find (λ p. is_eq (P.answer probe.old p))
+            (joined self.now.nodes)) }
+        ensures fixed { P.answer probe.new ≡ P.answer probe.old }
+        ensures few { P.asked probe.new ≤ P.asked probe.old +
+            (digits (length self.now.nodes) + digits self.now.size + 1) }
+    {
+        let pair = self.get_by(probe)?;
+        Some((&pair.key, &pair.value))
+    }
+
+    /// Returns how many keys are below the key, by two binary searches and a sum of lengths.
+    ///
+    /// ```
+    /// let mut tree: map::BTreeMap<u64, u64, Vec<Pair<u64, u64>>> = map::BTreeMap::new(alloc);
+    /// tree.insert(5, 50)?;
+    /// tree.insert(7, 70)?;
+    /// assert!(rt; tree.rank(&7) == 1 && tree.rank(&6) == 1);
+    /// ```
+    pub fn rank(&self, key: &K) -> usize
+        ensures value { result ≡ key_rank K.cmp (joined self.now.nodes) key.now }
+        ensures there { has_key K.cmp (joined self.now.nodes) key.now ≡ true
+            → slice_get (joined self.now.nodes) result
+            ≡ pair_of K.cmp (joined self.now.nodes) key.now }
+        ensures inside { has_key K.cmp (joined self.now.nodes) key.now ≡ true
+            → result < length (joined self.now.nodes) }
+        ensures before { AllWithin (λ p. K.cmp p.key key.now ≡ Less)
+            (joined self.now.nodes) 0 result }
+    {
+        self.set.count_before(Bound::Included(self.by_key(key)))
+    }
+
+    /// Returns the position of a key, or `None`, by two binary searches and a sum of lengths.
+    ///
+    /// ```
+    /// let mut tree: map::BTreeMap<u64, u64, Vec<Pair<u64, u64>>> = map::BTreeMap::new(alloc);
+    /// tree.insert(5, 50)?;
+    /// tree.insert(7, 70)?;
+    /// assert!(rt; tree.index_of(&7) == Some(1) && tree.index_of(&6).is_none());
+    /// ```
+    pub fn index_of(&self, key: &K) -> Option<usize>
+        ensures value { result ≡ (if has_key K.cmp (joined self.now.nodes) key.now
+            then Some (key_rank K.cmp (joined self.now.nodes) key.now) else None) }
+        ensures there { IfSome result (λ i. slice_get (joined self.now.nodes) i
+            ≡ pair_of K.cmp (joined self.now.nodes) key.now) }
+        ensures inside { IfSome result (λ i. i < length (joined self.now.nodes)) }
+    {
+        self.set.position_by(&mut self.by_key(key)).ok()
+    }
+
+    /// Returns how many pairs stand before the start, a bound on what a probe seeks.
+    pub fn count_before<P: Probe<Pair<K, V>> + Drop>(&self, start: Bound<P>) -> usize
+        requires { IfBounded (λ p. IsParted (P.answer p) (joined self.now.nodes)) start }
+        ensures { result ≡ count_by (is_before (λ x p. P.answer p x) start)
+            (joined self.now.nodes) }
+    {
+        self.set.count_before(start)
+    }
+
+    /// Returns how many pairs are not past the end, a bound on what a probe seeks.
+    pub fn count_up_to<P: Probe<Pair<K, V>> + Drop>(&self, end: Bound<P>) -> usize
+        requires { IfBounded (λ p. IsParted (P.answer p) (joined self.now.nodes)) end }
+        ensures { result ≡ count_by (is_up_to_end (λ x p. P.answer p x) end)
+            (joined self.now.nodes) }
+    {
+        self.set.count_up_to(end)
+    }
+
+    /// Returns the pair at a position, counted from 0, or `None` past the end. It makes no
+    /// comparison.
+    ///
+    /// ```
+    /// let mut tree: map::BTreeMap<u64, u64, Vec<Pair<u64, u64>>> = map::BTreeMap::new(alloc);
+    /// tree.insert(7, 70)?;
+    /// tree.insert(5, 50)?;
+    /// assert_eq!(rt; tree.get_index(0), Some((&5, &50)));
+    /// ```
+    pub fn get_index(&self, i: usize) -> Option<(&K, &V)>
+        ensures { option_map (λ p. (p.0.now, p.1.now)) result
+            ≡ option_map entry_of (slice_get (joined self.now.nodes) i) }
+    {
+        let pair = self.set.get_index(i)?;
+        Some((&pair.key, &pair.value))
+    }
+
+    /// Returns the pairs at the positions that satisfy both bounds, in order. There is none where
+    /// the bounds are the wrong way round, and positions past the end have none. It makes no
+    /// comparison.
+    ///
+    /// ```
+    /// let mut tree: map::BTreeMap<u64, u64, Vec<Pair<u64, u64>>> = map::BTreeMap::new(alloc);
+    /// for key in [5, 10, 15] {
+    ///     tree.insert(key, key * 10)?;
+    /// }
+    /// let page = tree.range_idx((Bound::Included(1), Bound::Unbounded));
+    /// assert!(rt; page.eq([(&10, &100), (&15, &150)]));
+    /// ```
+    pub fn range_idx(&self, range: (Bound<usize>, Bound<usize>)) -> Range<'_, K, V, Node>
+        ensures rest { result ≡ in_positions (joined self.now.nodes) range.0 range.1 }
+        ensures ascending { IsAscending (by_key K.cmp) result }
+        ensures runs { ShowsInOrder (pair_shown {K = K} {V = V}) }
+        ensures runs_back { ShowsInReverse (pair_shown {K = K} {V = V}) }
+    {
+        let range::Range { rest } = self.set.range_idx(range);
+        Iter { rest }
+    }
+}

@@ -1,0 +1,179 @@
+//! Ranks, positions and the items at them.
+ghost use Rattle.std.specs.Prelude.{◌≡◌, ◌+◌, ◌<◌, ◌≤◌, true, None, Some, IfErr, IfOk, IfSome, MatchOption, length, map, position, slice_get, take};
+ghost use Rattle.std.specs.List.{AllWithin, count_by};
+ghost use Rattle.std.specs.Map.Iter.{ShowsInOrder, ShowsInReverse, deref};
+ghost use Rattle.std.specs.Option.{option_copied};
+ghost use Rattle.std.specs.Ordering.{is_eq};
+ghost use Rattle.std.specs.declared.cmp.Ordering.TheVariants.{Less};
+ghost use Rattle.indexset_core.specs.Bounds.{IfBounded, in_positions, is_before, is_up_to_end};
+ghost use Rattle.indexset_core.specs.Digits.{digits};
+ghost use Rattle.indexset_core.specs.Nodes.{joined, node_at};
+ghost use Rattle.indexset_core.specs.Order.{IsAscending, equal_element, has_equal, index_of, rank};
+ghost use Rattle.indexset_core.specs.Parted.{IsParted, less_count};
+ghost use Rattle.indexset_core.specs.Places.{IsPlace, items_before};
+
+use super::BTreeSet;
+use super::range::Range;
+use indexset_core::node::NodeLike;
+use indexset_core::positions::{end_position, first_position};
+use indexset_core::probe::Probe;
+use std::ops::Bound;
+
+impl<T: Ord + Clone + Drop, Node: NodeLike<T>> BTreeSet<T, Node> {
+    /// Returns how many items are below the value, by two binary searches and a sum over the
+    /// index.
+    ///
+    /// ```
+    /// let mut board: set::BTreeSet<u64, Vec<u64>> = set::BTreeSet::new(alloc);
+    /// for score in [10, 20, 30] {
+    ///     board.insert(score)?;
+    /// }
+    /// assert!(rt; board.rank(&30) == 2 && board.rank(&25) == 2);
+    /// ```
+    pub fn rank(&self, value: &T) -> usize
+        ensures value { result ≡ rank T.cmp (joined self.now.nodes) value.now }
+        ensures there { has_equal T.cmp (joined self.now.nodes) value.now ≡ true
+            → slice_get (joined self.now.nodes) result
+            ≡ equal_element T.cmp (joined self.now.nodes) value.now }
+        ensures inside { has_equal T.cmp (joined self.now.nodes) value.now ≡ true
+            → result < length (joined self.now.nodes) }
+        ensures before { AllWithin (λ x. T.cmp x value.now ≡ Less) (joined self.now.nodes) 0 result }
+    {
+        self.count_before(Bound::Included(self.by_item(value)))
+    }
+
+    /// Returns the position of the item equal to the value, or `None`, by two binary searches and a
+    /// sum of lengths.
+    ///
+    /// ```
+    /// let mut set: set::BTreeSet<u64, Vec<u64>> = set::BTreeSet::new(alloc);
+    /// for number in [10, 20, 30] {
+    ///     set.insert(number)?;
+    /// }
+    /// assert!(rt; set.index_of(&20) == Some(1) && set.index_of(&25).is_none());
+    /// ```
+    pub fn index_of(&self, value: &T) -> Option<usize>
+        ensures value { result ≡ index_of T.cmp (joined self.now.nodes) value.now }
+        ensures there { IfSome result (λ i. slice_get (joined self.now.nodes) i
+            ≡ equal_element T.cmp (joined self.now.nodes) value.now) }
+        ensures inside { IfSome result (λ i. i < length (joined self.now.nodes)) }
+    {
+        self.position_by(&mut self.by_item(value)).ok()
+    }
+
+    /// Returns the position of the first item that the probe finds Equal, or where it finds none,
+    /// how many it finds Less. It compares as `locate_by` does.
+    pub fn position_by<P: Probe<T>>(&self, probe: &mut P) -> Result<usize, usize>
+        requires { IsParted (P.answer probe.old) (joined self.now.nodes) }
+        ensures found { IfOk result (λ i. position (λ x. is_eq (P.answer probe.old x))
+            (joined self.now.nodes) ≡ Some i) }
+        ensures absent { IfErr result (λ _. position (λ x. is_eq (P.answer probe.old x))
+            (joined self.now.nodes) ≡ None) }
+        ensures gap { IfErr result (λ i. i ≡ less_count (P.answer probe.old)
+            (joined self.now.nodes)) }
+        ensures fixed { P.answer probe.new ≡ P.answer probe.old }
+        ensures few { P.asked probe.new ≤ P.asked probe.old +
+            (digits (length self.now.nodes) + digits self.now.size + 1) }
+    {
+        match self.locate(probe) {
+            Ok(place) => Ok(self.position(place)),
+            Err(place) => Err(self.position(place)),
+        }
+    }
+
+    /// Returns how many items stand before the start, a bound on what a probe seeks.
+    pub fn count_before<P: Probe<T> + Drop>(&self, start: Bound<P>) -> usize
+        requires { IfBounded (λ p. IsParted (P.answer p) (joined self.now.nodes)) start }
+        ensures { result ≡ count_by (is_before (λ x p. P.answer p x) start)
+            (joined self.now.nodes) }
+    {
+        self.position(self.place_from(start))
+    }
+
+    /// Returns how many items are not past the end, a bound on what a probe seeks.
+    pub fn count_up_to<P: Probe<T> + Drop>(&self, end: Bound<P>) -> usize
+        requires { IfBounded (λ p. IsParted (P.answer p) (joined self.now.nodes)) end }
+        ensures { result ≡ count_by (is_up_to_end (λ x p. P.answer p x) end)
+            (joined self.now.nodes) }
+    {
+        self.position(self.place_to(end))
+    }
+
+    /// Returns the item at a position, counted from 0, or `None` past the end. It makes no
+    /// comparison.
+    ///
+    /// ```
+    /// let mut board: set::BTreeSet<u64, Vec<u64>> = set::BTreeSet::new(alloc);
+    /// for score in [30, 10, 20] {
+    ///     board.insert(score)?;
+    /// }
+    /// assert!(rt; board.get_index(1) == Some(&20) && board.get_index(3).is_none());
+    /// ```
+    pub fn get_index(&self, i: usize) -> Option<&T>
+        ensures { option_copied result ≡ slice_get (joined self.now.nodes) i }
+    {
+        let (node, offset) = self.place_at(i)?;
+        self.nodes[node].get_ith(offset)
+    }
+
+    /// Returns the items at the positions that satisfy both bounds, in order. There is none where
+    /// the bounds are the wrong way round, and positions past the end have none. It makes no
+    /// comparison.
+    ///
+    /// ```
+    /// // The second page of two items each.
+    /// let mut set: set::BTreeSet<u64, Vec<u64>> = set::BTreeSet::new(alloc);
+    /// for number in [5, 10, 15, 20, 25] {
+    ///     set.insert(number)?;
+    /// }
+    /// let page = set.range_idx((Bound::Included(2), Bound::Excluded(4)));
+    /// assert!(rt; page.copied().eq([15, 20]));
+    /// ```
+    pub fn range_idx(&self, range: (Bound<usize>, Bound<usize>)) -> Range<'_, T, Node>
+        ensures rest { result ≡ in_positions (joined self.now.nodes) range.0 range.1 }
+        ensures ascending { IsAscending T.cmp result }
+        ensures runs { ShowsInOrder (deref {X = T}) }
+        ensures runs_back { ShowsInReverse (deref {X = T}) }
+    {
+        let to = end_position(range.1, self.len);
+        let from = first_position(range.0, self.len).min(to);
+        self.range_between(self.place_after(from), self.place_after(to))
+    }
+
+    /// Returns how many items stand before a place, a node and an offset in it of at most its
+    /// length, as `locate_by` returns it. It makes no comparison.
+    pub fn position(&self, place: (usize, usize)) -> usize
+        requires { IsPlace self.now.nodes place }
+        ensures { result ≡ items_before self.now.nodes place }
+    {
+        // The number of items fits, so each sum of some lengths does.
+        let _len = self.len;
+        let (node, offset) = place;
+        self.index.prefix(node) + offset
+    }
+
+    /// Returns the place of the item at a position, counted from 0, or `None` past the end. It makes
+    /// no comparison.
+    pub fn place_at(&self, i: usize) -> Option<(usize, usize)>
+        ensures { MatchOption result (length (joined self.now.nodes) ≤ i)
+            (λ p. (p.0 < length self.now.nodes) × (p.1 < length (node_at self.now.nodes p.0))
+            × (items_before self.now.nodes p ≡ i)) }
+    {
+        self.index.find(i)
+    }
+
+    // Returns the place after the first `i` items.
+    fn place_after(&self, i: usize) -> (usize, usize)
+        requires { i ≤ length (joined self.now.nodes) }
+        ensures place { IsPlace self.now.nodes result }
+        ensures before { items_before self.now.nodes result ≡ i }
+    {
+        if i == 0 {
+            return (0, 0);
+        }
+        let Some((node, offset)) = self.place_at(i - 1) else {
+            unreachable!()
+        };
+        (node, offset + 1)
+    }
+}

@@ -1,0 +1,132 @@
+//! Positions: how many pairs stand before those of a key, the pair at a position, and its removal.
+ghost use Rattle.std.specs.Prelude.{◌≡◌, ◌+◌, ◌<◌, ◌≤◌, [], length, slice_get, true, false, None, MatchOption, IfOk, OnOk, IfErr, OnErr, IsOk};
+ghost use Rattle.std.specs.List.{count_by};
+ghost use Rattle.std.specs.Map.Iter.{ShowsInOrder, ShowsInReverse};
+ghost use Rattle.std.specs.Option.{option_map};
+ghost use Rattle.std.specs.Ordering.{is_lt};
+ghost use Rattle.indexset_core.specs.Bounds.{in_positions};
+ghost use Rattle.indexset_core.specs.Nodes.{joined};
+ghost use Rattle.indexset_core.specs.Pairs.{pair_shown};
+ghost use Rattle.indexset_multi.specs.Changed.{Fits, MultiChanged, MultiTold, named_removal, refusal_of};
+ghost use Rattle.indexset_multi.specs.Keys.{entries, equal_pair, first_pair, has_pair_of, key_and_value, pairs_of};
+
+use super::BTreeMultiMap;
+use super::range::Range;
+use indexset_core::multipair::MultiPair;
+use indexset_core::node::NodeLike;
+use indexset_core::refusal::Refusal;
+use indexset_events::change::ChangeEvent;
+use std::ops::Bound;
+
+impl<K: Ord + Clone + Drop, V: Eq + Clone + Drop, Node: NodeLike<MultiPair<K, V>>> BTreeMultiMap<
+    K,
+    V,
+    Node,
+> {
+    /// Returns how many pairs have a key below this one, which is the position of its first pair, by
+    /// two binary searches and a sum over the index.
+    ///
+    /// ```
+    /// let mut tags: multimap::BTreeMultiMap<u64, u64, Vec<MultiPair<u64, u64>>> = multimap::BTreeMultiMap::new(alloc);
+    /// for (tag, document) in [(1, 100), (1, 101), (2, 100)] {
+    ///     tags.insert(tag, document)?;
+    /// }
+    /// assert!(rt; tags.rank(&2) == 2 && tags.count(&1) == 2);
+    /// assert!(rt; tags.get_index(1) == Some((&1, &101)));
+    /// ```
+    pub fn rank(&self, key: &K) -> usize
+        ensures value { result ≡ count_by (λ p. is_lt (K.cmp p.key key.now))
+            (joined self.now.nodes) }
+        ensures there { has_pair_of K.cmp (joined self.now.nodes) key.now ≡ true
+            → slice_get (joined self.now.nodes) result
+            ≡ first_pair K.cmp (joined self.now.nodes) key.now }
+    {
+        self.set.position(self.places_of(key).0)
+    }
+
+    /// Returns the number of pairs of a key, by as few comparisons as `get` makes.
+    pub fn count(&self, key: &K) -> usize
+        ensures { result ≡ length (pairs_of K.cmp (joined self.now.nodes) key.now) }
+    {
+        let (from, to) = self.places_of(key);
+        self.set.position(to) - self.set.position(from)
+    }
+
+    /// Returns the position of the first pair of a key whose value is equal, or `None`. It compares keys
+    /// as `get` does, and then the values of the key's pairs, one by one.
+    pub fn index_of(&self, key: &K, value: &V) -> Option<usize>
+        ensures { MatchOption result
+            (equal_pair K.cmp V.eq (joined self.now.nodes) key.now value.now ≡ None)
+            (λ i. (i < length (joined self.now.nodes)) × (slice_get (joined self.now.nodes) i
+            ≡ equal_pair K.cmp V.eq (joined self.now.nodes) key.now value.now)) }
+    {
+        let place = self.equal_place(key, value)?;
+        Some(self.set.position(place))
+    }
+
+    /// Returns the pair at a position, or `None` past the end. It makes no comparison.
+    pub fn get_index(&self, i: usize) -> Option<(&K, &V)>
+        ensures { option_map (λ p. (p.0.now, p.1.now)) result
+            ≡ option_map key_and_value (slice_get (joined self.now.nodes) i) }
+    {
+        let pair = self.set.get_index(i)?;
+        Some((&pair.key, &pair.value))
+    }
+
+    /// Returns the pairs at the positions that satisfy both bounds, clipped to the length, in order. It
+    /// makes no comparison.
+    pub fn range_idx(&self, range: (Bound<usize>, Bound<usize>)) -> Range<'_, K, V, Node>
+        ensures rest { result ≡ entries (in_positions (joined self.now.nodes) range.0 range.1) }
+        ensures runs { ShowsInOrder (pair_shown {K = K} {V = V}) }
+        ensures runs_back { ShowsInReverse (pair_shown {K = K} {V = V}) }
+    {
+        Range {
+            rest: self.set.range_idx(range),
+        }
+    }
+
+    /// Removes the pair at a position, if any, and returns it with the events, without a comparison. A
+    /// node that is left small is merged with a small neighbour. Fails with `Numbers` where the events do
+    /// not fit the counter, else with `Memory`. A failed call changes nothing.
+    pub fn pop_index_cdc(
+        &mut self,
+        i: usize,
+    ) -> Result<(Option<(K, V)>, Vec<ChangeEvent<MultiPair<K, V>>>), Refusal>
+        ensures answer { IfOk result (λ r.
+            r.0 ≡ option_map key_and_value (slice_get (joined self.old.nodes) i)) }
+        ensures refusal { IfErr result (λ e. e ≡ refusal_of self.old
+            (named_removal K.cmp self.old (slice_get (joined self.old.nodes) i))) }
+        ensures no_event { length (joined self.old.nodes) ≤ i → IsOk result }
+        ensures unchanged { OnErr result (self.new ≡ self.old) }
+        ensures changed { OnOk result (MultiChanged K.cmp self.old self.new
+            (named_removal K.cmp self.old (slice_get (joined self.old.nodes) i))) }
+        ensures told { IfOk result (λ r. MultiTold K.cmp K.is_clone V.is_clone self.old self.new
+            (named_removal K.cmp self.old (slice_get (joined self.old.nodes) i)) r.1.items) }
+    {
+        let place = self.set.place_at(i);
+        self.take_cdc(place)
+    }
+
+    /// Removes the pair at a position, if any, and returns it, without a comparison. It consumes as many
+    /// event numbers as `pop_index_cdc`, and fails with `Numbers` where they do not fit. It allocates only
+    /// where it merges two nodes of a type that allocates, and else does not fail with `Memory`. A failed
+    /// call changes nothing.
+    pub fn pop_index(&mut self, i: usize) -> Result<Option<(K, V)>, Refusal>
+        ensures answer { IfOk result (λ entry.
+            entry ≡ option_map key_and_value (slice_get (joined self.old.nodes) i)) }
+        ensures refusal { IfErr result (λ e. e ≡ refusal_of self.old
+            (named_removal K.cmp self.old (slice_get (joined self.old.nodes) i))) }
+        ensures no_event { length (joined self.old.nodes) ≤ i → IsOk result }
+        ensures no_memory { length (named_removal K.cmp self.old
+            (slice_get (joined self.old.nodes) i)).events ≤ 1 → Fits self.old
+            (named_removal K.cmp self.old (slice_get (joined self.old.nodes) i)) → IsOk result }
+        ensures never { Node.allocates ≡ false → Fits self.old
+            (named_removal K.cmp self.old (slice_get (joined self.old.nodes) i)) → IsOk result }
+        ensures unchanged { OnErr result (self.new ≡ self.old) }
+        ensures changed { OnOk result (MultiChanged K.cmp self.old self.new
+            (named_removal K.cmp self.old (slice_get (joined self.old.nodes) i))) }
+    {
+        let place = self.set.place_at(i);
+        self.take(place)
+    }
+}
