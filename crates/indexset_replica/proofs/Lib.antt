@@ -4,6 +4,7 @@ pub mod CallerLemmas
 pub mod Beginnings
 pub mod Clones
 pub mod Copies
+pub mod CopiedPositions
 pub mod Deliveries
 pub mod EqualClones
 pub mod KeySearches

@@ -43,3 +43,12 @@ keys_by_number cmp x y less = first (cmp x.key y.key) (nat_cmp x.discriminator y
     first Less b e = refl
     first Equal b e = refl
     first Greater b e = ap is_gt e
+
+-- equal numbered pairs have equal keys
+pub keys_tied : {K V : Type 0} (cmp : K → K → Ordering) (x y : MultiPair K V) → by_number cmp x y ≡ Equal → cmp x.key y.key ≡ Equal
+keys_tied cmp x y equal = first (cmp x.key y.key) (nat_cmp x.discriminator y.discriminator) equal
+  where
+    first : (a b : Ordering) → ordering_then a b ≡ Equal → a ≡ Equal
+    first Less b e = e
+    first Equal b e = refl
+    first Greater b e = e

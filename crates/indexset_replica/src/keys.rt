@@ -1,8 +1,8 @@
 //! What a replica is searched by: an item, or the key of a pair.
 ghost use Rattle.std.specs.Prelude.{◌≡◌, false};
 ghost use Rattle.std.specs.Ordering.{is_gt};
-ghost use Rattle.std.specs.declared.cmp.Ordering.TheVariants.{Less};
-ghost use Rattle.indexset_replica.specs.Keyed.{keys_by_number};
+ghost use Rattle.std.specs.declared.cmp.Ordering.TheVariants.{Equal, Less};
+ghost use Rattle.indexset_replica.specs.Keyed.{keys_by_number, keys_tied};
 ghost use Rattle.std.proofs.Common.{ap};
 
 use indexset_core::multipair::MultiPair;
@@ -12,8 +12,8 @@ use indexset_core::steps::Steps;
 use std::cmp::Ordering;
 use std::marker::Model;
 
-/// A key by which items are sought: an item itself, or the key of a pair, numbered or not. It
-/// stands for `Borrow`: items that ascend have keys that do not descend.
+/// A key by which items are sought: an item itself, or the key of a pair, numbered or not. It stands
+/// for `Borrow`: items that ascend have keys that do not descend, and equal items have equal keys.
 pub trait KeyOf<T: Ord>: Ord {
     /// The key of an item.
     ghost key: { T → Self };
@@ -23,6 +23,8 @@ pub trait KeyOf<T: Ord>: Ord {
         ensures { result.now ≡ key item.now };
 
     ghost in_order: { (x y : T) → T.cmp x y ≡ Less → is_gt (Self.cmp (key x) (key y)) ≡ false };
+
+    ghost alike: { (x y : T) → T.cmp x y ≡ Equal → Self.cmp (key x) (key y) ≡ Equal };
 }
 
 /// An item is its own key.
@@ -30,6 +32,8 @@ impl<T: Ord> KeyOf<T> for T {
     ghost key = { λ x. x };
 
     ghost in_order = { λ x y less. ap is_gt less };
+
+    ghost alike = { λ x y equal. equal };
 
     fn key_of(item: &T) -> &T {
         item
@@ -41,6 +45,8 @@ impl<K: Ord, V> KeyOf<Pair<K, V>> for K {
 
     ghost in_order = { λ x y less. ap is_gt less };
 
+    ghost alike = { λ x y equal. equal };
+
     fn key_of(item: &Pair<K, V>) -> &K {
         &item.key
     }
@@ -50,6 +56,8 @@ impl<K: Ord, V> KeyOf<MultiPair<K, V>> for K {
     ghost key = { λ p. p.key };
 
     ghost in_order = { λ x y less. keys_by_number K.cmp x y less };
+
+    ghost alike = { λ x y equal. keys_tied K.cmp x y equal };
 
     fn key_of(item: &MultiPair<K, V>) -> &K {
         &item.key

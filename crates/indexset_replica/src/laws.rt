@@ -12,6 +12,7 @@ ghost use Rattle.indexset_events.specs.Replay.{event_number, replay, step, unass
 ghost use Rattle.indexset_events.specs.declared.change.ChangeEvent.{ChangeEvent};
 
 pub mod clones;
+pub mod positions;
 
 /// Memory aside, an event is refused exactly where its number is not the next, or is `u64::MAX`, or
 /// where it is no step from these nodes.

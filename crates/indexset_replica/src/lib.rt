@@ -1,15 +1,16 @@
 //! A copy of a logged tree's nodes that follows the tree by its events.
 //!
-//! [`Replica`] holds a list of nodes and the number of the next event. `new` returns one without
-//! nodes, `attach` gives it the nodes that the tree has when the copy begins, and `from_nodes`
-//! makes one of all of them at once. `apply` makes the change of one event. It takes the next event
-//! alone, and fails with a `Refusal` that says why where an event is not the next or does not apply
-//! to the nodes. Once the events of the tree's calls are applied, the nodes are those of the tree,
-//! boundaries included; `nodes`, `contains`, `next`, `range` and the calls of [`lookup`] and
-//! [`iter`] read them. `follow` is for events that are delivered with losses, repeats and in any
-//! order. [`laws`] states what the definitions mean, whatever the code: memory aside, an event is
-//! refused exactly where it is no step from the nodes. What each kind of event changes is in
-//! `edits`, and the searches among the nodes are in `places`.
+//! [`Replica`] holds a list of nodes and the number of the next event. `new` returns one without nodes,
+//! `attach` gives it the nodes that the tree has when the copy begins, and `from_nodes` makes one of all
+//! of them at once. `apply` makes the change of one event. It takes the next event alone, and fails with
+//! a `Refusal` that says why where an event is not the next or does not apply to the nodes. Once the events of
+//! the tree's calls are applied, the nodes are those of the tree, boundaries included; `nodes`,
+//! `contains`, `next`, `range` and the calls of [`lookup`], [`positions`] and [`iter`] read them. Items
+//! are sought by a key, which is an item itself or the key of a pair ([`keys`]). `follow` is for events
+//! that are delivered with losses, repeats and in any order. [`laws`] states what the definitions mean,
+//! whatever the code: memory aside, an event is refused exactly where it is no step from the nodes. What
+//! each kind of event changes is in `edits`, the searches among the nodes are in `places`, and the
+//! lengths of the nodes are kept in `index`.
 #![tactic(auto)]
 
 ghost use Rattle.std.specs.Prelude.{◌≡◌, ◌+◌, ◌≤◌, [], insert, length, None, Some, OnOk, IfErr, OnErr, unwrap_or};

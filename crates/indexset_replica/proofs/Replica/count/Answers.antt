@@ -1,7 +1,7 @@
-use Rattle.std.proofs.Common.{◌≡◌, arith, Ordering}
+use Rattle.std.proofs.Common.{◌≡◌, ap, arith, Ordering}
 use Rattle.indexset_core.specs.Nodes.{joined}
 use Rattle.indexset_core.specs.Parted.{less_count, not_greater_count}
-use Rattle.indexset_replica.proofs.KeySearches.{count_equal}
+use Rattle.indexset_replica.proofs.KeySearches.{count_equal, parted_keys}
 use Rattle.indexset_replica.proofs.Replica.count.Given.{Over}
 use Rattle.indexset_replica.proofs.Replica.count.Goals.{After-count_before}
 use Rattle.indexset_replica.proofs.Replica.count.Goals as goal
@@ -16,6 +16,10 @@ module _ (g : Over) (c : After-count_before g) where
 
   high : c.count_up_to-past.result ≡ not_greater_count answer (joined c.args.self.now.nodes)
   high = rw c.new.ensures at c.count_up_to-past.ensures
+
+pub count_before-requires : goal.count_before-requires
+count_before-requires g c =
+    parted_keys g.T.Ord.cmp g.Q.Ord.cmp g.met.Q.Ord.total g.Q.KeyOf.key g.met.Q.KeyOf.in_order (joined c.args.self.now.nodes) (rw (ap (λ t. t.nodes) c.self.view_is) at c.self.invariant.nodes.ascending) c.new-2.result.0
 
 pub overflow_sub-result : goal.overflow_sub-result
 overflow_sub-result g c = omega (arith, low g c, high g c, count_equal (answer g c) (joined c.args.self.now.nodes))
