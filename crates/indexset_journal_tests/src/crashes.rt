@@ -1,5 +1,7 @@
 //! A crash after so many calls of the disk.
 
+ghost use Rattle.std.specs.Prelude.{◌≤◌, IfOk, IfSome};
+
 use crate::support::{lines, opened, shown, store_of};
 use indexset_journal::{Journal, JournalError};
 use sqlite::{FileStore, Files};
@@ -14,7 +16,9 @@ type Disk = Fuse<Memory>;
 const TEXTS: [&[u8]; 6] = [b"", b"a b ", b"a b c ", b"d ", b"d e ", b""];
 
 /// Makes the calls one after another, up to the first that fails, and returns how many succeeded.
-fn run(alloc: Global, journal: &mut Journal<FileStore<Disk>>) -> Result<usize, JournalError> {
+fn run(alloc: Global, journal: &mut Journal<FileStore<Disk>>) -> Result<usize, JournalError>
+    ensures { IfOk result (λ done. done ≤ 5) }
+{
     if journal
         .append(lines(alloc, &["a", "b"])?.as_slice())
         .is_err()
@@ -68,26 +72,27 @@ fn run_until(alloc: Global, log_calls: u64, db_calls: u64) -> Result<Option<usiz
 
 #[test]
 fn calls_of_both_files_end(rt: HostRuntime) -> Result<(), Fail> {
-    let mut seen = [0u32; 6];
+    let (mut least, mut most) = (5, 0);
     for step in 0..30 {
         if let Some(done) = run_until(rt.alloc(), 4 * step, 4 * step)? {
-            seen[done] += 1;
+            least = done.min(least);
+            most = done.max(most);
         }
     }
-    assert!(rt; seen[0] + seen[1] + seen[2] + seen[3] + seen[4] > 0);
-    assert!(rt; seen[5] > 0);
+    assert!(rt; least < 5);
+    assert!(rt; most == 5);
     Ok(())
 }
 
 #[test]
 fn calls_of_one_file_end(rt: HostRuntime) -> Result<(), Fail> {
-    let mut ends = 0u32;
+    let mut ends = false;
     for step in 0..15 {
         run_until(rt.alloc(), 7 * step, 1_000_000)?;
         if run_until(rt.alloc(), 1_000_000, 7 * step)? == Some(5) {
-            ends += 1;
+            ends = true;
         }
     }
-    assert!(rt; ends > 0);
+    assert!(rt; ends);
     Ok(())
 }

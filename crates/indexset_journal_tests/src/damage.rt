@@ -31,9 +31,12 @@ fn files(alloc: Global) -> Result<Files<Memory>, JournalError> {
 
 /// A file of these bytes up to `end`, with the byte at `turned` turned.
 fn changed(alloc: Global, bytes: &[u8], end: usize, turned: usize) -> Result<Memory, Fail> {
-    let mut copy = bytes[..end].to_vec(alloc)?;
-    if turned < end {
-        copy[turned] ^= 0xff;
+    let Some(part) = bytes.get(..end) else {
+        return Err(Fail::new("a cut behind the end"));
+    };
+    let mut copy = part.to_vec(alloc)?;
+    if let Some(byte) = copy.get_mut(turned) {
+        *byte ^= 0xff;
     }
     let mut file = Memory::new(alloc);
     file.write_at(0, copy.as_slice())?;
@@ -72,7 +75,7 @@ fn a_turned_byte_is_noticed(rt: HostRuntime) -> Result<(), Fail> {
     let alloc = rt.alloc();
     let both = files(alloc)?;
     let (log, db) = (both.log.bytes(), both.db.bytes());
-    let mut refused = 0u32;
+    let mut refused = false;
     for step in 0..db.len() / STRIDE {
         let at = STRIDE * step;
         if is_refused(
@@ -80,7 +83,7 @@ fn a_turned_byte_is_noticed(rt: HostRuntime) -> Result<(), Fail> {
             changed(alloc, log, log.len(), log.len())?,
             changed(alloc, db, db.len(), at)?,
         )? {
-            refused += 1;
+            refused = true;
         }
     }
     for step in 0..log.len() / STRIDE {
@@ -91,7 +94,7 @@ fn a_turned_byte_is_noticed(rt: HostRuntime) -> Result<(), Fail> {
             changed(alloc, db, db.len(), db.len())?,
         )?;
     }
-    assert!(rt; refused > 0);
+    assert!(rt; refused);
     Ok(())
 }
 

@@ -1,5 +1,7 @@
 //! What the tests share.
 
+ghost use Rattle.std.specs.Prelude.{IsTrue};
+
 use indexset_journal::{Journal, JournalError};
 use sqlite::{Connection, FileStore, Files, Options};
 use sqlite_disk::Disk;
@@ -34,7 +36,10 @@ pub(crate) fn store_of<D: Disk + Drop>(
     alloc: Global,
     files: Files<D>,
     has_sums: bool,
-) -> Result<FileStore<D>, JournalError> {
+) -> Result<FileStore<D>, JournalError>
+    requires log { IsTrue (D.Disk.is_usable files.log) }
+    requires db { IsTrue (D.Disk.is_usable files.db) }
+{
     let mut conn = match Connection::open_files_with(alloc, files, Options::new(1), has_sums) {
         Ok(conn) => conn,
         Err((error, _left)) => return Err(JournalError::from(error)),
