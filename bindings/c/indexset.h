@@ -315,6 +315,11 @@ size_t indexset_multi_len(const indexset_multi *multi);
  * too few are left. */
 uint32_t indexset_multi_insert(indexset_multi *multi, uint64_t key, uint64_t value);
 
+/* Adds a value to those of a key, as the last, also where the key has it: it compares no values, so its time
+ * does not grow with their number. INDEXSET_YES, or INDEXSET_MEMORY, INDEXSET_NUMBERS or INDEXSET_NONE;
+ * unless it is INDEXSET_YES, nothing changes. */
+uint32_t indexset_multi_push(indexset_multi *multi, uint64_t key, uint64_t value);
+
 /* Removes a value of a key. INDEXSET_YES, or INDEXSET_NO where the key does not have it, or
  * INDEXSET_MEMORY or INDEXSET_NUMBERS; unless it is INDEXSET_YES, nothing changes. */
 uint32_t indexset_multi_remove(indexset_multi *multi, uint64_t key, uint64_t value);
@@ -333,6 +338,17 @@ bool indexset_multi_contains_key(const indexset_multi *multi, uint64_t key);
 /* Returns how many values a key has. */
 size_t indexset_multi_count(const indexset_multi *multi, uint64_t key);
 
+/* Returns how many pairs have keys below a key: the position of the key's first pair, where it has one. */
+size_t indexset_multi_rank(const indexset_multi *multi, uint64_t key);
+
+/* Writes the pair at a position, counted from 0. True, or false where there is none, and then nothing is
+ * written. */
+bool indexset_multi_at(const indexset_multi *multi, size_t position, uint64_t *key, uint64_t *value);
+
+/* Removes the pair at a position and writes it. INDEXSET_YES, or INDEXSET_NO where there is none, or
+ * INDEXSET_MEMORY or INDEXSET_NUMBERS; unless it is INDEXSET_YES, nothing changes and nothing is written. */
+uint32_t indexset_multi_remove_at(indexset_multi *multi, size_t position, uint64_t *key, uint64_t *value);
+
 /* Writes the values of a key in the order in which they came into an array of `places` places, as many as
  * it has room for. Returns how many it wrote; indexset_multi_count says how many there are. */
 size_t indexset_multi_get(const indexset_multi *multi, uint64_t key, uint64_t *out, size_t places);
@@ -346,6 +362,10 @@ bool indexset_multi_last(const indexset_multi *multi, uint64_t *key, uint64_t *v
 /* Writes the pairs of the keys from `low` to `high`, both included, in order into two arrays, as many as
  * both have room for. Returns how many it wrote. */
 size_t indexset_multi_range(const indexset_multi *multi, uint64_t low, uint64_t high, uint64_t *keys, size_t key_places, uint64_t *values, size_t value_places);
+
+/* Writes the pairs from a position on, in order into two arrays, as many as both have room for. Returns how
+ * many it wrote. */
+size_t indexset_multi_range_by_position(const indexset_multi *multi, size_t from, uint64_t *keys, size_t key_places, uint64_t *values, size_t value_places);
 
 /* What a change does. A node is a run of pairs in order; it is named by its last pair before the change. */
 enum indexset_kind {
@@ -421,11 +441,11 @@ bool indexset_log_get(const indexset_log *log, uint64_t key, uint64_t *out);
 /* Tells whether a key is there. */
 bool indexset_log_contains(const indexset_log *log, uint64_t key);
 
-/* Returns how many keys are below a key. It adds up the lengths of the nodes before. */
+/* Returns how many keys are below a key, by two binary searches and a sum over the index. */
 size_t indexset_log_rank(const indexset_log *log, uint64_t key);
 
 /* Writes the pair at a position, counted from 0. True, or false where there is none, and then nothing is
- * written. It adds up the lengths of the nodes before. */
+ * written. */
 bool indexset_log_at(const indexset_log *log, size_t position, uint64_t *key, uint64_t *value);
 
 /* Writes the pairs of the keys from `low` to `high`, both included, in order into two arrays, as many as
@@ -488,8 +508,7 @@ uint32_t indexset_replica_apply(indexset_replica *replica, const indexset_event 
  * all, or else the status of the change after those, as indexset_replica_apply has it; or INDEXSET_NONE. */
 uint32_t indexset_replica_apply_all(indexset_replica *replica, const indexset_event *events, size_t count, size_t *taken);
 
-/* Returns how many pairs there are, how many nodes, and the number of the change that is awaited. The first
- * takes a time that grows with the number of nodes. */
+/* Returns how many pairs there are, how many nodes, and the number of the change that is awaited. */
 size_t indexset_replica_len(const indexset_replica *replica);
 size_t indexset_replica_node_count(const indexset_replica *replica);
 uint64_t indexset_replica_next(const indexset_replica *replica);
@@ -500,6 +519,13 @@ bool indexset_replica_get(const indexset_replica *replica, uint64_t key, uint64_
 /* Tells whether a key is there. */
 bool indexset_replica_contains(const indexset_replica *replica, uint64_t key);
 
+/* Returns how many keys are below a key, by two binary searches and a sum over the index. */
+size_t indexset_replica_rank(const indexset_replica *replica, uint64_t key);
+
+/* Writes the pair at a position, counted from 0. True, or false where there is none, and then nothing is
+ * written. */
+bool indexset_replica_at(const indexset_replica *replica, size_t position, uint64_t *key, uint64_t *value);
+
 /* Writes the pair of the least or the greatest key. True, or false where the replica is empty, and then
  * nothing is written. */
 bool indexset_replica_first(const indexset_replica *replica, uint64_t *key, uint64_t *value);
@@ -508,6 +534,10 @@ bool indexset_replica_last(const indexset_replica *replica, uint64_t *key, uint6
 /* Writes the pairs of the keys from `low` to `high`, both included, in order into two arrays, as many as
  * both have room for. Returns how many it wrote. */
 size_t indexset_replica_range(const indexset_replica *replica, uint64_t low, uint64_t high, uint64_t *keys, size_t key_places, uint64_t *values, size_t value_places);
+
+/* Writes the pairs from a position on, in order into two arrays, as many as both have room for. Returns how
+ * many it wrote. */
+size_t indexset_replica_range_by_position(const indexset_replica *replica, size_t from, uint64_t *keys, size_t key_places, uint64_t *values, size_t value_places);
 
 /* Writes how many pairs each node has, in order into an array of `places` places, as many as it has room
  * for. Returns how many it wrote. */

@@ -5,6 +5,7 @@ ghost use Rattle.std.specs.Option.{option_map};
 ghost use Rattle.indexset_core.specs.MultiPairs.{by_number, numbered_pair};
 ghost use Rattle.indexset_core.specs.Nodes.{joined};
 ghost use Rattle.indexset_core.specs.Order.{put};
+ghost use Rattle.indexset_multi.specs.Changed.{addition, addition_refusal};
 ghost use Rattle.indexset_multi.specs.Keys.{equal_pair, first_pair, pairs_of, without_first, without_named};
 ghost use Rattle.indexset_multi.specs.Tree.{after_insertion, after_removal, insertion_refusal, pair_removal_events};
 ghost use Rattle.indexset_log.specs.Tree.{refusal_for};
@@ -52,6 +53,38 @@ pub extern "C" fn indexset_multi_insert(
     let status = match insert_new(&mut *held, key, value) {
         Ok(()) => YES,
         Err(cause) => of_refusal(cause),
+    };
+    multi.put(held);
+    status
+}
+
+/// Adds a value to those of a key, as the last, whether the key has it or not: it compares no values.
+#[unsafe(no_mangle)]
+pub extern "C" fn indexset_multi_push(
+    alloc: Global,
+    multi: &mut MultiHandle,
+    key: u64,
+    value: u64,
+) -> u32
+    ensures last { result ≡ YES → values_of (numbered_pairs multi.new.slot.value) key
+        ≡ values_of (numbered_pairs multi.old.slot.value) key ++ value ∷ [] }
+    ensures others { result ≡ YES → (other : ℕ) → is_eq (nat_cmp other key) ≡ false
+        → pairs_of nat_cmp (numbered_pairs multi.new.slot.value) other
+        ≡ pairs_of nat_cmp (numbered_pairs multi.old.slot.value) other }
+    ensures same { result ≢ YES → multi.new.slot.value ≡ multi.old.slot.value }
+    ensures none { result ≡ NONE ↔ (multi.old.slot.value ≡ None) }
+    ensures cause { IfSome multi.old.slot.value
+        (λ m. IsToldAs result (addition_refusal nat_cmp m key value)) }
+    ensures tree { result ≡ YES → IfSome multi.old.slot.value (λ m. multi.new.slot.value
+        ≡ Some (addition nat_cmp m key value).tree) }
+    ensures status { (result ≤ NUMBERS) × (result ≢ NO) × (result ≢ HELD) }
+{
+    let Some(mut held) = multi.take(alloc) else {
+        return NONE;
+    };
+    let status = match held.push(key, value) {
+        Ok(()) => YES,
+        Err(refused) => of_refusal(refused.cause),
     };
     multi.put(held);
     status

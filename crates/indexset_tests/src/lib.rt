@@ -11,6 +11,8 @@ mod events;
 #[cfg(test)]
 mod fenwick;
 #[cfg(test)]
+mod journal;
+#[cfg(test)]
 mod long_runs;
 #[cfg(test)]
 mod map;

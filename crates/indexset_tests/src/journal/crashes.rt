@@ -2,7 +2,7 @@
 
 ghost use Rattle.std.specs.Prelude.{◌≤◌, IfOk, IfSome};
 
-use crate::support::{lines, opened, shown, store_of};
+use super::support::{lines, opened, shown, store_of};
 use indexset_journal::{Journal, JournalError};
 use sqlite::{FileStore, Files};
 use sqlite_disk::{Fuse, Memory};

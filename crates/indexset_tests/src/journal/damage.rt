@@ -1,6 +1,6 @@
 //! Files that are cut, and files of which a byte is turned.
 
-use crate::support::{lines, opened, shown, store_of};
+use super::support::{lines, opened, shown, store_of};
 use indexset_journal::JournalError;
 use sqlite::Files;
 use sqlite_disk::{Disk, Memory};

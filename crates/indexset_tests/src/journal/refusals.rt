@@ -1,6 +1,6 @@
 //! Files that hold something other than lines, and numbers that end.
 
-use crate::support::{TABLE, lines, opened, shown};
+use super::support::{TABLE, lines, opened, shown};
 use indexset_journal::{Journal, JournalError};
 use sqlite::{Connection, MemStore};
 use std::alloc::Global;
