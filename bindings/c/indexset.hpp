@@ -30,7 +30,7 @@
 // Exceptions: std::bad_alloc alone, where memory is refused, and what the caller's own iterators and functions throw.
 // Then nothing has changed, except by the calls that make several changes and say otherwise: `erase` and `insert` of
 // several pairs of a multimap, `apply_all` of a replica, and `erase_if`. Moves, swaps and `clear` take no memory, and
-// neither does `erase` of set and map, and of a key of a byte_map. An empty collection has none either.
+// neither does `erase` of set, map and byte_map. An empty collection has none either.
 //
 // Threads: a collection is for one thread, the one that made it, reads too. Two collections do not touch each other,
 // except a byte_map and its copies, which share the bytes of keys.

@@ -79,7 +79,9 @@ class byte_store : public held<byte_calls> {
     bool contains(std::string_view key) const noexcept {
         return indexset_text_map_contains(handle(), byte_calls::bytes(key), key.size());
     }
-    std::size_t rank_past(std::string_view key) const noexcept { return rank(key) + (contains(key) ? 1 : 0); }
+    std::size_t count_up_to(std::string_view key) const noexcept {
+        return indexset_text_map_count_up_to(handle(), byte_calls::bytes(key), key.size());
+    }
     bool get(std::string_view key, std::uint64_t &value) const noexcept {
         return indexset_text_map_get(handle(), byte_calls::bytes(key), key.size(), &value);
     }
@@ -109,16 +111,13 @@ class byte_store : public held<byte_calls> {
         if (removed) changed();
         return removed;
     }
-    // Removes `count` elements from a position on. Where no key of them has more bytes than a run, it takes no memory.
-    void remove_from(std::size_t position, std::size_t count) {
-        for (; count != 0; count--) {
-            const byte_run *run = runs_.at(handle(), position);
-            if (run != nullptr) {
-                remove(run->key(position - run->first));
-            } else {
-                remove(at(position).first);
-            }
-        }
+    // Removes `count` elements from a position on.
+    void remove_from(std::size_t position, std::size_t count) noexcept {
+        char key;
+        std::size_t length;
+        std::uint64_t value;
+        while (count != 0 && indexset_text_map_remove_at(handle(), position, &key, 0, &length, &value)) count--;
+        changed();
     }
 
     static bool equal(const value_type &a, const value_type &b) { return a == b; }

@@ -23,6 +23,7 @@ struct set_calls {
     static constexpr auto clear = indexset_set_clear;
     static constexpr auto len = indexset_set_len;
     static constexpr auto rank = indexset_set_rank;
+    static constexpr auto count_up_to = indexset_set_count_up_to;
 
     static std::size_t read(handle *of, std::size_t from, std::uint64_t *keys, std::uint64_t *, std::size_t places) {
         return indexset_set_range_by_position(of, from, keys, places);
@@ -33,6 +34,10 @@ struct set_calls {
         return indexset_set_contains(of, key);
     }
     static bool remove(handle *of, std::uint64_t key) { return indexset_set_remove(of, key); }
+    static bool remove_at(handle *of, std::size_t position) {
+        std::uint64_t key;
+        return indexset_set_remove_at(of, position, &key);
+    }
 };
 
 // The calls of the library for a map of numbers.
@@ -45,6 +50,7 @@ struct map_calls {
     static constexpr auto clear = indexset_map_clear;
     static constexpr auto len = indexset_map_len;
     static constexpr auto rank = indexset_map_rank;
+    static constexpr auto count_up_to = indexset_map_count_up_to;
 
     static std::size_t read(handle *of, std::size_t from, std::uint64_t *keys, std::uint64_t *values, std::size_t places) {
         return indexset_map_range_by_position(of, from, keys, places, values, places);
@@ -59,6 +65,10 @@ struct map_calls {
     static bool remove(handle *of, std::uint64_t key) {
         std::uint64_t value;
         return indexset_map_remove(of, key, &value);
+    }
+    static bool remove_at(handle *of, std::size_t position) {
+        std::uint64_t key, value;
+        return indexset_map_remove_at(of, position, &key, &value);
     }
 };
 
@@ -99,10 +109,7 @@ class number_store : public held<Calls> {
 
     std::size_t rank(key_type key) const noexcept { return rank_of(Code::key(key)); }
     std::size_t rank_of(std::uint64_t key) const noexcept { return Calls::rank(this->handle(), key); }
-    std::size_t rank_past(key_type key) const noexcept {
-        const std::uint64_t code = Code::key(key);
-        return code == greatest ? this->size() : rank_of(code + 1);
-    }
+    std::size_t count_up_to(key_type key) const noexcept { return Calls::count_up_to(this->handle(), Code::key(key)); }
     bool find(key_type key, pair &out) const noexcept { return Calls::find(this->handle(), Code::key(key), out); }
     bool get(key_type key, std::uint64_t &value) const noexcept {
         return indexset_map_get(this->handle(), Code::key(key), &value);
@@ -137,12 +144,7 @@ class number_store : public held<Calls> {
     }
     // Removes `count` elements from a position on.
     void remove_from(std::size_t position, std::size_t count) noexcept {
-        number_run<Calls> run;
-        while (count != 0) {
-            run.read(this->handle(), position, count < run.room ? count : run.room);
-            for (std::size_t i = 0; i < run.count; i++) Calls::remove(this->handle(), run.keys[i]);
-            count = run.count == 0 ? 0 : count - run.count;
-        }
+        while (count != 0 && Calls::remove_at(this->handle(), position)) count--;
         changed();
     }
 

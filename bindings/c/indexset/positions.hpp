@@ -152,7 +152,7 @@ class positions : public comparisons<Self, typename Store::order> {
 
     // Returns the first element that is not below a key, or that is above it, or the end where there is none.
     iterator lower_bound(key_argument key) const noexcept { return at_position(order_of_key(key)); }
-    iterator upper_bound(key_argument key) const noexcept { return at_position(store_ ? store_->rank_past(key) : 0); }
+    iterator upper_bound(key_argument key) const noexcept { return at_position(store_ ? store_->count_up_to(key) : 0); }
 
     // Returns both bounds: the elements of a key. Two searches.
     std::pair<iterator, iterator> equal_range(key_argument key) const noexcept {
@@ -185,12 +185,12 @@ class positions : public comparisons<Self, typename Store::order> {
 
     // Removes an element, or those from `first` to before `last`. Returns the element after them. Each element takes
     // a search.
-    iterator erase(iterator it) noexcept(Store::notes) {
+    iterator erase(iterator it) noexcept {
         const size_type position = it.position();
         store_->remove_from(position, 1);
         return at_position(position);
     }
-    iterator erase(iterator first, iterator last) noexcept(Store::notes) {
+    iterator erase(iterator first, iterator last) noexcept {
         const size_type from = first.position(), past = last.position();
         if (from == past) return first;
         if (from == 0 && past == size()) {
