@@ -48,7 +48,7 @@ def words(program: pathlib.Path, row: str, keys: int, count: int) -> list[str]:
 
 def has_row(program: pathlib.Path, row: str) -> bool:
     """Whether a program has the words to run a row alone, and the row."""
-    return subprocess.run(words(program, row, 1000, 0), capture_output=True, text=True).stdout == "looked up\n"
+    return subprocess.run(words(program, row, 1000, 0), capture_output=True, text=True).stdout.startswith("looked up\n")
 
 
 def cell(counter: Counter, counted: list[list[str]], program: pathlib.Path, row: str, keys: int) -> str:
