@@ -69,11 +69,24 @@ def crate() -> pathlib.Path | str:
     return project / "target/release/indexset_rs" if is_built else "did not build"
 
 
-def pb_ds() -> pathlib.Path | str:
+def cpp(name: str, header: str, *words: str) -> pathlib.Path | str:
+    """A program of C++ for a library that has a header."""
     if not shutil.which("g++"):
         return "needs `g++`"
-    made = OUT / "pb_ds"
-    return made if ran("g++", "-O2", "-std=c++17", "-o", str(made), str(HERE / "pb_ds.cpp")) else "did not build"
+    if subprocess.run(["g++", "-E", "-x", "c++", "-include", header, os.devnull], capture_output=True).returncode:
+        return f"needs `{header}`"
+    made = OUT / name
+    is_built = ran("g++", "-O2", "-DNDEBUG", "-std=c++17", "-o", str(made), str(HERE / f"{name}.cpp"), *words)
+    return made if is_built else "did not build"
+
+
+def pb_ds() -> pathlib.Path | str:
+    return cpp("pb_ds", "ext/pb_ds/assoc_container.hpp")
+
+
+def absl() -> pathlib.Path | str:
+    """Debian's `libabsl-dev` has it."""
+    return cpp("absl", "absl/container/btree_set.h", "-labsl_throw_delegate", "-labsl_raw_logging_internal")
 
 
 def program(name: str) -> pathlib.Path | None:
@@ -86,13 +99,17 @@ def program(name: str) -> pathlib.Path | None:
 
 def compilers() -> str:
     """The compilers of the programs, with their versions and what they are told."""
-    asked = {"ours": ["rt", "version"], "Rust crate and std": ["rustc", "--version"], "pb_ds": ["g++", "--version"]}
-    told = {"ours": "", "Rust crate and std": ", optimised", "pb_ds": ", `-O2`"}
+    asked = {
+        "ours": (["rt", "version"], ""),
+        "Rust crate and std": (["rustc", "--version"], ", optimised"),
+        "pb_ds and absl": (["g++", "--version"], ", `-O2`"),
+        "version of absl": (["pkg-config", "--modversion", "absl_btree"], ""),
+    }
     found = []
-    for name, words in asked.items():
+    for name, (words, told) in asked.items():
         if shutil.which(words[0]):
-            said = subprocess.run(words, stdout=subprocess.PIPE, text=True).stdout.splitlines()[0]
-            found.append(f"{name}: {said}{told[name]}")
+            done = subprocess.run(words, capture_output=True, text=True)
+            found += [f"{name}: {done.stdout.splitlines()[0]}{told}"] if done.returncode == 0 else []
     return "; ".join(found)
 
 
@@ -100,7 +117,7 @@ def built() -> dict[str, pathlib.Path]:
     """The programs by name, ours first."""
     OUT.mkdir(exist_ok=True)
     found: dict[str, pathlib.Path] = {}
-    for name, build in (("ours", ours), ("Rust crate", crate), ("std", std), ("pb_ds", pb_ds)):
+    for name, build in (("ours", ours), ("Rust crate", crate), ("std", std), ("pb_ds", pb_ds), ("absl", absl)):
         made = build()
         if isinstance(made, str):
             print(f"{name} is left out: {made}")

@@ -21,7 +21,7 @@ PANELS = [
     "equality",
     "iterate",
 ]
-COLOURS = ["#1f4e9c", "#c2571a", "#3f8f3f", "#8a3f8f"]
+COLOURS = ["#1f4e9c", "#c2571a", "#3f8f3f", "#8a3f8f", "#7a6a1f"]
 WIDTH, HEIGHT, LEFT, RIGHT, TOP, COLUMNS = 300, 200, 52, 34, 30, 3
 HEAD, FOOT = 64, 24  # what stands above the panels, and below them
 SAID = "Nanoseconds (ns) or microseconds (µs) an operation, by number of keys; lower is better. Both scales are logarithmic."

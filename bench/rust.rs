@@ -2,7 +2,8 @@
 //! feature says so. One line a row: its name, a tab, nanoseconds an operation.
 //!
 //! `rows KEYS` prints the rows; `hold KEYS COPIES ascending|mixed` makes that many sets, prints a line,
-//! and waits for one, so that its memory can be read.
+//! and waits for one, so that its memory can be read; `look_ups KEYS ROW COUNT` prepares 100,000 look-ups
+//! and does the first COUNT of them, so that what one costs is the difference between two runs.
 
 #[cfg(feature = "of_the_crate")]
 use indexset::{BTreeMap, BTreeSet};
@@ -30,12 +31,39 @@ fn every_second(first: u64, keys: u64) -> BTreeSet<u64> {
     (0..keys / 2).map(|i| 2 * i + first).collect()
 }
 
+fn contained(set: &BTreeSet<u64>, keys: &[u64]) -> usize {
+    keys.iter().filter(|key| set.contains(key)).count()
+}
+
+#[cfg(feature = "of_the_crate")]
+fn by_position(set: &BTreeSet<u64>, positions: &[u64]) -> u64 {
+    positions.iter().filter_map(|at| set.get_index(*at as usize)).fold(0u64, |sum, key| sum.wrapping_add(*key))
+}
+
+#[cfg(feature = "of_the_crate")]
+fn ranks(set: &BTreeSet<u64>, keys: &[u64]) -> usize {
+    keys.iter().fold(0usize, |sum, key| sum.wrapping_add(set.rank(key)))
+}
+
+fn looked_up(map: &BTreeMap<u64, u64>, keys: &[u64]) -> u64 {
+    keys.iter().filter_map(|key| map.get(key)).fold(0u64, |sum, value| sum.wrapping_add(*value))
+}
+
+/// One more in each value, key by key.
+fn written(map: &mut BTreeMap<u64, u64>, keys: &[u64]) {
+    for key in keys {
+        if let Some(value) = map.get_mut(key) {
+            *value = value.wrapping_add(1);
+        }
+    }
+}
+
 fn measure_look_ups(set: &BTreeSet<u64>, sought: &[u64], absent: &[u64], keys: u64) {
     let start = Instant::now();
-    let found = sought.iter().filter(|key| set.contains(key)).count();
+    let found = contained(set, sought);
     row("contains", start, keys);
     let start = Instant::now();
-    let missed = absent.iter().filter(|key| set.contains(key)).count();
+    let missed = contained(set, absent);
     row("contains, absent", start, keys);
     black_box((found, missed));
 }
@@ -43,12 +71,12 @@ fn measure_look_ups(set: &BTreeSet<u64>, sought: &[u64], absent: &[u64], keys: u
 #[cfg(feature = "of_the_crate")]
 fn measure_positions(set: &BTreeSet<u64>, sought: &[u64], positions: &[u64], keys: u64) {
     let start = Instant::now();
-    let sum = positions.iter().filter_map(|at| set.get_index(*at as usize)).fold(0u64, |sum, key| sum.wrapping_add(*key));
+    let sum = by_position(set, positions);
     row("element at a position", start, keys);
     let start = Instant::now();
-    let ranks = sought.iter().fold(0usize, |sum, key| sum.wrapping_add(set.rank(key)));
+    let below = ranks(set, sought);
     row("rank", start, keys);
-    black_box((sum, ranks));
+    black_box((sum, below));
 }
 
 #[cfg(not(feature = "of_the_crate"))]
@@ -162,14 +190,10 @@ fn measure_map(mixed: &[u64], sought: &[u64], keys: u64) {
     }
     row("map, insert", start, keys);
     let start = Instant::now();
-    black_box(sought.iter().filter_map(|key| map.get(key)).fold(0u64, |sum, value| sum.wrapping_add(*value)));
+    black_box(looked_up(&map, sought));
     row("map, get", start, keys);
     let start = Instant::now();
-    for key in sought {
-        if let Some(value) = map.get_mut(key) {
-            *value = value.wrapping_add(1);
-        }
-    }
+    written(&mut map, sought);
     row("map, get_mut", start, keys);
     let start = Instant::now();
     black_box(map.iter().fold(0u64, |sum, (key, value)| sum.wrapping_add(*key).wrapping_add(*value)));
@@ -201,12 +225,85 @@ fn hold(keys: u64, copies: u64, is_mixed: bool) {
     black_box(sets.len());
 }
 
+/// The look-ups that are prepared.
+const PREPARED: u64 = 100_000;
+
+/// What a row looks up, in no order that comes again.
+fn prepared(name: &str, keys: u64, count: u64) -> Vec<u64> {
+    let mut list: Vec<u64> = (0..PREPARED)
+        .map(|i| match name {
+            "contains, absent" => key(keys + i),
+            "element at a position" => key(i) % keys.max(1),
+            _ => key(key(i) % keys.max(1)),
+        })
+        .collect();
+    list.truncate(count as usize);
+    list
+}
+
+#[cfg(feature = "of_the_crate")]
+fn look_up_position(name: &str, set: &BTreeSet<u64>, asked: &[u64]) -> bool {
+    match name {
+        "element at a position" => black_box(by_position(set, asked)),
+        "rank" => black_box(ranks(set, asked) as u64),
+        _ => return false,
+    };
+    true
+}
+
+#[cfg(not(feature = "of_the_crate"))]
+fn look_up_position(_name: &str, _set: &BTreeSet<u64>, _asked: &[u64]) -> bool {
+    false
+}
+
+fn look_up_in_set(name: &str, keys: u64, asked: &[u64]) -> bool {
+    let mut set = BTreeSet::new();
+    for i in 0..keys {
+        set.insert(key(i));
+    }
+    match name {
+        "contains" | "contains, absent" => black_box(contained(&set, asked)),
+        _ => return look_up_position(name, &set, asked),
+    };
+    true
+}
+
+fn look_up_in_map(name: &str, keys: u64, asked: &[u64]) -> bool {
+    let mut map = BTreeMap::new();
+    for i in 0..keys {
+        map.insert(key(i), key(i));
+    }
+    match name {
+        "map, get" => {
+            black_box(looked_up(&map, asked));
+        }
+        "map, get_mut" => written(&mut map, asked),
+        _ => return false,
+    }
+    black_box(map.len());
+    true
+}
+
+/// Whether there is such a row.
+fn look_up(name: &str, keys: u64, count: u64) -> bool {
+    let asked = prepared(name, keys, count);
+    if name.starts_with("map, ") {
+        look_up_in_map(name, keys, &asked)
+    } else {
+        look_up_in_set(name, keys, &asked)
+    }
+}
+
 fn main() {
     let words: Vec<String> = std::env::args().collect();
     let number = |at: usize| words.get(at).and_then(|word| word.parse().ok()).unwrap_or(0);
     match words.get(1).map(String::as_str) {
         Some("rows") => measure(number(2)),
         Some("hold") => hold(number(2), number(3), words.get(4).is_some_and(|word| word == "mixed")),
-        _ => println!("usage: rows KEYS | hold KEYS COPIES ascending|mixed"),
+        Some("look_ups") => {
+            let name = words.get(3).map_or("", String::as_str);
+            println!("{}", if look_up(name, number(2), number(4)) { "looked up" } else { "no such row" });
+        }
+        _ => println!("usage: rows KEYS | hold KEYS COPIES ascending|mixed | look_ups KEYS ROW COUNT"),
     }
 }

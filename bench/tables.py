@@ -34,9 +34,9 @@ def timed(program: pathlib.Path, what: str, keys: int) -> Rows:
 
 def medians(programs: Programs, what: str, keys: int, times: int) -> dict[str, Rows]:
     """Of each program its rows, the median of so many runs, in turn with the others'; of few keys, which
-    take little time, of ten times as many."""
+    take little time, of ten times as many, and of 10,000,000, which take minutes, of one."""
     runs: dict[str, list[Rows]] = {name: [] for name in programs}
-    for _ in range(times * 10 if keys <= 10_000 else times):
+    for _ in range(times * 10 if keys <= 10_000 else times if keys < 10_000_000 else 1):
         for name, program in programs.items():
             runs[name].append(timed(program, what, keys))
     return {name: {row: statistics.median(run[row] for run in found) for row in found[0]} for name, found in runs.items()}

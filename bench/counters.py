@@ -1,0 +1,78 @@
+"""The tables of what a look-up costs by counters: of the processor where `perf stat` reads them, else of
+cachegrind, which simulates them."""
+
+from __future__ import annotations
+
+import pathlib
+import shutil
+import subprocess
+import tempfile
+from collections.abc import Callable
+
+from tables import Programs, shown, table
+
+LOOK_UPS = ["contains", "contains, absent", "element at a position", "rank", "map, get", "map, get_mut"]
+COUNT = 100_000  # look-ups of a run, as many as a program prepares
+WHAT = "instructions / misses of the first level / of the last level / mispredicted branches"
+# Each counter is the sum of events.
+OF_PERF = [["instructions:u"], ["L1-dcache-load-misses:u"], ["LLC-load-misses:u"], ["branch-misses:u"]]
+OF_CACHEGRIND = [["Ir"], ["D1mr", "D1mw"], ["DLmr", "DLmw"], ["Bcm", "Bim"]]
+
+Counts = dict[str, int]  # by event
+Counter = Callable[[list[str]], Counts]  # of the words of a command
+
+
+def by_perf(command: list[str]) -> Counts:
+    """The mean of five runs; nothing where `perf` may not count."""
+    events = ",".join(event for events in OF_PERF for event in events)
+    done = subprocess.run(["perf", "stat", "-r", "5", "-x", ";", "-e", events, *command], capture_output=True, text=True)
+    cells = [line.split(";") for line in done.stderr.splitlines()]
+    return {cell[2]: int(cell[0]) for cell in cells if len(cell) > 2 and cell[0].isdigit()}
+
+
+def by_cachegrind(command: list[str]) -> Counts:
+    with tempfile.NamedTemporaryFile("r") as out:
+        words = ["valgrind", "--tool=cachegrind", "--cache-sim=yes", "--branch-sim=yes", f"--cachegrind-out-file={out.name}"]
+        subprocess.run([*words, *command], check=True, capture_output=True)
+        lines = dict(line.split(": ", 1) for line in pathlib.Path(out.name).read_text().splitlines() if line.startswith(("events: ", "summary: ")))
+    return {event: int(count) for event, count in zip(lines["events"].split(), lines["summary"].split())}
+
+
+def has_counters() -> bool:
+    return bool(shutil.which("perf")) and "instructions:u" in by_perf(["true"])
+
+
+def words(program: pathlib.Path, row: str, keys: int, count: int) -> list[str]:
+    return [str(program), "look_ups", str(keys), row, str(count)]
+
+
+def has_row(program: pathlib.Path, row: str) -> bool:
+    """Whether a program has the words to run a row alone, and the row."""
+    return subprocess.run(words(program, row, 1000, 0), capture_output=True, text=True).stdout.startswith("looked up\n")
+
+
+def cell(counter: Counter, counted: list[list[str]], program: pathlib.Path, row: str, keys: int) -> str:
+    """What one look-up counts: the difference between a run with look-ups and one without them."""
+    if not has_row(program, row):
+        return "–"
+    some, none = (counter(words(program, row, keys, count)) for count in (COUNT, 0))
+    each = [sum(some[it] - none[it] for it in events) / COUNT if set(events) <= some.keys() & none.keys() else None for events in counted]
+    return " / ".join(shown(it if it is None else max(it, 0)) for it in each)
+
+
+def of_counters(programs: Programs, keys: list[int]) -> str | None:
+    """A table for each number of keys; None where nothing counts."""
+    is_real = has_counters()
+    if not is_real and not shutil.which("valgrind"):
+        print("counters need `perf stat` with counters, or `valgrind`")
+        return None
+    counter, counted = (by_perf, OF_PERF) if is_real else (by_cachegrind, OF_CACHEGRIND)
+    able = {name: program for name, program in programs.items() if any(has_row(program, row) for row in LOOK_UPS)}
+    for name in programs.keys() - able.keys():
+        print(f"{name} is left out: its program runs no row alone")
+    by = "`perf stat`" if is_real else "cachegrind"
+    parts = [f"Counters of a look-up, with the read of its key from a list, by {by}, the mean of {COUNT:,} in no order: {WHAT}.\n"]
+    for k in keys:
+        lines = [[row, *(cell(counter, counted, program, row, k) for program in able.values())] for row in LOOK_UPS]
+        parts.append(f"### {k:,} keys, counters\n\n" + table(["call", *able], lines))
+    return "\n".join(parts)

@@ -1,0 +1,337 @@
+// What the programs of C++ have in common: they time the calls of an ordered set and map of u64 keys. One
+// line a row: its name, a tab, nanoseconds an operation. `rows KEYS` prints the rows; `hold KEYS COPIES
+// ascending|mixed` makes that many sets, prints a line and waits for one, so that its memory can be read;
+// `look_ups KEYS ROW COUNT` prepares 100,000 look-ups and does the first COUNT of them, so that what one
+// costs is the difference between two runs.
+//
+// A library is a type with these members; a row for which it has no call is left out.
+//
+//   Set, Map                   its set and map
+//   has_positions              whether it has `find_by_order` and `order_of_key`
+//   has_split                  whether it has `split(set, last, upper)`: what is above a key moves to `upper`
+//   has_equality               whether it has `==`
+//   appends_any                whether `append` takes sets whose elements alternate
+//   append(set, other)         moves the elements of another set into a set
+#pragma once
+#include <algorithm>
+#include <chrono>
+#include <cstdint>
+#include <cstdio>
+#include <cstdlib>
+#include <cstring>
+#include <optional>
+#include <utility>
+#include <vector>
+
+using Clock = std::chrono::steady_clock;
+using Keys = std::vector<uint64_t>;
+
+static volatile uint64_t sink;
+
+// The i-th of distinct keys in no order.
+static uint64_t key(uint64_t i) {
+    i = (i + 1) * 0x9e3779b97f4a7c15u;
+    i = (i ^ (i >> 30)) * 0xbf58476d1ce4e5b9u;
+    i = (i ^ (i >> 27)) * 0x94d049bb133111ebu;
+    return i ^ (i >> 31);
+}
+
+// The values of a function from 0 on.
+template <class Value>
+static Keys listed(uint64_t count, Value value) {
+    Keys list;
+    for (uint64_t i = 0; i < count; i++) list.push_back(value(i));
+    return list;
+}
+
+// The lists that the measures walk: keys to insert, the same in another order, absent ones, positions.
+struct Lists {
+    Keys mixed, sought, absent, positions;
+
+    explicit Lists(uint64_t keys)
+        : mixed(listed(keys, key)),
+          sought(listed(keys, [=](uint64_t i) { return key(i * 7919 % keys); })),
+          absent(listed(keys, [=](uint64_t i) { return key(keys + i); })),
+          positions(listed(keys, [=](uint64_t i) { return key(i) % keys; })) {}
+};
+
+template <class Work>
+static void row(const char *name, uint64_t operations, Work work) {
+    auto start = Clock::now();
+    sink = work();
+    double nanoseconds = std::chrono::duration<double, std::nano>(Clock::now() - start).count();
+    printf("%s\t%.1f\n", name, nanoseconds / (operations ? operations : 1));
+}
+
+template <class Set>
+static uint64_t inserted(Set &set, const Keys &keys) {
+    for (auto key : keys) set.insert(key);
+    return set.size();
+}
+
+template <class Map>
+static uint64_t inserted_pairs(Map &map, const Keys &keys) {
+    for (auto key : keys) map.insert({key, key});
+    return map.size();
+}
+
+template <class Set>
+static uint64_t contained(const Set &set, const Keys &keys) {
+    uint64_t count = 0;
+    for (auto key : keys) count += set.find(key) != set.end();
+    return count;
+}
+
+template <class Set>
+static uint64_t by_position(const Set &set, const Keys &positions) {
+    uint64_t sum = 0;
+    for (auto at : positions) sum += *set.find_by_order(at);
+    return sum;
+}
+
+template <class Set>
+static uint64_t ranks(const Set &set, const Keys &keys) {
+    uint64_t sum = 0;
+    for (auto key : keys) sum += set.order_of_key(key);
+    return sum;
+}
+
+template <class Map>
+static uint64_t looked_up(const Map &map, const Keys &keys) {
+    uint64_t sum = 0;
+    for (auto key : keys) sum += map.find(key)->second;
+    return sum;
+}
+
+// One more in each value, key by key.
+template <class Map>
+static uint64_t written(Map &map, const Keys &keys) {
+    for (auto key : keys) map.find(key)->second += 1;
+    return map.size();
+}
+
+template <class Set>
+static uint64_t walked(const Set &set) {
+    uint64_t sum = 0;
+    for (auto key : set) sum += key;
+    return sum;
+}
+
+// A walk that takes from both ends in turn.
+template <class Set>
+static uint64_t walked_from_both_ends(const Set &set) {
+    uint64_t sum = 0;
+    auto first = set.begin(), last = set.end();
+    while (first != last) {
+        sum += *first;
+        if (++first != last) sum += *--last;
+    }
+    return sum;
+}
+
+// Ranges of about a hundred elements, each from a key on.
+template <class Set>
+static uint64_t ranges(const Set &set, uint64_t keys, uint64_t times) {
+    uint64_t width = UINT64_MAX / keys * std::min<uint64_t>(keys, 100), sum = 0;
+    for (uint64_t i = 0; i < times; i++) {
+        uint64_t start = key(i), end = start + width < start ? UINT64_MAX : start + width;
+        for (auto at = set.lower_bound(start); at != set.end() && *at <= end; ++at) sum += *at;
+    }
+    return sum;
+}
+
+// An output iterator that adds what it is given.
+struct Adding {
+    uint64_t *sum;
+
+    Adding &operator*() { return *this; }
+    Adding &operator++() { return *this; }
+    void operator=(uint64_t element) { *sum += element; }
+};
+
+template <class Set>
+static uint64_t united(const Set &set, const Set &other) {
+    uint64_t sum = 0;
+    std::set_union(set.begin(), set.end(), other.begin(), other.end(), Adding{&sum});
+    return sum;
+}
+
+template <class Set>
+static uint64_t removed(Set &set, const Keys &keys) {
+    uint64_t count = 0;
+    for (auto key : keys) count += set.erase(key);
+    return count;
+}
+
+template <class Set>
+static uint64_t popped_from_the_back(Set &set) {
+    while (!set.empty()) set.erase(--set.end());
+    return set.size();
+}
+
+template <class Set>
+static uint64_t popped_from_the_front(Set &set) {
+    while (!set.empty()) set.erase(set.begin());
+    return set.size();
+}
+
+template <class Library>
+static void measure_look_ups(typename Library::Set &set, const Lists &lists) {
+    uint64_t keys = lists.mixed.size();
+    row("contains", keys, [&] { return contained(set, lists.sought); });
+    row("contains, absent", keys, [&] { return contained(set, lists.absent); });
+    if constexpr (Library::has_positions) {
+        row("element at a position", keys, [&] { return by_position(set, lists.positions); });
+        row("rank", keys, [&] { return ranks(set, lists.sought); });
+    }
+}
+
+// The upper half of a set's elements moves to an empty set.
+template <class Library>
+static void split(typename Library::Set &set, typename Library::Set &upper) {
+    if constexpr (Library::has_split) {
+        row("split in the middle", 1, [&] { return Library::split(set, UINT64_MAX / 2, upper), upper.size(); });
+    } else {
+        auto middle = set.upper_bound(UINT64_MAX / 2);
+        for (auto at = middle; at != set.end(); ++at) upper.insert(*at);
+        set.erase(middle, set.end());
+    }
+}
+
+template <class Library>
+static void measure_walks(typename Library::Set &set, uint64_t keys) {
+    row("iterate", keys, [&] { return walked(set); });
+    row("iterate from both ends", keys, [&] { return walked_from_both_ends(set); });
+    uint64_t times = std::min<uint64_t>(keys, 100000);
+    row("range of 100", times, [&] { return ranges(set, keys, times); });
+    typename Library::Set upper;
+    split<Library>(set, upper);
+    row("union of two halves", keys, [&] { return united(set, upper); });
+    row("append, all above", keys / 2, [&] { return Library::append(set, upper), set.size(); });
+}
+
+template <class Library>
+static void measure_set(const Lists &lists) {
+    uint64_t keys = lists.mixed.size();
+    typename Library::Set set;
+    row("insert", keys, [&] { return inserted(set, lists.mixed); });
+    measure_look_ups<Library>(set, lists);
+    measure_walks<Library>(set, keys);
+    row("remove", keys, [&] { return removed(set, lists.sought); });
+}
+
+// A set of ascending keys, its clone, and the ends of both.
+template <class Library>
+static void measure_ends(const Keys &ascending) {
+    uint64_t keys = ascending.size();
+    typename Library::Set set, copy;
+    row("insert, ascending", keys, [&] {
+        for (uint64_t key = 0; key < keys; key++) set.insert(key);
+        return set.size();
+    });
+    row("clone", keys, [&] { return copy = set, copy.size(); });
+    if constexpr (Library::has_equality) row("equality", keys, [&] { return uint64_t(set == copy); });
+    row("pop_last", keys, [&] { return popped_from_the_back(set); });
+    row("pop_first", keys, [&] { return popped_from_the_front(copy); });
+}
+
+// Two sets whose elements alternate.
+template <class Library>
+static void measure_halves(uint64_t keys) {
+    if constexpr (Library::appends_any) {
+        typename Library::Set even, odd;
+        for (uint64_t i = 0; i < keys / 2; i++) even.insert(2 * i), odd.insert(2 * i + 1);
+        row("append, every second", keys / 2, [&] { return Library::append(even, odd), even.size(); });
+    }
+}
+
+template <class Set>
+static void measure_from(const char *name, const Keys &values) {
+    std::optional<Set> set;
+    row(name, values.size(), [&] { return set.emplace(values.begin(), values.end()).size(); });
+}
+
+template <class Map>
+static void measure_map(const Lists &lists) {
+    uint64_t keys = lists.mixed.size();
+    Map map;
+    row("map, insert", keys, [&] { return inserted_pairs(map, lists.mixed); });
+    row("map, get", keys, [&] { return looked_up(map, lists.sought); });
+    row("map, get_mut", keys, [&] { return written(map, lists.sought); });
+    row("map, iterate", keys, [&] {
+        uint64_t sum = 0;
+        for (auto &pair : map) sum += pair.first + pair.second;
+        return sum;
+    });
+}
+
+template <class Library>
+static void measure(uint64_t keys) {
+    Lists lists(keys);
+    measure_set<Library>(lists);
+    Keys ascending = listed(keys, [](uint64_t i) { return i; });
+    measure_ends<Library>(ascending);
+    measure_halves<Library>(keys);
+    measure_from<typename Library::Set>("from, ascending", ascending);
+    measure_from<typename Library::Set>("from", lists.mixed);
+    measure_map<typename Library::Map>(lists);
+}
+
+template <class Set>
+static void hold(uint64_t keys, uint64_t copies, bool is_mixed) {
+    std::vector<Set> sets(copies);
+    for (auto &set : sets)
+        for (uint64_t i = 0; i < keys; i++) set.insert(is_mixed ? key(i) : i);
+    puts("held");
+    fflush(stdout);
+    sink = getchar() + sets.size();
+}
+
+static constexpr uint64_t PREPARED = 100000;  // look-ups, of which a run does the first ones
+
+// What a row looks up, in no order that comes again.
+static Keys prepared(const char *name, uint64_t keys, uint64_t count) {
+    Keys list = listed(PREPARED, [=](uint64_t i) {
+        if (!strcmp(name, "contains, absent")) return key(keys + i);
+        uint64_t position = key(i) % keys;
+        return strcmp(name, "element at a position") ? key(position) : position;
+    });
+    list.resize(std::min(count, PREPARED));
+    return list;
+}
+
+// Whether the library has the row.
+template <class Library>
+static bool look_up(const char *name, uint64_t keys, uint64_t count) {
+    Keys mixed = listed(keys, key), asked = prepared(name, keys, count);
+    typename Library::Set set;
+    typename Library::Map map;
+    bool is_of_map = !strncmp(name, "map, ", 5);
+    sink = is_of_map ? inserted_pairs(map, mixed) : inserted(set, mixed);
+    auto is = [&](const char *row) { return !strcmp(name, row); };
+    if (is("contains") || is("contains, absent")) return sink = contained(set, asked), true;
+    if (is("map, get")) return sink = looked_up(map, asked), true;
+    if (is("map, get_mut")) return sink = written(map, asked), true;
+    if constexpr (Library::has_positions) {
+        if (is("element at a position")) return sink = by_position(set, asked), true;
+        if (is("rank")) return sink = ranks(set, asked), true;
+    }
+    return false;
+}
+
+// The program of a library.
+template <class Library>
+static int run(int count, char **words) {
+    auto is = [&](int length, const char *word) { return count == length && !strcmp(words[1], word); };
+    auto number = [&](int at) { return strtoull(words[at], nullptr, 10); };
+    if (is(3, "rows")) {
+        measure<Library>(number(2));
+    } else if (is(5, "hold")) {
+        hold<typename Library::Set>(number(2), number(3), !strcmp(words[4], "mixed"));
+    } else if (is(5, "look_ups")) {
+        puts(look_up<Library>(words[3], number(2), number(4)) ? "looked up" : "no such row");
+    } else {
+        puts("usage: rows KEYS | hold KEYS COPIES ascending|mixed | look_ups KEYS ROW COUNT");
+    }
+    return 0;
+}
