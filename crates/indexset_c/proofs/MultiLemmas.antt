@@ -1,12 +1,13 @@
 -- What a call of a multimap tells.
-use Rattle.std.proofs.Common.{◌≡◌, ℕ, ◌+◌, length, Bool, true, false, Option, Some, None, nat_eq, refl, ap, sym, ◌∙◌, arith}
+use Rattle.std.proofs.Common.{◌≡◌, ℕ, zero, suc, ◌+◌, ◌≤◌, List, [], ◌∷◌, ◌++◌, length, slice_get, Bool, true, false, Option, Some, None, refl, ap, sym, ◌∙◌, arith}
 use Rattle.std.proofs.lemmas.Option.{none-some, same_Some}
 use Rattle.std.proofs.Math.Logic.{◌⊎◌, inr}
 use Rattle.std.specs.Prelude.{if◌then◌else◌}
 use Rattle.std.specs.Option.{option_map}
 use Rattle.std.specs.Ordering.{nat_cmp}
 use Rattle.indexset_core.specs.declared.multipair.MultiPair.{MultiPair}
-use Rattle.indexset_multi.specs.Keys.{key_and_value}
+use Rattle.indexset_core.specs.Pairs.{pair_values}
+use Rattle.indexset_multi.specs.Keys.{entries, key_and_value}
 use Rattle.indexset_core.specs.declared.refusal.Refusal.{Refusal}
 use Rattle.indexset_core.specs.declared.refusal.Refusal.TheVariants as refusals
 use Rattle.indexset_log.specs.Tree.{refusal_for}
@@ -31,9 +32,20 @@ none_removed m o none = ap (after_removal nat_cmp m) none ∙ kept where
   kept : after_removal nat_cmp m None ≡ m
   kept = let same : m.next + 0 ≡ m.next = omega arith in λ i. record { nodes = m.nodes; size = m.size; next = same i; pair_next = m.pair_next }
 
+-- the values of pairs with one more behind them
+pub value_last : (l : List (MultiPair ℕ ℕ)) (p : MultiPair ℕ ℕ) → pair_values (entries (l ++ p ∷ [])) ≡ pair_values (entries l) ++ p.value ∷ []
+value_last [] p = refl
+value_last (q ∷ l) p = ap (λ vs. q.value ∷ vs) (value_last l p)
+
+-- where no item stands at a position, the list ends before it
+pub past_end : {X : Type 0} (l : List X) (i : ℕ) → slice_get l i ≡ None → length l ≤ i
+past_end [] i e = omega arith
+past_end (x ∷ l) zero e = absurd (none-some x (sym e))
+past_end (x ∷ l) (suc i) e = omega (arith, past_end l i e)
+
 -- why an insertion is refused
-pub for_insertion : (m : MultiTree ℕ ℕ) (k w : ℕ) → (insertion_refusal nat_cmp nat_eq m k w ≡ refusals.Memory) ⊎ (insertion_refusal nat_cmp nat_eq m k w ≡ refusals.Numbers)
-for_insertion m k w = either (lacks_number nat_cmp nat_eq m k w) (refusal_for m.next (length (insertion_events nat_cmp nat_eq m k w))) (for_events m.next (length (insertion_events nat_cmp nat_eq m k w))) where
+pub for_insertion : (eq : ℕ → ℕ → Bool) (m : MultiTree ℕ ℕ) (k w : ℕ) → (insertion_refusal nat_cmp eq m k w ≡ refusals.Memory) ⊎ (insertion_refusal nat_cmp eq m k w ≡ refusals.Numbers)
+for_insertion eq m k w = either (lacks_number nat_cmp eq m k w) (refusal_for m.next (length (insertion_events nat_cmp eq m k w))) (for_events m.next (length (insertion_events nat_cmp eq m k w))) where
   either : (b : Bool) (r : Refusal) → (r ≡ refusals.Memory) ⊎ (r ≡ refusals.Numbers) → ((if b then refusals.Numbers else r) ≡ refusals.Memory) ⊎ ((if b then refusals.Numbers else r) ≡ refusals.Numbers)
   either true r h = inr refl
   either false r h = h

@@ -98,7 +98,8 @@ pub extern "C" fn indexset_multi_remove_at(
 ) -> u32
     ensures found { result ≡ YES → option_map key_and_value
         (slice_get (numbered_pairs multi.old.slot.value) position) ≡ Some (key.new, value.new) }
-    ensures absent { result ≡ NO ↔ (length (numbered_pairs multi.old.slot.value) ≤ position) }
+    ensures absent { result ≡ NO ↔ (slice_get (numbered_pairs multi.old.slot.value) position
+        ≡ None) }
     ensures ok { result ≡ YES → numbered_pairs multi.new.slot.value
         ≡ without_named nat_cmp (numbered_pairs multi.old.slot.value)
         (slice_get (numbered_pairs multi.old.slot.value) position) }

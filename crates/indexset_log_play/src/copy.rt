@@ -117,6 +117,11 @@ impl<T: Item> Copy<T> {
     fn start(&mut self, source: &Source, words: &mut SplitWhitespace<'_>) -> Result<(), Stop> {
         let next = read(words)?;
         let nodes = read_nodes::<T, Vec<T>, Whole>(source, words)?;
+        self.begin(nodes, next)
+    }
+
+    /// Makes the replica one of these nodes, as those that were taken from it.
+    pub fn begin(&mut self, nodes: Vec<Vec<T>>, next: u64) -> Result<(), Stop> {
         self.replica = Replica::from_nodes(nodes, next)?;
         Ok(())
     }

@@ -37,8 +37,16 @@ impl<T: Item> VecSets<T> {
             return Err(Stop::NoCall);
         }
         let (nodes, next) = self.sets.copy.take(self.sets.source.alloc);
-        self.sets.set = BTreeSet::from_nodes(nodes, size, next)?;
-        Ok(())
+        match BTreeSet::from_nodes(nodes, size, next) {
+            Ok(set) => {
+                self.sets.set = set;
+                Ok(())
+            }
+            Err(refused) => {
+                self.sets.copy.begin(refused.value, next)?;
+                Err(Stop::Refused(refused.cause))
+            }
+        }
     }
 
     fn remove_range(&mut self, words: &mut SplitWhitespace<'_>) -> Result<(), Stop> {

@@ -64,7 +64,7 @@ returns c =
           }
       | in-Err w ↦
           let e = w.in-Err.ensures in
-          let r : IsRefused s (insertion_refusal nat_cmp nat_eq m k v) = is_refused s w.of_refusal-status.result w.in-Err.cause (insertion_refusal nat_cmp nat_eq m k v) w.status-is e.refusal (for_insertion m k v) w.of_refusal-status.ensures.memory w.of_refusal-status.ensures.numbers in
+          let r : IsRefused s (insertion_refusal nat_cmp nat_eq m k v) = is_refused s w.of_refusal-status.result w.in-Err.cause (insertion_refusal nat_cmp nat_eq m k v) w.status-is e.refusal (for_insertion nat_eq m k v) w.of_refusal-status.ensures.memory w.of_refusal-status.ensures.numbers in
           record {
             there = (λ h. refused_not_no s _ r h, λ h. absurd (false≢true (sym absent ∙ h)));
             ok = λ h. refused_not_yes s _ r h;
