@@ -192,6 +192,7 @@ class Threads(unittest.TestCase):
         self.run_beside(log, [
             (lambda: log[12], -12), (lambda: replica[70], -70), (lambda: tags[3], list(range(3, 100, 10))),
             (lambda: tags.last(), (9, 99)), (lambda: list(log.irange(8, 9)), [(8, -8), (9, -9)]),
+            (lambda: log.bisect_left(50), 50), (lambda: replica.peekitem(), (99, -99)), (lambda: tags.peekitem(11), (1, 11)),
         ], 1000)
 
     def test_changes_beside_walks(self):
