@@ -135,14 +135,26 @@ def of_text(lib: ModuleType, keys: Sequence[int], drawn: Sequence[int], position
     yield "text: del d[k]", cost(delete, held, sought), count
 
 
+def of_a_list(held: Any, name: str, added: Sequence[int], sought: Sequence[int], positions: Sequence[int]) -> Iterator[Row]:
+    """The rows of a list, which is empty at first."""
+    count = len(added)
+    yield f"{name}: add", cost(each, held.add, added), count
+    yield f"{name}: in", cost(contains, held, sought), count
+    yield f"{name}: [position]", cost(at, held, positions), count
+    yield f"{name}: bisect_left", cost(each, held.bisect_left, sought), count
+    yield f"{name}: list", least(list, held), count
+    yield f"{name}: remove", cost(each, held.remove, sought), count
+
+
 def of_list(lib: ModuleType, keys: Sequence[int], drawn: Sequence[int], positions: Sequence[int], some: int) -> Iterator[Row]:
-    held, count = lib.SortedList(), len(keys)
-    yield "list: add", cost(each, held.add, keys), count
-    yield "list: in", cost(contains, held, drawn), count
-    yield "list: [position]", cost(at, held, positions), count
-    yield "list: bisect_left", cost(each, held.bisect_left, drawn), count
-    yield "list: list", least(list, held), count
-    yield "list: remove", cost(each, held.remove, drawn), count
+    yield from of_a_list(lib.SortedList(), "list", keys, drawn, positions)
+
+
+def of_repeats(lib: ModuleType, keys: Sequence[int], drawn: Sequence[int], positions: Sequence[int], some: int) -> Iterator[Row]:
+    """Those of a list in which each number stands ten times."""
+    rng, often = random.Random(len(keys)), list(keys[: len(keys) // 10]) * 10
+    added, sought = rng.sample(often, len(often)), rng.sample(often, len(often))
+    yield from of_a_list(lib.SortedList(), "list of repeats", added, sought, positions[: len(often)])
 
 
 def of_plain(lib: ModuleType, keys: Sequence[int], drawn: Sequence[int], positions: Sequence[int], some: int) -> Iterator[Row]:
@@ -180,7 +192,7 @@ def main() -> None:
     given = words.parse_args()
     print(f"keys\trow\t{indexset.BACKEND}\tsortedcontainers")
     for count in given.counts:
-        for rows in (of_set, of_dict, of_text, of_list, of_plain):
+        for rows in (of_set, of_dict, of_text, of_list, of_repeats, of_plain):
             compare(rows, count, given.times or (21 if count < 10000 else 3))
 
 

@@ -58,7 +58,12 @@ def pairs() -> int:
     replica.apply_all(told)
     text: str = replica[1]
     nodes: list[list[tuple[int, str]]] = replica.nodes()
-    return values[0] + len(text) + len(nodes)
+    name, age = tags.peekitem(0)
+    last: tuple[int, str] = replica.peekitem()
+    for one, other in log.islice(1):
+        text += other * one
+    keys: list[int] = list(log.keys())
+    return values[0] + len(text) + len(nodes) + len(name) + age + last[0] + keys[log.bisect_left(2)]
 
 
 if __name__ == "__main__":

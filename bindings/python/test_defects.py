@@ -192,6 +192,7 @@ class Threads(unittest.TestCase):
         self.run_beside(log, [
             (lambda: log[12], -12), (lambda: replica[70], -70), (lambda: tags[3], list(range(3, 100, 10))),
             (lambda: tags.last(), (9, 99)), (lambda: list(log.irange(8, 9)), [(8, -8), (9, -9)]),
+            (lambda: log.bisect_left(50), 50), (lambda: replica.peekitem(), (99, -99)), (lambda: tags.peekitem(11), (1, 11)),
         ], 1000)
 
     def test_changes_beside_walks(self):
@@ -234,7 +235,8 @@ class Changed(unittest.TestCase):
                     ours.clear()
 
     def test_within_a_walk(self):
-        for ours in (SortedSet(range(900)), SortedSet(map(str, range(900))), SortedDict.fromkeys(range(900)), SortedList("ab" * 450)):
+        for ours in (SortedSet(range(900)), SortedSet(map(str, range(900))), SortedDict.fromkeys(range(900)), SortedList("ab" * 450),
+                     SortedList([at // 3 for at in range(900)]), SortedList(range(900), key=float)):
             for begin in (iter, reversed):
                 for steps in (5, 70, 600):
                     walk, other = begin(ours), begin(ours)
@@ -340,7 +342,8 @@ class Refused(unittest.TestCase):
         """Each request for memory of Python fails in turn: the order and what finds its items agree."""
         texts = [f"{at}" for at in range(40)]
         numbers = range(10**12, 10**12 + 40)
-        kinds = ((SortedDict, texts), (SortedSet, texts), (SortedSet, numbers), (SortedDict, numbers), (SortedList, range(40)))
+        kinds = ((SortedDict, texts), (SortedSet, texts), (SortedSet, numbers), (SortedDict, numbers), (SortedList, range(40)),
+                 (SortedList, [at // 4 for at in range(40)]), (lambda: SortedSet(key=int), numbers), (lambda: SortedDict(int), numbers))
         for (make, items), change in itertools.product(kinds, (changed, changed_together)):
             for start in range(1, 200):
                 ours = make()

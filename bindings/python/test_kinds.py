@@ -13,6 +13,8 @@ from functools import total_ordering
 import indexset
 from indexset import SortedDict, SortedKeyList, SortedList, SortedMultiDict, SortedSet, pack, unpack
 
+from test_numbers import positions
+
 # The examples of the tuple layer's specification and, from `-5551212` on, of its text.
 PACKED = [
     (b"foo\x00bar", "01666f6f00ff62617200"),
@@ -251,8 +253,13 @@ class Multi(unittest.TestCase):
                     order = rank_of if kind == "any" else None
                     pairs = [(key, value) for key in sorted(wanted, key=order) for value in wanted[key]]
                     self.assertEqual((list(ours), len(ours)), (pairs, len(pairs)))
+                    positions(self, ours, pairs, key, order or (lambda key: key))
                     self.assertEqual(list(copy.copy(ours)), pairs)
                     self.assertEqual(list(pickle.loads(pickle.dumps(ours))), pairs)
+                    if pairs:
+                        at = rng.randrange(-len(pairs), len(pairs))
+                        wanted[pairs[at][0]].remove(pairs[at][1])
+                        self.assertEqual((ours.popitem(at), list(ours)), (pairs.pop(at), pairs))
             self.assertEqual(ours.kinds[0], kind)
 
 

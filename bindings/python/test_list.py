@@ -1,16 +1,20 @@
 """Tests of sorted lists beside plain lists that are sorted."""
 import copy
+import gc
+import math
 import random
 import sys
 import unittest
+import weakref
 from bisect import bisect_left, bisect_right, insort
+from unittest import mock
 
 import indexset
-from indexset import SortedKeyList, SortedList
+from indexset import SortedDict, SortedKeyList, SortedList, SortedSet
 
 DRAWN = {
     "int64": lambda rng: rng.choice([rng.randrange(-30, 30), rng.randrange(-(1 << 63), 1 << 63)]),
-    "uint64": lambda rng: rng.choice([rng.randrange(30), rng.randrange(1 << 64)]),
+    "uint64": lambda rng: rng.choice([rng.randrange(30), (1 << 64) - rng.randrange(1, 4), rng.randrange(1 << 64)]),
     "float64": lambda rng: rng.randrange(-60, 60) / 4,
     "str": lambda rng: "".join(rng.choices("ab\0", k=rng.randrange(4))),
     "bytes": lambda rng: bytes(rng.choices([0, 254, 255], k=rng.randrange(4))),
@@ -80,6 +84,121 @@ class Random(unittest.TestCase):
     def test_named(self):
         for kind in DRAWN:
             self.run_kind(kind, True)
+
+
+class Item:
+    """What goes when nothing leads to it."""
+
+    def __init__(self, number):
+        self.number = number
+
+
+class Told(int):
+    """An integer that counts how often one is compared."""
+
+    compared = 0
+
+    def __eq__(self, other):
+        Told.compared += 1
+        return int(self) == int(other)
+
+    __hash__ = int.__hash__
+
+
+class Repeated(unittest.TestCase):
+    """Numbers that repeat, and sort keys that are numbers."""
+
+    def test_other_types(self):
+        for kind, items in (("int64", [1, True, 1.0, 0, False]), ("uint64", [7, 7.0, 3]), ("float64", [1, 1.0, True, -0.0, 0])):
+            ours = SortedList(items + items, keys=kind)
+            wanted = sorted(items + items)
+            self.assertEqual([(it, type(it)) for it in ours], [(it, type(it)) for it in wanted])
+            self.assertEqual((ours.kind, [ours.count(it) for it in items]), (kind, [wanted.count(it) for it in items]))
+            for value in (0.5, "x", None, 1 << 70, -1, float("nan"), float("inf")):
+                self.assertEqual((value in ours, ours.count(value)), (False, 0))
+                ours.discard(value)
+            self.assertEqual((ours.bisect(0.5), ours.bisect_left(1 << 70), len(ours)), (bisect_right(wanted, 0.5), len(wanted), len(wanted)))
+            for item in items:
+                ours.remove(item)
+                wanted.remove(item)
+            self.assertEqual([(it, type(it)) for it in ours], [(it, type(it)) for it in wanted])
+
+    def test_ends(self):
+        for kind, least, greatest in (("int64", -(1 << 63), (1 << 63) - 1), ("uint64", 0, (1 << 64) - 1), ("float64", -math.inf, math.inf)):
+            ours = SortedList([least, greatest] * 3, keys=kind)
+            self.assertEqual([ours.bisect_left(least), ours.bisect(least), ours.bisect_left(greatest), ours.bisect(greatest)], [0, 3, 3, 6])
+            self.assertEqual((list(ours.irange(greatest)), list(ours.irange(None, least))), ([greatest] * 3, [least] * 3))
+            self.assertEqual((ours.count(greatest), ours.index(greatest, 4), ours.pop(), ours.pop(0)), (3, 4, greatest, least))
+
+    def test_not_compared(self):
+        """Equal items are not compared one by one."""
+        ours = SortedList((Told(5) for _ in range(3000)), keys="int64")
+        before = Told.compared
+        ours.add(Told(5))
+        found = ours.count(5), 5 in ours, ours.index(5), ours.index(5, 2000), ours.bisect(5), ours.bisect_left(Told(5))
+        ours.remove(5)
+        ours.discard(Told(5))
+        self.assertEqual((found, len(ours), Told.compared - before < 10), ((3001, True, 0, 2000, 3001, 0), 2999, True))
+
+    def test_refused(self):
+        for ours in (SortedList([5, 5, 1]), SortedList([5, 5, 1], keys="int64"), SortedKeyList([5, 5, 1], key=abs, keys="int64")):
+            for items in ([5, 5, "x"], [2, 5, None]):
+                self.assertRaises(TypeError, ours.update, items)
+                self.assertEqual(list(ours), [1, 5, 5])
+
+    @unittest.skipUnless(indexset.BACKEND == "ctypes", "the library's calls are not seen")
+    def test_refused_memory(self):
+        """A call that the library refuses memory changes nothing."""
+        ours, key = SortedList([5, 5, 1]), SortedKeyList([-5, 5, 1], key=abs)
+        changes = [
+            ("push", lambda: ours.add(7)), ("push", lambda: key.update([7, 8])), ("push", ours.copy), ("push", key.copy),
+            ("remove_at", ours.pop), ("remove_at", lambda: key.remove(5)), ("remove_first", lambda: ours.remove(5)),
+        ]
+        for call, change in changes:
+            with mock.patch.object(indexset._library.lib, f"indexset_multi_{call}", lambda *words: 2):
+                self.assertRaises(MemoryError, change)
+            self.assertEqual((list(ours), list(key)), ([1, 5, 5], [1, -5, 5]))
+
+    def test_items_go(self):
+        """What is added goes once it was taken out, by each call that does so."""
+        items = [Item(at // 3) for at in range(60)]
+        seen = [weakref.ref(item) for item in items]
+        ours = SortedKeyList(items, key=lambda it: it.number)
+        other = copy.copy(ours)
+        del items
+        self.assertEqual([ours.index(ref()) for ref in seen], list(range(60)))
+        for one in (other, ours):
+            self.assertIs(one.pop(4), seen[4]())
+            one.remove(seen[5]())
+            one.discard(seen[6]())
+            del one[30:]
+            list(one), one[2:5], list(reversed(one))
+        gc.collect()
+        self.assertEqual([at for at, ref in enumerate(seen) if ref() is None], [4, 5, 6, *range(33, 60)])
+        del other
+        ours.clear()
+        gc.collect()
+        self.assertEqual([ref for ref in seen if ref() is not None], [])
+
+    def test_sets_and_dictionaries(self):
+        """Sort keys that are numbers, of items that do not repeat."""
+        rng = random.Random(3)
+        ours, ages, wanted = SortedSet(key=abs), SortedDict(abs), []
+        for step in range(3000):
+            item = rng.randrange(-40, 40)
+            if rng.random() < 0.6:
+                ours.add(item)
+                ages[item] = step
+                wanted += [item] if item not in wanted else []
+            elif item in wanted:
+                ours.remove(item)
+                del ages[item]
+                wanted.remove(item)
+            if step % 50 == 0:
+                in_order = sorted(wanted, key=abs)
+                self.assertEqual((list(ours), list(ages), list(ours.copy())), (in_order,) * 3)
+                self.assertEqual([ours.index(it) for it in in_order], list(range(len(wanted))))
+                self.assertEqual(list(ours.irange_key(5, 9)), [it for it in in_order if 5 <= abs(it) <= 9])
 
 
 class Calls(unittest.TestCase):

@@ -9,7 +9,7 @@ import indexset
 from indexset import Change, Gap, LoggedDict, Refused, Replica
 
 from test_kinds import DRAWN, Version, rank_of
-from test_numbers import made
+from test_numbers import made, positions, views
 
 KINDS = ["str", "bytes", "any", "object"]
 
@@ -46,6 +46,8 @@ class Random(unittest.TestCase):
         pairs = [(key, wanted[key]) for key in sorted(wanted, key=order)]
         for one in (ours, replica, Replica(ours)):
             self.assertEqual((list(one.items()), one.nodes()), (pairs, nodes))
+            positions(self, one, pairs, low, order or (lambda key: key))
+            views(self, one, pairs)
             inside = [pair for pair in pairs if (order(low) <= order(pair[0]) if order else low <= pair[0])]
             if low is not None:
                 self.assertEqual(list(one.irange(low)), inside)

@@ -11,6 +11,35 @@ import indexset
 from indexset import Gap, LoggedDict, Refused, Replica, SortedMultiDict, _log, _multi, _nodes, _replica
 
 
+def positions(case, one, pairs, value, order=lambda key: key):
+    """Compares what a dictionary answers of positions with a list of its pairs."""
+    keys, size = [key for key, _ in pairs], len(pairs)
+    left = keys.index(value) if value in keys else sum(order(key) < order(value) for key in keys)
+    past = left + keys.count(value)
+    case.assertEqual((one.bisect_left(value), one.bisect_right(value), one.bisect(value)), (left, past, past))
+    case.assertEqual([one.peekitem(at) for at in range(-size, size)], pairs * 2)
+    for outside in (size, -size - 1, 1 << 70):
+        case.assertRaises(IndexError, one.peekitem, outside)
+    for ends in ((None, None), (left, None), (None, past), (-3, -1), (5, 2), (1, 1 << 70)):
+        case.assertEqual(list(one.islice(*ends)), pairs[slice(*ends)])
+        case.assertEqual(list(one.islice(*ends, reverse=True)), pairs[slice(*ends)][::-1])
+
+
+def views(case, one, pairs):
+    """Compares the views of a logged dictionary or a replica with lists."""
+    size = len(pairs)
+    keys, values = [key for key, _ in pairs], [value for _, value in pairs]
+    case.assertEqual([one.index(key) for key in keys], list(range(size)))
+    for view, wanted in ((one.keys(), keys), (one.values(), values), (one.items(), pairs)):
+        case.assertEqual((list(view), list(reversed(view)), len(view)), (wanted, wanted[::-1], size))
+        case.assertEqual([view[at] for at in range(-size, size)], wanted * 2)
+        case.assertRaises(IndexError, view.__getitem__, size)
+        for at in (slice(None), slice(2, -1), slice(None, None, -2), slice(5, 1, -1), slice(9, 3), slice(0, 9, 3)):
+            case.assertEqual(view[at], wanted[at])
+        for item in wanted[::7]:
+            case.assertEqual((view.index(item), view.count(item), item in view), (wanted.index(item), wanted.count(item), True))
+
+
 class MultiDictionaries(unittest.TestCase):
     def test_beside_lists(self):
         rng = random.Random(1)
@@ -38,6 +67,11 @@ class MultiDictionaries(unittest.TestCase):
                 self.assertEqual([ours.first(), ours.last()] if pairs else [], pairs[:1] + pairs[-1:])
                 inside = [pair for pair in pairs if -20 <= pair[0] <= 20]
                 self.assertEqual(list(ours.irange(-20, 20)), inside)
+                positions(self, ours, pairs, key)
+                if pairs:
+                    at = rng.randrange(-len(pairs), len(pairs))
+                    wanted[pairs[at][0]].remove(pairs[at][1])
+                    self.assertEqual((ours.popitem(at), list(ours)), (pairs.pop(at), pairs))
 
     def test_object(self):
         tags = SortedMultiDict([(2, 0.5), (1, -math.inf), (2, -3)], values="float64")
@@ -55,8 +89,12 @@ class MultiDictionaries(unittest.TestCase):
         self.assertRaises(TypeError, other.add, "1", 0)
         self.assertRaises(ValueError, SortedMultiDict, keys="text")
         self.assertEqual(((2, "x") in other, 2 in other, other.discard("2", 1)), (False, False, False))
+        ends = [other.bisect(at) for at in (-(1 << 80), 1 << 80, 1.5, math.inf)]
+        self.assertEqual((ends, other.bisect_left(2)), ([0, 2, 1, 2], 1))
+        self.assertRaises(IndexError, other.popitem, 2)
         other.clear()
-        self.assertEqual((len(other), list(other)), (0, []))
+        self.assertEqual((len(other), list(other), other.bisect(3), list(other.islice())), (0, [], 0, []))
+        self.assertRaises(KeyError, other.popitem)
         self.assertRaises(IndexError, other.first)
 
 
@@ -100,6 +138,8 @@ class LoggedDictionaries(unittest.TestCase):
             if step % 100 == 0:
                 self.assertEqual(ours.nodes(), nodes)
                 self.assertEqual(list(ours.items()), sorted(wanted.items()))
+                positions(self, ours, sorted(wanted.items()), key)
+                views(self, ours, sorted(wanted.items()))
         self.assertEqual(numbers, list(range(7, ours.next)))
         self.assertEqual(sum(nodes, []), sorted(wanted.items()))
 
@@ -110,7 +150,19 @@ class LoggedDictionaries(unittest.TestCase):
         self.assertRaises(OverflowError, ages.__setitem__, 1 << 63, 1)
         self.assertRaises(KeyError, ages.__getitem__, "1")
         self.assertRaises(ValueError, LoggedDict, size=1)
+        least, greatest = -(1 << 63), (1 << 63) - 1
+        ends = LoggedDict(entries={least: 1, 0: 2, greatest: 3})
+        found = [ends.bisect_left(greatest), ends.bisect(greatest), ends.bisect_left(least), ends.bisect(least)]
+        self.assertEqual((found, ends.bisect(1 << 80), ends.bisect(-0.5)), ([2, 3, 0, 1], 3, 1))
+        for key, start, stop in ((5, None, None), (0, 2, None), (0, None, 1), ("0", None, None)):
+            self.assertRaises(ValueError, ends.index, key, start, stop)
+        self.assertEqual((ends.index(0, 1, 2), ends.keys() & {0, 5}), (1, {0}))
+        self.assertRaises(ValueError, ends.bisect, math.nan)
+        self.assertRaises(TypeError, ends.peekitem, "0")
+        self.assertRaises(TypeError, ends.index, [])
         last = LoggedDict(next=(1 << 64) - 1)
+        self.assertEqual((last.bisect("x"), list(last.islice()), last.keys()[:]), (0, [], []))
+        self.assertRaises(IndexError, last.peekitem)
         self.assertRaises(OverflowError, last.__setitem__, 1, 1)
         self.assertEqual((len(last), last.nodes()), (0, []))
 
@@ -149,6 +201,10 @@ class Replicas(unittest.TestCase):
                     replica.apply_all(sent)
                 self.assertEqual((gap.exception.taken, gap.exception.change), (before, sent[before]))
             self.assertEqual((replica.next, replica.nodes()), (at + 50, states[at + 50]))
+            if step % 100 == 0:
+                held = sum(replica.nodes(), [])
+                positions(self, replica, held, key)
+                views(self, replica, held)
             if step % 500 == 0:
                 self.assertEqual(Replica(ours).nodes(), ours.nodes())
         replica.apply_all(told)

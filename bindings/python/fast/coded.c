@@ -22,6 +22,7 @@ static PyObject *coded_new(PyTypeObject *type, PyObject *given, PyObject *words)
     Coded *self = (Coded *)type->tp_alloc(type, 0);
     if (self == NULL)
         return NULL;
+    self->kind = OTHER;
     self->map = map_new();
     if (self->map == NULL) {
         self->map = &nowhere;
@@ -30,17 +31,14 @@ static PyObject *coded_new(PyTypeObject *type, PyObject *given, PyObject *words)
     return (PyObject *)self;
 }
 
-/* `Coded(kind, key, repeats)`, of the name of a kind. */
+/* `Coded(kind, key, repeats)`, of the name of a kind that is none of numbers. */
 static int coded_init(Coded *self, PyObject *given, PyObject *words) {
-    const char *names[] = {"int64", "uint64", "float64", "str", "bytes"};
     const char *kind;
     PyObject *key;
     (void)words;
     if (!PyArg_ParseTuple(given, "sOp", &kind, &key, &self->repeats))
         return -1;
-    self->kind = INT64;
-    while (self->kind < OTHER && strcmp(names[self->kind], kind) != 0)
-        self->kind++;
+    self->kind = strcmp(kind, "str") == 0 ? TEXT : strcmp(kind, "bytes") == 0 ? BYTES : OTHER;
     if (key != Py_None) {
         Py_INCREF(key);
         Py_XSETREF(self->key, key);
@@ -224,19 +222,6 @@ static PyObject *code_at(Coded *self, size_t position) {
 
 /* ---- positions */
 
-/* A position that is counted from 0, or -1 with an error. */
-static Py_ssize_t position_of(Coded *self, PyObject *index) {
-    Py_ssize_t position = PyNumber_AsSsize_t(index, PyExc_IndexError), length = coded_length(self);
-    if (position == -1 && PyErr_Occurred())
-        return -1;
-    position += position < 0 ? length : 0;
-    if (position < 0 || position >= length) {
-        PyErr_SetString(PyExc_IndexError, "index out of range");
-        return -1;
-    }
-    return position;
-}
-
 PyObject *coded_item(Coded *self, Py_ssize_t position) {
     uint64_t object;
     if (coded_map(self) == NULL)
@@ -249,13 +234,8 @@ PyObject *coded_item(Coded *self, Py_ssize_t position) {
     return OBJECT(object);
 }
 
-static PyObject *subscript(Coded *self, PyObject *index) {
-    Py_ssize_t position = position_of(self, index);
-    return position < 0 ? NULL : coded_item(self, position);
-}
-
 static PyObject *code(Coded *self, PyObject *index) {
-    Py_ssize_t position = position_of(self, index);
+    Py_ssize_t position = position_of((PyObject *)self, index);
     return position < 0 ? NULL : code_at(self, (size_t)position);
 }
 
@@ -271,7 +251,7 @@ int coded_remove(Coded *self, const void *data, size_t size, PyObject **item) {
 }
 
 static PyObject *pop(Coded *self, PyObject *index) {
-    Py_ssize_t position = position_of(self, index);
+    Py_ssize_t position = position_of((PyObject *)self, index);
     PyObject *item = NULL, *code = position < 0 ? NULL : code_at(self, (size_t)position);
     if (code != NULL && coded_remove(self, PyBytes_AS_STRING(code), (size_t)PyBytes_GET_SIZE(code), &item) == 0)
         PyErr_SetString(PyExc_RuntimeError, "it changed meanwhile");
@@ -279,75 +259,15 @@ static PyObject *pop(Coded *self, PyObject *index) {
     return item;
 }
 
-/* ---- items, by the kind's own type here, and else by a method of the class */
-
-static PyObject *add(Coded *self, PyObject *item) {
-    int state = own_add(self, item, NULL);
-    if (state == NOT_OWN)
-        return PyObject_CallMethodOneArg((PyObject *)self, names.add, item);
-    return state == -1 ? NULL : PyBool_FromLong(1);
-}
-
-int coded_discard(Coded *self, PyObject *value) {
-    int state = own_discard(self, value);
-    if (state != NOT_OWN)
-        return state;
-    PyObject *answer = PyObject_CallMethodOneArg((PyObject *)self, names.discard, value);
-    state = answer ? PyObject_IsTrue(answer) : -1;
-    Py_XDECREF(answer);
-    return state;
-}
-
-static PyObject *discard(Coded *self, PyObject *value) {
-    int state = coded_discard(self, value);
-    return state < 0 ? NULL : PyBool_FromLong(state);
-}
-
-static PyObject *bisect(Coded *self, PyObject *const *given, Py_ssize_t count) {
-    int right = count == 2 ? PyObject_IsTrue(given[1]) : -1;
-    if (right < 0) {
-        PyErr_SetString(PyExc_TypeError, "bisect takes a value and a bool");
-        return NULL;
-    }
-    Py_ssize_t position = own_bisect(self, given[0], right);
-    if (position == NOT_OWN)
-        return PyObject_CallMethodObjArgs((PyObject *)self, names.bisect, given[0], given[1], NULL);
-    return position == -1 ? NULL : PyLong_FromSsize_t(position);
-}
-
-static int coded_contains(Coded *self, PyObject *item) {
-    int state = own_contains(self, item);
-    if (state != NOT_OWN)
-        return state;
-    PyObject *answer = PyObject_CallMethodOneArg((PyObject *)self, names.contains, item);
-    state = answer ? PyObject_IsTrue(answer) : -1;
-    Py_XDECREF(answer);
-    return state;
-}
-
-static PyObject *own_span(Coded *self, PyObject *key) {
-    size_t first, past;
-    int state = own_places(self, key, &first, &past);
-    if (state == NOT_OWN)
-        Py_RETURN_NONE;
-    return state == -1 ? NULL : Py_BuildValue("nn", (Py_ssize_t)first, (Py_ssize_t)past);
-}
-
-static PyObject *changed(Coded *self, PyObject *nothing) {
-    (void)nothing;
-    self->changes++;
-    Py_RETURN_NONE;
-}
-
 /* ---- the type */
 
 static PyMethodDef methods[] = {
-    {"add", (PyCFunction)add, METH_O, "Adds an object behind its equals."},
-    {"bisect", (PyCFunction)(void (*)(void))bisect, METH_FASTCALL, "How many objects are below a value, or not above it."},
-    {"discard", (PyCFunction)discard, METH_O, "Removes the first object that equals a value, and tells whether there was one."},
-    {"own_span", (PyCFunction)own_span, METH_O, "The positions of a sort key of the kind's own type, or None."},
+    {"add", (PyCFunction)add_method, METH_O, "Adds an object behind its equals."},
+    {"bisect", (PyCFunction)(void (*)(void))bisect_method, METH_FASTCALL, "How many objects are below a value, or not above it."},
+    {"discard", (PyCFunction)discard_method, METH_O, "Removes the first object that equals a value, and tells whether there was one."},
+    {"own_span", (PyCFunction)own_span_method, METH_O, "The positions of a sort key of the kind's own type, or None."},
     {"chunk", (PyCFunction)(void (*)(void))chunk_method, METH_FASTCALL, "The objects at the positions from the first and before the second."},
-    {"changed", (PyCFunction)changed, METH_NOARGS, "Counts a change."},
+    {"changed", (PyCFunction)changed_method, METH_NOARGS, "Counts a change."},
     {"clear", (PyCFunction)clear, METH_NOARGS, "Removes all objects."},
     {"code", (PyCFunction)code, METH_O, "The byte string of the object at a position."},
     {"copied", (PyCFunction)copied, METH_O, "Becomes a clone of another, from empty."},
@@ -365,8 +285,8 @@ static PyMemberDef members[] = {
     {"key", T_OBJECT, offsetof(Coded, key), READONLY, "The function that makes sort keys, or None."},
     {0},
 };
-static PySequenceMethods sequence = {.sq_length = (lenfunc)coded_length, .sq_contains = (objobjproc)coded_contains};
-static PyMappingMethods mapping = {.mp_length = (lenfunc)coded_length, .mp_subscript = (binaryfunc)subscript};
+static PySequenceMethods sequence = {.sq_length = (lenfunc)coded_length, .sq_contains = (objobjproc)held_contains};
+static PyMappingMethods mapping = {.mp_length = (lenfunc)coded_length, .mp_subscript = (binaryfunc)item_method};
 
 PyTypeObject CodedType = {
     PyVarObject_HEAD_INIT(NULL, 0)

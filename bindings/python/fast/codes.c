@@ -30,6 +30,8 @@ int number_code(enum kind kind, PyObject *value, uint64_t *code) {
     return 1;
 }
 
+enum kind kind_of_numbers(const char *name) { return name[0] == 'i' ? INT64 : name[0] == 'u' ? UINT64 : FLOAT64; }
+
 #if PY_VERSION_HEX >= 0x030B0000 && PY_VERSION_HEX < 0x030C0000 && PYLONG_BITS_IN_DIGIT == 30
 /* An integer of two or three digits, which Python's own call makes by loops over them. */
 static PyObject *integer(long long value) {

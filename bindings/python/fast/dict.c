@@ -31,7 +31,7 @@ static PyObject *order_of(DictFront *self) {
 static int add_key(PyObject *order, PyObject *key) {
     uint64_t code;
     if (Py_TYPE(order) != &NumbersType)
-        return own_add((Coded *)order, key, NULL);
+        return held_add(order, key, NULL);
     return number_code(((Numbers *)order)->kind, key, &code) ? numbers_add((Numbers *)order, key) : NOT_OWN;
 }
 
@@ -39,8 +39,8 @@ static int add_key(PyObject *order, PyObject *key) {
 static int discard_key(PyObject *order, PyObject *key) {
     if (Py_TYPE(order) == &NumbersType)
         return numbers_discard((Numbers *)order, key);
-    int state = own_drop((Coded *)order, key);
-    return state == NOT_OWN ? coded_discard((Coded *)order, key) : state;
+    int state = IS_MULTI(order) ? NOT_OWN : own_drop((Coded *)order, key);
+    return state == NOT_OWN ? held_discard(order, key) : state;
 }
 
 /* The same by `_order_keys` of the class, which finds the kind. */

@@ -1,8 +1,9 @@
-/* The classes that order keys, as C types over the library: what `indexset/_pure.py` has by ctypes.
+/* The classes that order keys, as C types over the library: what `indexset/_pure.py` and `_held.py`
+ * have by ctypes.
  *
- * The library's maps lead from codes to the addresses of objects, and each address in a map counts as one
- * reference. An address that was read of a map is used before any Python code runs, or once `changes` says
- * that the map is as it was.
+ * The library's maps and multimaps lead from codes to the addresses of objects, and each address in one counts as
+ * one reference. An address that was read of one is used before any Python code runs, or once `changes` says
+ * that it is as it was.
  *
  * The interpreter's lock is held throughout a call, so that reads of several threads go one by one. The
  * collector of cycles runs each `__del__` before it empties an object, so that none of them finds one empty. */
@@ -35,17 +36,35 @@ typedef struct {
     unsigned long long changes;
 } Numbers;
 
-/* Objects at byte strings, in the order of these.
+/* What both collections of objects begin with. */
+#define HELD_HEAD                                                         \
+    PyObject_HEAD PyObject *key; /* what makes sort keys, or NULL */      \
+    enum kind kind;                                                       \
+    unsigned long long changes;
+
+typedef struct {
+    HELD_HEAD
+} Held;
+
+/* Objects at numbers of 64 bits, the codes of their sort keys, in the order of these and then in that in which they
+ * came. The kind is one of numbers. */
+typedef struct {
+    HELD_HEAD
+    indexset_multi pairs;
+} Multi;
+
+/* Of what is no Numbers. */
+#define IS_MULTI(order) (((Held *)(order))->kind <= FLOAT64)
+
+/* Objects at byte strings, in the order of these. The kind is none of numbers.
  *
  * Where the sort keys are of a kind other than OTHER, those of the kind's own type are encoded here. Where they
  * may repeat, their codes are followed by how many were added before. */
 typedef struct {
-    PyObject_HEAD
+    HELD_HEAD
     indexset_text_map *map; /* on the heap, or `nowhere` */
-    PyObject *key;          /* the function that makes sort keys, or NULL */
-    enum kind kind;
     int repeats;
-    unsigned long long added, changes;
+    unsigned long long added;
     uint64_t *late; /* the changes that are noted, and how much longer they make it */
     size_t late_count, late_room;
     Py_ssize_t late_more;
@@ -70,7 +89,7 @@ typedef struct {
     PyObject *order;
 } DictFront;
 
-extern PyTypeObject NumbersType, CodedType, FrontType, DictFrontType, WalkType;
+extern PyTypeObject NumbersType, CodedType, MultiType, FrontType, DictFrontType, WalkType;
 
 /* The module `_kinds`, and the names of the methods that are called. */
 extern PyObject *kinds;
@@ -84,6 +103,8 @@ PyObject *number_of(enum kind kind, uint64_t code);
 /* Whether a value is of the type that a kind of numbers gives back, and of its range; then its code is
  * written. */
 int number_code(enum kind kind, PyObject *value, uint64_t *code);
+/* The kind of numbers of a name. */
+enum kind kind_of_numbers(const char *name);
 
 /* ---- numbers.c */
 PyObject *numbers_item(Numbers *self, Py_ssize_t position);
@@ -112,8 +133,6 @@ Py_ssize_t coded_length(Coded *self);
 indexset_text_map *coded_map(Coded *self);
 /* Takes out the object at a byte string: 1, or 0 where there is none, or -1 with an error. */
 int coded_remove(Coded *self, const void *data, size_t size, PyObject **item);
-/* Removes the first object that equals a value: 1, or 0 where there is none, or -1 with an error. */
-int coded_discard(Coded *self, PyObject *value);
 
 /* ---- own.c: what is done of items whose sort keys are of the kind's own type. Each answers NOT_OWN, and has
  * done nothing, where that of an item is not. */
@@ -124,10 +143,40 @@ int own_discard(Coded *self, PyObject *item);
 int own_drop(Coded *self, PyObject *item);
 int own_contains(Coded *self, PyObject *item);
 Py_ssize_t own_bisect(Coded *self, PyObject *value, int right);
-/* Takes an item out of a set; an error that there is stays. */
-void discard_quietly(PyObject *members, PyObject *item);
 /* The positions of a sort key. */
 int own_places(Coded *self, PyObject *key, size_t *first, size_t *past);
+
+/* ---- multi.c: the same of a Multi */
+Py_ssize_t multi_length(Multi *self);
+PyObject *multi_item(Multi *self, Py_ssize_t position);
+int multi_add(Multi *self, PyObject *item, PyObject *members);
+int multi_discard(Multi *self, PyObject *item);
+int multi_contains(Multi *self, PyObject *item);
+Py_ssize_t multi_bisect(Multi *self, PyObject *value, int right);
+int multi_places(Multi *self, PyObject *key, size_t *first, size_t *past);
+
+/* ---- held.c: the same of both */
+int held_add(PyObject *self, PyObject *item, PyObject *members);
+Py_ssize_t held_bisect(PyObject *self, PyObject *value, int right);
+PyObject *held_item(PyObject *self, Py_ssize_t position);
+/* Removes the first object that equals a value: 1, or 0 where there is none, or -1 with an error. */
+int held_discard(PyObject *self, PyObject *value);
+int held_contains(PyObject *self, PyObject *value);
+/* A position that is counted from 0, or -1 with an error. */
+Py_ssize_t position_of(PyObject *self, PyObject *index);
+/* The methods of both. */
+PyObject *add_method(PyObject *self, PyObject *item);
+PyObject *bisect_method(PyObject *self, PyObject *const *given, Py_ssize_t count);
+PyObject *changed_method(PyObject *self, PyObject *nothing);
+PyObject *discard_method(PyObject *self, PyObject *value);
+PyObject *item_method(PyObject *self, PyObject *index);
+PyObject *own_span_method(PyObject *self, PyObject *key);
+/* Takes an item out of a set; an error that there is stays. */
+void discard_quietly(PyObject *members, PyObject *item);
+/* Adds an item to a set of those that there are, if one is given: 1, or 0 where it is there, or -1 with an error. */
+int join(PyObject *members, PyObject *item);
+/* A state, of what came after that; where it is an error, the item leaves the set. */
+int joined(PyObject *members, PyObject *item, int state);
 
 /* ---- late.c */
 /* Notes that an object of so many bytes comes or goes: 1, or 0 where it is to be done at once, or -1 with an

@@ -73,7 +73,7 @@ static PyObject *front_subscript(Front *self, PyObject *index) {
     if (!is_made(self))
         return NULL;
     int is_numbers = Py_TYPE(self->order) == &NumbersType;
-    return is_numbers ? numbers_item((Numbers *)self->order, position) : coded_item((Coded *)self->order, position);
+    return is_numbers ? numbers_item((Numbers *)self->order, position) : held_item(self->order, position);
 }
 
 /* Adds a number of the kind's own type, also to a set of those that there are, if one is given: 1, or 0 where it
@@ -82,14 +82,8 @@ static int add_number(Numbers *order, PyObject *members, PyObject *value) {
     uint64_t code;
     if (!number_code(order->kind, value, &code))
         return NOT_OWN;
-    int is_there = members ? PySet_Contains(members, value) : 0;
-    if (is_there != 0)
-        return is_there < 0 ? -1 : 0;
-    /* A set that cannot grow has the item already. */
-    int state = members != NULL && PySet_Add(members, value) < 0 ? -1 : numbers_add(order, value);
-    if (state < 0 && members != NULL)
-        discard_quietly(members, value);
-    return state;
+    int state = join(members, value);
+    return state == 1 ? joined(members, value, numbers_add(order, value)) : state;
 }
 
 /* `_add` of the class finds the kind, and keeps apart what is equal. */
@@ -101,7 +95,7 @@ static PyObject *add(Front *self, PyObject *value) {
     Py_INCREF(order);
     Py_XINCREF(members);
     int is_numbers = Py_TYPE(order) == &NumbersType, may_repeat = members == NULL;
-    int state = is_numbers ? add_number((Numbers *)order, members, value) : own_add((Coded *)order, value, members);
+    int state = is_numbers ? add_number((Numbers *)order, members, value) : held_add(order, value, members);
     Py_DECREF(order);
     Py_XDECREF(members);
     if (state == NOT_OWN || (state == 0 && may_repeat))
@@ -121,7 +115,7 @@ static PyObject *discard(Front *self, PyObject *value) {
 
 static PyObject *bisect_of(PyObject *order, PyObject *value, int right) {
     int is_numbers = Py_TYPE(order) == &NumbersType;
-    Py_ssize_t position = is_numbers ? numbers_bisect((Numbers *)order, value, right) : own_bisect((Coded *)order, value, right);
+    Py_ssize_t position = is_numbers ? numbers_bisect((Numbers *)order, value, right) : held_bisect(order, value, right);
     if (position == NOT_OWN)
         return PyObject_CallMethodObjArgs(order, names.bisect, value, right ? Py_True : Py_False, NULL);
     return position < 0 ? NULL : PyLong_FromSsize_t(position);
@@ -139,9 +133,9 @@ static PyObject *bisect_left(Front *self, PyObject *value) { return bisect(self,
 static PyObject *bisect_right(Front *self, PyObject *value) { return bisect(self, value, 1); }
 
 int is_order(PyObject *order) {
-    if (order != NULL && (Py_TYPE(order) == &NumbersType || PyObject_TypeCheck(order, &CodedType)))
+    if (order != NULL && (Py_TYPE(order) == &NumbersType || PyObject_TypeCheck(order, &CodedType) || PyObject_TypeCheck(order, &MultiType)))
         return 1;
-    PyErr_SetString(PyExc_TypeError, "an order is Numbers or a Coded");
+    PyErr_SetString(PyExc_TypeError, "an order is Numbers, a Coded or a Multi");
     return 0;
 }
 

@@ -21,8 +21,8 @@ static int make_names(void) {
 }
 
 static int add_types(PyObject *made) {
-    PyTypeObject *types[] = {&NumbersType, &CodedType, &FrontType, &DictFrontType};
-    const char *names[] = {"Numbers", "Coded", "Front", "DictFront"};
+    PyTypeObject *types[] = {&NumbersType, &CodedType, &MultiType, &FrontType, &DictFrontType};
+    const char *names[] = {"Numbers", "Coded", "Multi", "Front", "DictFront"};
     DictFrontType.tp_base = &PyDict_Type;
     if (PyType_Ready(&WalkType) < 0)
         return 0;

@@ -38,7 +38,7 @@ static PyObject *numbers_new(PyTypeObject *type, PyObject *given, PyObject *word
         return NULL;
     }
     self->python = python;
-    self->kind = name[0] == 'i' ? INT64 : name[0] == 'u' ? UINT64 : FLOAT64;
+    self->kind = kind_of_numbers(name);
     if (indexset_map_new(&self->map) != INDEXSET_YES) {
         Py_DECREF(self);
         return PyErr_NoMemory();

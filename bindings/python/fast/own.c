@@ -61,16 +61,6 @@ static int encode_bytes(Coded *self, Code *code, const char *data, size_t size, 
 
 /* Encodes a sort key: 1, or NOT_OWN, or -1. */
 static int encode(Coded *self, PyObject *key, Code *code) {
-    if (self->kind <= FLOAT64) {
-        uint64_t number;
-        if (!number_code(self->kind, key, &number))
-            return NOT_OWN;
-        code->data = code->brief;
-        code->owned = NULL;
-        code->size = 8;
-        put_number(code->data, number);
-        return 1;
-    }
     if (self->kind == BYTES && PyBytes_CheckExact(key))
         return encode_bytes(self, code, PyBytes_AS_STRING(key), (size_t)PyBytes_GET_SIZE(key), 1);
     if (self->kind != TEXT || !PyUnicode_CheckExact(key))
@@ -192,50 +182,33 @@ int own_discard(Coded *self, PyObject *item) {
 }
 
 /* Whether a code is the bytes of an item itself, which are there for as long as the item is. */
-static int is_items(Coded *self, const Code *code) { return self->kind >= TEXT && code->data != code->brief && code->owned == NULL; }
+static int is_items(const Code *code) { return code->data != code->brief && code->owned == NULL; }
 
 int own_drop(Coded *self, PyObject *item) {
     Code code;
     int state = self->key == NULL ? encode(self, item, &code) : NOT_OWN;
     if (state != 1)
         return state;
-    state = is_items(self, &code) ? late_note(self, item, code.size, 1) : 0;
+    state = is_items(&code) ? late_note(self, item, code.size, 1) : 0;
     drop(&code);
     return state == 0 ? own_discard(self, item) : state;
 }
 
 static int insert(Coded *self, Code *code, PyObject *item) {
-    int state = is_items(self, code) ? late_note(self, item, code->size, 0) : 0;
+    int state = is_items(code) ? late_note(self, item, code->size, 0) : 0;
     return state == 0 ? coded_insert(self, code->data, code->size, item) : state;
-}
-
-void discard_quietly(PyObject *members, PyObject *item) {
-    PyObject *type, *value, *trace;
-    PyErr_Fetch(&type, &value, &trace);
-    PySet_Discard(members, item);
-    PyErr_Restore(type, value, trace);
 }
 
 /* Adds an item, also to a set of those that there are, if one is given: 1, or 0 where it is there. */
 static int add_code(Coded *self, PyObject *item, PyObject *members, Code *code) {
-    if (members != NULL) {
-        int is_there = PySet_Contains(members, item);
-        if (is_there != 0)
-            return is_there < 0 ? -1 : 0;
-    }
-    if (members != NULL && PySet_Add(members, item) < 0) {
-        discard_quietly(members, item); /* a set that cannot grow has it already */
-        return -1;
-    }
+    int state = join(members, item);
+    if (state != 1)
+        return state;
     if (self->repeats) {
         put_number(code->data + code->size, self->added++);
         code->size += 8;
     }
-    if (insert(self, code, item) >= 0)
-        return 1;
-    if (members != NULL)
-        discard_quietly(members, item);
-    return -1;
+    return joined(members, item, insert(self, code, item) < 0 ? -1 : 1);
 }
 
 int own_add(Coded *self, PyObject *item, PyObject *members) {

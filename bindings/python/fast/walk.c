@@ -6,16 +6,20 @@
 size_t length_of(PyObject *owner) {
     if (Py_TYPE(owner) == &NumbersType)
         return indexset_map_len(&((Numbers *)owner)->map);
-    return (size_t)coded_length((Coded *)owner);
+    return (size_t)(IS_MULTI(owner) ? multi_length((Multi *)owner) : coded_length((Coded *)owner));
 }
 
 /* Makes the changes that are noted; 0 with an error. */
-static int is_ready(PyObject *owner) { return Py_TYPE(owner) == &NumbersType || coded_map((Coded *)owner) != NULL; }
+static int is_ready(PyObject *owner) {
+    return Py_TYPE(owner) == &NumbersType || IS_MULTI(owner) || coded_map((Coded *)owner) != NULL;
+}
 
 /* Where the objects lie is known by then, so that they are fetched side by side. No change is noted here. */
 void read_part(PyObject *owner, size_t from, size_t size, Part *part) {
     if (Py_TYPE(owner) == &NumbersType)
         part->count = indexset_map_range_by_position(&((Numbers *)owner)->map, from, part->codes, size, part->objects, size);
+    else if (IS_MULTI(owner))
+        part->count = indexset_multi_range_by_position(&((Multi *)owner)->pairs, from, part->codes, size, part->objects, size);
     else
         part->count = indexset_text_map_range_by_position(((Coded *)owner)->map, from, part->objects, size);
     for (size_t i = 0; i < part->count; i++)
@@ -101,7 +105,7 @@ PyObject *walk_method(PyObject *self, PyObject *const *given, Py_ssize_t count) 
 
 typedef struct {
     PyObject_HEAD
-    PyObject *owner; /* Numbers or Coded; NULL at the end */
+    PyObject *owner; /* Numbers, Coded or Multi; NULL at the end */
     size_t first, past;
     unsigned long long *counter, changes; /* of the owner, now and at the start */
     int reverse;
@@ -126,7 +130,7 @@ PyObject *walk_new(PyObject *owner, size_t first, size_t past, int reverse) {
     self->owner = owner;
     self->past = past < length ? past : length;
     self->first = first < self->past ? first : self->past;
-    self->counter = is_numbers ? &((Numbers *)owner)->changes : &((Coded *)owner)->changes;
+    self->counter = is_numbers ? &((Numbers *)owner)->changes : &((Held *)owner)->changes;
     self->changes = *self->counter;
     self->reverse = reverse;
     self->at = self->part.count = 0;

@@ -5,7 +5,7 @@ from typing import Any, Optional, Union
 
 from ._kinds import ALL, KINDS, NUMBERS, OBJECT
 from ._orders import Order, order_of
-from ._pairs import between
+from ._pairs import between, bound
 
 Moves = list[tuple[int, int]]
 
@@ -52,6 +52,11 @@ class Numbered:
     def range(self, minimum: Any, maximum: Any) -> Optional[tuple[int, int]]:
         """The least and the greatest code between two values, both included, or None."""
         return between(self._kind, minimum, maximum)
+
+    def bound(self, value: Any, right: bool) -> int:
+        """The least code that is not below that of a value, or to the right the least above it; 2**64 or more
+        where there is none."""
+        return bound(self._kind, value, right)
 
     def clone(self) -> Numbered:
         """The same again."""
@@ -182,6 +187,9 @@ class Labels:
         first = 0 if minimum is None else names.bisect(minimum, False)
         past = len(names) if maximum is None else names.bisect(maximum, True)
         return (self._labels[names[first]], self._labels[names[past - 1]]) if first < past else None
+
+    def bound(self, value: Any, right: bool) -> int:
+        return self._sides(self._names.bisect(value, right))[1]
 
     def clone(self) -> Labels:
         made = Labels(self.name)

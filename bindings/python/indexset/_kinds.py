@@ -105,10 +105,6 @@ class Integers:
         """The key of a number."""
         return code + self._least
 
-    def framed(self, key: Any) -> bytes:
-        """A key as bytes in their order, whatever follows them but a byte of all ones."""
-        return self.code(key).to_bytes(8, "big")
-
 
 class Doubles:
     """Floating-point numbers. There is one zero, and NaN is refused."""
@@ -152,9 +148,6 @@ class Doubles:
         number: float = _DOUBLE.unpack(_BITS.pack(bits))[0]
         return number
 
-    def framed(self, key: Any) -> bytes:
-        return self.code(key).to_bytes(8, "big")
-
 
 class Texts:
     """Texts, as their bytes in UTF-8, whose order is that of their code points."""
@@ -168,6 +161,7 @@ class Texts:
         return key.encode("utf-8", "surrogatepass")
 
     def framed(self, key: Any) -> bytes:
+        """A key as bytes in their order, whatever follows them but a byte of all ones."""
         return framed_text(self.raw(key))
 
 

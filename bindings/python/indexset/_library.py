@@ -8,6 +8,7 @@ import os
 import pathlib
 import sys
 from array import array
+from operator import index as as_index
 from typing import Any
 
 from ._signatures import CALLS
@@ -170,6 +171,15 @@ def pairs(call: Any, *words: Any, size: int) -> tuple[array[int], array[int]]:
         count = call(*words, memory(keys), size, memory(values), size)
         del keys[count:], values[count:]
     return keys, values
+
+
+def position(index: int, size: int) -> int:
+    """The position from 0 on that an index means among so many. IndexError where there is none."""
+    at = as_index(index)
+    at = at + size if at < 0 else at
+    if not 0 <= at < size:
+        raise IndexError("index out of range")
+    return at
 
 
 def version() -> tuple[int, int, int]:

@@ -15,14 +15,15 @@ T = TypeVar("T")
 
 class SortedList(Sorted[T], MutableSequence[T], Generic[T]):
     """A list that is kept in order, with the calls of `sortedcontainers.SortedList`. Items may repeat; equal
-    ones stand in the order in which they came. Numbers are kept as such until the first repeats.
+    ones stand in the order in which they came.
 
     `keys` names the kind of the items and `key` is a function whose results order them, as for `SortedSet`;
     with `key` the list is a `SortedKeyList`.
 
     Cost: with n items, a call on one item or one position takes a time that grows as log n, and, where a
-    value is looked for, with the number of items that have its sort key. A walk, a slice or a batch takes a
-    time that grows with its length.
+    value is looked for that is no number or `key` is given, with the number of items that have its sort key. A
+    walk, a slice or a batch takes a time that grows with its length. A removal where numbers repeat may be
+    refused memory: MemoryError, and nothing has changed.
 
     Reads may go on in several threads at once. A walk raises RuntimeError once there was a change; changes
     from several threads are kept apart by the caller.
@@ -89,12 +90,17 @@ class SortedList(Sorted[T], MutableSequence[T], Generic[T]):
         return found
 
     def remove(self, value: Any) -> None:
-        """Removes the first item that equals a value. ValueError where there is none."""
+        """Removes the first item that equals a value. ValueError where there is none.
+
+        >>> numbers = SortedList([2, 1, 2]); numbers.remove(2); numbers
+        SortedList([1, 2])
+        """
         if not self._discard(value):
             raise ValueError(f"{value!r} is not there")
 
     def count(self, value: Any) -> int:
-        """How many items equal a value, in a time that grows with their number.
+        """How many items equal a value, in a time that grows as log n, and, but for numbers without `key`, with
+        the number of items that have its sort key.
 
         >>> SortedList([1, 2, 1]).count(1)
         2

@@ -23,9 +23,9 @@ class LoggedDict(Noded[K, V], MutableMapping[K, V], Generic[K, V]):
     `next` on has the dictionary's nodes. A copy and a pickle have the same pairs in nodes of their own; they
     tell no one, and their numbers go on from `next`.
 
-    Cost: with n pairs, a call on one key takes a time that grows as log n and with the size of a node. Keys
-    that are no numbers are held in Python too. Reads may go on in several threads at once; changes are kept
-    apart by the caller, and none is made while one is told of.
+    Cost: with n pairs, a call on one key or one position takes a time that grows as log n, and a change also
+    with the size of a node. Keys that are no numbers are held in Python too. Reads may go on in several threads
+    at once; changes are kept apart by the caller, and none is made while one is told of.
 
     >>> told = []
     >>> ages = LoggedDict(told.append, size=2); ages[30] = 3; ages[10] = 1; ages[20] = 2
@@ -33,6 +33,8 @@ class LoggedDict(Noded[K, V], MutableMapping[K, V], Generic[K, V]):
     (LoggedDict({10: 1, 20: 2, 30: 3}), [(0, 'create'), (1, 'insert'), (2, 'split'), (3, 'insert')])
     >>> ages.nodes(), ages.next
     ([[(10, 1)], [(20, 2), (30, 3)]], 4)
+    >>> ages.bisect_left(25), ages.peekitem(0), ages.keys()[-1], ages.items()[1:]
+    (2, (10, 1), 30, [(20, 2), (30, 3)])
     >>> LoggedDict(entries={"b": None, "a": "x"}, values="any").nodes()
     [[('a', 'x'), ('b', None)]]
     """
@@ -43,6 +45,9 @@ class LoggedDict(Noded[K, V], MutableMapping[K, V], Generic[K, V]):
     _length = staticmethod(lib.indexset_log_len)
     _next = staticmethod(lib.indexset_log_next)
     _range = staticmethod(lib.indexset_log_range)
+    _rank = staticmethod(lib.indexset_log_rank)
+    _at = staticmethod(lib.indexset_log_at)
+    _run = staticmethod(lib.indexset_log_range_by_position)
     _node_count = staticmethod(lib.indexset_log_node_count)
     _node_lengths = staticmethod(lib.indexset_log_node_lengths)
 

@@ -4,6 +4,7 @@ from __future__ import annotations
 from typing import Any, Generic, Iterable, Iterator, Literal, Optional, TypeVar, Union, overload
 
 from ._kinds import NUMBERS, OBJECT, known
+from ._library import position
 from ._orders import kind_of
 from ._pairs import NumberPairs, ObjectPairs
 
@@ -19,13 +20,16 @@ class SortedMultiDict(Generic[K, V]):
     `keys` and `values` name their kinds, as for `SortedSet`. Numbers are kept in the library's multimap; where
     no kind is named it is found from the pairs, and numbers are kept so until others come.
 
-    Cost: with n pairs a call on one key takes a time that grows as log n, and with the number of its values.
+    Cost: with n pairs a call on one position takes a time that grows as log n; one on one key too, and, but for
+    `bisect_left` and `bisect_right`, with the number of its values.
     Reads may go on in several threads at once; changes are kept apart by the caller.
 
     >>> tags = SortedMultiDict([(2, 30), (1, 10), (2, 20)]); tags
     SortedMultiDict([(1, 10), (2, 30), (2, 20)])
     >>> tags[2], tags.count(2), (2, 20) in tags, tags.remove(2, 30), tags[2]
     ([30, 20], 2, True, None, [20])
+    >>> tags.peekitem(0), tags.bisect_left(2)
+    ((1, 10), 1)
     >>> SortedMultiDict([("b", "x"), ("a", "y"), ("b", "w")])
     SortedMultiDict([('a', 'y'), ('b', 'x'), ('b', 'w')])
     """
@@ -119,6 +123,17 @@ class SortedMultiDict(Generic[K, V]):
         value: V = self._pairs.pop(key)
         return value
 
+    def popitem(self, index: int = -1) -> tuple[K, V]:
+        """Removes the pair at a position, the last one if none is given, and returns it. KeyError where the
+        dictionary is empty, IndexError where there is no such position.
+
+        >>> SortedMultiDict([(1, 5), (1, 4), (2, 3)]).popitem(1)
+        (1, 4)
+        """
+        if not len(self):
+            raise KeyError("popitem(): dictionary is empty")
+        return self._pairs.pop_at(position(index, len(self)))
+
     def clear(self) -> None:
         """Removes all pairs."""
         self._pairs.clear()
@@ -161,6 +176,44 @@ class SortedMultiDict(Generic[K, V]):
         if pair is None:
             raise IndexError("dictionary is empty")
         return pair
+
+    # ---- positions
+
+    def peekitem(self, index: int = -1) -> tuple[K, V]:
+        """The pair at a position, the last one if none is given. IndexError where there is none. It takes a time
+        that grows as log n.
+
+        >>> SortedMultiDict([(1, 5), (1, 4), (2, 3)]).peekitem(1)
+        (1, 4)
+        """
+        return self._pairs.at(position(index, len(self)))
+
+    def bisect_left(self, key: Any) -> int:
+        """How many pairs have a key below one: the position of the first value of a key that is there.
+
+        >>> tags = SortedMultiDict([(1, 5), (3, 4), (3, 3)]); tags.bisect_left(3), tags.bisect_right(3)
+        (1, 3)
+        """
+        return self._pairs.bisect(key, False)
+
+    def bisect_right(self, key: Any) -> int:
+        """How many pairs have a key that is not above one."""
+        return self._pairs.bisect(key, True)
+
+    bisect = bisect_right
+
+    def islice(
+        self, start: Optional[int] = None, stop: Optional[int] = None, reverse: bool = False
+    ) -> Iterator[tuple[K, V]]:
+        """The pairs at the positions from `start` and before `stop`, as they are at the call. It takes a time
+        that grows as log n and with their number.
+
+        >>> list(SortedMultiDict([(1, 5), (1, 4), (2, 3)]).islice(1))
+        [(1, 4), (2, 3)]
+        """
+        first, past, _ = slice(start, stop).indices(len(self))
+        pairs = self._pairs.chunk(first, past)
+        return reversed(list(pairs)) if reverse else pairs
 
     def irange(self, minimum: Any = None, maximum: Any = None) -> Iterator[tuple[K, V]]:
         """The pairs of the keys between two values, both included, as they are at the call.

@@ -2,18 +2,26 @@
 from __future__ import annotations
 
 import os
-from typing import TYPE_CHECKING
+from typing import TYPE_CHECKING, Generic, TypeVar
 
 if TYPE_CHECKING:
     from ._front import DictFront, Front
-    from ._pure import BACKEND, Coded, Numbers
+    from ._held import Coded, Held, Multi
+    from ._pure import BACKEND, Numbers
 else:
     try:
         if os.environ.get("INDEXSET_BACKEND") == "ctypes":
             raise ImportError
-        from ._fast import BACKEND, Coded, DictFront, Front, Numbers
+        from ._fast import BACKEND, Coded, DictFront, Front, Multi, Numbers
+
+        class Held(Generic[TypeVar("T")]):
+            """What Coded and Multi share, which each has in C."""
+
+            __slots__ = ()
+
     except ImportError:
         from ._front import DictFront, Front
-        from ._pure import BACKEND, Coded, Numbers
+        from ._held import Coded, Held, Multi
+        from ._pure import BACKEND, Numbers
 
-__all__ = ["BACKEND", "Coded", "DictFront", "Front", "Numbers"]
+__all__ = ["BACKEND", "Coded", "DictFront", "Front", "Held", "Multi", "Numbers"]

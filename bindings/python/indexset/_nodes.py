@@ -2,13 +2,14 @@
 from __future__ import annotations
 
 from collections.abc import Mapping
-from typing import Any, Generic, Iterator, NamedTuple, Optional, TypeVar
+from typing import Any, Generic, Iterable, Iterator, NamedTuple, Optional, TypeVar
 
 from . import _library as library
 from ._codecs import keys_of, values_of
-from ._kinds import known
+from ._kinds import ALL, known
 from ._library import Number, memory, place, zeros
 from ._orders import kind_of
+from ._views import NodedItemsView, NodedKeysView, NodedValuesView
 
 K = TypeVar("K")
 V = TypeVar("V")
@@ -51,6 +52,9 @@ class Noded(Mapping[K, V], Generic[K, V]):
     _length: Any
     _next: Any
     _range: Any
+    _rank: Any
+    _at: Any
+    _run: Any
     _node_count: Any
     _node_lengths: Any
 
@@ -110,11 +114,105 @@ class Noded(Mapping[K, V], Generic[K, V]):
         ends = self._keys.range(minimum, maximum)
         if ends is None:
             return iter(())
-        keys, values = library.pairs(self._range, self._handle, *ends, size=len(self))
-        return iter([(self._keys.decode(key), self._values.decode(value)) for key, value in zip(keys, values)])
+        return iter(self._decoded(*library.pairs(self._range, self._handle, *ends, size=len(self))))
+
+    def _decoded(self, keys: Iterable[int], values: Iterable[int]) -> list[tuple[K, V]]:
+        return [(self._keys.decode(key), self._values.decode(value)) for key, value in zip(keys, values)]
 
     def __iter__(self) -> Iterator[K]:
         return (key for key, _ in self.irange())
+
+    # ---- positions
+
+    def peekitem(self, index: int = -1) -> tuple[K, V]:
+        """The key and the value at a position, the last one if none is given. IndexError where there is none. It
+        takes a time that grows as log n.
+
+        >>> from indexset import LoggedDict
+        >>> LoggedDict(entries={2: "b", 1: "a"}).peekitem()
+        (2, 'b')
+        """
+        key, value = Number(), Number()
+        if not self._at(self._handle, library.position(index, len(self)), place(key), place(value)):
+            raise IndexError("index out of range")
+        return self._keys.decode(key.value), self._values.decode(value.value)
+
+    def index(self, value: Any, start: Optional[int] = None, stop: Optional[int] = None) -> int:
+        """The position of a key, from `start` and before `stop`. ValueError where it is not there."""
+        first, past, _ = slice(start, stop).indices(len(self))
+        if value in self:
+            position: int = self._rank(self._handle, self._keys.find(value))
+            if first <= position < past:
+                return position
+        raise ValueError(f"{value!r} is not there")
+
+    def bisect_left(self, value: Any) -> int:
+        """How many keys are below a value, in a time that grows as log n.
+
+        >>> from indexset import LoggedDict
+        >>> ages = LoggedDict(entries={10: "a", 30: "b"}); ages.bisect_left(30), ages.bisect_right(30)
+        (1, 2)
+        """
+        return self._bisect(value, False)
+
+    def bisect_right(self, value: Any) -> int:
+        """How many keys are not above a value."""
+        return self._bisect(value, True)
+
+    bisect = bisect_right
+
+    def _bisect(self, value: Any, right: bool) -> int:
+        size = len(self)
+        code = self._keys.bound(value, right) if size else 0
+        rank: int = size if code > ALL else self._rank(self._handle, code)
+        return rank
+
+    def islice(
+        self, start: Optional[int] = None, stop: Optional[int] = None, reverse: bool = False
+    ) -> Iterator[tuple[K, V]]:
+        """The keys at the positions from `start` and before `stop`, with their values, as they are at the call. It
+        takes a time that grows as log n and with their number.
+
+        >>> from indexset import LoggedDict
+        >>> list(LoggedDict(entries={1: 10, 3: 30, 5: 50}).islice(1, reverse=True))
+        [(5, 50), (3, 30)]
+        """
+        pairs = self._chunk(*slice(start, stop).indices(len(self))[:2])
+        return reversed(pairs) if reverse else iter(pairs)
+
+    def _chunk(self, first: int, past: int) -> list[tuple[K, V]]:
+        size = max(0, past - first)
+        return self._decoded(*library.pairs(self._run, self._handle, first, size=size))
+
+    def _slice(self, index: slice) -> list[tuple[K, V]]:
+        """The pairs at a slice."""
+        at = range(*index.indices(len(self)))
+        first, last = (at[0], at[-1]) if at else (0, -1)
+        return self._chunk(min(first, last), max(first, last) + 1)[:: at.step] if at else []
+
+    def keys(self) -> NodedKeysView[K]:
+        """A view of the keys, which can be indexed.
+
+        >>> from indexset import LoggedDict
+        >>> LoggedDict(entries={2: "b", 1: "a"}).keys()[0]
+        1
+        """
+        return NodedKeysView(self)
+
+    def values(self) -> NodedValuesView[V]:
+        """A view of the values in the order of their keys, which can be indexed."""
+        return NodedValuesView(self)
+
+    def items(self) -> NodedItemsView[K, V]:
+        """A view of the keys with their values, which can be indexed.
+
+        >>> from indexset import LoggedDict
+        >>> LoggedDict(entries={2: "b", 1: "a"}).items()[-1:]
+        [(2, 'b')]
+        """
+        return NodedItemsView(self)
+
+    # ---- nodes
 
     def nodes(self) -> list[list[tuple[K, V]]]:
         """The nodes, each as a list of its keys with their values. It takes a time that grows with the

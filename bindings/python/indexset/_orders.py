@@ -5,8 +5,8 @@ from itertools import product
 from numbers import Integral, Rational, Real
 from typing import Any, Callable, Iterable, Iterator, Optional, TypeVar, Union
 
-from ._kinds import ALL, KINDS, NUMBERS, OBJECT, TOP, real, whole
-from ._native import Coded, Numbers
+from ._kinds import ALL, BYTES, NUMBERS, OBJECT, TOP, real, whole
+from ._native import Coded, Held, Multi, Numbers
 
 T = TypeVar("T")
 KeyFunction = Optional[Callable[[Any], Any]]
@@ -30,14 +30,13 @@ def forms(key: Any) -> list[Any]:
     return found + [bool(number)] * (number in (0, 1)) or [key]
 
 
-class Keyed(Coded[T]):
-    """Objects in the order of their sort keys, equal ones in the order in which they came."""
+class Keyed(Held[T]):
+    """Objects in the order of their sort keys, equal ones in the order in which they came. A subclass is also what
+    has the library order them."""
 
-    __slots__ = ("kind",)
+    __slots__ = ()
 
-    def __init__(self, kind: str, key: KeyFunction, repeats: bool) -> None:
-        super().__init__(kind, key, repeats)
-        self.kind = kind
+    kind: str
 
     def sort_key(self, item: Any) -> Any:
         """What orders an item."""
@@ -122,15 +121,70 @@ class Keyed(Coded[T]):
                 return
 
 
-class Encoded(Keyed[T]):
-    """Objects whose sort keys have a kind: their codes are ordered by the library. Where sort keys may
+class Repeated(Keyed[T], Multi[T]):
+    """Objects whose sort keys are numbers of a kind. Those of one sort key are told apart by their positions alone,
+    so that no call is the dearer for them but one that compares the objects."""
+
+    __slots__ = ("kind", "_kind")
+
+    def __init__(self, kind: str, key: KeyFunction) -> None:
+        super().__init__(kind, key)
+        self.kind, self._kind = kind, NUMBERS[kind]
+
+    def clone(self) -> Repeated[T]:
+        made = Repeated[T](self.kind, self.key)
+        made.copied(self)
+        return made
+
+    def _add(self, item: T) -> bool:
+        self.insert(self._kind.code(self.sort_key(item)), item)
+        return True
+
+    def _span(self, key: Any) -> tuple[int, int]:
+        """The positions of a sort key."""
+        span = self.own_span(key)
+        if span is not None:
+            return span
+        code, exact = self._kind.bound(key)
+        first = self._below(code)
+        return first, self._below(code + 1) if exact else first
+
+    def _below(self, code: int) -> int:
+        return self.rank(code) if code <= ALL else len(self)
+
+    def place(self, key: Any, right: bool) -> int:
+        return self._span(key)[right]
+
+    def matches(self, item: Any) -> Iterator[int]:
+        return iter(range(*self._span(self.sort_key(item))))
+
+    def count(self, value: Any) -> int:
+        if self.key is not None:
+            return super().count(value)
+        try:
+            first, past = self._span(value)
+        except _UNFIT:
+            return 0
+        return past - first if first < past and self[first] == value else 0
+
+    def _drop(self, item: T) -> None:
+        """It is the last of its sort key, or near it."""
+        first, past = self._span(self.sort_key(item))
+        for position in range(past - 1, first - 1, -1):
+            if self[position] is item:
+                self.pop(position)
+                return
+
+
+class Encoded(Keyed[T], Coded[T]):
+    """Objects whose sort keys have another kind: their codes are ordered by the library. Where sort keys may
     repeat, a number that tells them apart follows the code."""
 
-    __slots__ = ("_kind", "_encode", "_repeats")
+    __slots__ = ("kind", "_kind", "_encode", "_repeats")
 
     def __init__(self, kind: str, key: KeyFunction, repeats: bool) -> None:
         super().__init__(kind, key, repeats)
-        self._kind, self._repeats = KINDS[kind], repeats
+        self.kind, self._kind, self._repeats = kind, BYTES[kind], repeats
         self._encode = self._kind.framed if repeats else self._kind.raw
 
     def clone(self) -> Encoded[T]:
@@ -155,15 +209,7 @@ class Encoded(Keyed[T]):
         span = self.own_span(key)
         if span is not None:
             return span
-        if self.kind in NUMBERS:
-            number, exact = self._kind.bound(key)
-            if number > ALL:
-                return len(self), len(self)
-            code = number.to_bytes(8, "big")
-            if not exact:
-                return (self.rank(code),) * 2
-        else:
-            code = self._encode(key)
+        code = self._encode(key)
         first = self.rank(code)
         return first, self.rank(code + _PAST) if self._repeats else first + self.has(code)
 
@@ -183,14 +229,15 @@ class Encoded(Keyed[T]):
             yield from range(first, past)
 
 
-class Compared(Keyed[T]):
+class Compared(Keyed[T], Coded[T]):
     """Objects whose sort keys are compared by `<`. A label of 64 bits keeps the place of each: a new one is
     between those of its neighbours, and where there is none, labels around it are spread out."""
 
-    __slots__ = ()
+    __slots__ = ("kind",)
 
     def __init__(self, key: KeyFunction) -> None:
         super().__init__(OBJECT, key, True)
+        self.kind = OBJECT
 
     def clone(self) -> Compared[T]:
         made = Compared[T](self.key)
@@ -250,14 +297,14 @@ def order_of(kind: str, key: KeyFunction, repeats: bool) -> Order:
     """What orders items of a kind. Numbers do not repeat at first, also where they may."""
     if kind == OBJECT:
         return Compared[Any](key)
-    if kind in NUMBERS and key is None:
-        return Numbers(kind)
+    if kind in NUMBERS:
+        return Numbers(kind) if key is None else Repeated[Any](kind, key)
     return Encoded[Any](kind, key, repeats or key is not None)
 
 
 def repeating(order: Numbers) -> Order:
     """What orders the same numbers, which may repeat there."""
-    made = Encoded[Any](order.kind, None, True)
+    made = Repeated[Any](order.kind, None)
     made.take(order.chunk(0, len(order)))
     return made
 

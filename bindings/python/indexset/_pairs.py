@@ -2,7 +2,7 @@
 from __future__ import annotations
 
 from operator import itemgetter
-from typing import Any, Iterator, Optional
+from typing import Any, Iterable, Iterator, Optional
 
 from . import _library as library
 from ._kinds import ALL, NUMBERS
@@ -20,6 +20,13 @@ def between(kind: Any, minimum: Any, maximum: Any) -> Optional[tuple[int, int]]:
         high, exact = kind.bound(maximum)
         high -= not exact
     return (low, high) if low <= ALL and high >= 0 and low <= high else None
+
+
+def bound(kind: Any, value: Any, right: bool) -> int:
+    """The least number of a key that is not below a value, or to the right of one above it; 2**64 or more where
+    there is none."""
+    number, exact = kind.bound(value)
+    return int(number + (right and exact))
 
 
 class NumberPairs:
@@ -85,7 +92,36 @@ class NumberPairs:
         if ends is None:
             return iter(())
         keys, values = library.pairs(lib.indexset_multi_range, self._handle, *ends, size=len(self))
+        return self._decoded(keys, values)
+
+    def _decoded(self, keys: Iterable[int], values: Iterable[int]) -> Iterator[Pair]:
         return zip(map(self._keys.decode, keys), map(self._values.decode, values))
+
+    def bisect(self, key: Any, right: bool) -> int:
+        """How many pairs have keys below a key, or not above it."""
+        size = len(self)
+        number = bound(self._keys, key, right) if size else 0
+        rank: int = size if number > ALL else lib.indexset_multi_rank(self._handle, number)
+        return rank
+
+    def at(self, position: int) -> Pair:
+        """The pair at a position. IndexError where there is none."""
+        return self._read(lib.indexset_multi_at, position)
+
+    def pop_at(self, position: int) -> Pair:
+        """Removes the pair at a position and returns it. IndexError where there is none."""
+        return self._read(lib.indexset_multi_remove_at, position)
+
+    def _read(self, call: Any, position: int) -> Pair:
+        key, value = Number(), Number()
+        if not check(call(self._handle, position, place(key), place(value))):
+            raise IndexError("index out of range")
+        return self._keys.decode(key.value), self._values.decode(value.value)
+
+    def chunk(self, first: int, past: int) -> Iterator[Pair]:
+        """The pairs at the positions from `first` and before `past`."""
+        size = max(0, past - first)
+        return self._decoded(*library.pairs(lib.indexset_multi_range_by_position, self._handle, first, size=size))
 
     def clear(self) -> None:
         """Removes all pairs."""
@@ -144,6 +180,25 @@ class ObjectPairs:
     def range(self, minimum: Any, maximum: Any) -> Iterator[Pair]:
         first = 0 if minimum is None else self._order.place(minimum, False)
         past = len(self) if maximum is None else self._order.place(maximum, True)
+        return self.chunk(first, past)
+
+    def bisect(self, key: Any, right: bool) -> int:
+        position: int = self._order.place(key, right) if len(self) else 0
+        return position
+
+    def at(self, position: int) -> Pair:
+        pair: Pair = self._order[position]
+        return pair
+
+    def pop_at(self, position: int) -> Pair:
+        pair: Pair = self._order.pop(position)
+        key, value = pair
+        del self._values[key][value]
+        if not self._values[key]:
+            del self._values[key]
+        return pair
+
+    def chunk(self, first: int, past: int) -> Iterator[Pair]:
         return iter(self._order.chunk(first, past))
 
     def clear(self) -> None:

@@ -1,11 +1,10 @@
-"""What orders keys, by ctypes: the classes that the compiled module `_fast` has too."""
+"""What orders numbers, by ctypes: a class that the compiled module `_fast` has too."""
 from __future__ import annotations
 
-import ctypes
 from array import array
 from itertools import chain
 from operator import index as as_index
-from typing import Any, Callable, Generic, Iterable, Iterator, Optional, TypeVar
+from typing import Any, Generic, Iterable, Iterator, Optional, TypeVar
 
 from . import _library as library
 from ._kinds import ALL, NUMBERS, TOP, codes_of, flipped, turned
@@ -15,7 +14,6 @@ BACKEND = "ctypes"
 
 T = TypeVar("T")
 _CHUNK = 512
-_OWN: dict[str, type] = {"str": str, "bytes": bytes}
 
 
 class Ordered(Generic[T]):
@@ -251,159 +249,3 @@ class Numbers(Ordered[Any]):
         """Removes all keys."""
         self.changed()
         lib.indexset_set_clear(self._handle)
-
-
-class Coded(Ordered[T]):
-    """Objects at byte strings, in the order of these, in a map of the library that leads to their places.
-
-    A subclass says which byte string is that of an object, by the kind of its sort keys.
-    """
-
-    __slots__ = ("_handle", "_objects", "_unused", "_own", "_once", "key", "added", "__weakref__")
-
-    def __init__(self, kind: str, key: Optional[Callable[[Any], Any]], repeats: bool) -> None:
-        super().__init__()
-        self.key, self._once = key, not repeats
-        self._own = _OWN.get(kind) if key is None else None
-        self.added = 0
-        self._objects: list[Any] = []
-        self._unused: list[int] = []
-        self._handle = library.new("text_map")
-
-    def copied(self, other: Coded[T]) -> None:
-        """Becomes a clone of another, from empty."""
-        made = library.handle("text_map")
-        check(lib.indexset_text_map_clone(other._handle, made))
-        self._handle, self._objects, self._unused = made, other._objects.copy(), other._unused.copy()
-        self.added = other.added
-
-    def __len__(self) -> int:
-        size: int = lib.indexset_text_map_len(self._handle)
-        return size
-
-    def __getitem__(self, index: int) -> T:
-        out = Number()
-        if not lib.indexset_text_map_range_by_position(self._handle, self._position(index), place(out), 1):
-            raise IndexError("index out of range")
-        item: T = self._objects[out.value]
-        return item
-
-    def __contains__(self, value: Any) -> bool:
-        return self._contains(value)
-
-    def holds(self, value: Any) -> bool:
-        """Whether an object equals a value."""
-        return self._contains(value)
-
-    def _contains(self, value: Any) -> bool:
-        raise NotImplementedError
-
-    def add(self, item: T) -> bool:
-        """Adds an object behind its equals."""
-        return self._add(item)
-
-    def _add(self, item: T) -> bool:
-        raise NotImplementedError
-
-    def add_own(self, item: T) -> Optional[bool]:
-        """Adds an object whose sort key is of the kind's own type; None of another type."""
-        return self._add(item) if type(item) is self._own else None
-
-    def discard(self, value: Any) -> bool:
-        """Removes the first object that equals a value, and tells whether there was one."""
-        if type(value) is self._own and self._once:
-            return self._take_out(self._code_of(value)) is not None
-        return self._discard(value)
-
-    def _code_of(self, item: Any) -> bytes:
-        """The byte string of an object, where sort keys do not repeat."""
-        raise NotImplementedError
-
-    def _discard(self, value: Any) -> bool:
-        raise NotImplementedError
-
-    def bisect(self, value: Any, right: bool) -> int:
-        """How many objects are below a value, or not above it."""
-        if type(value) is not self._own or not self._once:
-            return self._bisect(value, right)
-        code = self._code_of(value)
-        rank = self.rank(code)
-        return rank + self.has(code) if right else rank
-
-    def _bisect(self, value: Any, right: bool) -> int:
-        raise NotImplementedError
-
-    def own_span(self, key: Any) -> Optional[tuple[int, int]]:
-        """The positions of a sort key of the kind's own type, or None."""
-        return None
-
-    def has(self, code: bytes) -> bool:
-        """Whether an object is at a byte string."""
-        found: bool = lib.indexset_text_map_contains(self._handle, code, len(code))
-        return found
-
-    def rank(self, code: bytes) -> int:
-        """How many objects are below a byte string."""
-        rank: int = lib.indexset_text_map_rank(self._handle, code, len(code))
-        return rank
-
-    def insert(self, code: bytes, item: T) -> None:
-        """Puts an object at a byte string, which has none."""
-        unused = self._unused
-        at = unused.pop() if unused else len(self._objects)
-        if at == len(self._objects):
-            self._objects.append(item)
-        else:
-            self._objects[at] = item
-        status = lib.indexset_text_map_insert(self._handle, code, len(code), at, self._place)
-        if status == library.YES:
-            self.changed()
-            return
-        if status == library.NO:
-            lib.indexset_text_map_insert(self._handle, code, len(code), self._out.value, place(Number()))
-            status = library.HELD
-        self._objects[at] = None
-        unused.append(at)
-        check(status)
-
-    def code(self, position: int) -> bytes:
-        """The byte string of the object at a position."""
-        room, size, out = ctypes.create_string_buffer(64), Count(), Number()
-        words = (place(size), place(out))
-        if not lib.indexset_text_map_at(self._handle, position, room, 64, *words):
-            raise IndexError("index out of range")
-        if size.value > 64:
-            room = ctypes.create_string_buffer(size.value)
-            lib.indexset_text_map_at(self._handle, position, room, size.value, *words)
-        return room.raw[: size.value]
-
-    def pop(self, index: int) -> T:
-        """Removes the object at a position and returns it."""
-        at = self._take_out(self.code(self._position(index)))
-        if at is None:
-            raise RuntimeError("it changed meanwhile")
-        item: T = at[0]
-        return item
-
-    def _take_out(self, code: bytes) -> Optional[tuple[T]]:
-        """Removes the object at a byte string and returns it, or None where there is none."""
-        if not lib.indexset_text_map_remove(self._handle, code, len(code), self._place):
-            return None
-        self.changed()
-        at = self._out.value
-        item, self._objects[at] = self._objects[at], None
-        self._unused.append(at)
-        return (item,)
-
-    def chunk(self, first: int, past: int) -> list[T]:
-        size, objects = max(0, past - first), self._objects
-        out = zeros(size)
-        del out[lib.indexset_text_map_range_by_position(self._handle, first, memory(out), size) :]
-        return list(map(objects.__getitem__, out))
-
-    def clear(self) -> None:
-        """Removes all objects."""
-        objects, self._objects, self._unused = self._objects, [], []
-        self.changed()
-        lib.indexset_text_map_clear(self._handle)
-        objects.clear()

@@ -49,9 +49,8 @@ class Replica(Noded[K, V], Generic[K, V]):
     the number `next`; `keys` and `values` are then the kinds of the dictionary that it is to follow, or are
     found from the first pair. A copy and a pickle have the same nodes and await the same change.
 
-    Cost: with n pairs, a call on one key takes a time that grows as log n and with the size of a node;
-    `len` takes one that grows with the number of nodes. Reads may go on in several threads at once; changes
-    are kept apart by the caller.
+    Cost: with n pairs, a call on one key or one position takes a time that grows as log n, and a change also
+    with the size of a node. Reads may go on in several threads at once; changes are kept apart by the caller.
 
     >>> told = []
     >>> ages = LoggedDict(told.append, size=2); ages[30] = 3; ages[10] = 1
@@ -60,6 +59,8 @@ class Replica(Noded[K, V], Generic[K, V]):
     (4, 4)
     >>> replica, late.nodes() == ages.nodes(), replica.apply(told[0])
     (Replica({10: 1, 20: 2, 30: 3}), True, False)
+    >>> replica.bisect_left(25), replica.peekitem(0), replica.index(20), list(replica.islice(1))
+    (2, (10, 1), 1, [(20, 2), (30, 3)])
     """
 
     __slots__ = ()
@@ -68,6 +69,9 @@ class Replica(Noded[K, V], Generic[K, V]):
     _length = staticmethod(lib.indexset_replica_len)
     _next = staticmethod(lib.indexset_replica_next)
     _range = staticmethod(lib.indexset_replica_range)
+    _rank = staticmethod(lib.indexset_replica_rank)
+    _at = staticmethod(lib.indexset_replica_at)
+    _run = staticmethod(lib.indexset_replica_range_by_position)
     _node_count = staticmethod(lib.indexset_replica_node_count)
     _node_lengths = staticmethod(lib.indexset_replica_node_lengths)
 

@@ -7,7 +7,7 @@ from typing import Any, Callable, Generic, Iterable, Iterator, Optional, TypeVar
 
 from ._kinds import known
 from ._native import Front
-from ._orders import KeyFunction, Order, fitted, order_of
+from ._orders import KeyFunction, Order, Repeated, fitted, order_of
 
 T = TypeVar("T")
 
@@ -94,6 +94,9 @@ class Sorted(Front[T], Sequence[T], Generic[T]):
         """The first position of a value from a position on, or -1."""
         order = self._order
         found: int = order.find(value)
+        if 0 <= found < first and isinstance(order, Repeated) and order.key is None:
+            past = order.bisect(value, True)
+            return first if first < past else -1
         while 0 <= found < first:
             found = found + 1 if found + 1 < len(order) and order[found + 1] == value else -1
         return found

@@ -2,6 +2,7 @@
 from __future__ import annotations
 
 from collections.abc import ItemsView, KeysView, Sequence, ValuesView
+from operator import itemgetter
 from typing import Any, Iterable, Iterator, Tuple, TypeVar
 
 from ._set import SortedSet
@@ -102,3 +103,63 @@ class SortedItemsView(ItemsView[K, V], Sequence[Tuple[K, V]]):
             keys = self._mapping.keys()[index]
             return list(zip(keys, map(self._mapping.__getitem__, keys)))
         return self._mapping.peekitem(index)
+
+
+class _Positions(Sequence[Any]):
+    """What a view of a logged dictionary or a replica has by positions, as a part of the pair at each."""
+
+    __slots__ = ()
+
+    _mapping: Any
+
+    @staticmethod
+    def _part(pair: tuple[Any, Any]) -> Any:
+        raise NotImplementedError
+
+    def __getitem__(self, index: Any) -> Any:
+        if isinstance(index, slice):
+            return [self._part(pair) for pair in self._mapping._slice(index)]
+        return self._part(self._mapping.peekitem(index))
+
+    def __iter__(self) -> Iterator[Any]:
+        return map(self._part, self._mapping.irange())
+
+    def __reversed__(self) -> Iterator[Any]:
+        return map(self._part, self._mapping.islice(reverse=True))
+
+
+class NodedKeysView(_Positions, KeysView[K], Sequence[K]):
+    """The keys of a `LoggedDict` or a `Replica`, in order, as they are at each call. A position takes a time that
+    grows as log n."""
+
+    __slots__ = ()
+
+    _part = staticmethod(itemgetter(0))
+
+    def count(self, value: Any) -> int:
+        """How often a key is there: 0 or 1."""
+        return int(value in self._mapping)
+
+    def index(self, value: Any, start: Any = None, stop: Any = None) -> int:
+        """The position of a key. ValueError where it is not there."""
+        position: int = self._mapping.index(value, start, stop)
+        return position
+
+
+class NodedValuesView(_Positions, ValuesView[V], Sequence[V]):
+    """The values of a `LoggedDict` or a `Replica`, in the order of their keys, as they are at each call."""
+
+    __slots__ = ()
+
+    _part = staticmethod(itemgetter(1))
+
+
+class NodedItemsView(_Positions, ItemsView[K, V], Sequence[Tuple[K, V]]):
+    """The keys of a `LoggedDict` or a `Replica` in order, with their values, as they are at each call. A position
+    takes a time that grows as log n."""
+
+    __slots__ = ()
+
+    @staticmethod
+    def _part(pair: tuple[Any, Any]) -> Any:
+        return pair

@@ -1,0 +1,115 @@
+/* What both collections of objects share: calls on one item, by the kind's own type here, and else by a method of
+ * the class. */
+#include "fast.h"
+
+/* ---- one item, where its sort key is of the kind's own type */
+
+int held_add(PyObject *self, PyObject *item, PyObject *members) {
+    return IS_MULTI(self) ? multi_add((Multi *)self, item, members) : own_add((Coded *)self, item, members);
+}
+
+Py_ssize_t held_bisect(PyObject *self, PyObject *value, int right) {
+    return IS_MULTI(self) ? multi_bisect((Multi *)self, value, right) : own_bisect((Coded *)self, value, right);
+}
+
+PyObject *held_item(PyObject *self, Py_ssize_t position) {
+    return IS_MULTI(self) ? multi_item((Multi *)self, position) : coded_item((Coded *)self, position);
+}
+
+/* ---- or else */
+
+/* A state, or, where it is NOT_OWN, whether a method of the class answers so of a value. */
+static int asked(PyObject *self, PyObject *name, PyObject *value, int state) {
+    if (state != NOT_OWN)
+        return state;
+    PyObject *answer = PyObject_CallMethodOneArg(self, name, value);
+    state = answer ? PyObject_IsTrue(answer) : -1;
+    Py_XDECREF(answer);
+    return state;
+}
+
+static PyObject *truth(int state) { return state < 0 ? NULL : PyBool_FromLong(state); }
+
+PyObject *add_method(PyObject *self, PyObject *item) { return truth(asked(self, names.add, item, held_add(self, item, NULL))); }
+
+int held_discard(PyObject *self, PyObject *value) {
+    int state = IS_MULTI(self) ? multi_discard((Multi *)self, value) : own_discard((Coded *)self, value);
+    return asked(self, names.discard, value, state);
+}
+
+PyObject *discard_method(PyObject *self, PyObject *value) { return truth(held_discard(self, value)); }
+
+int held_contains(PyObject *self, PyObject *value) {
+    int state = IS_MULTI(self) ? multi_contains((Multi *)self, value) : own_contains((Coded *)self, value);
+    return asked(self, names.contains, value, state);
+}
+
+PyObject *bisect_method(PyObject *self, PyObject *const *given, Py_ssize_t count) {
+    int right = count == 2 ? PyObject_IsTrue(given[1]) : -1;
+    if (right < 0) {
+        PyErr_SetString(PyExc_TypeError, "bisect takes a value and a bool");
+        return NULL;
+    }
+    Py_ssize_t position = held_bisect(self, given[0], right);
+    if (position == NOT_OWN)
+        return PyObject_CallMethodObjArgs(self, names.bisect, given[0], given[1], NULL);
+    return position == -1 ? NULL : PyLong_FromSsize_t(position);
+}
+
+PyObject *own_span_method(PyObject *self, PyObject *key) {
+    size_t first, past;
+    int state = IS_MULTI(self) ? multi_places((Multi *)self, key, &first, &past) : own_places((Coded *)self, key, &first, &past);
+    if (state == NOT_OWN)
+        Py_RETURN_NONE;
+    return state == -1 ? NULL : Py_BuildValue("nn", (Py_ssize_t)first, (Py_ssize_t)past);
+}
+
+PyObject *changed_method(PyObject *self, PyObject *nothing) {
+    (void)nothing;
+    ((Held *)self)->changes++;
+    Py_RETURN_NONE;
+}
+
+/* ---- positions */
+
+Py_ssize_t position_of(PyObject *self, PyObject *index) {
+    Py_ssize_t position = PyNumber_AsSsize_t(index, PyExc_IndexError), length = (Py_ssize_t)length_of(self);
+    if (position == -1 && PyErr_Occurred())
+        return -1;
+    position += position < 0 ? length : 0;
+    if (position < 0 || position >= length) {
+        PyErr_SetString(PyExc_IndexError, "index out of range");
+        return -1;
+    }
+    return position;
+}
+
+PyObject *item_method(PyObject *self, PyObject *index) {
+    Py_ssize_t position = position_of(self, index);
+    return position < 0 ? NULL : held_item(self, position);
+}
+
+/* ---- a set of the items beside */
+
+void discard_quietly(PyObject *members, PyObject *item) {
+    PyObject *type, *value, *trace;
+    PyErr_Fetch(&type, &value, &trace);
+    PySet_Discard(members, item);
+    PyErr_Restore(type, value, trace);
+}
+
+int join(PyObject *members, PyObject *item) {
+    int is_there = members ? PySet_Contains(members, item) : 0;
+    if (is_there != 0 || members == NULL)
+        return is_there < 0 ? -1 : !is_there;
+    if (PySet_Add(members, item) == 0)
+        return 1;
+    discard_quietly(members, item); /* a set that cannot grow has it already */
+    return -1;
+}
+
+int joined(PyObject *members, PyObject *item, int state) {
+    if (state < 0 && members != NULL)
+        discard_quietly(members, item);
+    return state;
+}
