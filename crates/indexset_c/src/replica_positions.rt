@@ -13,7 +13,11 @@ use std::ops::Bound;
 
 /// Returns how many pairs have keys below a key.
 #[unsafe(no_mangle)]
-pub extern "C" fn indexset_replica_rank(alloc: Global, replica: &mut ReplicaHandle, key: u64) -> usize
+pub extern "C" fn indexset_replica_rank(
+    alloc: Global,
+    replica: &mut ReplicaHandle,
+    key: u64,
+) -> usize
     ensures value { result ≡ key_rank nat_cmp (copied_pairs replica.old.slot.value) key }
     ensures same { replica.new.slot.value ≡ replica.old.slot.value }
 {
@@ -77,4 +81,3 @@ pub extern "C" fn indexset_replica_range_by_position(
     replica.put(held);
     count
 }
-

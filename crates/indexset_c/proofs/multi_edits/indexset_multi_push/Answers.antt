@@ -25,7 +25,7 @@ returns-in_default c =
       none = (λ h. refl, λ h. refl);
       cause = tt;
       tree = λ h. tt;
-      status = (leb-true NONE NUMBERS refl, (λ h. not_at 3 NONE NO refl refl h, λ h. not_at 3 NONE HELD refl refl h));
+      status = (leb-true NONE NUMBERS refl, (λ h. not_at 3 NONE NO refl refl h), (λ h. not_at 3 NONE HELD refl refl h));
     }
 
 pub returns : goal.returns
@@ -42,7 +42,7 @@ returns c =
             none = (λ h. not_at s YES NONE w.status-is refl h, λ h. absurd (none-some _ (sym h)));
             cause = record { memory = λ h. not_at s YES MEMORY w.status-is refl h; numbers = λ h. not_at s YES NUMBERS w.status-is refl h };
             tree = λ h. new ∙ ap Some e.changed.tree;
-            status = (rw w.status-is (leb-true YES NUMBERS refl), (λ h. not_at s YES NO w.status-is refl h, λ h. not_at s YES HELD w.status-is refl h));
+            status = (rw w.status-is (leb-true YES NUMBERS refl), (λ h. not_at s YES NO w.status-is refl h), (λ h. not_at s YES HELD w.status-is refl h));
           }
       | in-Err w ↦
           let e = w.in-Err.ensures in
@@ -54,6 +54,6 @@ returns c =
             none = (λ h. refused_not_none s _ r h, λ h. absurd (none-some _ (sym h)));
             cause = record { memory = r.memory; numbers = r.numbers };
             tree = λ h. refused_not_yes s _ r h;
-            status = (r.most, (λ h. refused_not_no s _ r h, r.not_held));
+            status = (r.most, (λ h. refused_not_no s _ r h), r.not_held);
           }
     ])

@@ -1,9 +1,9 @@
-use Rattle.std.proofs.Common.{◌≡◌, ℕ, Option, Some, None, length, slice_get, refl, ap, sym, ◌∙◌}
+use Rattle.std.proofs.Common.{◌≡◌, Some, None, length, slice_get, refl, ap, sym, ◌∙◌}
 use Rattle.std.proofs.lemmas.Bool.{false≢true, leb-true}
 use Rattle.std.specs.Ordering.{nat_cmp}
 use Rattle.indexset_core.specs.Nodes.{joined}
 use Rattle.indexset_log.specs.Tree.{refusal_for}
-use Rattle.indexset_multi.specs.Tree.{MultiTree, pair_removal_events}
+use Rattle.indexset_multi.specs.Tree.{pair_removal_events}
 use Rattle.indexset_handle.specs.declared.status.TheConstants.{NO, YES, MEMORY, NONE, HELD, NUMBERS}
 use Rattle.indexset_handle.specs.Elements.{numbered_pairs}
 use Rattle.indexset_c.proofs.MultiLemmas.{no_pair, none_removed, pair_there, past_end}
@@ -18,7 +18,7 @@ returns-in_default c =
       found = λ h. not_at 0 NO YES refl refl h;
       absent = (λ h. refl, λ h. refl);
       ok = λ h. not_at 0 NO YES refl refl h;
-      same = λ h. (refl, (refl, c.in_default.ensures.left));
+      same = λ h. (refl, refl, c.in_default.ensures.left);
       cause = tt;
       tree = λ h. not_at 0 NO YES refl refl h;
       status = (leb-true 0 NUMBERS refl, (λ h. not_at 0 NO NONE refl refl h), (λ h. not_at 0 NO HELD refl refl h));
@@ -47,7 +47,7 @@ returns c =
             found = λ h. not_at s NO YES w.status-is refl h;
             absent = (λ h. no_pair p answer, λ h. w.status-is);
             ok = λ h. not_at s NO YES w.status-is refl h;
-            same = λ h. (w.key-is, (w.value-is, (new ∙ ap Some (e.changed.tree ∙ none_removed m p (no_pair p answer)))));
+            same = λ h. (w.key-is, w.value-is, (new ∙ ap Some (e.changed.tree ∙ none_removed m p (no_pair p answer))));
             cause = record { memory = λ h. not_at s NO MEMORY w.status-is refl h; numbers = λ h. not_at s NO NUMBERS w.status-is refl h };
             tree = λ h. not_at s NO YES w.status-is refl h;
             status = (rw w.status-is (leb-true NO NUMBERS refl), (λ h. not_at s NO NONE w.status-is refl h), (λ h. not_at s NO HELD w.status-is refl h));
@@ -59,7 +59,7 @@ returns c =
             found = λ h. refused_not_yes s _ r h;
             absent = (λ h. refused_not_no s _ r h, λ h. absurd (false≢true (e.no_event (past_end (joined m.nodes) c.args.position h))));
             ok = λ h. refused_not_yes s _ r h;
-            same = λ h. (w.key-is, (w.value-is, (new ∙ ap Some e.unchanged)));
+            same = λ h. (w.key-is, w.value-is, (new ∙ ap Some e.unchanged));
             cause = record { memory = r.memory; numbers = r.numbers };
             tree = λ h. refused_not_yes s _ r h;
             status = (r.most, r.not_none, r.not_held);
