@@ -38,7 +38,7 @@ sys.path.insert(0, str(TOP / "tools"))
 import kit  # noqa: E402
 import lay  # noqa: E402
 
-CRATES = ["core", "text", "spine", "set", "map", "events", "log", "multi", "replica"]
+CRATES = ["core", "spine", "set", "map", "events", "log", "multi", "replica"]
 PROVED = "indexset_uses"
 PAGES = ["*.md", "docs/*.md", "bindings/*.md", "examples/**/*.md"]
 HEAD = "//! The examples of the documentation.\n#![tactic(auto)]\n"

@@ -73,8 +73,8 @@ fn run_until(alloc: Global, log_calls: u64, db_calls: u64) -> Result<Option<usiz
 #[test]
 fn calls_of_both_files_end(rt: HostRuntime) -> Result<(), Fail> {
     let (mut least, mut most) = (5, 0);
-    for step in 0..30 {
-        if let Some(done) = run_until(rt.alloc(), 4 * step, 4 * step)? {
+    for calls in [0, 12, 28, 44, 60, 80, 116] {
+        if let Some(done) = run_until(rt.alloc(), calls, calls)? {
             least = done.min(least);
             most = done.max(most);
         }
@@ -87,9 +87,9 @@ fn calls_of_both_files_end(rt: HostRuntime) -> Result<(), Fail> {
 #[test]
 fn calls_of_one_file_end(rt: HostRuntime) -> Result<(), Fail> {
     let mut ends = false;
-    for step in 0..15 {
-        run_until(rt.alloc(), 7 * step, 1_000_000)?;
-        if run_until(rt.alloc(), 1_000_000, 7 * step)? == Some(5) {
+    for calls in [0, 21, 49, 98] {
+        run_until(rt.alloc(), calls, 1_000_000)?;
+        if run_until(rt.alloc(), 1_000_000, calls)? == Some(5) {
             ends = true;
         }
     }
