@@ -40,7 +40,8 @@ pub extern "C" fn indexset_replica_at(
 ) -> bool
     ensures found { result ≡ true → entry_at (copied_pairs replica.old.slot.value) position
         ≡ Some (key.new, value.new) }
-    ensures absent { result ≡ false → entry_at (copied_pairs replica.old.slot.value) position ≡ None }
+    ensures absent { result ≡ false → entry_at (copied_pairs replica.old.slot.value) position
+        ≡ None }
     ensures no_key { result ≡ false → key.new ≡ key.old }
     ensures no_value { result ≡ false → value.new ≡ value.old }
     ensures same { replica.new.slot.value ≡ replica.old.slot.value }

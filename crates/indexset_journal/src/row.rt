@@ -22,7 +22,8 @@ pub(crate) fn set_line(row: &mut Row, number: u64, line: &[u8]) -> Result<(), Al
 
 /// Returns the number of a line, or `None` where the row is no line.
 pub(crate) fn number_of(row: &Row) -> Option<u64>
-    ensures line { IfSome result (λ number. number < 2 ^ 63 × ((line : List ℕ) × (row.now ≡ row_of number line))) }
+    ensures line { IfSome result (λ number. number < 2 ^ 63 × ((line : List ℕ)
+        × (row.now ≡ row_of number line))) }
     ensures none { result ≡ None → ¬ IsLine row.now }
 {
     let ValueRef::Int(number) = row.get(0) else {

@@ -22,7 +22,8 @@ pub(crate) fn put_lines<S: Store>(
     requires room { next + length lines.now ≤ 2 ^ 63 }
     requires ready { IsClean (S.view store.old) → IsReady (S.view store.old) }
     requires below { IsClean (S.view store.old) → AreBelow next ((S.view store.old).trees 0) }
-    ensures ok { OnOk result (IsClean (S.view store.new) → Stages (S.view store.old) (S.view store.new)
+    ensures ok { OnOk result (IsClean (S.view store.new)
+        → Stages (S.view store.old) (S.view store.new)
         ((S.view store.old).trees 0 ++ rows_of next (texts lines.now))) }
     ensures err { OnErr result (IsClean (S.view store.new)
         → KeepsCommitted (S.view store.old) (S.view store.new)) }

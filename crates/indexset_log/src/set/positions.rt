@@ -37,7 +37,8 @@ impl<T: Ord + Clone + Drop, Node: NodeLike<T>> BTreeSet<T, Node> {
             ≡ equal_element T.cmp (joined self.now.nodes) value.now }
         ensures inside { has_equal T.cmp (joined self.now.nodes) value.now ≡ true
             → result < length (joined self.now.nodes) }
-        ensures before { AllWithin (λ x. T.cmp x value.now ≡ Less) (joined self.now.nodes) 0 result }
+        ensures before { AllWithin (λ x. T.cmp x value.now ≡ Less)
+            (joined self.now.nodes) 0 result }
     {
         self.count_before(Bound::Included(self.by_item(value)))
     }
