@@ -78,7 +78,8 @@ impl<S: Store> Journal<S> {
         ensures any_moment_err { IfErr result (λ failed.
             IsQuiet S.view S.faults S.recovers S.is_shielded store failed.1) }
         ensures cause { IfErr result (λ failed. IsClean (S.view failed.1)
-            → FailsToOpen (S.view store) (MoreFaults (S.faults store) (S.faults failed.1)) failed.0) }
+            → FailsToOpen (S.view store) (MoreFaults (S.faults store)
+            (S.faults failed.1)) failed.0) }
         ensures told { IfErr result (λ failed. TellsFault (S.blamed failed.1) failed.0) }
     {
         store.rollback();
