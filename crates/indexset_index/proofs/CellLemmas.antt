@@ -1,12 +1,12 @@
 -- Cells when lengths change.
-use Rattle.std.proofs.Common.{◌≡◌, ℕ, zero, suc, ◌+◌, ◌-◌, ◌<◌, ◌≤◌, ◌^◌, ◌≢◌, List, [], ◌∷◌, ◌++◌, length, sum, take, set, get_or, refl, ap, sym, ◌∙◌, inl, inr, eq-zero-or-pos, drop, length-append, arith}
+use Rattle.std.proofs.Common.{◌≡◌, ℕ, zero, suc, ◌+◌, ◌-◌, ◌%◌, ◌<◌, ◌≤◌, ◌^◌, ◌≢◌, List, [], ◌∷◌, ◌++◌, length, sum, take, set, get_or, refl, ap, sym, ◌∙◌, inl, inr, eq-zero-or-pos, drop, length-append, append_assoc, arith}
 use Rattle.std.proofs.lemmas.List.FromFn.{fill_by_all}
 use Rattle.std.proofs.lemmas.List.Sums.{sum_by-append, sum_by-set, sum_by-take-drop}
 use Rattle.std.proofs.lemmas.List.{length-take, take-append-le, take-take, get_or_append_left, get_or-take, drop-set-lt, take-set-le, get_or-set_same, get_or-set_other, length-set}
 use Rattle.std.proofs.Math.Seq.{get_or-append_seam}
 use Rattle.indexset_index.specs.Fenwick.{lowbit, prefix_sum, cell_of, cell_in, told_sum, told_within, lengths_of, IsFenwickOf, IsFenwick}
-use Rattle.indexset_index.proofs.LowbitLemmas.{lowbit-pos, skipped, taken-in}
-use Rattle.indexset_index.proofs.PrefixLemmas.{prefix-cell, prefix-more, prefix-le}
+use Rattle.indexset_index.proofs.LowbitLemmas.{lowbit-pos, lowbit-of_odd, lowbit-of_two, lowbit-of_four, skipped, taken-in}
+use Rattle.indexset_index.proofs.PrefixLemmas.{prefix-cell, prefix-more, prefix-le, prefix-all}
 
 told_sum-is : (cells ls : List ℕ) → IsFenwickOf (cell_in cells) (length cells) ls → (f k : ℕ) → k ≤ f → k ≤ length ls → told_within f cells k ≡ prefix_sum ls k
 told_sum-is cells ls is zero zero p q = refl
@@ -30,22 +30,29 @@ is_fenwick cells ls is = rw (told cells ls is) is
 cell-same : (xs ys : List ℕ) (i : ℕ) → ((k : ℕ) → k ≤ i → prefix_sum xs k ≡ prefix_sum ys k) → cell_of xs i ≡ cell_of ys i
 cell-same xs ys i h = omega (arith, prefix-cell xs i, prefix-cell ys i, h i (omega arith), h (i - lowbit i) (omega arith))
 
-pub cell-append : (ls : List ℕ) (x i : ℕ) → i ≤ length ls → cell_of (ls ++ x ∷ []) i ≡ cell_of ls i
-cell-append ls x i h = cell-same (ls ++ x ∷ []) ls i (λ k le. ap sum (take-append-le k ls (x ∷ []) (omega arith)))
+-- one length more at the end: what the sums before it are
+kept-prefix : (ls : List ℕ) (x k : ℕ) → k ≤ length ls → prefix_sum (ls ++ x ∷ []) k ≡ prefix_sum ls k
+kept-prefix ls x k h = ap sum (take-append-le k ls (x ∷ []) h)
 
-pub prefix-last : (ls : List ℕ) (x n : ℕ) → n ≡ length ls → prefix_sum (ls ++ x ∷ []) (n + 1) ≡ prefix_sum (ls ++ x ∷ []) n + x
-prefix-last ls x n e =
-    let seam : get_or (ls ++ x ∷ []) n 0 ≡ x = rw e (get_or-append_seam ls x [] 0) in
-    omega (arith, prefix-more (ls ++ x ∷ []) n (omega (arith, length-append ls (x ∷ []))))
+cell-append : (ls : List ℕ) (x i : ℕ) → i ≤ length ls → cell_of (ls ++ x ∷ []) i ≡ cell_of ls i
+cell-append ls x i h = cell-same (ls ++ x ∷ []) ls i (λ k le. kept-prefix ls x k (omega arith))
 
 pub sum-last : (ls : List ℕ) (x : ℕ) → sum (ls ++ x ∷ []) ≡ sum ls + x
 sum-last ls x = omega (arith, sum_by-append (λ y. y) ls (x ∷ []))
 
+-- cell n + 1 begins where the sum of the first start lengths ends
+last-cell : (ls : List ℕ) (c x n start : ℕ) → n ≡ length ls → start ≡ n + 1 - lowbit (n + 1) → c + prefix_sum ls start ≡ sum ls + x → c ≡ cell_of (ls ++ x ∷ []) (n + 1)
+last-cell ls c x n start is begins here =
+    let xs = ls ++ x ∷ [] in
+    let low : start ≤ length ls = omega (arith, lowbit-pos (n + 1) (omega arith)) in
+    let one : n + 1 ≡ length xs = omega (arith, length-append ls (x ∷ [])) in
+    omega (arith, prefix-cell xs (n + 1), ap (prefix_sum xs) begins, kept-prefix ls x start low, prefix-all xs (n + 1) (omega arith), sum-last ls x)
+
 -- one length more, and its cell
-pub pushed : (cells ls : List ℕ) (c x : ℕ) → IsFenwickOf (cell_in cells) (length cells) ls → c ≡ cell_of (ls ++ x ∷ []) (length cells + 1) → sum ls + x < 2 ^ 64 → IsFenwickOf (cell_in (cells ++ c ∷ [])) (length (cells ++ c ∷ [])) (ls ++ x ∷ [])
-pushed cells ls c x is here fits = record {
+pub pushed : (cells ls : List ℕ) (c x start : ℕ) → IsFenwickOf (cell_in cells) (length cells) ls → start ≡ length cells + 1 - lowbit (length cells + 1) → c + prefix_sum ls start ≡ sum ls + x → sum ls + x < 2 ^ 64 → IsFenwickOf (cell_in (cells ++ c ∷ [])) (length (cells ++ c ∷ [])) (ls ++ x ∷ [])
+pushed cells ls c x start is begins here fits = record {
   count_is = omega (arith, is.count_is, length-append cells (c ∷ []), length-append ls (x ∷ []));
-  fits = omega (arith, sum_by-append (λ y. y) ls (x ∷ []));
+  fits = omega (arith, sum-last ls x);
   each = λ i p q.
       elim (eq-zero-or-pos (i - length cells)) [
         | inl le ↦
@@ -54,9 +61,54 @@ pushed cells ls c x is here fits = record {
         | inr gt ↦
             let at : i ≡ length cells + 1 = omega (arith, length-append cells (c ∷ [])) in
             let place : i - 1 ≡ length cells = omega arith in
-            rw (place) (get_or-append_seam cells c [] 0) ∙ (here ∙ ap (cell_of (ls ++ x ∷ [])) (sym at))
+            rw (place) (get_or-append_seam cells c [] 0) ∙ (last-cell ls c x (length cells) start is.count_is begins here ∙ ap (cell_of (ls ++ x ∷ [])) (sym at))
       ];
 }
+
+-- one length more, whose cell begins with it
+pushed_odd : (cells ls : List ℕ) (x : ℕ) → IsFenwickOf (cell_in cells) (length cells) ls → length cells % 2 ≡ 0 → sum ls + x < 2 ^ 64 → IsFenwickOf (cell_in (cells ++ x ∷ [])) (length (cells ++ x ∷ [])) (ls ++ x ∷ [])
+pushed_odd cells ls x is even fits =
+    pushed cells ls x x (length cells) is
+    (omega (arith, lowbit-of_odd (length cells + 1) (omega arith)))
+    (omega (arith, prefix-all ls (length cells) (omega (arith, is.count_is))))
+    fits
+
+-- two lengths more after a multiple of four, and their cells
+pushed_two : (cells ls : List ℕ) (x y : ℕ) → IsFenwickOf (cell_in cells) (length cells) ls → length cells % 4 ≡ 0 → sum ls + (x + y) < 2 ^ 64 → IsFenwickOf (cell_in ((cells ++ x ∷ []) ++ (x + y) ∷ [])) (length ((cells ++ x ∷ []) ++ (x + y) ∷ [])) ((ls ++ x ∷ []) ++ y ∷ [])
+pushed_two cells ls x y is begin fits =
+    let count = length-append cells (x ∷ []) in
+    pushed (cells ++ x ∷ []) (ls ++ x ∷ []) (x + y) y (length cells)
+    (pushed_odd cells ls x is (omega arith) (omega arith))
+    (omega (arith, lowbit-of_two (length (cells ++ x ∷ []) + 1) (omega arith)))
+    (omega (arith, is.count_is, kept-prefix ls x (length cells) (omega (arith, is.count_is)), prefix-all ls (length cells) (omega (arith, is.count_is)), sum-last ls x))
+    (omega (arith, sum-last ls x))
+
+pushed_three : (cells ls : List ℕ) (x y z : ℕ) → IsFenwickOf (cell_in cells) (length cells) ls → length cells % 4 ≡ 0 → sum ls + (x + y + z) < 2 ^ 64 → IsFenwickOf (cell_in (((cells ++ x ∷ []) ++ (x + y) ∷ []) ++ z ∷ [])) (length (((cells ++ x ∷ []) ++ (x + y) ∷ []) ++ z ∷ [])) (((ls ++ x ∷ []) ++ y ∷ []) ++ z ∷ [])
+pushed_three cells ls x y z is begin fits =
+    let count = length-append cells (x ∷ []) in
+    let counts = length-append (cells ++ x ∷ []) ((x + y) ∷ []) in
+    pushed_odd ((cells ++ x ∷ []) ++ (x + y) ∷ []) ((ls ++ x ∷ []) ++ y ∷ []) z
+    (pushed_two cells ls x y is begin (omega arith))
+    (omega arith)
+    (omega (arith, sum-last ls x, sum-last (ls ++ x ∷ []) y))
+
+-- four lengths more after a multiple of four, and their cells: only the last sums lengths before them
+pub pushed_four : (cells ls : List ℕ) (x y z v c : ℕ) → IsFenwickOf (cell_in cells) (length cells) ls → length cells % 4 ≡ 0 → sum ls + (x + y + z + v) < 2 ^ 64 → c + prefix_sum ls (length cells + 4 - lowbit (length cells + 4)) ≡ sum ls + (x + y + z + v) → IsFenwickOf (cell_in (cells ++ x ∷ (x + y) ∷ z ∷ c ∷ [])) (length (cells ++ x ∷ (x + y) ∷ z ∷ c ∷ [])) (ls ++ x ∷ y ∷ z ∷ v ∷ [])
+pushed_four cells ls x y z v c is begin fits here =
+    let three = ((cells ++ x ∷ []) ++ (x + y) ∷ []) ++ z ∷ [] in
+    let lengths = ((ls ++ x ∷ []) ++ y ∷ []) ++ z ∷ [] in
+    let start = length cells + 4 - lowbit (length cells + 4) in
+    let low : start ≤ length ls = omega (arith, is.count_is, lowbit-of_four (length cells + 4) (omega arith) (omega arith)) in
+    let count : length three ≡ length cells + 3 = omega (arith, length-append cells (x ∷ []), length-append (cells ++ x ∷ []) ((x + y) ∷ []), length-append ((cells ++ x ∷ []) ++ (x + y) ∷ []) (z ∷ [])) in
+    let end : length three + 1 ≡ length cells + 4 = omega arith in
+    let begins : start ≡ length three + 1 - lowbit (length three + 1) = rw end refl in
+    let one = length-append ls (x ∷ []) in
+    let two = length-append (ls ++ x ∷ []) (y ∷ []) in
+    let before : prefix_sum lengths start ≡ prefix_sum ls start =
+    kept-prefix ((ls ++ x ∷ []) ++ y ∷ []) z start (omega arith) ∙ (kept-prefix (ls ++ x ∷ []) y start (omega arith) ∙ kept-prefix ls x start low) in
+    let all : sum lengths ≡ sum ls + (x + y + z) = omega (arith, sum-last ls x, sum-last (ls ++ x ∷ []) y, sum-last ((ls ++ x ∷ []) ++ y ∷ []) z) in
+    let whole = pushed three lengths c v start (pushed_three cells ls x y z is begin (omega arith)) begins (omega arith) (omega arith) in
+    simp append_assoc at whole
 
 -- the first k lengths, and their cells
 pub shortened : (cells ls : List ℕ) (k : ℕ) → IsFenwickOf (cell_in cells) (length cells) ls → IsFenwickOf (cell_in (take k cells)) (length (take k cells)) (take k ls)

@@ -1,5 +1,5 @@
 -- The lowest one bit of a number.
-use Rattle.std.proofs.Common.{◌≡◌, ℕ, zero, suc, ◌+◌, ◌-◌, ◌*◌, ◌/◌, ◌%◌, ◌<◌, ◌≤◌, ◌^◌, bit_and, inl, inr, refl, sym, pow-suc, eq-zero-or-pos, arith}
+use Rattle.std.proofs.Common.{◌≡◌, ℕ, zero, suc, ◌+◌, ◌-◌, ◌*◌, ◌/◌, ◌%◌, ◌<◌, ◌≤◌, ◌^◌, bit_and, inl, inr, refl, sym, subst, pow-suc, eq-zero-or-pos, arith}
 use Rattle.std.proofs.lemmas.Nat.{and_block, ones_cat}
 use Rattle.std.specs.Int.Bits.{and_self}
 use Rattle.std.specs.Int.RustNames.{count_ones}
@@ -33,6 +33,16 @@ pub lowbit-even : (a : ℕ) → lowbit (2 * a) ≡ 2 * lowbit a
 unfolding lowbit
 lowbit-even a = rw (enough (2 * a) (suc (2 * a)) (2 * a) (omega arith) (omega arith), even-within (2 * a) a, enough (2 * a) a a (omega arith) (omega arith)) refl
 
+-- by the remainder of n
+pub lowbit-of_odd : (n : ℕ) → n % 2 ≡ 1 → lowbit n ≡ 1
+lowbit-of_odd n h = let e : 2 * (n / 2) + 1 ≡ n = omega arith in rw e at (lowbit-odd (n / 2))
+
+lowbit-of_even : (n : ℕ) → n % 2 ≡ 0 → lowbit n ≡ 2 * lowbit (n / 2)
+lowbit-of_even n h = let e : 2 * (n / 2) ≡ n = omega arith in subst (λ m. lowbit m ≡ 2 * lowbit (n / 2)) e (lowbit-even (n / 2))
+
+pub lowbit-of_two : (n : ℕ) → n % 4 ≡ 2 → lowbit n ≡ 2
+lowbit-of_two n h = omega (arith, lowbit-of_even n (omega arith), lowbit-of_odd (n / 2) (omega arith))
+
 -- by cases on the lowest digit: what holds of 0, and of a number where it holds of its half
 halved-within : (P : ℕ → Type 0) → P 0 → ((a : ℕ) → P a → P (2 * a + 1)) → ((a : ℕ) → 0 < a → P a → P (2 * a)) → (f n : ℕ) → n ≤ f → P n
 halved-within P none odd even zero zero p = none
@@ -53,6 +63,9 @@ lowbit-le = halved (λ n. lowbit n ≤ n) (omega (arith, lowbit-zero)) (λ a h. 
 
 pub lowbit-pos : (n : ℕ) → 0 < n → 0 < lowbit n
 lowbit-pos = halved (λ n. 0 < n → 0 < lowbit n) (λ p. absurd (omega arith)) (λ a h p. omega (arith, lowbit-odd a)) (λ a q h p. omega (arith, lowbit-even a, h q))
+
+pub lowbit-of_four : (n : ℕ) → 0 < n → n % 4 ≡ 0 → 4 ≤ lowbit n
+lowbit-of_four n p h = omega (arith, lowbit-of_even n (omega arith), lowbit-of_even (n / 2) (omega arith), lowbit-pos (n / 2 / 2) (omega arith))
 
 and-odd : (a : ℕ) → bit_and (2 * a + 1) (2 * a + 1 - 1) ≡ 2 * a
 and-odd a =

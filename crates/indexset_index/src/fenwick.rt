@@ -1,5 +1,5 @@
 //! A Fenwick tree of lengths, whose prefix sums are read, searched and changed in logarithmic time.
-ghost use Rattle.std.specs.Prelude.{◌≡◌, ◌+◌, ◌-◌, ◌<◌, ◌≤◌, ◌^◌, [], ◌∷◌, ◌++◌, length, map, sum, take, slice_index, slice_set, IfOk, IfErr, OnOk};
+ghost use Rattle.std.specs.Prelude.{◌≡◌, ◌+◌, ◌-◌, ◌<◌, ◌≤◌, ◌^◌, ◌%◌, [], ◌∷◌, ◌++◌, length, map, sum, take, slice_index, slice_set, IfOk, IfErr, OnOk};
 ghost use Rattle.indexset_core.specs.Nodes.{node_lengths};
 
 pub mod cells;
@@ -106,7 +106,7 @@ impl Fenwick {
         ensures lengths { self.new.lengths ≡ self.old.lengths ++ last ∷ [] }
         ensures room { self.new.room ≡ self.old.room }
     {
-        let cell = table::next_cell(self.cells.as_slice(), last);
+        let cell = table::last_cell(self.cells.as_slice(), self.cells.len() + 1, last);
         self.cells.push_reserved(cell);
     }
 
@@ -161,8 +161,59 @@ impl Fenwick {
         ensures room { self.new.room ≡ self.old.room }
     {
         self.truncate(k);
-        for node in &nodes[k..] {
-            self.push(R::items_of(node).len());
+        while self.cells.len() < nodes.len() {
+            self.push_next::<T, Node, R>(nodes);
         }
     }
+
+    // Appends the lengths of the next four nodes, or of one where four do not begin or are not left.
+    fn push_next<T, Node, R: ReadNode<T, Node>>(&mut self, nodes: &[Node])
+        requires same { self.old.lengths
+            ≡ take (length self.old.lengths) (node_lengths (map R.list nodes.now)) }
+        requires left { length self.old.lengths < length nodes.now }
+        requires room { length nodes.now ≤ self.old.room }
+        requires fits { sum (node_lengths (map R.list nodes.now)) < 2 ^ 64 }
+        ensures same { self.new.lengths
+            ≡ take (length self.new.lengths) (node_lengths (map R.list nodes.now)) }
+        ensures more { length self.old.lengths < length self.new.lengths }
+        ensures room { self.new.room ≡ self.old.room }
+    {
+        let i = self.cells.len();
+        let first = length_at::<T, Node, R>(nodes, i);
+        if i % 4 == 0 && nodes.len() - i >= 4 {
+            let second = length_at::<T, Node, R>(nodes, i + 1);
+            let third = length_at::<T, Node, R>(nodes, i + 2);
+            let fourth = length_at::<T, Node, R>(nodes, i + 3);
+            self.push_four(first, second, third, fourth);
+        } else {
+            self.push(first);
+        }
+    }
+
+    // Appends four lengths to a multiple of four, where there is capacity. The first three cells
+    // then sum none of the lengths before them.
+    fn push_four(&mut self, first: usize, second: usize, third: usize, fourth: usize)
+        requires begin { length self.old.lengths % 4 ≡ 0 }
+        requires room { length self.old.lengths + 4 ≤ self.old.room }
+        requires fits { sum self.old.lengths + (first + second + third + fourth) < 2 ^ 64 }
+        ensures lengths { self.new.lengths
+            ≡ self.old.lengths ++ first ∷ second ∷ third ∷ fourth ∷ [] }
+        ensures room { self.new.room ≡ self.old.room }
+    {
+        let two = first + second;
+        let all = two + third + fourth;
+        let cell = table::last_cell(self.cells.as_slice(), self.cells.len() + 4, all);
+        self.cells.push_reserved(first);
+        self.cells.push_reserved(two);
+        self.cells.push_reserved(third);
+        self.cells.push_reserved(cell);
+    }
+}
+
+// Returns the length of a node.
+fn length_at<T, Node, R: ReadNode<T, Node>>(nodes: &[Node], i: usize) -> usize
+    requires { i < length nodes.now }
+    ensures { result ≡ slice_index (node_lengths (map R.list nodes.now)) i }
+{
+    R::items_of(&nodes[i]).len()
 }

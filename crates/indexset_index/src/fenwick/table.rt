@@ -1,15 +1,19 @@
 //! The cells of an index, as its calls change them.
-ghost use Rattle.std.specs.Prelude.{◌≡◌, ◌+◌, ◌-◌, ◌<◌, ◌≤◌, ◌^◌, [], ◌∷◌, ◌++◌, length, sum, slice_index, slice_set};
-ghost use Rattle.indexset_index.specs.Fenwick.{lowbit, cell_of, lengths_of, IsFenwick};
+ghost use Rattle.std.specs.Prelude.{◌≡◌, ◌+◌, ◌-◌, ◌<◌, ◌≤◌, ◌^◌, length, sum, slice_index, slice_set};
+ghost use Rattle.indexset_index.specs.Fenwick.{lowbit, prefix_sum, lengths_of, IsFenwick};
 
-/// Returns the cell that comes after the others, for one length more.
-pub(super) fn next_cell(cells: &[usize], last: usize) -> usize
+/// Returns cell `end`, which begins among the lengths of these cells and ends with further ones, of
+/// which `more` is the sum.
+pub(super) fn last_cell(cells: &[usize], end: usize, more: usize) -> usize
     requires cells { IsFenwick cells.now }
-    requires fits { sum (lengths_of cells.now) + last < 2 ^ 64 }
-    ensures { result ≡ cell_of (lengths_of cells.now ++ last ∷ []) (length cells.now + 1) }
+    requires past { length cells.now < end }
+    requires begins { end - lowbit end ≤ length cells.now }
+    requires fits { sum (lengths_of cells.now) + more < 2 ^ 64 }
+    ensures { result + prefix_sum (lengths_of cells.now) (end - lowbit end)
+        ≡ sum (lengths_of cells.now) + more }
 {
-    let start = (cells.len() + 1) & cells.len();
-    let mut total = last;
+    let start = end & (end - 1);
+    let mut total = more;
     let mut j = cells.len();
     while j > start {
         total += cells[j - 1];
