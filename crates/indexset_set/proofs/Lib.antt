@@ -15,6 +15,7 @@ pub mod SetPairLemmas
 pub mod SetProbeLemmas
 pub mod SetRangeLemmas
 pub mod SetRunLemmas
+pub mod SetSortLemmas
 pub mod SetUpperLemmas
 pub mod SetValueLemmas
 pub mod SetWalkLemmas

@@ -48,13 +48,13 @@ module _ {T : Type 0} (cmp : T → T → Ordering) where
   difference_ascending l r up = AllPairs-filter (λ x y. cmp x y ≡ Less) (λ x. not (has_equal cmp r x)) l up
 
 module _ {T : Type 0} (cmp : T → T → Ordering) (o : IsTotalOrder cmp) where
-  equal_is : (a : Ordering) → is_eq a ≡ true → a ≡ Equal
+  pub equal_is : (a : Ordering) → is_eq a ≡ true → a ≡ Equal
   equal_is Less h = absurd (false≢true h)
   equal_is Equal h = refl
   equal_is Greater h = absurd (false≢true h)
 
   -- equal ones are had alike
-  has_alike : (x y : T) → cmp x y ≡ Equal → (l : List T) → has_equal cmp l x ≡ has_equal cmp l y
+  pub has_alike : (x y : T) → cmp x y ≡ Equal → (l : List T) → has_equal cmp l x ≡ has_equal cmp l y
   has_alike x y e [] = refl
   has_alike x y e (z ∷ zs) = rw (alike_right o x y z e, has_alike x y e zs) refl
 
@@ -62,7 +62,7 @@ module _ {T : Type 0} (cmp : T → T → Ordering) (o : IsTotalOrder cmp) where
     gap : IsGapFor cmp l v (rank cmp l v)
     gap = gap_at cmp l v (rank cmp l v) (parted_by_item cmp o l up v) refl (λ lt d. none_pass (λ x. is_eq (cmp x v)) l none (rank cmp l v) d lt)
 
-    put_absent : put cmp l v ≡ insert l (rank cmp l v) v
+    pub put_absent : put cmp l v ≡ insert l (rank cmp l v) v
     put_absent = gap_put cmp l v (rank cmp l v) gap
 
     put_ascending : IsAscending cmp (put cmp l v)

@@ -43,7 +43,7 @@ module _ {T : Type 0} (cmp : T → T → Ordering) where
   ascending_from [] h = λ i j d lt inside. absurd (omega arith)
   ascending_from (x ∷ xs) h = AllPairs-cons (λ y z. cmp y z ≡ Less) x xs (by_place (λ y. cmp x y ≡ Less) xs h.0) (ascending_from xs h.1)
 
-  under_map : (x y : T) → ((z : T) → cmp y z ≡ Less → cmp x z ≡ Less) → (l : List T) → IsUnder y l → IsUnder x l
+  pub under_map : (x y : T) → ((z : T) → cmp y z ≡ Less → cmp x z ≡ Less) → (l : List T) → IsUnder y l → IsUnder x l
   under_map x y f [] h = tt
   under_map x y f (z ∷ zs) h = (f z h.0, under_map x y f zs h.1)
 

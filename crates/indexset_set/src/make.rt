@@ -160,6 +160,26 @@ impl<T: Ord + Drop> BTreeSet<T> {
         }
     }
 
+    /// Returns the set of values in any order, of equal ones the first. It sorts them by a stable sort
+    /// and makes the nodes that `from` makes of the ascending ones, so it takes less time than `from`
+    /// where the values do not ascend. Fails with `Memory`, and then drops the values.
+    ///
+    /// ```
+    /// let set = BTreeSet::from_unsorted(alloc, vec![in alloc; 30, 10, 20, 10]?)?;
+    /// assert!(rt; set.iter().copied().eq([10, 20, 30]));
+    /// ```
+    pub fn from_unsorted(alloc: Global, mut values: Vec<T>) -> Result<Self, Refusal>
+        ensures kept { IfOk result (λ s. items s ≡ fold (keep T.cmp) [] values.items) }
+        ensures nodes { IfOk result (λ s. s.nodes
+            ≡ nodes_kept_all T.cmp (cut ([] ∷ []) DEFAULT_INNER_SIZE) (items s)) }
+        ensures size { IfOk result (λ s. s.size ≡ DEFAULT_INNER_SIZE) }
+        ensures refusal { IfErr result (λ e. e ≡ Refusal.Memory) }
+    {
+        values.sort()?;
+        values.dedup_by(|next, kept| (*next).cmp(kept).is_eq());
+        Self::from(alloc, values)
+    }
+
     /// Returns clones of the elements in nodes as long as these, by one comparison an element,
     /// where the clones ascend, as those equal to their sources do. Else it inserts the clones one
     /// by one, as `from_iter` does. Fails with `Memory`, and then drops the clones.
