@@ -76,6 +76,11 @@ class Maps(Subject):
                 self.map = Plain(DEFAULT_SIZE)
             case "from" | "from_iter" | "collect":
                 self.map = self.filled(DEFAULT_SIZE, self.pairs_of(words))
+            case "from_unsorted":
+                first: dict[int, Item] = {}
+                for pair in self.pairs_of(words):
+                    first.setdefault(pair.key, pair)
+                self.map = Plain(DEFAULT_SIZE, [first[key] for key in sorted(first)], None)
             case "from_sorted":
                 if not is_ascending(self.pairs_of(words)):
                     raise Refused("Unsorted", " ".join(words))

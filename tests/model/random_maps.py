@@ -15,7 +15,7 @@ SOUGHT = ("get", "get_key_value", "contains_key", "rank", "index_of", "index")
 WALKS = ("iter", "into_iter", "keys", "values", "into_keys", "into_values")
 STEPS = ("next", "next_back", "next", "next_back", "len", "size_hint")
 SHOWN = ("key", "value", "key_value", "peek_next", "peek_prev", "move_next", "move_prev")
-MAKES = ("map", "map", "from", "from_iter", "collect", "from_sorted", "from_sorted", "new", "default")
+MAKES = ("map", "map", "from", "from_iter", "collect", "from_sorted", "from_sorted", "from_unsorted", "new", "default")
 
 
 class MapAuthor(Author):

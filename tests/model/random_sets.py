@@ -15,7 +15,7 @@ COMPARED = ("eq", "le", "lt", "cmp", "hash", "is_subset", "is_superset", "is_dis
 WHOLE = ("len", "is_empty", "first", "last")
 NODES = ("node_count", "maximum_node_size", "nodes")
 SOUGHT = ("get", "contains", "rank", "index_of", "lower_bound", "upper_bound")
-MAKES = ("set", "set", "from", "from_iter", "collect", "from_sorted", "from_sorted", "new", "default")
+MAKES = ("set", "set", "from", "from_iter", "collect", "from_sorted", "from_sorted", "from_unsorted", "new", "default")
 MOVES = ("item", "peek_next", "peek_prev", "move_next", "move_prev")
 
 

@@ -49,6 +49,8 @@ class Sets(Subject):
                 self.set = self.filled(words[0], read_natural(words[1]), read_natural(words[2]))
             case "new" | "default" | "from" | "from_iter" | "collect":
                 self.set = inserted(DEFAULT_SIZE, self.items_of(words))
+            case "from_unsorted":
+                self.set = Plain(DEFAULT_SIZE, inserted(DEFAULT_SIZE, self.items_of(words)).items, None)
             case "from_sorted":
                 items = self.items_of(words)
                 if not is_ascending(items):

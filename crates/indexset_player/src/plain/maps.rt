@@ -170,7 +170,9 @@ impl<K: Word, V: Word> Subject for Maps<K, V> {
             }
             "new" => self.put(BTreeMap::new(self.alloc)?),
             "default" => self.put(BTreeMap::default(self.alloc)?),
-            "from" | "from_iter" | "collect" | "from_sorted" => self.make_of(name, words, answer),
+            "from" | "from_iter" | "collect" | "from_unsorted" | "from_sorted" => {
+                self.make_of(name, words, answer)
+            }
             "clone" => {
                 self.other = self.map.clone()?;
                 Ok(())
@@ -237,6 +239,7 @@ impl<K: Word, V: Word> Maps<K, V> {
             "from" => BTreeMap::from(self.alloc, pairs)?,
             "from_iter" => BTreeMap::from_iter(self.alloc, pairs)?,
             "collect" => refused(pairs.into_iter().collect(self.alloc))?,
+            "from_unsorted" => BTreeMap::from_unsorted(self.alloc, pairs)?,
             _ => from_sorted(self.alloc, pairs, answer)?,
         };
         Ok(())

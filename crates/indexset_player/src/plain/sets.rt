@@ -111,6 +111,9 @@ impl<T: Word> Subject for Sets<T> {
             "from" => self.put(BTreeSet::from(self.alloc, items(self.alloc, words)?)?),
             "from_iter" => self.put(BTreeSet::from_iter(self.alloc, items(self.alloc, words)?)?),
             "collect" => self.collect(words),
+            "from_unsorted" => {
+                self.put(BTreeSet::from_unsorted(self.alloc, items(self.alloc, words)?)?)
+            }
             "from_sorted" => self.from_sorted(words, answer),
             "clone" => {
                 self.other = self.set.clone()?;
