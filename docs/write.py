@@ -2,9 +2,8 @@
 """Writes docs/contracts/ and docs/GLOSSARY.md from the sources.
 
 docs/contracts has each public call of the library crates with its clauses, a page for each type of the crate
-`indexset` and for each inner crate, and an index. GLOSSARY.md has the terms, from the comment at the head of the
-words that indexset passes on, and each word that the clauses of the pages of types use, with the comment beside its
-definition.
+`indexset` and for each inner crate, and an index, in which each call of a type has the first sentence of its docs.
+GLOSSARY.md has the terms and the words that the contracts of collections use (`glossary.py`).
 """
 
 from __future__ import annotations
@@ -17,9 +16,11 @@ import sys
 import textwrap
 from collections.abc import Callable, Iterable, Iterator
 
+sys.dont_write_bytecode = True
+import glossary  # noqa: E402
+
 ROOT = pathlib.Path(__file__).resolve().parent.parent
 HIDDEN_GHOSTS = re.compile(r"ghost (use|laws|Value|view|code|invariant)\b")
-LONGEST = 80  # of a definition that the glossary shows
 CLAUSE = re.compile(r"(requires|ensures)\b")
 # The pages of types: their title, crate, and the folder or file of its sources. Other crates have a page each.
 PAGES = {
@@ -33,6 +34,7 @@ PAGES = {
     "journal": ("Journal", "indexset_journal", ""),
     "base": ("What all stand on: `indexset::base`", "indexset_core", ""),
 }
+COLLECTIONS = ("set", "map", "logged_set", "logged_map", "multimap", "replica")
 FOR_C = {"c": ("Calls of the C library", "indexset_c", "")}
 INNER = ("inner", "inner/")  # what a crate of a type has for the crates above it alone
 
@@ -45,14 +47,6 @@ class Call:
     doc: str
     signature: str = ""
     clauses: list[str] = dataclasses.field(default_factory=list)
-
-
-@dataclasses.dataclass(frozen=True)
-class Word:
-    """A word of the contracts, and what its comment says, or else its short definition."""
-
-    name: str
-    says: str
 
 
 def library_crates() -> list[str]:
@@ -141,6 +135,11 @@ def doc_sentence(doc: list[str]) -> str:
     return " ".join(text.split())
 
 
+def first_sentence(doc: str) -> str:
+    """The first sentence of a doc comment."""
+    return re.split(r"(?<=\.)\s", doc, maxsplit=1)[0]
+
+
 def owner_type(owner: str) -> str:
     """The type that an impl or a trait is of."""
     of_trait = re.search(r" for (?:&(?:'\w+ )?)?(\w+)", owner)
@@ -200,12 +199,21 @@ def public_names(crates: list[str]) -> set[str]:
 
 
 @dataclasses.dataclass(frozen=True)
+class Link:
+    """A call in the index: its name, its anchor, and the first sentence of its docs."""
+
+    name: str
+    anchor: str
+    says: str
+
+
+@dataclasses.dataclass(frozen=True)
 class Page:
-    """A page of contracts, with the names of its calls and the anchor of each, by the type that has them."""
+    """A page of contracts, with its calls by the type that has them."""
 
     title: str
     lines: list[str]
-    calls: dict[str, list[tuple[str, str]]]
+    calls: dict[str, list[Link]]
 
 
 def name_of(it: Call) -> str:
@@ -228,7 +236,7 @@ def shown(it: Call, page: Page, taken: dict[str, int]) -> None:
     page.lines.extend([f"### `{name}`", ""])
     anchor = anchor_of(name, taken)
     owner, _, function = name.rpartition("::")
-    page.calls.setdefault(owner, []).append((function, anchor))
+    page.calls.setdefault(owner, []).append(Link(function, anchor, first_sentence(it.doc)))
     said = [it.doc] if it.doc else []
     head = [it.owner] if it.owner else []
     page.lines.extend([*said, *[""] * len(said), "```text", *head, it.signature, *("    " + clause for clause in it.clauses), "```", ""])
@@ -307,6 +315,16 @@ def text_of(page: Page) -> str:
     return "\n".join([f"# {page.title}", "", f"Written by `docs/write.py` from the sources; [the index](README.md) has all pages. {ABOUT}", "", *page.lines])
 
 
+def links(name: str, owner: str, calls: list[Link]) -> list[str]:
+    """The lines of the index for the calls of a type: those of a user's type have a line each."""
+    shown_owner = f"`{owner}`"
+    if name not in PAGES:
+        names = ", ".join(f"[`{it.name}`]({name}.md#{it.anchor})" for it in calls)
+        return [f"- {shown_owner}: {names}" if owner else f"- {names}"]
+    lines = [f"- [`{it.name}`]({name}.md#{it.anchor})" + (f": {it.says}" if it.says else "") for it in calls]
+    return [f"### {shown_owner}" if owner else "### Functions", "", *lines, ""]
+
+
 def index(pages: dict[str, Page]) -> str:
     """The text of the index: of each page the calls by type."""
     out = ["# Contracts", "", f"Each public call of the library crates with its clauses, written by `docs/write.py` from the sources. {ABOUT}", ""]
@@ -315,10 +333,8 @@ def index(pages: dict[str, Page]) -> str:
         if name in heads:
             out += [heads[name], ""]
         out += [f"## [{page.title}]({name}.md)", ""]
-        for owner, calls in page.calls.items():
-            links = ", ".join(f"[`{call}`]({name}.md#{anchor})" for call, anchor in calls)
-            out.append(f"- `{owner}`: {links}" if owner else f"- {links}")
-        out.append("")
+        out += [line for owner, calls in page.calls.items() for line in links(name, owner, calls)]
+        out += [""] * (out[-1] != "")
     return "\n".join(out)
 
 
@@ -328,66 +344,13 @@ def contracts() -> dict[str, str]:
     return {"contracts/README.md": index(pages), **{f"contracts/{name}.md": text_of(page) for name, page in pages.items()}}
 
 
-def words_used() -> set[str]:
-    """The words in the clauses of the pages of types."""
-    pages = pages_of_contracts()
-    return {word for name in PAGES if name in pages for line in pages[name].lines for word in re.findall(r"[^\W\d]\w*'*", line)}
-
-
-def words_of(text: str) -> Iterator[Word]:
-    """The words of a specs file."""
-    lines = text.splitlines()
-    comment: list[str] = []
-    for at, line in enumerate(lines):
-        text = line.strip()
-        if text.startswith("-- "):
-            comment.append(text[3:])
-            continue
-        found = re.match(r"(?:(?:abbrev|unfoldable) )?pub (record |opaque )?(\S+)", text)
-        if found and found[2] != "mod" and is_definition(line):
-            name = found[2]
-            definition = [it.strip() for it in lines[at + 1 : at + 3] if it.strip().startswith(name + " ")]
-            is_short = bool(definition) and len(definition[0]) <= LONGEST
-            yield Word(name, " ".join(comment) or (f"`{definition[0]}`" if is_short else ""))
-        comment = []
-
-
-def is_definition(line: str) -> bool:
-    """Whether a line with `pub` defines a word here, at the margin or as another name."""
-    passed_on = line.strip().startswith(("pub use", "unfoldable pub use"))
-    other = line.strip().startswith(("abbrev pub", "unfoldable pub"))
-    return not passed_on and (other or line.startswith("pub "))
-
-
-def passed_on_words() -> set[str]:
-    """The words that indexset passes on."""
-    text = (ROOT / "crates/indexset/specs/Words.antt").read_text(encoding="utf-8")
-    lists = re.findall(r"^(?:unfoldable )?pub use [\w.]+\.\{(.*?)\}", text, re.M)
-    return {name.strip() for names in lists for name in names.split(",")}
-
-
-def terms() -> list[str]:
-    """The table of terms, from the comment at the head of the words that indexset passes on."""
-    head = (ROOT / "crates/indexset/specs/Words.antt").read_text(encoding="utf-8").split("\n\n")[0]
-    return [line[2:].strip() for line in head.split("-- Terms:\n--\n")[1].splitlines()]
-
-
-def entry(it: Word) -> str:
-    """A line of the glossary."""
-    return f"- `{it.name}`: {it.says}"
-
-
-def glossary() -> str:
-    """The text of GLOSSARY.md."""
-    out = ["# Glossary", "", "Written by `docs/write.py` from the comments in `crates/*/specs`: the terms, and each word that the contracts of the user's types use. The others are explained beside their definitions.", "", *terms(), "", "## Each word", "", "A word has the comment beside its definition, or a short definition. `cmp` is the comparison of the element type, and of pairs that of the keys. A word with a star is passed on by `Rattle.indexset.specs.Words`; any other is imported from the file of its heading.", ""]
-    used, passed = words_used(), passed_on_words()
-    for crate in library_crates():
-        for file in sorted((ROOT / "crates" / crate / "specs").glob("*.antt")):
-            found = [it for it in words_of(file.read_text(encoding="utf-8")) if it.name in used]
-            if found and file.stem != "Words":
-                out += [f"### `{crate}/specs/{file.name}`", ""]
-                out += [entry(it) + (" \\*" if it.name in passed else "") for it in found] + [""]
-    return "\n".join(out)
+def code_of_collections() -> Iterator[glossary.Code]:
+    """The clauses of each collection, with the sources that have them."""
+    for name, page in pages_of_contracts().items():
+        if name in COLLECTIONS:
+            _, crate, part = PAGES[name]
+            fenced = re.findall(r"^```text\n(.*?)^```$", "\n".join(page.lines), re.M | re.S)
+            yield glossary.Code("\n".join(fenced), list(files_of(crate, part)))
 
 
 def main() -> None:
@@ -395,7 +358,7 @@ def main() -> None:
     ask.add_argument("--check", action="store_true", help="write nothing, and fail where a page differs from what would be written")
     given = ask.parse_args()
     folder = ROOT / "docs"
-    pages = {**contracts(), "GLOSSARY.md": glossary()}
+    pages = {**contracts(), "GLOSSARY.md": glossary.text(code_of_collections(), library_crates())}
     stale = [f"contracts/{it.name}" for it in sorted((folder / "contracts").glob("*")) if f"contracts/{it.name}" not in pages]
     for name, text in pages.items():
         file = folder / name
