@@ -63,7 +63,7 @@ def two_levels(x: int, y: int) -> Shapes:
     """A list of nodes with its index, a look-up by position and one by key."""
     lists = [[2, 5, 7], [11, 13], [17, 19, 23, 29]]
     edges = lefts(x, lists)
-    out = title(x, y, "A set: one ascending list, cut into nodes") + nodes(x, y + 80, lists)
+    out = title(x, y, "A set: one ascending list, partitioned into nodes") + nodes(x, y + 80, lists)
     for left, items, (sum_of, total) in zip(edges, lists, [("length", 3), ("3 + 2", 5), ("length", 4)]):
         out += text(left + CELL * len(items) / 2, y + 18, sum_of, "middle", SOFT)
         out += cell(left, y + 24, total, INDEX, CELL * len(items))
