@@ -12,6 +12,7 @@ from collections.abc import Iterable, Iterator
 ROOT = pathlib.Path(__file__).resolve().parent.parent
 WORDS = ROOT / "crates/indexset/specs/Words.antt"
 LONGEST = 80  # of a definition that is shown
+STAR = r"\*"
 ABOUT = (
     "Written by `docs/write.py` from the comments in `crates/*/specs`: the terms, and each word that the contracts of "
     "collections use. Other words are explained beside their definitions."
@@ -19,7 +20,7 @@ ABOUT = (
 ABOUT_WORDS = (
     "A word has the comment beside its definition, or a short definition. `cmp` is the comparison of the element type, "
     "and of pairs that of the keys. A word with a star is passed on by `Rattle.indexset.specs.Words`; any other is "
-    "imported from the file of its heading."
+    "imported from the file above it."
 )
 
 
@@ -91,19 +92,19 @@ def terms() -> list[str]:
     return [line[2:].strip() for line in head.split("-- Terms:\n--\n")[1].splitlines()]
 
 
-def entry(it: Word, star: bool) -> str:
-    """A line of the glossary."""
-    return f"- `{it.name}`" + (f": {it.says}" if it.says else "") + (" \\*" if star else "")
+def row(it: Word, star: bool) -> str:
+    """A row of the glossary."""
+    return f"|`{it.name}`{STAR * star}|{it.says}|"
 
 
 def text(pages: Iterable[Code], crates: Iterable[str]) -> str:
     """The text of GLOSSARY.md, with the words of these crates."""
-    out = ["# Glossary", "", ABOUT, "", *terms(), "", "## Each word", "", ABOUT_WORDS, ""]
+    out = ["# Glossary", "", ABOUT, "", *terms(), "", "## Each word", "", ABOUT_WORDS, "", "|Word|Meaning|", "|---|---|"]
     words, passed = used(pages), passed_on()
     for crate in crates:
         for file in sorted((ROOT / "crates" / crate / "specs").glob("*.antt")):
             name = f"{crate}/specs/{file.name}"
             found = [it for it in words_of(file.read_text(encoding="utf-8")) if (it.name, name) in words]
             if found:
-                out += [f"### `{name}`", "", *(entry(it, it.name in passed) for it in found), ""]
-    return "\n".join(out)
+                out += [f"|**`{name}`**||", *(row(it, it.name in passed) for it in found)]
+    return "\n".join([*out, ""])
