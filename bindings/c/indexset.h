@@ -96,7 +96,7 @@ void indexset_set_move(indexset_set *to, indexset_set *from);
 /* Swaps what two handles lead to. */
 void indexset_set_swap(indexset_set *one, indexset_set *other);
 
-/* Removes all elements. It takes no memory. */
+/* Removes all elements. It allocates nothing. */
 void indexset_set_clear(indexset_set *set);
 
 /* Returns how many elements there are. */
@@ -202,7 +202,7 @@ void indexset_map_move(indexset_map *to, indexset_map *from);
 /* Swaps what two handles lead to. */
 void indexset_map_swap(indexset_map *one, indexset_map *other);
 
-/* Removes all pairs. It takes no memory. */
+/* Removes all pairs. It allocates nothing. */
 void indexset_map_clear(indexset_map *map);
 
 /* Returns how many pairs there are. */
@@ -303,7 +303,7 @@ void indexset_multi_move(indexset_multi *to, indexset_multi *from);
 /* Swaps what two handles lead to. */
 void indexset_multi_swap(indexset_multi *one, indexset_multi *other);
 
-/* Removes all pairs. It takes no memory. */
+/* Removes all pairs. It allocates nothing. */
 void indexset_multi_clear(indexset_multi *multi);
 
 /* Returns how many pairs there are. */
@@ -587,7 +587,7 @@ void indexset_text_map_move(indexset_text_map *to, indexset_text_map *from);
 /* Swaps what two handles lead to. */
 void indexset_text_map_swap(indexset_text_map *one, indexset_text_map *other);
 
-/* Removes all pairs. It takes no memory. */
+/* Removes all pairs. It allocates nothing. */
 void indexset_text_map_clear(indexset_text_map *map);
 
 /* Returns how many pairs there are. */

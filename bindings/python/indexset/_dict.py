@@ -26,10 +26,10 @@ class SortedDict(DictFront[K, V], Generic[K, V]):
     keys by its results: `SortedDict(function, entries)`.
 
     Cost: `in`, `[key]` and `get` take what they take of a `dict`. With n keys, a call on one position, or that
-    adds or removes a key, takes a time that grows as log n. A walk takes a time that grows with its length.
+    adds or removes a key, is O(log n); iteration is linear in its length.
 
-    Reads may go on in several threads at once. A walk raises RuntimeError once keys came or went; changes
-    from several threads are kept apart by the caller.
+    Reads may go on in several threads at once. An iterator raises RuntimeError once keys came or went;
+    changes from several threads are kept apart by the caller.
 
     >>> ages = SortedDict({30: "c", 10: "a"}); ages[20] = "b"; ages
     SortedDict({10: 'a', 20: 'b', 30: 'c'})

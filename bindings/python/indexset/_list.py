@@ -20,13 +20,13 @@ class SortedList(Sorted[T], MutableSequence[T], Generic[T]):
     `keys` names the kind of the items and `key` is a function whose results order them, as for `SortedSet`;
     with `key` the list is a `SortedKeyList`.
 
-    Cost: with n items, a call on one item or one position takes a time that grows as log n, and, where a
-    value is looked for that is no number or `key` is given, with the number of items that have its sort key. A
-    walk, a slice or a batch takes a time that grows with its length. A removal where numbers repeat may be
-    refused memory: MemoryError, and nothing has changed.
+    Cost: with n items, a call on one item or one position is O(log n), and, where a value is looked for that
+    is no number or `key` is given, linear in the number of items that have its sort key. Iteration, a slice or
+    a batch is linear in its length. A removal where numbers repeat may raise MemoryError, and then has changed
+    nothing.
 
-    Reads may go on in several threads at once. A walk raises RuntimeError once there was a change; changes
-    from several threads are kept apart by the caller.
+    Reads may go on in several threads at once. An iterator raises RuntimeError once there was a change;
+    changes from several threads are kept apart by the caller.
 
     >>> numbers = SortedList([3, 1, 2, 1]); numbers
     SortedList([1, 1, 2, 3])

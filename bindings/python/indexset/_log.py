@@ -1,4 +1,4 @@
-"""An ordered dictionary that tells its changes."""
+"""An ordered dictionary that reports its changes."""
 from __future__ import annotations
 
 from collections.abc import MutableMapping
@@ -15,17 +15,17 @@ V = TypeVar("V")
 
 
 class LoggedDict(Noded[K, V], MutableMapping[K, V], Generic[K, V]):
-    """A dictionary in the order of its keys, which tells each change to `tell`.
+    """A dictionary in the order of its keys, which reports each change to `tell`.
 
     `keys` and `values` name the kinds of its keys and values, as for `SortedSet`; where none is named it is
     that of the first pair, and an item of another kind is refused. A node holds at most `size` pairs, and the
     first change has the number `next`. What has the nodes of `nodes()` and makes the changes from the number
     `next` on has the dictionary's nodes. A copy and a pickle have the same pairs in nodes of their own; they
-    tell no one, and their numbers go on from `next`.
+    report to no one, and their numbers go on from `next`.
 
-    Cost: with n pairs, a call on one key or one position takes a time that grows as log n, and a change also
-    with the size of a node. Keys that are no numbers are held in Python too. Reads may go on in several threads
-    at once; changes are kept apart by the caller, and none is made while one is told of.
+    Cost: with n pairs, a call on one key or one position is O(log n), and a change also linear in the size of
+    a node. Keys that are no numbers are held in Python too. Reads may go on in several threads at once; changes
+    are kept apart by the caller, and none is made while one is reported.
 
     >>> told = []
     >>> ages = LoggedDict(told.append, size=2); ages[30] = 3; ages[10] = 1; ages[20] = 2

@@ -20,8 +20,8 @@ class SortedMultiDict(Generic[K, V]):
     `keys` and `values` name their kinds, as for `SortedSet`. Numbers are kept in the library's multimap; where
     no kind is named it is found from the pairs, and numbers are kept so until others come.
 
-    Cost: with n pairs a call on one position takes a time that grows as log n; one on one key too, and, but for
-    `bisect_left` and `bisect_right`, with the number of its values.
+    Cost: with n pairs a call on one position is O(log n); one on one key too, and, but for `bisect_left` and
+    `bisect_right`, linear in the number of its values.
     Reads may go on in several threads at once; changes are kept apart by the caller.
 
     >>> tags = SortedMultiDict([(2, 30), (1, 10), (2, 20)]); tags

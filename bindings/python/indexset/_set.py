@@ -24,12 +24,11 @@ class SortedSet(Sorted[T], MutableSet[T], Generic[T]):
     ValueError. Where none is named, it is found from the items, and numbers of 64 bits, texts and byte strings
     are kept as such until others come. `key` is a function whose results order the items.
 
-    Cost: with n items, a call on one item or one position takes a time that grows as log n, and with the kind
-    "object" that many comparisons; `in` asks a hash table. A walk, a slice or a batch takes a time that grows
-    with its length.
+    Cost: with n items, a call on one item or one position is O(log n), and with the kind "object" makes that
+    many comparisons; `in` asks a hash table. Iteration, a slice or a batch is linear in its length.
 
-    Reads may go on in several threads at once. A walk raises RuntimeError once there was a change; changes
-    from several threads are kept apart by the caller.
+    Reads may go on in several threads at once. An iterator raises RuntimeError once there was a change;
+    changes from several threads are kept apart by the caller.
 
     >>> SortedSet([3, 1, 2, 1]), SortedSet(["b", "a"]), SortedSet([(1, "b"), (1, "a")])
     (SortedSet([1, 2, 3]), SortedSet(['a', 'b']), SortedSet([(1, 'a'), (1, 'b')]))
