@@ -28,7 +28,7 @@ class Unfixed(NoCall):
 
 
 class Refused(Exception):
-    """A call that fails, and what it hands back."""
+    """A call that fails, and what it returns."""
 
     def __init__(self, cause: str, back: str = "") -> None:
         super().__init__(cause)
