@@ -328,6 +328,7 @@ def links(name: str, owner: str, calls: list[Link]) -> list[str]:
 def index(pages: dict[str, Page]) -> str:
     """The text of the index: of each page the calls by type."""
     out = ["# Contracts", "", f"Each public call of the library crates with its clauses, written by `docs/write.py` from the sources. {ABOUT}", ""]
+    out += [", ".join(f"[{page.title}](#{anchor_of(page.title, {})})" for name, page in pages.items() if name in {**PAGES, **FOR_C}) + ".", ""]
     heads = {next(iter(FOR_C)): "# For C", next(it for it in pages if it not in {**PAGES, **FOR_C}): "# Inner crates"}
     for name, page in pages.items():
         if name in heads:
