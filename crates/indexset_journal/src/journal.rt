@@ -59,7 +59,7 @@ fn end_of<S: Store>(store: &S, next: u64, count: usize) -> Result<u64, JournalEr
 
 impl<S: Store> Journal<S> {
     /// Returns a journal over a store, and the lines that it keeps, in order. What was under way in
-    /// the store is undone. An `Err` hands the store back. Reads all rows, and commits nothing.
+    /// the store is undone. An `Err` returns the store. Reads all rows, and commits nothing.
     pub fn open(
         alloc: Global,
         mut store: S,
@@ -123,7 +123,7 @@ impl<S: Store> Journal<S> {
         Ok(())
     }
 
-    /// Puts these lines in the place of all that are kept, with one commit. At `Ok` each later crash
+    /// Replaces all lines that are kept by these, with one commit. At `Ok` each later crash
     /// leaves them. A crash before leaves the old lines, or all of the new ones. After an `Err` the
     /// journal may be used again, and keeps what it kept.
     pub fn replace(&mut self, lines: &[Vec<u8>]) -> Result<(), JournalError>

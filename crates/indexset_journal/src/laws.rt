@@ -48,7 +48,7 @@ pub fn append_and_restart<S: Reopen + Drop>(
     Some((again, found, is_kept))
 }
 
-/// Puts lines in the place of all, crashes and opens the files again. What is found are the lines
+/// Replaces all lines, crashes and opens the files again. What is found are the lines
 /// from before or the new ones, whole; and the new ones where `replace` returned `Ok`, which the
 /// `bool` says. Returns `None` as `restart` does.
 pub fn replace_and_restart<S: Reopen + Drop>(

@@ -67,7 +67,7 @@ pub(crate) fn take_all<S: Store>(store: &mut S, row: &mut Row) -> Result<(), Sto
     Err(StoreError::OutOfMemory)
 }
 
-/// Puts the lines in the place of all rows.
+/// Replaces all rows by the lines.
 pub(crate) fn put_instead<S: Store>(
     store: &mut S,
     row: &mut Row,

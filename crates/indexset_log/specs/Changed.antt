@@ -1,4 +1,4 @@
--- What a call makes of a tree, and what it tells of that.
+-- What a call makes of a tree, and what it reports of that.
 use Rattle.std.specs.Prelude.{◌≡◌, ℕ, ◌+◌, ◌-◌, ◌/◌, ◌≤◌, length, List, Some, drop, take}
 use Rattle.std.below.core.specs.declared.int.u64.TheConstants.{MAX}
 use Rattle.std.specs.declared.cmp.Ordering.{Ordering}
@@ -78,7 +78,7 @@ pub record Changed {T : Type 0} (cmp : T → T → Ordering) (old new : Tree T) 
   pub few : length made.events ≤ 3
   pub spaced : IsSpaced (old.size / 2) old.nodes → IsSpaced (new.size / 2) new.nodes
 
--- the events are told, with clones in the place of their items; where H, the clones are identical
+-- the events are reported, with clones in the place of their items; where H, the clones are identical
 pub record Told {T : Type 0} (H : Type 0) (cmp : T → T → Ordering) (C : T → T → Type 0) (old new : Tree T) (made : Change T) (told : List (ChangeEvent T)) : Type 0 where
   pub clones : IsTold C old.next made.events told
   pub events : H → told ≡ numbered_from old.next made.events
@@ -86,10 +86,10 @@ pub record Told {T : Type 0} (H : Type 0) (cmp : T → T → Ordering) (C : T �
   pub replay : H → replay cmp old.nodes told ≡ Some new.nodes
   pub few : length told ≤ 3
 
--- what a set tells
+-- what a set reports
 abbrev pub ItemsTold : {T : Type 0} → (T → T → Ordering) → (T → T → Type 0) → Tree T → Tree T → Change T → List (ChangeEvent T) → Type 0
 ItemsTold cmp C old new made told = Told (AreIdentical C) cmp C old new made told
 
--- what a map tells
+-- what a map reports
 abbrev pub PairsTold : {K V : Type 0} → (K → K → Ordering) → (K → K → Type 0) → (V → V → Type 0) → Tree (Pair K V) → Tree (Pair K V) → Change (Pair K V) → List (ChangeEvent (Pair K V)) → Type 0
 PairsTold cmp C D old new made told = Told (AreIdentical C × AreIdentical D) (by_key cmp) (IsPairClone C D) old new made told

@@ -49,8 +49,13 @@ impl<K: Ord + Clone + Drop, V: Clone + Drop, Node: NodeLike<Pair<K, V>>> Model
 }
 
 impl<K: Ord + Clone + Drop, V: Clone + Drop, Node: NodeLike<Pair<K, V>>> BTreeMap<K, V, Node> {
-    /// Returns an empty map, whose nodes are to hold at most `size` pairs each, and whose first
-    /// event has the number `next`.
+    /// Returns an empty map, whose nodes are to hold at most `size` pairs each, and whose events
+    /// are numbered from `next`.
+    ///
+    /// ```
+    /// let tree: map::BTreeMap<u64, u64, Vec<Pair<u64, u64>>> = map::BTreeMap::starting_at(alloc, 256, 100);
+    /// assert!(rt; tree.events_issued() == 100);
+    /// ```
     pub fn starting_at(alloc: Global, size: usize, next: u64) -> Self
         requires two { 2 ≤ size }
         requires within { size ≤ Node.most }
@@ -61,9 +66,18 @@ impl<K: Ord + Clone + Drop, V: Clone + Drop, Node: NodeLike<Pair<K, V>>> BTreeMa
         }
     }
 
-    /// Returns the map of these nodes, whose first event has the number `next`, as the set makes
-    /// it: the nodes are taken as they are, one number for each is allocated, and no event number
-    /// is used up. A failed call returns the nodes in the error.
+    /// Returns the map of these nodes, whose events are numbered from `next`, as the set makes it:
+    /// the nodes are taken as they are, one number for each is allocated, and no event number is
+    /// consumed. A failed call returns the nodes in the error.
+    ///
+    /// ```
+    /// // A replica goes on as the map.
+    /// let mut replica: Replica<Pair<u64, u64>> = Replica::new(alloc, 0);
+    /// replica.apply(&ChangeEvent::CreateNode { event_id: Id::from(0), max_value: Pair { key: 5, value: 50 } })?;
+    /// let next = replica.next();
+    /// let tree: map::BTreeMap<u64, u64, Vec<Pair<u64, u64>>> = map::BTreeMap::from_nodes(replica.into_nodes(), 64, next)?;
+    /// assert!(rt; tree.contains_key(&5) && tree.events_issued() == 1);
+    /// ```
     pub fn from_nodes(nodes: Vec<Node>, size: usize, next: u64) -> Result<Self, Refused<Vec<Node>>>
         requires two { 2 ≤ size }
         requires within { size ≤ Node.most }
@@ -81,7 +95,12 @@ impl<K: Ord + Clone + Drop, V: Clone + Drop, Node: NodeLike<Pair<K, V>>> BTreeMa
         }
     }
 
-    /// Returns an empty map, whose first event has the number 0.
+    /// Returns an empty map, whose events are numbered from 0.
+    ///
+    /// ```
+    /// let tree: map::BTreeMap<u64, u64, Vec<Pair<u64, u64>>> = map::BTreeMap::with_maximum_node_size(alloc, 256);
+    /// assert!(rt; tree.is_empty());
+    /// ```
     pub fn with_maximum_node_size(alloc: Global, size: usize) -> Self
         requires two { 2 ≤ size }
         requires within { size ≤ Node.most }
@@ -90,7 +109,13 @@ impl<K: Ord + Clone + Drop, V: Clone + Drop, Node: NodeLike<Pair<K, V>>> BTreeMa
         BTreeMap::starting_at(alloc, size, 0)
     }
 
-    /// Returns an empty map of the default node size, whose first event has the number 0.
+    /// Returns an empty map of the default node size, whose events are numbered from 0.
+    ///
+    /// ```
+    /// let mut tree: map::BTreeMap<u64, u64, Vec<Pair<u64, u64>>> = map::BTreeMap::new(alloc);
+    /// tree.insert(1, 10)?;
+    /// assert!(rt; tree.len() == 1);
+    /// ```
     pub fn new(alloc: Global) -> Self
         requires { DEFAULT_INNER_SIZE ≤ Node.most }
         ensures { result ≡ record { nodes = []; size = DEFAULT_INNER_SIZE; next = 0 } }
@@ -107,6 +132,13 @@ impl<K: Ord + Clone + Drop, V: Clone + Drop, Node: NodeLike<Pair<K, V>>> BTreeMa
     }
 
     /// Returns the number of pairs.
+    ///
+    /// ```
+    /// let mut tree: map::BTreeMap<u64, u64, Vec<Pair<u64, u64>>> = map::BTreeMap::new(alloc);
+    /// tree.insert(1, 10)?;
+    /// tree.insert(2, 20)?;
+    /// assert!(rt; tree.len() == 2);
+    /// ```
     pub fn len(&self) -> usize
         ensures { result ≡ length (joined self.now.nodes) }
     {
@@ -114,6 +146,13 @@ impl<K: Ord + Clone + Drop, V: Clone + Drop, Node: NodeLike<Pair<K, V>>> BTreeMa
     }
 
     /// Returns whether there is no pair.
+    ///
+    /// ```
+    /// let mut tree: map::BTreeMap<u64, u64, Vec<Pair<u64, u64>>> = map::BTreeMap::new(alloc);
+    /// assert!(rt; tree.is_empty());
+    /// tree.insert(1, 10)?;
+    /// assert!(rt; !tree.is_empty());
+    /// ```
     pub fn is_empty(&self) -> bool
         ensures { result ≡ (length (joined self.now.nodes) == 0) }
     {
@@ -122,6 +161,13 @@ impl<K: Ord + Clone + Drop, V: Clone + Drop, Node: NodeLike<Pair<K, V>>> BTreeMa
 
     /// Returns the number of nodes: no more than pairs. None is empty or holds more than the node
     /// size, and the pairs of all ascend by key, one node after another.
+    ///
+    /// ```
+    /// let mut tree: map::BTreeMap<u64, u64, Vec<Pair<u64, u64>>> = map::BTreeMap::new(alloc);
+    /// tree.insert(1, 10)?;
+    /// tree.insert(2, 20)?;
+    /// assert!(rt; tree.node_count() == 1);
+    /// ```
     pub fn node_count(&self) -> usize
         ensures value { result ≡ length self.now.nodes }
         ensures few { result ≤ length (joined self.now.nodes) }
@@ -132,6 +178,13 @@ impl<K: Ord + Clone + Drop, V: Clone + Drop, Node: NodeLike<Pair<K, V>>> BTreeMa
 
     /// Returns how many pairs there is room for: the sum of the nodes' capacities, which stops at
     /// `usize::MAX`.
+    ///
+    /// ```
+    /// let mut tree: map::BTreeMap<u64, u64, Vec<Pair<u64, u64>>> = map::BTreeMap::new(alloc);
+    /// tree.insert(1, 10)?;
+    /// tree.insert(2, 20)?;
+    /// assert!(rt; tree.capacity() >= 2);
+    /// ```
     pub fn capacity(&self) -> usize
         ensures enough { length (joined self.now.nodes) ≤ result }
         ensures sum { AddsUp Node.list Node.room self.now.nodes result }
@@ -140,6 +193,13 @@ impl<K: Ord + Clone + Drop, V: Clone + Drop, Node: NodeLike<Pair<K, V>>> BTreeMa
     }
 
     /// Returns the number of the next event.
+    ///
+    /// ```
+    /// let mut tree: map::BTreeMap<u64, u64, Vec<Pair<u64, u64>>> = map::BTreeMap::new(alloc);
+    /// tree.insert(1, 10)?;
+    /// tree.insert(2, 20)?;
+    /// assert!(rt; tree.events_issued() == 2);
+    /// ```
     pub fn events_issued(&self) -> u64
         ensures { result ≡ self.now.next }
     {
@@ -151,7 +211,14 @@ impl<K: Ord + Clone + Drop, V: Clone + Drop, Node: NodeLike<Pair<K, V>>> BTreeMa
         self.set.allocator()
     }
 
-    /// Returns the nodes, in order.
+    /// Returns a double-ended iterator over the nodes, in order.
+    ///
+    /// ```
+    /// let mut tree: map::BTreeMap<u64, u64, Vec<Pair<u64, u64>>> = map::BTreeMap::new(alloc);
+    /// tree.insert(1, 10)?;
+    /// tree.insert(2, 20)?;
+    /// assert!(rt; tree.iter_nodes().map(|node| node.len()).eq([2]));
+    /// ```
     pub fn iter_nodes(&self) -> Nodes<'_, Node>
         ensures rest { map Node.list result ≡ self.now.nodes }
         ensures runs { ShowsInOrder (deref {X = Node}) }
@@ -160,8 +227,16 @@ impl<K: Ord + Clone + Drop, V: Clone + Drop, Node: NodeLike<Pair<K, V>>> BTreeMa
         self.set.iter_nodes()
     }
 
-    /// Inserts a whole node of pairs, as the set does. It gives no event and consumes no event
+    /// Inserts a whole node of pairs, as the set does. It emits no event and consumes no event
     /// number. A failed call returns the node in the error and changes nothing.
+    ///
+    /// ```
+    /// let mut tree: map::BTreeMap<u64, u64, Vec<Pair<u64, u64>>> = map::BTreeMap::new(alloc);
+    /// tree.insert(1, 10)?;
+    /// tree.insert(2, 20)?;
+    /// tree.attach_node(vec![in alloc; Pair { key: 5, value: 50 }]?)?;
+    /// assert!(rt; tree.node_count() == 2 && tree.last_key_value() == Some((&5, &50)));
+    /// ```
     pub fn attach_node(&mut self, node: Node) -> Result<(), Refused<Node>>
         ensures nodes { OnOk result (self.new.nodes ≡ attached (by_key K.cmp) self.old.nodes
             (Node.list node)) }
@@ -180,7 +255,7 @@ impl<K: Ord + Clone + Drop, V: Clone + Drop, Node: NodeLike<Pair<K, V>>> BTreeMa
         self.set.attach_node(node)
     }
 
-    /// Returns the pair of a key, or `None` where there is none.
+    /// Returns the pair of a key, or `None` if there is none.
     ///
     /// ```
     /// let mut tree: map::BTreeMap<u64, u64, Vec<Pair<u64, u64>>> = map::BTreeMap::new(alloc);
@@ -193,8 +268,16 @@ impl<K: Ord + Clone + Drop, V: Clone + Drop, Node: NodeLike<Pair<K, V>>> BTreeMa
         self.set.get_by(&mut self.by_key(key))
     }
 
-    /// Returns the first pair that the comparator finds equal, or `None` where there is none, by
+    /// Returns the first pair that the comparator finds equal, or `None` if there is none, by
     /// two binary searches, as `get` makes. The comparator must find the pairs in order.
+    ///
+    /// ```
+    /// // A text key, found by a &str without an allocation.
+    /// let mut prices: map::BTreeMap<String, u64, Vec<Pair<String, u64>>> = map::BTreeMap::new(alloc);
+    /// prices.insert(String::from_str(alloc, "pear")?, 120)?;
+    /// let mut sought = OnKey::new(ByStr::new("pear"));
+    /// assert!(rt; prices.get_by(&mut sought).is_some_and(|pair| pair.value == 120));
+    /// ```
     pub fn get_by<P: Probe<Pair<K, V>>>(&self, probe: &mut P) -> Option<&Pair<K, V>>
         requires { IsParted (P.answer probe.old) (joined self.now.nodes) }
         ensures value { option_copied result ≡ find (λ p. is_eq (P.answer probe.old p))
@@ -207,6 +290,13 @@ impl<K: Ord + Clone + Drop, V: Clone + Drop, Node: NodeLike<Pair<K, V>>> BTreeMa
     }
 
     /// Returns whether a key is present, by two binary searches.
+    ///
+    /// ```
+    /// let mut tree: map::BTreeMap<u64, u64, Vec<Pair<u64, u64>>> = map::BTreeMap::new(alloc);
+    /// tree.insert(1, 10)?;
+    /// tree.insert(2, 20)?;
+    /// assert!(rt; tree.contains_key(&1) && !tree.contains_key(&3));
+    /// ```
     pub fn contains_key(&self, key: &K) -> bool
         ensures { result ≡ has_key K.cmp (joined self.now.nodes) key.now }
     {

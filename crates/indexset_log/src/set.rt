@@ -65,7 +65,12 @@ impl<T: Ord + Clone + Drop, Node: NodeLike<T>> Model for BTreeSet<T, Node> {
 }
 
 impl<T: Ord + Clone + Drop, Node: NodeLike<T>> BTreeSet<T, Node> {
-    /// Returns an empty tree, whose first event has the number `next`.
+    /// Returns an empty tree, whose events are numbered from `next`.
+    ///
+    /// ```
+    /// let tree: set::BTreeSet<u64, Vec<u64>> = set::BTreeSet::starting_at(alloc, 256, 100);
+    /// assert!(rt; tree.events_issued() == 100);
+    /// ```
     pub fn starting_at(alloc: Global, size: usize, next: u64) -> Self
         requires two { 2 ≤ size }
         requires within { size ≤ Node.most }
@@ -81,7 +86,12 @@ impl<T: Ord + Clone + Drop, Node: NodeLike<T>> BTreeSet<T, Node> {
         }
     }
 
-    /// Returns an empty tree, whose first event has the number 0.
+    /// Returns an empty tree, whose events are numbered from 0.
+    ///
+    /// ```
+    /// let tree: set::BTreeSet<u64, Vec<u64>> = set::BTreeSet::with_maximum_node_size(alloc, 256);
+    /// assert!(rt; tree.maximum_node_size() == 256);
+    /// ```
     pub fn with_maximum_node_size(alloc: Global, size: usize) -> Self
         requires two { 2 ≤ size }
         requires within { size ≤ Node.most }
@@ -90,7 +100,12 @@ impl<T: Ord + Clone + Drop, Node: NodeLike<T>> BTreeSet<T, Node> {
         BTreeSet::starting_at(alloc, size, 0)
     }
 
-    /// Returns an empty tree of the default node size, whose first event has the number 0.
+    /// Returns an empty tree of the default node size, whose events are numbered from 0.
+    ///
+    /// ```
+    /// let tree: set::BTreeSet<u64, Vec<u64>> = set::BTreeSet::new(alloc);
+    /// assert!(rt; tree.is_empty() && tree.events_issued() == 0);
+    /// ```
     pub fn new(alloc: Global) -> Self
         requires { DEFAULT_INNER_SIZE ≤ Node.most }
         ensures { result ≡ record { nodes = []; size = DEFAULT_INNER_SIZE; next = 0 } }
@@ -107,6 +122,11 @@ impl<T: Ord + Clone + Drop, Node: NodeLike<T>> BTreeSet<T, Node> {
     }
 
     /// Returns the number of items.
+    ///
+    /// ```
+    /// let tree: set::BTreeSet<u64, Vec<u64>> = set::BTreeSet::from_iter(alloc, [5, 10, 15])?;
+    /// assert!(rt; tree.len() == 3);
+    /// ```
     pub fn len(&self) -> usize
         ensures { result ≡ length (joined self.now.nodes) }
     {
@@ -114,6 +134,13 @@ impl<T: Ord + Clone + Drop, Node: NodeLike<T>> BTreeSet<T, Node> {
     }
 
     /// Returns whether there is no item.
+    ///
+    /// ```
+    /// let mut tree: set::BTreeSet<u64, Vec<u64>> = set::BTreeSet::new(alloc);
+    /// assert!(rt; tree.is_empty());
+    /// tree.insert(5)?;
+    /// assert!(rt; !tree.is_empty());
+    /// ```
     pub fn is_empty(&self) -> bool
         ensures { result ≡ (length (joined self.now.nodes) == 0) }
     {
@@ -122,6 +149,15 @@ impl<T: Ord + Clone + Drop, Node: NodeLike<T>> BTreeSet<T, Node> {
 
     /// Returns the number of nodes: no more than items. None is empty or holds more than the node
     /// size, and the items of all ascend, one node after another.
+    ///
+    /// ```
+    /// // The fifth item halves a full node.
+    /// let mut tree: set::BTreeSet<u64, Vec<u64>> = set::BTreeSet::with_maximum_node_size(alloc, 4);
+    /// for number in [0, 2, 4, 6, 3] {
+    ///     tree.insert(number)?;
+    /// }
+    /// assert!(rt; tree.node_count() == 2);
+    /// ```
     pub fn node_count(&self) -> usize
         ensures value { result ≡ length self.now.nodes }
         ensures few { result ≤ length (joined self.now.nodes) }
@@ -131,6 +167,13 @@ impl<T: Ord + Clone + Drop, Node: NodeLike<T>> BTreeSet<T, Node> {
     }
 
     /// Returns the number of the next event.
+    ///
+    /// ```
+    /// let mut tree: set::BTreeSet<u64, Vec<u64>> = set::BTreeSet::new(alloc);
+    /// tree.insert(5)?;
+    /// tree.insert(5)?;
+    /// assert!(rt; tree.events_issued() == 1);
+    /// ```
     pub fn events_issued(&self) -> u64
         ensures { result ≡ self.now.next }
     {
@@ -139,6 +182,11 @@ impl<T: Ord + Clone + Drop, Node: NodeLike<T>> BTreeSet<T, Node> {
 
     /// Returns how many items a node holds at most: at least 2, and within the limit of the node
     /// type.
+    ///
+    /// ```
+    /// let tree: set::BTreeSet<u64, Vec<u64>> = set::BTreeSet::new(alloc);
+    /// assert!(rt; tree.maximum_node_size() == 1024);
+    /// ```
     pub fn maximum_node_size(&self) -> usize
         ensures value { result ≡ self.now.size }
         ensures two { 2 ≤ result }
@@ -153,7 +201,14 @@ impl<T: Ord + Clone + Drop, Node: NodeLike<T>> BTreeSet<T, Node> {
     }
 
     /// Returns where the probe finds what it seeks, by two binary searches: the node and the offset
-    /// in it. It makes no comparison where there is no node.
+    /// in it. It makes no comparison if there is no node.
+    ///
+    /// ```
+    /// # use indexset::base::probe::ByItem;
+    /// let tree: set::BTreeSet<u64, Vec<u64>> = set::BTreeSet::from_iter(alloc, [5, 10, 15])?;
+    /// assert!(rt; tree.locate_by(&mut ByItem::new(&10)) == Ok((0, 1)));
+    /// assert!(rt; tree.locate_by(&mut ByItem::new(&12)) == Err((0, 2)));
+    /// ```
     pub fn locate_by<P: Probe<T>>(&self, probe: &mut P) -> Result<(usize, usize), (usize, usize)>
         requires { IsParted (P.answer probe.old) (joined self.now.nodes) }
         ensures place { result ≡ located (P.answer probe.old) self.now.nodes }
@@ -203,22 +258,39 @@ impl<T: Ord + Clone + Drop, Node: NodeLike<T>> BTreeSet<T, Node> {
         self.locate(&mut self.by_item(value)).ok()
     }
 
-    /// Returns whether an equal item is present.
+    /// Returns whether an item equal to the value is present.
+    ///
+    /// ```
+    /// let tree: set::BTreeSet<u64, Vec<u64>> = set::BTreeSet::from_iter(alloc, [5, 10, 15])?;
+    /// assert!(rt; tree.contains(&10) && !tree.contains(&12));
+    /// ```
     pub fn contains(&self, value: &T) -> bool
         ensures { result ≡ has_equal T.cmp (joined self.now.nodes) value.now }
     {
         self.place_of(value).is_some()
     }
 
-    /// Returns the equal item.
+    /// Returns the item equal to the value, if any.
+    ///
+    /// ```
+    /// let tree: set::BTreeSet<u64, Vec<u64>> = set::BTreeSet::from_iter(alloc, [5, 10, 15])?;
+    /// assert!(rt; tree.get(&10) == Some(&10) && tree.get(&12).is_none());
+    /// ```
     pub fn get(&self, value: &T) -> Option<&T>
         ensures { option_copied result ≡ equal_element T.cmp (joined self.now.nodes) value.now }
     {
         self.get_by(&mut self.by_item(value))
     }
 
-    /// Returns the first item that the comparator finds equal, or `None` where there is none. It
+    /// Returns the first item that the comparator finds equal, or `None` if there is none. It
     /// compares as `locate_by` does.
+    ///
+    /// ```
+    /// // A text, found by a &str without an allocation.
+    /// let mut names: set::BTreeSet<String, Vec<String>> = set::BTreeSet::new(alloc);
+    /// names.insert(String::from_str(alloc, "pear")?)?;
+    /// assert!(rt; names.get_by(&mut ByStr::new("pear")).is_some());
+    /// ```
     pub fn get_by<P: Probe<T>>(&self, probe: &mut P) -> Option<&T>
         requires { IsParted (P.answer probe.old) (joined self.now.nodes) }
         ensures value { option_copied result ≡ find (λ x. is_eq (P.answer probe.old x))

@@ -117,7 +117,7 @@ pub fn nodes_text<T: Item, N: NodeLike<T>>(alloc: Global, nodes: &[N]) -> Result
     Ok(text)
 }
 
-/// The stop of a call that was refused, with the text of what it handed back written: this must be the text
+/// The stop of a call that was refused, with the text of what it returned written: this must be the text
 /// of what it was given.
 pub fn handed_back(
     answer: &mut String,

@@ -5,7 +5,7 @@ use indexset_core::refusal::Refused;
 use indexset_play::script::{Stop, tell};
 use std::fmt::Display;
 
-/// The pair that a refused call hands back, in one value.
+/// The pair that a refused call returns, in one value.
 pub fn shown_pair<X, K, V>(made: Result<X, Refused<(K, V)>>) -> Result<X, Refused<Pair<K, V>>> {
     match made {
         Ok(value) => Ok(value),

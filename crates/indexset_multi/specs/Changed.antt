@@ -1,4 +1,4 @@
--- What a call makes of a multimap, and what it tells of that.
+-- What a call makes of a multimap, and what it reports of that.
 use Rattle.std.specs.Prelude.{◌≡◌, ◌+◌, ◌-◌, ◌/◌, ◌++◌, ◌≤◌, [], ◌∷◌, Bool, true, false, length, List, Option, Some, drop, slice_get, take}
 use Rattle.std.below.core.specs.declared.int.u64.TheConstants.{MAX}
 use Rattle.std.specs.Ordering.{is_eq}
@@ -92,7 +92,7 @@ set_tree m = record { nodes = m.nodes; size = m.size; next = m.next }
 abbrev pub set_change : {K V : Type 0} → MultiChange K V → Change (MultiPair K V)
 set_change made = record { tree = set_tree made.tree; items = made.items; events = made.events }
 
--- what a multimap tells
+-- what a multimap reports
 abbrev pub MultiTold : {K V : Type 0} → (K → K → Ordering) → (K → K → Type 0) → (V → V → Type 0) → MultiTree K V → MultiTree K V → MultiChange K V → List (ChangeEvent (MultiPair K V)) → Type 0
 MultiTold cmp C D old new made told = Told (AreIdentical C × AreIdentical D) (by_number cmp) (IsPairClone C D) (set_tree old) (set_tree new) (set_change made) told
 
@@ -124,7 +124,7 @@ module _ {K V : Type 0} (cmp : K → K → Ordering) where
     pub spaced : IsSpaced (old.size / 2) old.nodes → IsSpaced (new.size / 2) new.nodes
     pub pair_next : new.pair_next ≡ old.pair_next
 
-  -- what is told of that
+  -- what is reported of that
   pub record RemovalsTold (C : K → K → Type 0) (D : V → V → Type 0) (old new : MultiTree K V) (k : K) (told : List (ChangeEvent (MultiPair K V))) : Type 0 where
     pub clones : IsTold (IsPairClone C D) old.next (key_events cmp old new k) told
     pub numbered : IsNumberedFrom old.next told

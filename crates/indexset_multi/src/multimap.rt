@@ -64,8 +64,13 @@ impl<K: Ord + Clone + Drop, V: Eq + Clone + Drop, Node: NodeLike<MultiPair<K, V>
     V,
     Node,
 > {
-    /// Returns an empty map, whose nodes are to hold at most `size` pairs each, and whose first
-    /// event has the number `next`.
+    /// Returns an empty map, whose nodes are to hold at most `size` pairs each, and whose events
+    /// are numbered from `next`.
+    ///
+    /// ```
+    /// let tags: multimap::BTreeMultiMap<u64, u64, Vec<MultiPair<u64, u64>>> = multimap::BTreeMultiMap::starting_at(alloc, 256, 100);
+    /// assert!(rt; tags.events_issued() == 100);
+    /// ```
     pub fn starting_at(alloc: Global, size: usize, next: u64) -> Self
         requires two { 2 ≤ size }
         requires within { size ≤ Node.most }
@@ -77,7 +82,12 @@ impl<K: Ord + Clone + Drop, V: Eq + Clone + Drop, Node: NodeLike<MultiPair<K, V>
         }
     }
 
-    /// Returns an empty map, whose first event has the number 0.
+    /// Returns an empty map, whose events are numbered from 0.
+    ///
+    /// ```
+    /// let tags: multimap::BTreeMultiMap<u64, u64, Vec<MultiPair<u64, u64>>> = multimap::BTreeMultiMap::with_maximum_node_size(alloc, 256);
+    /// assert!(rt; tags.is_empty());
+    /// ```
     pub fn with_maximum_node_size(alloc: Global, size: usize) -> Self
         requires two { 2 ≤ size }
         requires within { size ≤ Node.most }
@@ -86,7 +96,14 @@ impl<K: Ord + Clone + Drop, V: Eq + Clone + Drop, Node: NodeLike<MultiPair<K, V>
         BTreeMultiMap::starting_at(alloc, size, 0)
     }
 
-    /// Returns an empty map of the default node size, whose first event has the number 0.
+    /// Returns an empty map of the default node size, whose events are numbered from 0.
+    ///
+    /// ```
+    /// let mut tags: multimap::BTreeMultiMap<u64, u64, Vec<MultiPair<u64, u64>>> = multimap::BTreeMultiMap::new(alloc);
+    /// tags.insert(1, 100)?;
+    /// tags.insert(1, 101)?;
+    /// assert!(rt; tags.len() == 2);
+    /// ```
     pub fn new(alloc: Global) -> Self
         requires { DEFAULT_INNER_SIZE ≤ Node.most }
         ensures { result ≡ record {
@@ -113,6 +130,14 @@ impl<K: Ord + Clone + Drop, V: Eq + Clone + Drop, Node: NodeLike<MultiPair<K, V>
     }
 
     /// Returns the number of pairs.
+    ///
+    /// ```
+    /// let mut tags: multimap::BTreeMultiMap<u64, u64, Vec<MultiPair<u64, u64>>> = multimap::BTreeMultiMap::new(alloc);
+    /// for (tag, document) in [(1, 100), (1, 101), (2, 100)] {
+    ///     tags.insert(tag, document)?;
+    /// }
+    /// assert!(rt; tags.len() == 3);
+    /// ```
     pub fn len(&self) -> usize
         ensures { result ≡ length (joined self.now.nodes) }
     {
@@ -120,6 +145,13 @@ impl<K: Ord + Clone + Drop, V: Eq + Clone + Drop, Node: NodeLike<MultiPair<K, V>
     }
 
     /// Returns whether there is no pair.
+    ///
+    /// ```
+    /// let mut tags: multimap::BTreeMultiMap<u64, u64, Vec<MultiPair<u64, u64>>> = multimap::BTreeMultiMap::new(alloc);
+    /// assert!(rt; tags.is_empty());
+    /// tags.insert(1, 100)?;
+    /// assert!(rt; !tags.is_empty());
+    /// ```
     pub fn is_empty(&self) -> bool
         ensures { result ≡ (length (joined self.now.nodes) == 0) }
     {
@@ -129,6 +161,14 @@ impl<K: Ord + Clone + Drop, V: Eq + Clone + Drop, Node: NodeLike<MultiPair<K, V>
     /// Returns the number of nodes: no more than pairs. None is empty or holds more than the node
     /// size, and the pairs of all ascend by key and then by number, one node after another, with
     /// numbers below that of the next new pair.
+    ///
+    /// ```
+    /// let mut tags: multimap::BTreeMultiMap<u64, u64, Vec<MultiPair<u64, u64>>> = multimap::BTreeMultiMap::new(alloc);
+    /// for (tag, document) in [(1, 100), (1, 101), (2, 100)] {
+    ///     tags.insert(tag, document)?;
+    /// }
+    /// assert!(rt; tags.node_count() == 1);
+    /// ```
     pub fn node_count(&self) -> usize
         ensures value { result ≡ length self.now.nodes }
         ensures few { result ≤ length (joined self.now.nodes) }
@@ -140,6 +180,14 @@ impl<K: Ord + Clone + Drop, V: Eq + Clone + Drop, Node: NodeLike<MultiPair<K, V>
 
     /// Returns how many pairs there is room for: the sum of the nodes' capacities, which stops at
     /// `usize::MAX`.
+    ///
+    /// ```
+    /// let mut tags: multimap::BTreeMultiMap<u64, u64, Vec<MultiPair<u64, u64>>> = multimap::BTreeMultiMap::new(alloc);
+    /// for (tag, document) in [(1, 100), (1, 101), (2, 100)] {
+    ///     tags.insert(tag, document)?;
+    /// }
+    /// assert!(rt; tags.capacity() >= 3);
+    /// ```
     pub fn capacity(&self) -> usize
         ensures enough { length (joined self.now.nodes) ≤ result }
         ensures sum { AddsUp Node.list Node.room self.now.nodes result }
@@ -148,13 +196,29 @@ impl<K: Ord + Clone + Drop, V: Eq + Clone + Drop, Node: NodeLike<MultiPair<K, V>
     }
 
     /// Returns the number of the next event.
+    ///
+    /// ```
+    /// let mut tags: multimap::BTreeMultiMap<u64, u64, Vec<MultiPair<u64, u64>>> = multimap::BTreeMultiMap::new(alloc);
+    /// for (tag, document) in [(1, 100), (1, 101), (2, 100)] {
+    ///     tags.insert(tag, document)?;
+    /// }
+    /// assert!(rt; tags.events_issued() == 3);
+    /// ```
     pub fn events_issued(&self) -> u64
         ensures { result ≡ self.now.next }
     {
         self.set.events_issued()
     }
 
-    /// Returns the nodes, in order.
+    /// Returns a double-ended iterator over the nodes, in order.
+    ///
+    /// ```
+    /// let mut tags: multimap::BTreeMultiMap<u64, u64, Vec<MultiPair<u64, u64>>> = multimap::BTreeMultiMap::new(alloc);
+    /// for (tag, document) in [(1, 100), (1, 101), (2, 100)] {
+    ///     tags.insert(tag, document)?;
+    /// }
+    /// assert!(rt; tags.iter_nodes().map(|node| node.len()).eq([3]));
+    /// ```
     pub fn iter_nodes(&self) -> Nodes<'_, Node>
         ensures rest { map Node.list result ≡ self.now.nodes }
         ensures runs { ShowsInOrder (deref {X = Node}) }
@@ -164,6 +228,14 @@ impl<K: Ord + Clone + Drop, V: Eq + Clone + Drop, Node: NodeLike<MultiPair<K, V>
     }
 
     /// Returns whether a pair has the key.
+    ///
+    /// ```
+    /// let mut tags: multimap::BTreeMultiMap<u64, u64, Vec<MultiPair<u64, u64>>> = multimap::BTreeMultiMap::new(alloc);
+    /// for (tag, document) in [(1, 100), (1, 101), (2, 100)] {
+    ///     tags.insert(tag, document)?;
+    /// }
+    /// assert!(rt; tags.contains_key(&1) && !tags.contains_key(&3));
+    /// ```
     pub fn contains_key(&self, key: &K) -> bool
         ensures { result ≡ has_pair_of K.cmp (joined self.now.nodes) key.now }
     {

@@ -13,7 +13,7 @@ pub enum Stop {
     Refused(Refusal),
     /// The player found no memory of its own, for the words or the answer.
     Memory,
-    /// The library refused it, and handed back something else than it was given.
+    /// The library refused it, and returned something else than it was given.
     Otherwise,
     /// A word is missing, or is not what the call takes.
     Word,
@@ -121,7 +121,7 @@ pub fn is_spelt<D: Display>(alloc: Global, value: &D, word: &str) -> Result<bool
     Ok(text.as_str() == word)
 }
 
-/// What a call made, or its refusal, where this handed back the value of a word.
+/// What a call made, or its refusal, where this returned the value of a word.
 pub fn given<X: Drop, T: Display + Drop>(
     alloc: Global,
     word: &str,

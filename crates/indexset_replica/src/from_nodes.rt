@@ -9,12 +9,12 @@ use indexset_core::refusal::{Refusal, Refused};
 use indexset_events::nodes::test_nodes;
 
 impl<T: Ord + Clone + Drop> Replica<T> {
-    /// Returns a replica of these nodes, whose first event is to have the number `next`: it follows
-    /// a tree from where the tree had these nodes and this next number. It takes the nodes as they
-    /// are, compares neighbouring items once, and allocates the index of their lengths. It fails at
-    /// the first node that is `Empty`, `Unsorted`, or `Overlaps` the one before, by the first of
-    /// these that holds, and else for `Memory` alone, also where the items are more than
-    /// `usize::MAX`. A call that fails returns the nodes.
+    /// Returns a replica of these nodes, which expects the event `next`: it follows a tree from
+    /// where the tree had these nodes and this next number. It takes the nodes as they are,
+    /// compares neighbouring items once, and allocates the index of their lengths. Fails at the
+    /// first node that is `Empty`, `Unsorted`, or `Overlaps` the one before, by the first of these
+    /// that holds, else with `Memory`, also where the items are more than `usize::MAX`. A failed
+    /// call returns the nodes in the error.
     ///
     /// ```
     /// // A snapshot: the nodes of a tree, and the number of its next event.
@@ -54,6 +54,15 @@ impl<T: Ord + Clone + Drop> Replica<T> {
 
     /// Returns the nodes, in constant time. A logged tree made of them with `from_nodes` and the
     /// number that `next` returned continues where the replica stopped.
+    ///
+    /// ```
+    /// // The replica goes on as the tree.
+    /// let nodes = vec![in alloc; vec![in alloc; 10, 20]?, vec![in alloc; 30]?]?;
+    /// let replica = Replica::from_nodes(nodes, 3)?;
+    /// let next = replica.next();
+    /// let tree: set::BTreeSet<u64, Vec<u64>> = set::BTreeSet::from_nodes(replica.into_nodes(), 64, next)?;
+    /// assert!(rt; tree.len() == 3 && tree.events_issued() == 3);
+    /// ```
     pub fn into_nodes(self) -> Vec<Vec<T>>
         ensures value { vec_items result.items ≡ self.nodes }
         ensures lawful { IsNodeList T.cmp self.nodes }

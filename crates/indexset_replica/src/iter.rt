@@ -116,7 +116,14 @@ impl<'a, T> Clone for Iter<'a, T> {
 }
 
 impl<T: Ord + Clone + Drop> Replica<T> {
-    /// Returns the items, in order and from both ends, in constant time. It allocates nothing.
+    /// Returns a double-ended iterator over the items, in order, in constant time. It allocates
+    /// nothing.
+    ///
+    /// ```
+    /// let nodes = vec![in alloc; vec![in alloc; 10, 20]?, vec![in alloc; 30]?]?;
+    /// let replica = Replica::from_nodes(nodes, 3)?;
+    /// assert!(rt; replica.iter().rev().copied().eq([30, 20, 10]));
+    /// ```
     pub fn iter(&self) -> Iter<'_, T>
         ensures rest { result ≡ joined self.now.nodes }
         ensures runs { ShowsInOrder (deref {X = T}) }

@@ -61,8 +61,13 @@ impl<T: Ord + Clone + Drop> Model for Replica<T> {
 }
 
 impl<T: Ord + Clone + Drop> Replica<T> {
-    /// Returns a replica without nodes, whose first event is to have the number `next`. It
-    /// allocates nothing.
+    /// Returns a replica without nodes, which expects the event `next`. It allocates nothing.
+    ///
+    /// ```
+    /// let mut replica: Replica<u64> = Replica::new(alloc, 0);
+    /// replica.apply(&ChangeEvent::CreateNode { event_id: Id::from(0), max_value: 5 })?;
+    /// assert!(rt; replica.len() == 1 && replica.next() == 1);
+    /// ```
     pub fn new(alloc: Global, next: u64) -> Self
         ensures { result ≡ record { nodes = []; next = next } }
     {
@@ -74,6 +79,12 @@ impl<T: Ord + Clone + Drop> Replica<T> {
     }
 
     /// Returns the nodes, in order, in constant time.
+    ///
+    /// ```
+    /// let nodes = vec![in alloc; vec![in alloc; 10, 20]?, vec![in alloc; 30]?]?;
+    /// let replica = Replica::from_nodes(nodes, 3)?;
+    /// assert!(rt; replica.nodes().len() == 2);
+    /// ```
     pub fn nodes(&self) -> &[Vec<T>]
         ensures value { vec_items result.now ≡ self.now.nodes }
         ensures lawful { IsNodeList T.cmp self.now.nodes }
@@ -82,6 +93,11 @@ impl<T: Ord + Clone + Drop> Replica<T> {
     }
 
     /// Returns the number of the next event, in constant time.
+    ///
+    /// ```
+    /// let replica: Replica<u64> = Replica::new(alloc, 7);
+    /// assert!(rt; replica.next() == 7);
+    /// ```
     pub fn next(&self) -> u64
         ensures { result ≡ self.now.next }
     {
@@ -93,6 +109,12 @@ impl<T: Ord + Clone + Drop> Replica<T> {
     /// fails with the first of these: `Empty`; `Unsorted`, where the node is not strictly
     /// ascending; `Overlaps`, where it does not lie wholly before, after or between two
     /// neighbouring nodes; `Memory`. A call that fails returns the node and changes nothing.
+    ///
+    /// ```
+    /// let mut replica: Replica<u64> = Replica::new(alloc, 7);
+    /// replica.attach(vec![in alloc; 10, 20]?)?;
+    /// assert!(rt; replica.len() == 2 && replica.next() == 7);
+    /// ```
     pub fn attach(&mut self, node: Vec<T>) -> Result<(), Refused<Vec<T>>>
         ensures nodes { OnOk result (self.new.nodes ≡ attached T.cmp self.old.nodes node.items) }
         ensures good { OnOk result (attach_refusal T.cmp (length node.items) self.old.nodes

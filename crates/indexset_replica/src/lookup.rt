@@ -31,9 +31,9 @@ pub enum Turn {
 }
 
 impl<T: Ord + Clone + Drop> Replica<T> {
-    /// Returns the held item equal to the value, or `None` where there is none, by two binary
-    /// searches: one among the nodes and one in a node. A pair is sought by its key, and of
-    /// numbered pairs the first of the key is returned.
+    /// Returns the item equal to the value, if any, by two binary searches: one among the nodes and
+    /// one in a node. A pair is sought by its key, and of numbered pairs the first of the key is
+    /// returned.
     ///
     /// ```
     /// let mut copy: Replica<Pair<u64, u64>> = Replica::new(alloc, 0);
@@ -49,17 +49,29 @@ impl<T: Ord + Clone + Drop> Replica<T> {
         self.get_by(&mut ByKeyOf::new(value))
     }
 
-    /// Returns whether an equal item is held, by the same two binary searches. A pair is sought by
-    /// its key.
+    /// Returns whether an item equal to the value is present, by the same two binary searches. A
+    /// pair is sought by its key.
+    ///
+    /// ```
+    /// let nodes = vec![in alloc; vec![in alloc; 10, 20]?, vec![in alloc; 30]?]?;
+    /// let replica = Replica::from_nodes(nodes, 3)?;
+    /// assert!(rt; replica.contains(&20) && !replica.contains(&25));
+    /// ```
     pub fn contains<Q: KeyOf<T>>(&self, value: &Q) -> bool
         ensures { result ≡ has_by_key Q.cmp Q.key (joined self.now.nodes) value.now }
     {
         self.get(value).is_some()
     }
 
-    /// Returns the first held item that the comparator finds equal, or `None` where there is none,
-    /// by the same two searches, with at most one comparison more. The comparator must find the
-    /// items in order.
+    /// Returns the first item that the comparator finds equal, if any, by the same two searches,
+    /// with at most one comparison more. The comparator must find the items in order.
+    ///
+    /// ```
+    /// # use indexset::base::probe::ByItem;
+    /// let nodes = vec![in alloc; vec![in alloc; 10, 20]?, vec![in alloc; 30]?]?;
+    /// let replica = Replica::from_nodes(nodes, 3)?;
+    /// assert!(rt; replica.get_by(&mut ByItem::new(&20)) == Some(&20));
+    /// ```
     pub fn get_by<P: Probe<T>>(&self, probe: &mut P) -> Option<&T>
         requires { IsParted (P.answer probe.old) (joined self.now.nodes) }
         ensures value { option_copied result
@@ -78,21 +90,38 @@ impl<T: Ord + Clone + Drop> Replica<T> {
         }
     }
 
-    /// Returns whether no item is held, in constant time.
+    /// Returns whether there is no item, in constant time.
+    ///
+    /// ```
+    /// let replica: Replica<u64> = Replica::new(alloc, 0);
+    /// assert!(rt; replica.is_empty());
+    /// ```
     pub fn is_empty(&self) -> bool
         ensures { result ≡ (length (joined self.now.nodes) == 0) }
     {
         self.nodes.is_empty()
     }
 
-    /// Returns the least held item, or `None` where there is none, in constant time.
+    /// Returns the first item, the least, if any, in constant time.
+    ///
+    /// ```
+    /// let nodes = vec![in alloc; vec![in alloc; 10, 20]?, vec![in alloc; 30]?]?;
+    /// let replica = Replica::from_nodes(nodes, 3)?;
+    /// assert!(rt; replica.first() == Some(&10));
+    /// ```
     pub fn first(&self) -> Option<&T>
         ensures { option_copied result ≡ first_item (joined self.now.nodes) }
     {
         item_from(self.nodes.as_slice(), 0)
     }
 
-    /// Returns the greatest held item, or `None` where there is none, in constant time.
+    /// Returns the last item, the greatest, if any, in constant time.
+    ///
+    /// ```
+    /// let nodes = vec![in alloc; vec![in alloc; 10, 20]?, vec![in alloc; 30]?]?;
+    /// let replica = Replica::from_nodes(nodes, 3)?;
+    /// assert!(rt; replica.last() == Some(&30));
+    /// ```
     pub fn last(&self) -> Option<&T>
         ensures { option_copied result ≡ last_item (joined self.now.nodes) }
     {
@@ -103,6 +132,14 @@ impl<T: Ord + Clone + Drop> Replica<T> {
     /// Returns whether the event is the next one, is one that was applied already (`Had`), or comes
     /// after events that are missing (`Missing`), in constant time. `apply` fails with `Gap` for
     /// the two last. It looks at the number alone, not at whether the event applies.
+    ///
+    /// ```
+    /// # use indexset::replica::lookup::Turn;
+    /// let replica: Replica<u64> = Replica::new(alloc, 3);
+    /// let late = ChangeEvent::CreateNode { event_id: Id::from(2), max_value: 5 };
+    /// let early = ChangeEvent::CreateNode { event_id: Id::from(4), max_value: 5 };
+    /// assert!(rt; replica.expects(&late) == Turn::Had && replica.expects(&early) == Turn::Missing);
+    /// ```
     pub fn expects(&self, event: &ChangeEvent<T>) -> Turn
         ensures { result ≡ (if event_number event.now
             == self.now.next then Turn.Next else if nat_lt (event_number event.now) self.now.next

@@ -19,7 +19,13 @@ use indexset_core::walk::ReadVec;
 use std::ops::Bound;
 
 impl<T: Ord + Clone + Drop> Replica<T> {
-    /// Returns how many items are held, in constant time.
+    /// Returns the number of items, in constant time.
+    ///
+    /// ```
+    /// let nodes = vec![in alloc; vec![in alloc; 10, 20]?, vec![in alloc; 30]?]?;
+    /// let replica = Replica::from_nodes(nodes, 3)?;
+    /// assert!(rt; replica.len() == 3);
+    /// ```
     pub fn len(&self) -> usize
         ensures { result ≡ length (joined self.now.nodes) }
     {
@@ -76,6 +82,12 @@ impl<T: Ord + Clone + Drop> Replica<T> {
 
     /// Returns how many items equal the value, by four binary searches and two sums over the index.
     /// Of pairs, it is how many have the key.
+    ///
+    /// ```
+    /// let nodes = vec![in alloc; vec![in alloc; MultiPair::new(1, 100, 0), MultiPair::new(1, 101, 1)]?]?;
+    /// let replica: Replica<MultiPair<u64, u64>> = Replica::from_nodes(nodes, 2)?;
+    /// assert!(rt; replica.count(&1) == 2 && replica.count(&2) == 0);
+    /// ```
     pub fn count<Q: KeyOf<T>>(&self, value: &Q) -> usize
         ensures { result ≡ count_by_key Q.cmp Q.key (joined self.now.nodes) value.now }
     {
@@ -100,9 +112,8 @@ impl<T: Ord + Clone + Drop> Replica<T> {
         Some(&items[offset])
     }
 
-    /// Returns the items at the positions that satisfy both bounds, in order and from both ends.
-    /// There is none where the bounds are the wrong way round, and positions past the end have
-    /// none.
+    /// Returns a double-ended iterator over the items at the positions within the bounds, clipped
+    /// to the length, in order.
     ///
     /// ```
     /// // The second page of two items each.
@@ -127,8 +138,15 @@ impl<T: Ord + Clone + Drop> Replica<T> {
         )
     }
 
-    /// Returns how many items stand before the start, a bound on what a comparator seeks, by two
+    /// Returns how many items are before the start, a bound given by a comparator, by two
     /// binary searches and a sum over the index.
+    ///
+    /// ```
+    /// # use indexset::base::probe::ByItem;
+    /// let nodes = vec![in alloc; vec![in alloc; 10, 20]?, vec![in alloc; 30]?]?;
+    /// let replica = Replica::from_nodes(nodes, 3)?;
+    /// assert!(rt; replica.count_before(Bound::Included(ByItem::new(&20))) == 1);
+    /// ```
     pub fn count_before<P: Probe<T> + Drop>(&self, start: Bound<P>) -> usize
         requires { IfBounded (λ p. IsParted (P.answer p) (joined self.now.nodes)) start }
         ensures { result ≡ count_by (is_before (λ x p. P.answer p x) start)
@@ -139,8 +157,15 @@ impl<T: Ord + Clone + Drop> Replica<T> {
         self.lengths.position(nodes, place)
     }
 
-    /// Returns how many items are not past the end, a bound on what a comparator seeks, by two
+    /// Returns how many items are not past the end, a bound given by a comparator, by two
     /// binary searches and a sum over the index.
+    ///
+    /// ```
+    /// # use indexset::base::probe::ByItem;
+    /// let nodes = vec![in alloc; vec![in alloc; 10, 20]?, vec![in alloc; 30]?]?;
+    /// let replica = Replica::from_nodes(nodes, 3)?;
+    /// assert!(rt; replica.count_up_to(Bound::Included(ByItem::new(&20))) == 2);
+    /// ```
     pub fn count_up_to<P: Probe<T> + Drop>(&self, end: Bound<P>) -> usize
         requires { IfBounded (λ p. IsParted (P.answer p) (joined self.now.nodes)) end }
         ensures { result ≡ count_by (is_up_to_end (λ x p. P.answer p x) end)

@@ -14,8 +14,8 @@ use indexset_core::walk::ReadVec;
 use std::ops::Bound;
 
 impl<T: Ord + Clone + Drop> Replica<T> {
-    /// Returns the items that satisfy both bounds, in order and from both ends: pairs by bounds on
-    /// their keys. The start must not be past the end, nor at it where both are excluded (see
+    /// Returns a double-ended iterator over the items within the range, in order: of pairs a range
+    /// of keys. The start must not be past the end, nor at it where both are excluded (see
     /// `base::bounds::bounds_are_ordered`). For each bound that names an item it makes two binary
     /// searches: one among the nodes and one in a node. It allocates nothing.
     ///

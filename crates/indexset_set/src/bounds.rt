@@ -18,9 +18,11 @@ pub trait Bounds<T> {
     /// The bound at the end.
     ghost end: { Self → Bound T };
 
+    /// Returns the bound at the start.
     fn start_bound(&self) -> Bound<&T>
         ensures { bound_map (λ x. x.now) result ≡ start self.now };
 
+    /// Returns the bound at the end.
     fn end_bound(&self) -> Bound<&T>
         ensures { bound_map (λ x. x.now) result ≡ end self.now };
 }

@@ -18,7 +18,7 @@ use std::ops::Bound;
 impl<K: Ord, V> BTreeSet<Pair<K, V>> {
     /// Returns a double-ended iterator over the pairs whose keys are within the range, in order.
     /// The start must not be past the end, nor at it where both are excluded (see
-    /// `base::bounds::bounds_are_ordered`). (The Rust crate's map reaches into the set.)
+    /// `base::bounds::bounds_are_ordered`).
     ///
     /// ```
     /// let (one, two) = (Pair { key: 1, value: 10 }, Pair { key: 2, value: 20 });

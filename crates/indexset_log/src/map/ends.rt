@@ -13,7 +13,14 @@ use indexset_core::refusal::Refusal;
 use indexset_events::change::ChangeEvent;
 
 impl<K: Ord + Clone + Drop, V: Clone + Drop, Node: NodeLike<Pair<K, V>>> BTreeMap<K, V, Node> {
-    /// Returns the least key and its value, or `None` where there is none, in constant time.
+    /// Returns the first key, the least, and its value, if any, in constant time.
+    ///
+    /// ```
+    /// let mut tree: map::BTreeMap<u64, u64, Vec<Pair<u64, u64>>> = map::BTreeMap::new(alloc);
+    /// tree.insert(1, 10)?;
+    /// tree.insert(2, 20)?;
+    /// assert!(rt; tree.first_key_value() == Some((&1, &10)));
+    /// ```
     pub fn first_key_value(&self) -> Option<(&K, &V)>
         ensures pair { option_map (λ p. (p.0.now, p.1.now)) result
             ≡ option_map entry_of (slice_get (joined self.now.nodes) 0) }
@@ -25,7 +32,14 @@ impl<K: Ord + Clone + Drop, V: Clone + Drop, Node: NodeLike<Pair<K, V>>> BTreeMa
         Some((&pair.key, &pair.value))
     }
 
-    /// Returns the greatest key and its value, or `None` where there is none, in constant time.
+    /// Returns the last key, the greatest, and its value, if any, in constant time.
+    ///
+    /// ```
+    /// let mut tree: map::BTreeMap<u64, u64, Vec<Pair<u64, u64>>> = map::BTreeMap::new(alloc);
+    /// tree.insert(1, 10)?;
+    /// tree.insert(2, 20)?;
+    /// assert!(rt; tree.last_key_value() == Some((&2, &20)));
+    /// ```
     pub fn last_key_value(&self) -> Option<(&K, &V)>
         ensures pair { option_map (λ p. (p.0.now, p.1.now)) result
             ≡ option_map entry_of (slice_get (joined self.now.nodes)
@@ -42,6 +56,14 @@ impl<K: Ord + Clone + Drop, V: Clone + Drop, Node: NodeLike<Pair<K, V>>> BTreeMa
     /// of `remove_cdc` of that key. A node that is left small is merged with a small neighbour.
     /// Fails with `Numbers` where the events do not fit the counter, else with `Memory`. A failed
     /// call changes nothing.
+    ///
+    /// ```
+    /// let mut tree: map::BTreeMap<u64, u64, Vec<Pair<u64, u64>>> = map::BTreeMap::new(alloc);
+    /// tree.insert(1, 10)?;
+    /// tree.insert(2, 20)?;
+    /// let (removed, events) = tree.pop_first_cdc()?;
+    /// assert!(rt; removed == Some((1, 10)) && events.len() == 1);
+    /// ```
     pub fn pop_first_cdc(
         &mut self,
     ) -> Result<(Option<(K, V)>, Vec<ChangeEvent<Pair<K, V>>>), Refusal>
@@ -64,6 +86,14 @@ impl<K: Ord + Clone + Drop, V: Clone + Drop, Node: NodeLike<Pair<K, V>>> BTreeMa
     /// as `pop_first_cdc`, and fails with `Numbers` where they do not fit. It allocates only where
     /// it merges two nodes of a type that allocates, and else does not fail with `Memory`. A failed
     /// call changes nothing.
+    ///
+    /// ```
+    /// let mut tree: map::BTreeMap<u64, u64, Vec<Pair<u64, u64>>> = map::BTreeMap::new(alloc);
+    /// tree.insert(1, 10)?;
+    /// tree.insert(2, 20)?;
+    /// assert!(rt; tree.pop_first()? == Some((1, 10)) && tree.pop_first()? == Some((2, 20)));
+    /// assert!(rt; tree.pop_first()?.is_none());
+    /// ```
     pub fn pop_first(&mut self) -> Result<Option<(K, V)>, Refusal>
         ensures answer { IfOk result (λ entry.
             entry ≡ option_map entry_of (slice_get (joined self.old.nodes) 0)) }
@@ -86,6 +116,14 @@ impl<K: Ord + Clone + Drop, V: Clone + Drop, Node: NodeLike<Pair<K, V>>> BTreeMa
     /// those of `remove_cdc` of that key. A node that is left small is merged with a small
     /// neighbour. Fails with `Numbers` where the events do not fit the counter, else with `Memory`.
     /// A failed call changes nothing.
+    ///
+    /// ```
+    /// let mut tree: map::BTreeMap<u64, u64, Vec<Pair<u64, u64>>> = map::BTreeMap::new(alloc);
+    /// tree.insert(1, 10)?;
+    /// tree.insert(2, 20)?;
+    /// let (removed, events) = tree.pop_last_cdc()?;
+    /// assert!(rt; removed == Some((2, 20)) && events.len() == 1);
+    /// ```
     pub fn pop_last_cdc(
         &mut self,
     ) -> Result<(Option<(K, V)>, Vec<ChangeEvent<Pair<K, V>>>), Refusal>
@@ -109,6 +147,14 @@ impl<K: Ord + Clone + Drop, V: Clone + Drop, Node: NodeLike<Pair<K, V>>> BTreeMa
     /// numbers as `pop_last_cdc`, and fails with `Numbers` where they do not fit. It allocates only
     /// where it merges two nodes of a type that allocates, and else does not fail with `Memory`. A
     /// failed call changes nothing.
+    ///
+    /// ```
+    /// let mut tree: map::BTreeMap<u64, u64, Vec<Pair<u64, u64>>> = map::BTreeMap::new(alloc);
+    /// tree.insert(1, 10)?;
+    /// tree.insert(2, 20)?;
+    /// assert!(rt; tree.pop_last()? == Some((2, 20)) && tree.pop_last()? == Some((1, 10)));
+    /// assert!(rt; tree.pop_last()?.is_none());
+    /// ```
     pub fn pop_last(&mut self) -> Result<Option<(K, V)>, Refusal>
         ensures answer { IfOk result (λ entry.
             entry ≡ option_map entry_of (slice_get (joined self.old.nodes)

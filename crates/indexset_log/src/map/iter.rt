@@ -72,7 +72,14 @@ impl<'a, K: Ord + Clone + Drop, V: Clone + Drop, Node: NodeLike<Pair<K, V>>> Fus
     for Iter<'a, K, V, Node> {}
 
 impl<K: Ord + Clone + Drop, V: Clone + Drop, Node: NodeLike<Pair<K, V>>> BTreeMap<K, V, Node> {
-    /// Returns the pairs, in order.
+    /// Returns a double-ended iterator over the pairs, in the order of their keys.
+    ///
+    /// ```
+    /// let mut tree: map::BTreeMap<u64, u64, Vec<Pair<u64, u64>>> = map::BTreeMap::new(alloc);
+    /// tree.insert(2, 20)?;
+    /// tree.insert(1, 10)?;
+    /// assert!(rt; tree.iter().eq([(&1, &10), (&2, &20)]));
+    /// ```
     pub fn iter(&self) -> Iter<'_, K, V, Node>
         ensures rest { result ≡ joined self.now.nodes }
         ensures runs { ShowsInOrder (pair_shown {K = K} {V = V}) }

@@ -38,7 +38,14 @@ impl<K: Ord + Clone + Drop, V: Clone + Drop, Node: NodeLike<Pair<K, V>>> BTreeMa
     }
 
     /// Returns the stored key and the value of the first pair that the comparator finds equal, or
-    /// `None` where there is none, as `get_by` finds it.
+    /// `None` if there is none, as `get_by` finds it.
+    ///
+    /// ```
+    /// let mut prices: map::BTreeMap<String, u64, Vec<Pair<String, u64>>> = map::BTreeMap::new(alloc);
+    /// prices.insert(String::from_str(alloc, "pear")?, 120)?;
+    /// let mut sought = OnKey::new(ByStr::new("pear"));
+    /// assert!(rt; prices.get_key_value_by(&mut sought).is_some_and(|(_, price)| *price == 120));
+    /// ```
     pub fn get_key_value_by<P: Probe<Pair<K, V>>>(&self, probe: &mut P) -> Option<(&K, &V)>
         requires { IsParted (P.answer probe.old) (joined self.now.nodes) }
         ensures pair { option_map (λ p. (p.0.now, p.1.now)) result
@@ -52,7 +59,7 @@ impl<K: Ord + Clone + Drop, V: Clone + Drop, Node: NodeLike<Pair<K, V>>> BTreeMa
         Some((&pair.key, &pair.value))
     }
 
-    /// Returns how many keys are below the key, by two binary searches and a sum of lengths.
+    /// Returns how many keys are below the key, by two binary searches and a sum over the index.
     ///
     /// ```
     /// let mut tree: map::BTreeMap<u64, u64, Vec<Pair<u64, u64>>> = map::BTreeMap::new(alloc);
@@ -73,7 +80,7 @@ impl<K: Ord + Clone + Drop, V: Clone + Drop, Node: NodeLike<Pair<K, V>>> BTreeMa
         self.set.count_before(Bound::Included(self.by_key(key)))
     }
 
-    /// Returns the position of a key, or `None`, by two binary searches and a sum of lengths.
+    /// Returns the position of a key, or `None`, by two binary searches and a sum over the index.
     ///
     /// ```
     /// let mut tree: map::BTreeMap<u64, u64, Vec<Pair<u64, u64>>> = map::BTreeMap::new(alloc);
@@ -91,7 +98,15 @@ impl<K: Ord + Clone + Drop, V: Clone + Drop, Node: NodeLike<Pair<K, V>>> BTreeMa
         self.set.position_by(&mut self.by_key(key)).ok()
     }
 
-    /// Returns how many pairs stand before the start, a bound on what a probe seeks.
+    /// Returns how many pairs are before the start, a bound given by a comparator.
+    ///
+    /// ```
+    /// # use indexset::base::probe::ByKey;
+    /// let mut tree: map::BTreeMap<u64, u64, Vec<Pair<u64, u64>>> = map::BTreeMap::new(alloc);
+    /// tree.insert(1, 10)?;
+    /// tree.insert(2, 20)?;
+    /// assert!(rt; tree.count_before(Bound::Included(ByKey::new(&2))) == 1);
+    /// ```
     pub fn count_before<P: Probe<Pair<K, V>> + Drop>(&self, start: Bound<P>) -> usize
         requires { IfBounded (λ p. IsParted (P.answer p) (joined self.now.nodes)) start }
         ensures { result ≡ count_by (is_before (λ x p. P.answer p x) start)
@@ -100,7 +115,15 @@ impl<K: Ord + Clone + Drop, V: Clone + Drop, Node: NodeLike<Pair<K, V>>> BTreeMa
         self.set.count_before(start)
     }
 
-    /// Returns how many pairs are not past the end, a bound on what a probe seeks.
+    /// Returns how many pairs are not past the end, a bound given by a comparator.
+    ///
+    /// ```
+    /// # use indexset::base::probe::ByKey;
+    /// let mut tree: map::BTreeMap<u64, u64, Vec<Pair<u64, u64>>> = map::BTreeMap::new(alloc);
+    /// tree.insert(1, 10)?;
+    /// tree.insert(2, 20)?;
+    /// assert!(rt; tree.count_up_to(Bound::Included(ByKey::new(&2))) == 2);
+    /// ```
     pub fn count_up_to<P: Probe<Pair<K, V>> + Drop>(&self, end: Bound<P>) -> usize
         requires { IfBounded (λ p. IsParted (P.answer p) (joined self.now.nodes)) end }
         ensures { result ≡ count_by (is_up_to_end (λ x p. P.answer p x) end)
@@ -126,9 +149,8 @@ impl<K: Ord + Clone + Drop, V: Clone + Drop, Node: NodeLike<Pair<K, V>>> BTreeMa
         Some((&pair.key, &pair.value))
     }
 
-    /// Returns the pairs at the positions that satisfy both bounds, in order. There is none where
-    /// the bounds are the wrong way round, and positions past the end have none. It makes no
-    /// comparison.
+    /// Returns a double-ended iterator over the pairs at the positions within the bounds, clipped
+    /// to the length, in order. It makes no comparison.
     ///
     /// ```
     /// let mut tree: map::BTreeMap<u64, u64, Vec<Pair<u64, u64>>> = map::BTreeMap::new(alloc);

@@ -13,7 +13,7 @@ use indexset_core::refusal::Refused;
 use indexset_events::change::ChangeEvent;
 
 impl<K: Ord + Clone + Drop, V: Clone + Drop, Node: NodeLike<Pair<K, V>>> BTreeMap<K, V, Node> {
-    /// Inserts a pair, replaces that of an equal key and returns its value, and returns the events.
+    /// Inserts a pair, or replaces that of an equal key, and returns the old value with the events.
     /// A failed call returns key and value in the error and changes nothing.
     ///
     /// ```
@@ -48,9 +48,15 @@ impl<K: Ord + Clone + Drop, V: Clone + Drop, Node: NodeLike<Pair<K, V>>> BTreeMa
         Ok((value_in(old), events))
     }
 
-    /// Inserts a pair where the key is absent, and returns the events. If it is present, returns
+    /// Inserts a pair if the key is absent, and returns the events. If it is present, returns
     /// `None`, drops key and value, consumes no event number, allocates nothing and changes
     /// nothing.
+    ///
+    /// ```
+    /// let mut tree: map::BTreeMap<u64, u64, Vec<Pair<u64, u64>>> = map::BTreeMap::new(alloc);
+    /// assert!(rt; tree.checked_insert_cdc(1, 10)?.is_some_and(|events| events.len() == 1));
+    /// assert!(rt; tree.checked_insert_cdc(1, 11)?.is_none());
+    /// ```
     pub fn checked_insert_cdc(
         &mut self,
         key: K,
@@ -75,9 +81,14 @@ impl<K: Ord + Clone + Drop, V: Clone + Drop, Node: NodeLike<Pair<K, V>>> BTreeMa
         Ok(self.set.put_cdc_checked(Pair { key, value })?)
     }
 
-    /// Inserts a pair, or replaces that of an equal key and returns its value. It consumes as many
-    /// event numbers as `insert_cdc`. A failed call returns key and value in the error and changes
-    /// nothing.
+    /// Inserts a pair, or replaces that of an equal key and returns the old value. It consumes as
+    /// many event numbers as `insert_cdc`. A failed call returns key and value in the error and
+    /// changes nothing.
+    ///
+    /// ```
+    /// let mut tree: map::BTreeMap<u64, u64, Vec<Pair<u64, u64>>> = map::BTreeMap::new(alloc);
+    /// assert!(rt; tree.insert(1, 10)?.is_none() && tree.insert(1, 11)? == Some(10));
+    /// ```
     pub fn insert(&mut self, key: K, value: V) -> Result<Option<V>, Refused<(K, V)>>
         ensures answer { IfOk result (λ old. old ≡ value_of K.cmp (joined self.old.nodes) key) }
         ensures refusal { IfErr result (λ e.
@@ -94,8 +105,14 @@ impl<K: Ord + Clone + Drop, V: Clone + Drop, Node: NodeLike<Pair<K, V>>> BTreeMa
         Ok(old.map(|pair| pair.value))
     }
 
-    /// Inserts a pair where the key is absent. If it is present, returns `None`, drops key and
-    /// value, consumes no event number, allocates nothing and changes nothing.
+    /// Inserts a pair if the key is absent. If it is present, returns `None`, drops key and value,
+    /// consumes no event number, allocates nothing and changes nothing.
+    ///
+    /// ```
+    /// let mut tree: map::BTreeMap<u64, u64, Vec<Pair<u64, u64>>> = map::BTreeMap::new(alloc);
+    /// assert!(rt; tree.checked_insert(1, 10)?.is_some() && tree.checked_insert(1, 11)?.is_none());
+    /// assert!(rt; tree.get(&1).is_some_and(|pair| pair.value == 10));
+    /// ```
     pub fn checked_insert(&mut self, key: K, value: V) -> Result<Option<()>, Refused<(K, V)>>
         ensures answer { IfOk result (λ r. is_none r ≡ has_key K.cmp (joined self.old.nodes) key) }
         ensures refusal { IfErr result (λ e.

@@ -18,8 +18,9 @@ use std::ops::Bound;
 pub type Range<'a, K, V, Node> = Iter<'a, K, V, Node>;
 
 impl<K: Ord + Clone + Drop, V: Clone + Drop, Node: NodeLike<Pair<K, V>>> BTreeMap<K, V, Node> {
-    /// Returns the pairs whose keys satisfy both bounds, in order. The start must not be past the
-    /// end, nor at it where both are excluded (see `base::bounds::bounds_are_ordered`).
+    /// Returns a double-ended iterator over the pairs whose keys are within the range, in order.
+    /// The start must not be past the end, nor at it where both are excluded (see
+    /// `base::bounds::bounds_are_ordered`).
     ///
     /// ```
     /// // The pairs of the keys from 10 on that are below 20.

@@ -54,6 +54,13 @@ impl<K: Ord + Clone + Drop, V: Clone + Drop, Node: NodeLike<Pair<K, V>>> BTreeMa
     /// `remove_cdc`, and fails with `Numbers` where they do not fit. It allocates only where it
     /// merges two nodes of a type that allocates, and else does not fail with `Memory`. A failed
     /// call changes nothing.
+    ///
+    /// ```
+    /// let mut tree: map::BTreeMap<u64, u64, Vec<Pair<u64, u64>>> = map::BTreeMap::new(alloc);
+    /// tree.insert(1, 10)?;
+    /// tree.insert(2, 20)?;
+    /// assert!(rt; tree.remove(&1)? == Some((1, 10)) && tree.remove(&1)?.is_none());
+    /// ```
     pub fn remove(&mut self, key: &K) -> Result<Option<(K, V)>, Refusal>
         ensures answer { IfOk result (λ entry.
             entry ≡ option_map entry_of (pair_of K.cmp (joined self.old.nodes) key.now)) }

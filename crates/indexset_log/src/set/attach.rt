@@ -19,11 +19,17 @@ use indexset_core::walk::ReadAny;
 use indexset_events::nodes::is_ascending;
 
 impl<T: Ord + Clone + Drop, Node: NodeLike<T>> BTreeSet<T, Node> {
-    /// Inserts a whole node in its place among the others. It gives no event and consumes no event
+    /// Inserts a whole node in its place among the others. It emits no event and consumes no event
     /// number. Fails with the first of these that holds: `Empty`; `TooLarge`, with more items than
     /// the node size; `Unsorted`, not strictly ascending; `Overlaps`, where it does not lie wholly
     /// before, after or between two neighbouring nodes; then `Memory`. A failed call returns the
     /// node in the error and changes nothing.
+    ///
+    /// ```
+    /// let mut tree: set::BTreeSet<u64, Vec<u64>> = set::BTreeSet::from_iter(alloc, [1, 2])?;
+    /// tree.attach_node(vec![in alloc; 5, 10]?)?;
+    /// assert!(rt; tree.node_count() == 2 && tree.last() == Some(&10));
+    /// ```
     pub fn attach_node(&mut self, node: Node) -> Result<(), Refused<Node>>
         ensures nodes { OnOk result (self.new.nodes ≡ attached T.cmp self.old.nodes
             (Node.list node)) }

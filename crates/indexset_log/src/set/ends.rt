@@ -12,7 +12,12 @@ use indexset_core::refusal::Refusal;
 use indexset_events::change::ChangeEvent;
 
 impl<T: Ord + Clone + Drop, Node: NodeLike<T>> BTreeSet<T, Node> {
-    /// Returns the least item, or `None` where there is none, in constant time.
+    /// Returns the first item, the least, if any, in constant time.
+    ///
+    /// ```
+    /// let tree: set::BTreeSet<u64, Vec<u64>> = set::BTreeSet::from_iter(alloc, [5, 10, 15])?;
+    /// assert!(rt; tree.first() == Some(&5));
+    /// ```
     pub fn first(&self) -> Option<&T>
         ensures element { option_copied result ≡ slice_get (joined self.now.nodes) 0 }
         ensures variant { IsSome result ↔ (0 < length (joined self.now.nodes)) }
@@ -22,7 +27,12 @@ impl<T: Ord + Clone + Drop, Node: NodeLike<T>> BTreeSet<T, Node> {
         self.iter().next()
     }
 
-    /// Returns the greatest item, or `None` where there is none, in constant time.
+    /// Returns the last item, the greatest, if any, in constant time.
+    ///
+    /// ```
+    /// let tree: set::BTreeSet<u64, Vec<u64>> = set::BTreeSet::from_iter(alloc, [5, 10, 15])?;
+    /// assert!(rt; tree.last() == Some(&15));
+    /// ```
     pub fn last(&self) -> Option<&T>
         ensures element { option_copied result ≡ slice_get (joined self.now.nodes)
             (length (joined self.now.nodes) - 1) }
@@ -37,6 +47,12 @@ impl<T: Ord + Clone + Drop, Node: NodeLike<T>> BTreeSet<T, Node> {
     /// `remove_cdc` of that item. A node that is left small is merged with a small neighbour. Fails
     /// with `Numbers` where the events do not fit the counter, else with `Memory`. A failed call
     /// changes nothing.
+    ///
+    /// ```
+    /// let mut tree: set::BTreeSet<u64, Vec<u64>> = set::BTreeSet::from_iter(alloc, [5, 10, 15])?;
+    /// let (removed, events) = tree.pop_first_cdc()?;
+    /// assert!(rt; removed == Some(5) && events.len() == 1);
+    /// ```
     pub fn pop_first_cdc(&mut self) -> Result<(Option<T>, Vec<ChangeEvent<T>>), Refusal>
         ensures answer { IfOk result (λ r. r.0 ≡ slice_get (joined self.old.nodes) 0) }
         ensures refusal { IfErr result (λ e. e ≡ refusal_of self.old
@@ -56,6 +72,12 @@ impl<T: Ord + Clone + Drop, Node: NodeLike<T>> BTreeSet<T, Node> {
     /// `pop_first_cdc`, and fails with `Numbers` where they do not fit. It allocates only where it
     /// merges two nodes of a type that allocates, and else does not fail with `Memory`. A failed
     /// call changes nothing.
+    ///
+    /// ```
+    /// let mut tree: set::BTreeSet<u64, Vec<u64>> = set::BTreeSet::from_iter(alloc, [5, 10])?;
+    /// assert!(rt; tree.pop_first()? == Some(5) && tree.pop_first()? == Some(10));
+    /// assert!(rt; tree.pop_first()?.is_none());
+    /// ```
     pub fn pop_first(&mut self) -> Result<Option<T>, Refusal>
         ensures answer { IfOk result (λ item. item ≡ slice_get (joined self.old.nodes) 0) }
         ensures refusal { IfErr result (λ e. e ≡ refusal_of self.old
@@ -77,6 +99,12 @@ impl<T: Ord + Clone + Drop, Node: NodeLike<T>> BTreeSet<T, Node> {
     /// `remove_cdc` of that item. A node that is left small is merged with a small neighbour. Fails
     /// with `Numbers` where the events do not fit the counter, else with `Memory`. A failed call
     /// changes nothing.
+    ///
+    /// ```
+    /// let mut tree: set::BTreeSet<u64, Vec<u64>> = set::BTreeSet::from_iter(alloc, [5, 10, 15])?;
+    /// let (removed, events) = tree.pop_last_cdc()?;
+    /// assert!(rt; removed == Some(15) && events.len() == 1);
+    /// ```
     pub fn pop_last_cdc(&mut self) -> Result<(Option<T>, Vec<ChangeEvent<T>>), Refusal>
         ensures answer { IfOk result (λ r.
             r.0 ≡ slice_get (joined self.old.nodes) (length (joined self.old.nodes) - 1)) }
@@ -97,6 +125,12 @@ impl<T: Ord + Clone + Drop, Node: NodeLike<T>> BTreeSet<T, Node> {
     /// `pop_last_cdc`, and fails with `Numbers` where they do not fit. It allocates only where it
     /// merges two nodes of a type that allocates, and else does not fail with `Memory`. A failed
     /// call changes nothing.
+    ///
+    /// ```
+    /// let mut tree: set::BTreeSet<u64, Vec<u64>> = set::BTreeSet::from_iter(alloc, [5, 10])?;
+    /// assert!(rt; tree.pop_last()? == Some(10) && tree.pop_last()? == Some(5));
+    /// assert!(rt; tree.pop_last()?.is_none());
+    /// ```
     pub fn pop_last(&mut self) -> Result<Option<T>, Refusal>
         ensures answer { IfOk result (λ item.
             item ≡ slice_get (joined self.old.nodes) (length (joined self.old.nodes) - 1)) }

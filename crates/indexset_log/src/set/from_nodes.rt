@@ -14,12 +14,18 @@ use std::alloc::Global;
 use std::marker::PhantomData;
 
 impl<T: Ord + Clone + Drop, Node: NodeLike<T>> BTreeSet<T, Node> {
-    /// Returns the tree of these nodes, whose first event has the number `next`: it continues where
+    /// Returns the tree of these nodes, whose events are numbered from `next`: it continues where
     /// another stopped. The nodes are taken as they are, no item is copied, and no event number is
     /// consumed; neighbouring nodes are compared once, and one number for each node is allocated.
     /// Fails at the first node that is `Empty`, `TooLarge`, `Unsorted`, or `Overlaps` the one
     /// before, by the first of these that holds; where none is, with `Memory`, also where there are
     /// more items than `usize::MAX`. A failed call returns the nodes in the error.
+    ///
+    /// ```
+    /// let nodes = vec![in alloc; vec![in alloc; 5, 10]?, vec![in alloc; 15]?]?;
+    /// let tree: set::BTreeSet<u64, Vec<u64>> = set::BTreeSet::from_nodes(nodes, 64, 7)?;
+    /// assert!(rt; tree.len() == 3 && tree.node_count() == 2 && tree.events_issued() == 7);
+    /// ```
     pub fn from_nodes(nodes: Vec<Node>, size: usize, next: u64) -> Result<Self, Refused<Vec<Node>>>
         requires two { 2 ≤ size }
         requires within { size ≤ Node.most }

@@ -99,7 +99,12 @@ impl<'a, T: Ord + Clone + Drop, Node: NodeLike<T>> ExactSizeIterator for Iter<'a
 impl<'a, T: Ord + Clone + Drop, Node: NodeLike<T>> FusedIterator for Iter<'a, T, Node> {}
 
 impl<T: Ord + Clone + Drop, Node: NodeLike<T>> BTreeSet<T, Node> {
-    /// Returns the items, in order.
+    /// Returns a double-ended iterator over the items, in order.
+    ///
+    /// ```
+    /// let tree: set::BTreeSet<u64, Vec<u64>> = set::BTreeSet::from_iter(alloc, [15, 5, 10])?;
+    /// assert!(rt; tree.iter().rev().copied().eq([15, 10, 5]));
+    /// ```
     pub fn iter(&self) -> Iter<'_, T, Node>
         ensures rest { result ≡ joined self.now.nodes }
         ensures ascending { IsAscending T.cmp result }

@@ -16,6 +16,11 @@ impl<T: Ord + Clone + Drop> BTreeSet<T, Vec<T>> {
     /// Returns the tree of what an iterator yields, inserted one by one: of equal ones the first
     /// stays. Fails with `Memory`, or with `Numbers` where the events of the items that came do not
     /// fit, and then all are dropped.
+    ///
+    /// ```
+    /// let tree: set::BTreeSet<u64, Vec<u64>> = set::BTreeSet::from_iter(alloc, [15, 5, 5])?;
+    /// assert!(rt; tree.iter().copied().eq([5, 15]));
+    /// ```
     pub fn from_iter<I: IntoIterator<Item = T>>(alloc: Global, iter: I) -> Result<Self, Refusal>
         requires { IsFiniteIterable I.into_iter_gives I.IntoIter.can_next
             I.IntoIter.remaining iter }
@@ -40,6 +45,11 @@ impl<T: Ord + Clone + Drop> BTreeSet<T, Vec<T>> {
     }
 
     /// Returns the tree of the values, as `from_iter` makes it.
+    ///
+    /// ```
+    /// let tree: set::BTreeSet<u64, Vec<u64>> = set::BTreeSet::from(alloc, vec![in alloc; 15, 5]?)?;
+    /// assert!(rt; tree.iter().copied().eq([5, 15]));
+    /// ```
     pub fn from(alloc: Global, values: Vec<T>) -> Result<Self, Refusal>
         ensures contents { IfOk result (λ s. joined s.nodes ≡ fold (keep T.cmp) [] values.items) }
         ensures tree { IfOk result (λ s. s ≡ fold (after_checked_put T.cmp)

@@ -66,7 +66,13 @@ impl<'a, Node> ExactSizeIterator for Nodes<'a, Node> {
 impl<'a, Node> FusedIterator for Nodes<'a, Node> {}
 
 impl<T: Ord + Clone + Drop, Node: NodeLike<T>> BTreeSet<T, Node> {
-    /// Returns the nodes, in order.
+    /// Returns a double-ended iterator over the nodes, in order.
+    ///
+    /// ```
+    /// let nodes = vec![in alloc; vec![in alloc; 5, 10]?, vec![in alloc; 15]?]?;
+    /// let tree: set::BTreeSet<u64, Vec<u64>> = set::BTreeSet::from_nodes(nodes, 64, 0)?;
+    /// assert!(rt; tree.iter_nodes().map(|node| node.len()).eq([2, 1]));
+    /// ```
     pub fn iter_nodes(&self) -> Nodes<'_, Node>
         ensures rest { map Node.list result ≡ self.now.nodes }
         ensures runs { ShowsInOrder (deref {X = Node}) }
@@ -79,6 +85,11 @@ impl<T: Ord + Clone + Drop, Node: NodeLike<T>> BTreeSet<T, Node> {
 
     /// Returns how many items there is room for: the sum of the nodes' capacities, which stops at
     /// `usize::MAX`.
+    ///
+    /// ```
+    /// let tree: set::BTreeSet<u64, Vec<u64>> = set::BTreeSet::from_iter(alloc, [5, 10, 15])?;
+    /// assert!(rt; tree.capacity() >= tree.len());
+    /// ```
     pub fn capacity(&self) -> usize
         ensures enough { length (joined self.now.nodes) ≤ result }
         ensures sum { AddsUp Node.list Node.room self.now.nodes result }

@@ -44,7 +44,7 @@ impl<T: Ord + Clone + Drop, Node: NodeLike<T>> BTreeSet<T, Node> {
     }
 
     /// Returns the position of the item equal to the value, or `None`, by two binary searches and a
-    /// sum of lengths.
+    /// sum over the index.
     ///
     /// ```
     /// let mut set: set::BTreeSet<u64, Vec<u64>> = set::BTreeSet::new(alloc);
@@ -64,6 +64,13 @@ impl<T: Ord + Clone + Drop, Node: NodeLike<T>> BTreeSet<T, Node> {
 
     /// Returns the position of the first item that the probe finds Equal, or where it finds none,
     /// how many it finds Less. It compares as `locate_by` does.
+    ///
+    /// ```
+    /// # use indexset::base::probe::ByItem;
+    /// let tree: set::BTreeSet<u64, Vec<u64>> = set::BTreeSet::from_iter(alloc, [5, 10, 15])?;
+    /// assert!(rt; tree.position_by(&mut ByItem::new(&10)) == Ok(1));
+    /// assert!(rt; tree.position_by(&mut ByItem::new(&12)) == Err(2));
+    /// ```
     pub fn position_by<P: Probe<T>>(&self, probe: &mut P) -> Result<usize, usize>
         requires { IsParted (P.answer probe.old) (joined self.now.nodes) }
         ensures found { IfOk result (λ i. position (λ x. is_eq (P.answer probe.old x))
@@ -82,7 +89,13 @@ impl<T: Ord + Clone + Drop, Node: NodeLike<T>> BTreeSet<T, Node> {
         }
     }
 
-    /// Returns how many items stand before the start, a bound on what a probe seeks.
+    /// Returns how many items are before the start, a bound given by a comparator.
+    ///
+    /// ```
+    /// # use indexset::base::probe::ByItem;
+    /// let tree: set::BTreeSet<u64, Vec<u64>> = set::BTreeSet::from_iter(alloc, [5, 10, 15])?;
+    /// assert!(rt; tree.count_before(Bound::Included(ByItem::new(&10))) == 1);
+    /// ```
     pub fn count_before<P: Probe<T> + Drop>(&self, start: Bound<P>) -> usize
         requires { IfBounded (λ p. IsParted (P.answer p) (joined self.now.nodes)) start }
         ensures { result ≡ count_by (is_before (λ x p. P.answer p x) start)
@@ -91,7 +104,13 @@ impl<T: Ord + Clone + Drop, Node: NodeLike<T>> BTreeSet<T, Node> {
         self.position(self.place_from(start))
     }
 
-    /// Returns how many items are not past the end, a bound on what a probe seeks.
+    /// Returns how many items are not past the end, a bound given by a comparator.
+    ///
+    /// ```
+    /// # use indexset::base::probe::ByItem;
+    /// let tree: set::BTreeSet<u64, Vec<u64>> = set::BTreeSet::from_iter(alloc, [5, 10, 15])?;
+    /// assert!(rt; tree.count_up_to(Bound::Included(ByItem::new(&10))) == 2);
+    /// ```
     pub fn count_up_to<P: Probe<T> + Drop>(&self, end: Bound<P>) -> usize
         requires { IfBounded (λ p. IsParted (P.answer p) (joined self.now.nodes)) end }
         ensures { result ≡ count_by (is_up_to_end (λ x p. P.answer p x) end)
@@ -117,9 +136,8 @@ impl<T: Ord + Clone + Drop, Node: NodeLike<T>> BTreeSet<T, Node> {
         self.nodes[node].get_ith(offset)
     }
 
-    /// Returns the items at the positions that satisfy both bounds, in order. There is none where
-    /// the bounds are the wrong way round, and positions past the end have none. It makes no
-    /// comparison.
+    /// Returns a double-ended iterator over the items at the positions within the bounds, clipped
+    /// to the length, in order. It makes no comparison.
     ///
     /// ```
     /// // The second page of two items each.
@@ -143,6 +161,12 @@ impl<T: Ord + Clone + Drop, Node: NodeLike<T>> BTreeSet<T, Node> {
 
     /// Returns how many items stand before a place, a node and an offset in it of at most its
     /// length, as `locate_by` returns it. It makes no comparison.
+    ///
+    /// ```
+    /// let nodes = vec![in alloc; vec![in alloc; 5, 10]?, vec![in alloc; 15]?]?;
+    /// let tree: set::BTreeSet<u64, Vec<u64>> = set::BTreeSet::from_nodes(nodes, 64, 0)?;
+    /// assert!(rt; tree.position((1, 0)) == 2);
+    /// ```
     pub fn position(&self, place: (usize, usize)) -> usize
         requires { IsPlace self.now.nodes place }
         ensures { result ≡ items_before self.now.nodes place }
@@ -155,6 +179,12 @@ impl<T: Ord + Clone + Drop, Node: NodeLike<T>> BTreeSet<T, Node> {
 
     /// Returns the place of the item at a position, counted from 0, or `None` past the end. It
     /// makes no comparison.
+    ///
+    /// ```
+    /// let nodes = vec![in alloc; vec![in alloc; 5, 10]?, vec![in alloc; 15]?]?;
+    /// let tree: set::BTreeSet<u64, Vec<u64>> = set::BTreeSet::from_nodes(nodes, 64, 0)?;
+    /// assert!(rt; tree.place_at(2) == Some((1, 0)) && tree.place_at(3).is_none());
+    /// ```
     pub fn place_at(&self, i: usize) -> Option<(usize, usize)>
         ensures { MatchOption result (length (joined self.now.nodes) ≤ i)
             (λ p. (p.0 < length self.now.nodes) × (p.1 < length (node_at self.now.nodes p.0))

@@ -22,8 +22,8 @@ use indexset_core::walk::ReadAny;
 use indexset_events::change::{ChangeEvent, ChangeEventUnassigned};
 
 impl<T: Ord + Clone + Drop, Node: NodeLike<T>> BTreeSet<T, Node> {
-    /// Inserts an item, replaces an equal one, and returns the events. A failed call returns the
-    /// item in the error and changes nothing.
+    /// Inserts an item, or replaces an equal one, and returns that with the events. A failed call
+    /// returns the item in the error and changes nothing.
     ///
     /// ```
     /// let mut tree: set::BTreeSet<u64, Vec<u64>> = set::BTreeSet::new(alloc);
@@ -48,8 +48,14 @@ impl<T: Ord + Clone + Drop, Node: NodeLike<T>> BTreeSet<T, Node> {
         self.put_cdc_at(aim, value)
     }
 
-    /// Does the same where no equal item is present. If one is, returns `None`, drops the item,
-    /// consumes no event number, allocates nothing and changes nothing.
+    /// Inserts an item if no equal one is present, and returns the events. If one is, returns
+    /// `None`, drops the item, consumes no event number, allocates nothing and changes nothing.
+    ///
+    /// ```
+    /// let mut tree: set::BTreeSet<u64, Vec<u64>> = set::BTreeSet::new(alloc);
+    /// assert!(rt; tree.put_cdc_checked(5)?.is_some_and(|events| events.len() == 1));
+    /// assert!(rt; tree.put_cdc_checked(5)?.is_none());
+    /// ```
     #[tactic(auto, unfolding(indexset_core::specs::Order::keep, indexset_events::specs::Edits::with_checked_put, indexset_events::specs::Table::checked_put_events))]
     pub fn put_cdc_checked(&mut self, value: T) -> Result<Option<Vec<ChangeEvent<T>>>, Refused<T>>
         ensures answer { IfOk result (λ r. is_none r ≡ has_equal T.cmp
@@ -76,8 +82,13 @@ impl<T: Ord + Clone + Drop, Node: NodeLike<T>> BTreeSet<T, Node> {
         }
     }
 
-    /// Inserts an item, or replaces an equal one. It consumes as many event numbers as `put_cdc`. A
-    /// failed call returns the item in the error and changes nothing.
+    /// Inserts an item, or replaces an equal one and returns that. It consumes as many event
+    /// numbers as `put_cdc`. A failed call returns the item in the error and changes nothing.
+    ///
+    /// ```
+    /// let mut tree: set::BTreeSet<u64, Vec<u64>> = set::BTreeSet::new(alloc);
+    /// assert!(rt; tree.put(5)?.is_none() && tree.put(5)? == Some(5));
+    /// ```
     pub fn put(&mut self, value: T) -> Result<Option<T>, Refused<T>>
         ensures answer { IfOk result (λ old. old ≡ equal_element T.cmp
             (joined self.old.nodes) value) }

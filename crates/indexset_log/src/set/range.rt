@@ -88,8 +88,9 @@ impl<'a, T: Ord + Clone + Drop, Node: NodeLike<T>> ExactSizeIterator for Range<'
 impl<'a, T: Ord + Clone + Drop, Node: NodeLike<T>> FusedIterator for Range<'a, T, Node> {}
 
 impl<T: Ord + Clone + Drop, Node: NodeLike<T>> BTreeSet<T, Node> {
-    /// Returns the items that satisfy both bounds, in order. The start must not be past the end,
-    /// nor at it where both are excluded (see `base::bounds::bounds_are_ordered`).
+    /// Returns a double-ended iterator over the items within the range, in order. The start must
+    /// not be past the end, nor at it where both are excluded (see
+    /// `base::bounds::bounds_are_ordered`).
     ///
     /// ```
     /// let mut tree: set::BTreeSet<u64, Vec<u64>> = set::BTreeSet::new(alloc);
@@ -114,10 +115,15 @@ impl<T: Ord + Clone + Drop, Node: NodeLike<T>> BTreeSet<T, Node> {
         self.range_between(from, to)
     }
 
-    /// Returns the items from one place to before another, in order. A place is a node and an
-    /// offset in it of at most its length, as `locate_by` returns it; where there is no node it is
-    /// (0, 0). No fewer items may stand before the second place. The index counts the items between
-    /// the two, so that the iterator knows its length.
+    /// Returns a double-ended iterator over the items from one place to before another, in order. A
+    /// place is a node and an offset in it of at most its length, as `locate_by` returns it; where
+    /// there is no node it is (0, 0). No fewer items may stand before the second place. The index
+    /// counts the items between the two, so that the iterator knows its length.
+    ///
+    /// ```
+    /// let tree: set::BTreeSet<u64, Vec<u64>> = set::BTreeSet::from_iter(alloc, [5, 10, 15])?;
+    /// assert!(rt; tree.range_between((0, 1), (0, 3)).copied().eq([10, 15]));
+    /// ```
     pub fn range_between(&self, from: (usize, usize), to: (usize, usize)) -> Range<'_, T, Node>
         requires from { IsPlace self.now.nodes from }
         requires to { IsPlace self.now.nodes to }
@@ -150,6 +156,12 @@ impl<T: Ord + Clone + Drop, Node: NodeLike<T>> BTreeSet<T, Node> {
 
     /// Returns the place after the items before the start, by two binary searches, or none where it
     /// is unbounded. Its probe must find the items in order.
+    ///
+    /// ```
+    /// # use indexset::base::probe::ByItem;
+    /// let tree: set::BTreeSet<u64, Vec<u64>> = set::BTreeSet::from_iter(alloc, [5, 10, 15])?;
+    /// assert!(rt; tree.place_from(Bound::Excluded(ByItem::new(&5))) == (0, 1));
+    /// ```
     pub fn place_from<P: Probe<T> + Drop>(&self, start: Bound<P>) -> (usize, usize)
         requires { IfBounded (λ p. IsParted (P.answer p) (joined self.now.nodes)) start }
         ensures place { IsPlace self.now.nodes result }
@@ -161,6 +173,12 @@ impl<T: Ord + Clone + Drop, Node: NodeLike<T>> BTreeSet<T, Node> {
 
     /// Returns the place after the items that are not past the end, by two binary searches, or none
     /// where it is unbounded. Its probe must find the items in order.
+    ///
+    /// ```
+    /// # use indexset::base::probe::ByItem;
+    /// let tree: set::BTreeSet<u64, Vec<u64>> = set::BTreeSet::from_iter(alloc, [5, 10, 15])?;
+    /// assert!(rt; tree.place_to(Bound::Included(ByItem::new(&10))) == (0, 2));
+    /// ```
     pub fn place_to<P: Probe<T> + Drop>(&self, end: Bound<P>) -> (usize, usize)
         requires { IfBounded (λ p. IsParted (P.answer p) (joined self.now.nodes)) end }
         ensures place { IsPlace self.now.nodes result }
@@ -174,6 +192,12 @@ impl<T: Ord + Clone + Drop, Node: NodeLike<T>> BTreeSet<T, Node> {
     /// find the items in order: two binary searches for the first, and from there steps that
     /// double, so that `n` such items cost few comparisons more than one. Where there is none, both
     /// places are where one would go.
+    ///
+    /// ```
+    /// # use indexset::base::probe::ByItem;
+    /// let tree: set::BTreeSet<u64, Vec<u64>> = set::BTreeSet::from_iter(alloc, [5, 10, 15])?;
+    /// assert!(rt; tree.places_by(&mut ByItem::new(&10)) == ((0, 1), (0, 2)));
+    /// ```
     pub fn places_by<P: Probe<T>>(&self, probe: &mut P) -> ((usize, usize), (usize, usize))
         requires { IsParted (P.answer probe.old) (joined self.now.nodes) }
         ensures from { IsPlace self.now.nodes result.0 }
@@ -230,6 +254,12 @@ impl<T: Ord + Clone + Drop, Node: NodeLike<T>> BTreeSet<T, Node> {
 
     /// Returns the place of the item that stands so many items after a place, by the lengths of the
     /// nodes between: it makes no comparison. There must be such an item.
+    ///
+    /// ```
+    /// let nodes = vec![in alloc; vec![in alloc; 5, 10]?, vec![in alloc; 15]?]?;
+    /// let tree: set::BTreeSet<u64, Vec<u64>> = set::BTreeSet::from_nodes(nodes, 64, 0)?;
+    /// assert!(rt; tree.place_ahead((0, 0), 2) == (1, 0));
+    /// ```
     pub fn place_ahead(&self, place: (usize, usize), count: usize) -> (usize, usize)
         requires place { IsPlace self.now.nodes place }
         requires within { items_before self.now.nodes place + count

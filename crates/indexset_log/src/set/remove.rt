@@ -46,6 +46,12 @@ impl<T: Ord + Clone + Drop, Node: NodeLike<T>> BTreeSet<T, Node> {
 
     /// Removes the item at a place, and returns it with the events. A node that is left small is
     /// merged with a small neighbour. Fails as `remove_cdc` does, and then changes nothing.
+    ///
+    /// ```
+    /// let mut tree: set::BTreeSet<u64, Vec<u64>> = set::BTreeSet::from_iter(alloc, [5, 10, 15])?;
+    /// let (removed, events) = tree.remove_at_cdc(0, 1)?;
+    /// assert!(rt; removed == 10 && events.len() == 1);
+    /// ```
     pub fn remove_at_cdc(
         &mut self,
         node: usize,
@@ -74,6 +80,11 @@ impl<T: Ord + Clone + Drop, Node: NodeLike<T>> BTreeSet<T, Node> {
     /// `remove_cdc`, and fails with `Numbers` where they do not fit. It allocates only where it
     /// merges two nodes of a type that allocates, and else does not fail with `Memory`. A failed
     /// call changes nothing.
+    ///
+    /// ```
+    /// let mut tree: set::BTreeSet<u64, Vec<u64>> = set::BTreeSet::from_iter(alloc, [5, 10, 15])?;
+    /// assert!(rt; tree.remove(&10)? == Some(10) && tree.remove(&10)?.is_none());
+    /// ```
     pub fn remove(&mut self, value: &T) -> Result<Option<T>, Refusal>
         ensures answer { IfOk result (λ item.
             item ≡ equal_element T.cmp (joined self.old.nodes) value.now) }
@@ -97,6 +108,11 @@ impl<T: Ord + Clone + Drop, Node: NodeLike<T>> BTreeSet<T, Node> {
     /// `remove_at_cdc`, and fails with `Numbers` where they do not fit. It allocates only where it
     /// merges two nodes of a type that allocates, and else does not fail with `Memory`. A failed
     /// call changes nothing.
+    ///
+    /// ```
+    /// let mut tree: set::BTreeSet<u64, Vec<u64>> = set::BTreeSet::from_iter(alloc, [5, 10, 15])?;
+    /// assert!(rt; tree.remove_at(0, 1)? == 10);
+    /// ```
     pub fn remove_at(&mut self, node: usize, offset: usize) -> Result<T, Refusal>
         requires node { node < length self.old.nodes }
         requires offset { offset < length (node_at self.old.nodes node) }

@@ -13,6 +13,12 @@ impl<T: Ord + Clone + Drop> BTreeSet<T, Vec<T>> {
     /// Removes the items that satisfy both bounds. An emptied node is removed. No nodes are merged,
     /// no event is emitted, no event number is consumed and nothing is allocated. None where the
     /// start is past the end.
+    ///
+    /// ```
+    /// let mut tree: set::BTreeSet<u64, Vec<u64>> = set::BTreeSet::from_iter(alloc, [5, 10, 15])?;
+    /// tree.remove_range((Bound::Included(&10), Bound::Unbounded));
+    /// assert!(rt; tree.iter().copied().eq([5]));
+    /// ```
     pub fn remove_range(&mut self, range: (Bound<&T>, Bound<&T>))
         ensures nodes { self.new.nodes ≡ without_range T.cmp self.old.nodes
             (bound_map (λ v. v.now) range.entry.0) (bound_map (λ v. v.now) range.entry.1) }

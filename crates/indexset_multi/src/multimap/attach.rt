@@ -13,11 +13,20 @@ impl<K: Ord + Clone + Drop, V: Eq + Clone + Drop, Node: NodeLike<MultiPair<K, V>
     V,
     Node,
 > {
-    /// Inserts a whole node of pairs in its place among the others. It gives no event and consumes
+    /// Inserts a whole node of pairs in its place among the others. It emits no event and consumes
     /// no event number; where the number of the next new pair is not above those of the node's
     /// pairs, it is raised to the one after the greatest of them. A node with a pair that has the
     /// greatest number fails with `PairNumber`, before all reasons of the set's `attach_node`. A
     /// failed call returns the node in the error and changes nothing.
+    ///
+    /// ```
+    /// let mut tags: multimap::BTreeMultiMap<u64, u64, Vec<MultiPair<u64, u64>>> = multimap::BTreeMultiMap::new(alloc);
+    /// for (tag, document) in [(1, 100), (1, 101), (2, 100)] {
+    ///     tags.insert(tag, document)?;
+    /// }
+    /// tags.attach_multi_node(vec![in alloc; MultiPair::new(5, 100, 7)]?)?;
+    /// assert!(rt; tags.node_count() == 2 && tags.last_key_value() == Some((&5, &100)));
+    /// ```
     pub fn attach_multi_node(&mut self, node: Node) -> Result<(), Refused<Node>>
         ensures attached { OnOk result (IsAttached K.cmp self.old self.new (Node.list node)) }
         ensures good { IsOk result → pairs_refusal K.cmp self.old (Node.list node) ≡ None }

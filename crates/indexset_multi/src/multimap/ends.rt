@@ -18,8 +18,15 @@ impl<K: Ord + Clone + Drop, V: Eq + Clone + Drop, Node: NodeLike<MultiPair<K, V>
     V,
     Node,
 > {
-    /// Returns the least key and the value of its first pair, or `None` where there is no pair, in
-    /// constant time.
+    /// Returns the first key, the least, and the value of its first pair, if any, in constant time.
+    ///
+    /// ```
+    /// let mut tags: multimap::BTreeMultiMap<u64, u64, Vec<MultiPair<u64, u64>>> = multimap::BTreeMultiMap::new(alloc);
+    /// for (tag, document) in [(1, 100), (1, 101), (2, 100)] {
+    ///     tags.insert(tag, document)?;
+    /// }
+    /// assert!(rt; tags.first_key_value() == Some((&1, &100)));
+    /// ```
     pub fn first_key_value(&self) -> Option<(&K, &V)>
         ensures pair { option_map (λ p. (p.0.now, p.1.now)) result
             ≡ option_map key_and_value (slice_get (joined self.now.nodes) 0) }
@@ -31,8 +38,8 @@ impl<K: Ord + Clone + Drop, V: Eq + Clone + Drop, Node: NodeLike<MultiPair<K, V>
         Some((&pair.key, &pair.value))
     }
 
-    /// Returns the greatest key and the value of its last pair, or `None` where there is no pair,
-    /// in constant time.
+    /// Returns the last key, the greatest, and the value of its last pair, if any, in constant
+    /// time.
     ///
     /// ```
     /// let mut tags: multimap::BTreeMultiMap<u64, u64, Vec<MultiPair<u64, u64>>> = multimap::BTreeMultiMap::new(alloc);
@@ -89,6 +96,14 @@ impl<K: Ord + Clone + Drop, V: Eq + Clone + Drop, Node: NodeLike<MultiPair<K, V>
     /// consumes as many event numbers as `pop_first_cdc`, and fails with `Numbers` where they do
     /// not fit. It allocates only where it merges two nodes of a type that allocates, and else does
     /// not fail with `Memory`. A failed call changes nothing.
+    ///
+    /// ```
+    /// let mut tags: multimap::BTreeMultiMap<u64, u64, Vec<MultiPair<u64, u64>>> = multimap::BTreeMultiMap::new(alloc);
+    /// for (tag, document) in [(1, 100), (1, 101), (2, 100)] {
+    ///     tags.insert(tag, document)?;
+    /// }
+    /// assert!(rt; tags.pop_first()? == Some((1, 100)) && tags.pop_first()? == Some((1, 101)));
+    /// ```
     pub fn pop_first(&mut self) -> Result<Option<(K, V)>, Refusal>
         ensures answer { IfOk result (λ entry.
             entry ≡ option_map key_and_value (slice_get (joined self.old.nodes) 0)) }
@@ -110,6 +125,15 @@ impl<K: Ord + Clone + Drop, V: Eq + Clone + Drop, Node: NodeLike<MultiPair<K, V>
     /// Removes the last pair of the greatest key, if any, and returns it with the events. It makes
     /// no comparison. A node that is left small is merged with a small neighbour. Fails as
     /// `pop_first_cdc` does, and then changes nothing.
+    ///
+    /// ```
+    /// let mut tags: multimap::BTreeMultiMap<u64, u64, Vec<MultiPair<u64, u64>>> = multimap::BTreeMultiMap::new(alloc);
+    /// for (tag, document) in [(1, 100), (1, 101), (2, 100)] {
+    ///     tags.insert(tag, document)?;
+    /// }
+    /// let (removed, events) = tags.pop_last_cdc()?;
+    /// assert!(rt; removed == Some((2, 100)) && events.len() == 1);
+    /// ```
     pub fn pop_last_cdc(
         &mut self,
     ) -> Result<(Option<(K, V)>, Vec<ChangeEvent<MultiPair<K, V>>>), Refusal>

@@ -16,13 +16,19 @@ impl<K: Ord + Clone + Drop, V: Eq + Clone + Drop, Node: NodeLike<MultiPair<K, V>
     V,
     Node,
 > {
-    /// Returns the multimap of these nodes, whose first event has the number `next`: it continues
+    /// Returns the multimap of these nodes, whose events are numbered from `next`: it continues
     /// where another stopped. The number of the next new pair is one above the greatest number
     /// among all pairs, and 0 where there are none. The nodes are taken as they are, no pair is
     /// copied, and no event number is consumed; each pair's number is read once, neighbouring nodes
     /// are compared once, and one number for each node is allocated. Fails with `PairNumber` where
     /// a pair has the greatest number, before all reasons of the set's `from_nodes`. A failed call
     /// returns the nodes in the error.
+    ///
+    /// ```
+    /// let nodes = vec![in alloc; vec![in alloc; MultiPair::new(1, 100, 0), MultiPair::new(1, 101, 4)]?]?;
+    /// let tags: multimap::BTreeMultiMap<u64, u64, Vec<MultiPair<u64, u64>>> = multimap::BTreeMultiMap::from_nodes(nodes, 64, 7)?;
+    /// assert!(rt; tags.count(&1) == 2 && tags.events_issued() == 7);
+    /// ```
     pub fn from_nodes(nodes: Vec<Node>, size: usize, next: u64) -> Result<Self, Refused<Vec<Node>>>
         requires two { 2 ≤ size }
         requires within { size ≤ Node.most }

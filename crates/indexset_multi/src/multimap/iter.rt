@@ -86,7 +86,8 @@ impl<K: Ord + Clone + Drop, V: Eq + Clone + Drop, Node: NodeLike<MultiPair<K, V>
     V,
     Node,
 > {
-    /// Returns the pairs, in order. A loop over a reference to the multimap does so too.
+    /// Returns a double-ended iterator over the pairs, in order. A loop over a reference to the
+    /// multimap does so too.
     ///
     /// ```
     /// let mut tags: multimap::BTreeMultiMap<u64, u64, Vec<MultiPair<u64, u64>>> = multimap::BTreeMultiMap::new(alloc);

@@ -24,7 +24,7 @@ impl<K: Ord + Clone + Drop, V: Eq + Clone + Drop, Node: NodeLike<MultiPair<K, V>
     Node,
 > {
     /// Returns how many pairs have a key below this one, which is the position of its first pair,
-    /// by two binary searches and a sum over the index.
+    /// by the comparisons that `get` makes and a sum over the index.
     ///
     /// ```
     /// let mut tags: multimap::BTreeMultiMap<u64, u64, Vec<MultiPair<u64, u64>>> = multimap::BTreeMultiMap::new(alloc);
@@ -45,6 +45,14 @@ impl<K: Ord + Clone + Drop, V: Eq + Clone + Drop, Node: NodeLike<MultiPair<K, V>
     }
 
     /// Returns the number of pairs of a key, by as few comparisons as `get` makes.
+    ///
+    /// ```
+    /// let mut tags: multimap::BTreeMultiMap<u64, u64, Vec<MultiPair<u64, u64>>> = multimap::BTreeMultiMap::new(alloc);
+    /// for (tag, document) in [(1, 100), (1, 101), (2, 100)] {
+    ///     tags.insert(tag, document)?;
+    /// }
+    /// assert!(rt; tags.count(&1) == 2 && tags.count(&3) == 0);
+    /// ```
     pub fn count(&self, key: &K) -> usize
         ensures { result ≡ length (pairs_of K.cmp (joined self.now.nodes) key.now) }
     {
@@ -54,6 +62,14 @@ impl<K: Ord + Clone + Drop, V: Eq + Clone + Drop, Node: NodeLike<MultiPair<K, V>
 
     /// Returns the position of the first pair of a key whose value is equal, or `None`. It compares
     /// keys as `get` does, and then the values of the key's pairs, one by one.
+    ///
+    /// ```
+    /// let mut tags: multimap::BTreeMultiMap<u64, u64, Vec<MultiPair<u64, u64>>> = multimap::BTreeMultiMap::new(alloc);
+    /// for (tag, document) in [(1, 100), (1, 101), (2, 100)] {
+    ///     tags.insert(tag, document)?;
+    /// }
+    /// assert!(rt; tags.index_of(&1, &101) == Some(1) && tags.index_of(&1, &102).is_none());
+    /// ```
     pub fn index_of(&self, key: &K, value: &V) -> Option<usize>
         ensures { MatchOption result
             (equal_pair K.cmp V.eq (joined self.now.nodes) key.now value.now ≡ None)
@@ -65,6 +81,14 @@ impl<K: Ord + Clone + Drop, V: Eq + Clone + Drop, Node: NodeLike<MultiPair<K, V>
     }
 
     /// Returns the pair at a position, or `None` past the end. It makes no comparison.
+    ///
+    /// ```
+    /// let mut tags: multimap::BTreeMultiMap<u64, u64, Vec<MultiPair<u64, u64>>> = multimap::BTreeMultiMap::new(alloc);
+    /// for (tag, document) in [(1, 100), (1, 101), (2, 100)] {
+    ///     tags.insert(tag, document)?;
+    /// }
+    /// assert!(rt; tags.get_index(2) == Some((&2, &100)) && tags.get_index(3).is_none());
+    /// ```
     pub fn get_index(&self, i: usize) -> Option<(&K, &V)>
         ensures { option_map (λ p. (p.0.now, p.1.now)) result
             ≡ option_map key_and_value (slice_get (joined self.now.nodes) i) }
@@ -73,8 +97,17 @@ impl<K: Ord + Clone + Drop, V: Eq + Clone + Drop, Node: NodeLike<MultiPair<K, V>
         Some((&pair.key, &pair.value))
     }
 
-    /// Returns the pairs at the positions that satisfy both bounds, clipped to the length, in
-    /// order. It makes no comparison.
+    /// Returns a double-ended iterator over the pairs at the positions within the bounds, clipped
+    /// to the length, in order. It makes no comparison.
+    ///
+    /// ```
+    /// let mut tags: multimap::BTreeMultiMap<u64, u64, Vec<MultiPair<u64, u64>>> = multimap::BTreeMultiMap::new(alloc);
+    /// for (tag, document) in [(1, 100), (1, 101), (2, 100)] {
+    ///     tags.insert(tag, document)?;
+    /// }
+    /// let page = tags.range_idx((Bound::Included(1), Bound::Unbounded));
+    /// assert!(rt; page.eq([(&1, &101), (&2, &100)]));
+    /// ```
     pub fn range_idx(&self, range: (Bound<usize>, Bound<usize>)) -> Range<'_, K, V, Node>
         ensures rest { result ≡ entries (in_positions (joined self.now.nodes) range.0 range.1) }
         ensures runs { ShowsInOrder (pair_shown {K = K} {V = V}) }
@@ -88,6 +121,15 @@ impl<K: Ord + Clone + Drop, V: Eq + Clone + Drop, Node: NodeLike<MultiPair<K, V>
     /// Removes the pair at a position, if any, and returns it with the events, without a
     /// comparison. A node that is left small is merged with a small neighbour. Fails with `Numbers`
     /// where the events do not fit the counter, else with `Memory`. A failed call changes nothing.
+    ///
+    /// ```
+    /// let mut tags: multimap::BTreeMultiMap<u64, u64, Vec<MultiPair<u64, u64>>> = multimap::BTreeMultiMap::new(alloc);
+    /// for (tag, document) in [(1, 100), (1, 101), (2, 100)] {
+    ///     tags.insert(tag, document)?;
+    /// }
+    /// let (removed, events) = tags.pop_index_cdc(1)?;
+    /// assert!(rt; removed == Some((1, 101)) && events.len() == 1);
+    /// ```
     pub fn pop_index_cdc(
         &mut self,
         i: usize,
@@ -111,6 +153,14 @@ impl<K: Ord + Clone + Drop, V: Eq + Clone + Drop, Node: NodeLike<MultiPair<K, V>
     /// many event numbers as `pop_index_cdc`, and fails with `Numbers` where they do not fit. It
     /// allocates only where it merges two nodes of a type that allocates, and else does not fail
     /// with `Memory`. A failed call changes nothing.
+    ///
+    /// ```
+    /// let mut tags: multimap::BTreeMultiMap<u64, u64, Vec<MultiPair<u64, u64>>> = multimap::BTreeMultiMap::new(alloc);
+    /// for (tag, document) in [(1, 100), (1, 101), (2, 100)] {
+    ///     tags.insert(tag, document)?;
+    /// }
+    /// assert!(rt; tags.pop_index(1)? == Some((1, 101)) && tags.pop_index(2)?.is_none());
+    /// ```
     pub fn pop_index(&mut self, i: usize) -> Result<Option<(K, V)>, Refusal>
         ensures answer { IfOk result (λ entry.
             entry ≡ option_map key_and_value (slice_get (joined self.old.nodes) i)) }

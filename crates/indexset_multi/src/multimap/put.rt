@@ -18,12 +18,19 @@ impl<K: Ord + Clone + Drop, V: Eq + Clone + Drop, Node: NodeLike<MultiPair<K, V>
     V,
     Node,
 > {
-    /// Inserts a pair, and returns the events. Where the key has pairs of an equal value, the first
-    /// of them is replaced in its place and keeps its number, and its value is returned. Else the
-    /// pair gets the next number and is the last of its key. It makes two searches: that of `get`,
-    /// whose pairs' values it compares one by one, and one for the place. Fails with `Numbers`
-    /// where the events do not fit, or where a new number is needed and none remains, else with
-    /// `Memory`. A failed call returns key and value in the error and changes nothing.
+    /// Inserts a pair, and returns the replaced value, if any, with the events. Where the key has
+    /// pairs of an equal value, the first of them is replaced in its place and keeps its number,
+    /// and its value is returned. Else the pair gets the next number and is the last of its key. It
+    /// makes two searches: that of `get`, whose pairs' values it compares one by one, and one for
+    /// the place. Fails with `Numbers` where the events do not fit, or where a new number is needed
+    /// and none remains, else with `Memory`. A failed call returns key and value in the error and
+    /// changes nothing.
+    ///
+    /// ```
+    /// let mut tags: multimap::BTreeMultiMap<u64, u64, Vec<MultiPair<u64, u64>>> = multimap::BTreeMultiMap::new(alloc);
+    /// let (old, events) = tags.insert_cdc(1, 100)?;
+    /// assert!(rt; old.is_none() && events.len() == 1);
+    /// ```
     pub fn insert_cdc(
         &mut self,
         key: K,
@@ -51,8 +58,8 @@ impl<K: Ord + Clone + Drop, V: Eq + Clone + Drop, Node: NodeLike<MultiPair<K, V>
         Ok((value_in(old), events))
     }
 
-    /// Inserts a pair, as `insert_cdc` does, and consumes as many event numbers. A failed call
-    /// returns key and value in the error and changes nothing.
+    /// Inserts a pair, and returns the replaced value, if any, as `insert_cdc` does; it consumes as
+    /// many event numbers. A failed call returns key and value in the error and changes nothing.
     ///
     /// ```
     /// let mut tags: multimap::BTreeMultiMap<u64, u64, Vec<MultiPair<u64, u64>>> = multimap::BTreeMultiMap::new(alloc);
@@ -87,6 +94,12 @@ impl<K: Ord + Clone + Drop, V: Eq + Clone + Drop, Node: NodeLike<MultiPair<K, V>
     /// search for the place. Fails with `Numbers` where the events do not fit or no number remains
     /// for the pair, else with `Memory`. A failed call returns key and value in the error and
     /// changes nothing.
+    ///
+    /// ```
+    /// let mut tags: multimap::BTreeMultiMap<u64, u64, Vec<MultiPair<u64, u64>>> = multimap::BTreeMultiMap::new(alloc);
+    /// let events = tags.push_cdc(1, 100)?;
+    /// assert!(rt; events.len() == 1 && tags.len() == 1);
+    /// ```
     pub fn push_cdc(
         &mut self,
         key: K,

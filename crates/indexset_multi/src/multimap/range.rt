@@ -164,9 +164,10 @@ impl<K: Ord + Clone + Drop, V: Eq + Clone + Drop, Node: NodeLike<MultiPair<K, V>
     V,
     Node,
 > {
-    /// Returns the pairs of a key, in order of their numbers, by one search for the first and, from
-    /// there, steps that double: a key with one pair, or none, costs at most one comparison more
-    /// than the two binary searches, and one with `n` pairs a few times as many as `n` has bits.
+    /// Returns a double-ended iterator over the pairs of a key, in the order of their numbers. It
+    /// makes one search for the first and, from there, steps that double: a key with one pair, or
+    /// none, costs at most one comparison more than the two binary searches, and one with `n` pairs
+    /// a few times as many as `n` has bits.
     ///
     /// ```
     /// let mut tags: multimap::BTreeMultiMap<u64, u64, Vec<MultiPair<u64, u64>>> = multimap::BTreeMultiMap::new(alloc);
@@ -183,7 +184,16 @@ impl<K: Ord + Clone + Drop, V: Eq + Clone + Drop, Node: NodeLike<MultiPair<K, V>
         }
     }
 
-    /// Does the same, with their numbers, by as few comparisons. (In the Rust crate it is private.)
+    /// Returns a double-ended iterator over the pairs of a key with their numbers, by as few
+    /// comparisons as `get` makes.
+    ///
+    /// ```
+    /// let mut tags: multimap::BTreeMultiMap<u64, u64, Vec<MultiPair<u64, u64>>> = multimap::BTreeMultiMap::new(alloc);
+    /// for (tag, document) in [(1, 100), (1, 101), (2, 100)] {
+    ///     tags.insert(tag, document)?;
+    /// }
+    /// assert!(rt; tags.raw_get(&1).eq([(&1, &0, &100), (&1, &1, &101)]));
+    /// ```
     pub fn raw_get(&self, key: &K) -> RawRange<'_, K, V, Node>
         ensures rest { result ≡ pairs_of K.cmp (joined self.now.nodes) key.now }
         ensures runs { ShowsInOrder (number_shown {K = K} {V = V}) }
@@ -194,9 +204,9 @@ impl<K: Ord + Clone + Drop, V: Eq + Clone + Drop, Node: NodeLike<MultiPair<K, V>
         }
     }
 
-    /// Returns the pairs whose keys satisfy both bounds, in order. The start must not be past the
-    /// end, nor at it where both are excluded (see `base::bounds::bounds_are_ordered`). Each bound
-    /// costs two binary searches.
+    /// Returns a double-ended iterator over the pairs whose keys are within the range, in order.
+    /// The start must not be past the end, nor at it where both are excluded (see
+    /// `base::bounds::bounds_are_ordered`). Each bound costs two binary searches.
     ///
     /// ```
     /// // The pairs of the keys from 10 on that are below 20.

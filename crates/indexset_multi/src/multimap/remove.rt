@@ -25,6 +25,15 @@ impl<K: Ord + Clone + Drop, V: Eq + Clone + Drop, Node: NodeLike<MultiPair<K, V>
     /// Removes the first pair of a key, if any, and returns it with the events, by one search. A
     /// node that is left small is merged with a small neighbour. Fails with `Numbers` where the
     /// events do not fit the counter, else with `Memory`. A failed call changes nothing.
+    ///
+    /// ```
+    /// let mut tags: multimap::BTreeMultiMap<u64, u64, Vec<MultiPair<u64, u64>>> = multimap::BTreeMultiMap::new(alloc);
+    /// for (tag, document) in [(1, 100), (1, 101), (2, 100)] {
+    ///     tags.insert(tag, document)?;
+    /// }
+    /// let (removed, events) = tags.remove_some_cdc(&1)?;
+    /// assert!(rt; removed == Some((1, 100)) && events.len() == 1);
+    /// ```
     pub fn remove_some_cdc(
         &mut self,
         key: &K,
@@ -51,6 +60,14 @@ impl<K: Ord + Clone + Drop, V: Eq + Clone + Drop, Node: NodeLike<MultiPair<K, V>
     /// as `remove_some_cdc`, and fails with `Numbers` where they do not fit. It allocates only
     /// where it merges two nodes of a type that allocates, and else does not fail with `Memory`. A
     /// failed call changes nothing.
+    ///
+    /// ```
+    /// let mut tags: multimap::BTreeMultiMap<u64, u64, Vec<MultiPair<u64, u64>>> = multimap::BTreeMultiMap::new(alloc);
+    /// for (tag, document) in [(1, 100), (1, 101), (2, 100)] {
+    ///     tags.insert(tag, document)?;
+    /// }
+    /// assert!(rt; tags.remove_some(&1)? == Some((1, 100)) && tags.remove_some(&3)?.is_none());
+    /// ```
     pub fn remove_some(&mut self, key: &K) -> Result<Option<(K, V)>, Refusal>
         ensures answer { IfOk result (λ entry.
             entry ≡ option_map key_and_value (first_pair K.cmp (joined self.old.nodes) key.now)) }
@@ -76,6 +93,15 @@ impl<K: Ord + Clone + Drop, V: Eq + Clone + Drop, Node: NodeLike<MultiPair<K, V>
     /// events. Other such pairs of the key stay. It compares keys as `get` does, and then the
     /// values of the key's pairs, one by one. A node that is left small is merged with a small
     /// neighbour. Fails as `remove_some_cdc` does, and then changes nothing.
+    ///
+    /// ```
+    /// let mut tags: multimap::BTreeMultiMap<u64, u64, Vec<MultiPair<u64, u64>>> = multimap::BTreeMultiMap::new(alloc);
+    /// for (tag, document) in [(1, 100), (1, 101), (2, 100)] {
+    ///     tags.insert(tag, document)?;
+    /// }
+    /// let (removed, events) = tags.remove_cdc(&1, &101)?;
+    /// assert!(rt; removed == Some((1, 101)) && events.len() == 1);
+    /// ```
     pub fn remove_cdc(
         &mut self,
         key: &K,

@@ -19,9 +19,17 @@ impl<K: Ord + Clone + Drop, V: Eq + Clone + Drop, Node: NodeLike<MultiPair<K, V>
     V,
     Node,
 > {
-    /// Removes all pairs of a key, the first of them again and again by `remove_some`, and returns
-    /// how many they were. Fails where one of these removals does: the pairs before it are removed,
-    /// and it and those after it stay. Where the key has no pair it does not fail.
+    /// Removes all pairs of a key, one by one as `remove_some` does, and returns how many they
+    /// were. Fails where one of these removals does: the pairs before it are removed, and it and
+    /// those after it stay. Where the key has no pair it does not fail.
+    ///
+    /// ```
+    /// let mut tags: multimap::BTreeMultiMap<u64, u64, Vec<MultiPair<u64, u64>>> = multimap::BTreeMultiMap::new(alloc);
+    /// for (tag, document) in [(1, 100), (1, 101), (2, 100)] {
+    ///     tags.insert(tag, document)?;
+    /// }
+    /// assert!(rt; tags.remove_all(&1)? == 2 && tags.len() == 1);
+    /// ```
     pub fn remove_all(&mut self, key: &K) -> Result<usize, Refusal>
         ensures count { IfOk result (λ n. n ≡ length (pairs_of K.cmp
             (joined self.old.nodes) key.now)) }
@@ -48,6 +56,15 @@ impl<K: Ord + Clone + Drop, V: Eq + Clone + Drop, Node: NodeLike<MultiPair<K, V>
     /// more, with `Numbers` where too few are left for that removal, else with `Memory`: the pairs
     /// before it are removed, and their events are returned; it and those after it stay. Where the
     /// key has no pair it allocates nothing.
+    ///
+    /// ```
+    /// let mut tags: multimap::BTreeMultiMap<u64, u64, Vec<MultiPair<u64, u64>>> = multimap::BTreeMultiMap::new(alloc);
+    /// for (tag, document) in [(1, 100), (1, 101), (2, 100)] {
+    ///     tags.insert(tag, document)?;
+    /// }
+    /// let (count, events) = tags.remove_all_cdc(&1)?;
+    /// assert!(rt; count == 2 && events.len() == 2);
+    /// ```
     pub fn remove_all_cdc(
         &mut self,
         key: &K,

@@ -49,7 +49,7 @@ fn numbered<K: Word, V: Word>(alloc: Global, count: u64, step: u64) -> Result<Ve
     Ok(pairs)
 }
 
-// What a call made, or its refusal, where this handed back the pair of a word.
+// What a call made, or its refusal, where this returned the pair of a word.
 fn given<X: Drop, K: Word, V: Word>(
     alloc: Global,
     word: &str,
@@ -76,7 +76,7 @@ fn empty<K: Word, V: Word>(alloc: Global, size: usize) -> Result<BTreeMap<K, V>,
     Ok(BTreeMap::with_maximum_node_size(alloc, size)?)
 }
 
-// A refusal is told with what it hands back: all, where the keys do not ascend, and none, where memory is
+// A refusal is told with what it returns: all, where the keys do not ascend, and none, where memory is
 // refused.
 fn from_sorted<K: Word, V: Word>(
     alloc: Global,

@@ -176,7 +176,7 @@ impl<T: Word> Sets<T> {
         self.put(refused(items.into_iter().collect(self.alloc))?)
     }
 
-    // A refusal is told with what it hands back: all, where they do not ascend, and none, where memory is
+    // A refusal is told with what it returns: all, where they do not ascend, and none, where memory is
     // refused.
     fn from_sorted(
         &mut self,
