@@ -84,7 +84,7 @@ module _ {T : Type 0} (h : ℕ) where
         ]
       ]
 
-  -- an item fewer, and the node joined with the one after it
+  -- an item fewer, and the node merged with the one after it
   joined_next : (b : List (List T)) (l r : List T) (a : List (List T)) (m : List T) → length l ≡ length m + 1 → 1 ≤ length r → IsSpaced h (b ++ l ∷ r ∷ a) → IsSpaced h (with_joined (set (b ++ l ∷ r ∷ a) (length b) m) (length b))
   joined_next b l r a m fewer some s =
       let all = spread h (b ++ l ∷ r ∷ a) s in
@@ -93,7 +93,7 @@ module _ {T : Type 0} (h : ℕ) where
       rw (set-append_seam b l (r ∷ a) m, joined_seam b m r a)
       (spaced h (b ++ (m ++ r) ∷ a) (joined_spread h b l r (m ++ r) a (omega arith) (omega arith) (spread-left h b l (r ∷ a) all) rest.1))
 
-  -- an item fewer, and the node joined with the one before it
+  -- an item fewer, and the node merged with the one before it
   joined_before : (b : List (List T)) (l r : List T) (a : List (List T)) (m : List T) → length r ≡ length m + 1 → are_small h (set (b ++ l ∷ r ∷ a) (length b + 1) m) (length b + 1) ≡ false → IsSpaced h (b ++ l ∷ r ∷ a) → IsSpaced h (with_joined (set (b ++ l ∷ r ∷ a) (length b + 1) m) (length b))
   joined_before b l r a m fewer large s =
       let all = spread h (b ++ l ∷ r ∷ a) s in
