@@ -1,4 +1,4 @@
-"""The tables of sets beside other libraries, of their memory, and of the logged set and a replica."""
+"""The tables of sets beside other libraries, of their memory, of the logged family and replicas, and of node sizes."""
 
 from __future__ import annotations
 
@@ -89,9 +89,9 @@ def of_call(call: str) -> str:
     return call.replace(PER_EVENT, ", million events a second")
 
 
-def of_logged_call(call: str, figure: float) -> str:
+def of_logged_call(call: str, figure: float | None) -> str:
     """What takes events is shown by how many it takes in a second."""
-    return f"{1000 / figure:.1f}" if call.endswith(PER_EVENT) else shown(figure)
+    return f"{1000 / figure:.1f}" if figure and call.endswith(PER_EVENT) else shown(figure)
 
 
 def of_logged(program: pathlib.Path, keys: list[int], times: int) -> str:
@@ -103,8 +103,19 @@ def of_logged(program: pathlib.Path, keys: list[int], times: int) -> str:
 
 
 def logged_tables(nodes: list[str], calls: list[str], found: Mapping[int, Rows]) -> str:
-    parts = ["The logged set and a replica, by type and size of nodes, nanoseconds an operation.\n"]
+    parts = ["The logged set, the logged map and replicas, by type and size of nodes, nanoseconds an operation.\n"]
     for k, rows in found.items():
-        lines = [[of_call(call), *(of_logged_call(call, rows[f"{node}: {call}"]) for node in nodes)] for call in calls]
+        lines = [[of_call(call), *(of_logged_call(call, rows.get(f"{node}: {call}")) for node in nodes)] for call in calls]
         parts.append(f"### {k:,} items, logged\n\n" + table(["call", *nodes], lines))
+    return "\n".join(parts)
+
+
+def of_sizes(program: pathlib.Path, keys: list[int], times: int) -> str:
+    """A table for each number of keys, a line for each size of nodes."""
+    parts = ["A logged set and its replica by the size of their nodes, nanoseconds an operation.\n"]
+    for k in keys:
+        rows = medians({"ours": program}, "sizes", k, times)["ours"]
+        sizes, calls = (list(dict.fromkeys(row.partition(": ")[at] for row in rows)) for at in (0, 2))
+        lines = [[size, *(shown(rows[f"{size}: {call}"]) for call in calls)] for size in sizes]
+        parts.append(f"### Node sizes, {k:,} items\n\n" + table(["node size", *calls], lines))
     return "\n".join(parts)
