@@ -1,0 +1,102 @@
+//! The entry of a key that is present: its pair, its value's changes, its removal.
+ghost use Rattle.std.specs.Prelude.{◌≡◌, Some};
+ghost use Rattle.std.specs.Borrow.{sem};
+
+use super::OccupiedEntry;
+use indexset_spine::spot::Spot;
+use std::mem;
+
+impl<'a, K: Ord, V> OccupiedEntry<'a, K, V> {
+    ghost use Rattle.indexset_map.specs.Entry.{Occupied, entry_key, entry_pair, entry_value, entry_lends, occupied_lends, with_entry_value};
+
+    /// Returns the stored key.
+    pub fn key(&self) -> &K
+        ensures { entry_key (Occupied self.now) ≡ Some result.now }
+    {
+        self.pair().0
+    }
+
+    /// Returns the value.
+    pub fn get(&self) -> &V
+        ensures { entry_value (Occupied self.now) ≡ Some result.now }
+    {
+        self.pair().1
+    }
+
+    // Returns the stored key and the value.
+    fn pair(&self) -> (&K, &V)
+        ensures { entry_pair (Occupied self.now) ≡ Some (result.0.now, result.1.now) }
+    {
+        let spot = Spot {
+            node: self.node,
+            offset: self.offset,
+            found: true,
+        };
+        self.map.pair_in(&spot)
+    }
+
+    /// Returns a mutable reference to the value.
+    pub fn get_mut(&mut self) -> &mut V
+        ensures* writes_back { sem 𝓛 (occupied_lends K.row V.row self.entry result) }
+        ensures value { entry_value (Occupied self.old) ≡ Some result.now }
+    {
+        let spot = Spot {
+            node: self.node,
+            offset: self.offset,
+            found: true,
+        };
+        self.map.value_in(spot)
+    }
+
+    /// Returns a mutable reference to the value that lives as long as the borrow of the map.
+    pub fn into_mut(self) -> &'a mut V
+        ensures* writes_back { sem 𝓛 (entry_lends K.row V.row (Occupied self.entry) result) }
+        ensures value { entry_value (Occupied self.entry) ≡ Some result.now }
+    {
+        let spot = Spot {
+            node: self.node,
+            offset: self.offset,
+            found: true,
+        };
+        let map = self.map;
+        map.value_in(spot)
+    }
+
+    /// Replaces the value and returns the old one.
+    pub fn insert(&mut self, value: V) -> V
+        ensures old { entry_value (Occupied self.old) ≡ Some result }
+        ensures new { self.new ≡ with_entry_value self.old value }
+    {
+        mem::replace(self.get_mut(), value)
+    }
+}
+
+impl<'a, K: Ord + Drop, V: Drop> OccupiedEntry<'a, K, V> {
+    ghost use Rattle.indexset_map.specs.Entry.{Occupied, entry_pair, entry_value, map_without_entry};
+
+    /// Removes the pair and returns the stored key and the value.
+    pub fn remove_entry(self) -> (K, V)
+        ensures pair { entry_pair (Occupied self.entry) ≡ Some result }
+        ensures removed { self.exit.0.now ≡ map_without_entry (Occupied self.entry) }
+    {
+        let spot = Spot {
+            node: self.node,
+            offset: self.offset,
+            found: true,
+        };
+        self.map.take_at(spot)
+    }
+
+    /// Removes the pair and returns the value.
+    pub fn remove(self) -> V
+        ensures value { entry_value (Occupied self.entry) ≡ Some result }
+        ensures removed { self.exit.0.now ≡ map_without_entry (Occupied self.entry) }
+    {
+        let spot = Spot {
+            node: self.node,
+            offset: self.offset,
+            found: true,
+        };
+        self.map.take_at(spot).1
+    }
+}
