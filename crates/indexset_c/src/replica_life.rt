@@ -1,6 +1,6 @@
 //! Calls that make and free a replica, and return its length, its node count and the number that it
 //! awaits.
-ghost use Rattle.std.specs.Prelude.{◌≡◌, ◌≢◌, ◌↔◌, [], Some, None, length, is_some, min, option_map, true, option_map};
+ghost use Rattle.std.specs.Prelude.{◌≡◌, ◌≢◌, ◌↔◌, [], Some, None, length, is_some, option_map, true};
 ghost use Rattle.std.specs.Option.{option_map_or};
 ghost use Rattle.indexset_handle.specs.Replicas.{copied_nodes, copied_pairs, replica_of};
 
@@ -138,10 +138,10 @@ pub extern "C" fn indexset_replica_swap(one: &mut ReplicaHandle, other: &mut Rep
     swap(one, other);
 }
 
-/// Returns how many pairs there are, in time linear in the number of nodes.
+/// Returns how many pairs there are, in constant time.
 #[unsafe(no_mangle)]
 pub extern "C" fn indexset_replica_len(alloc: Global, replica: &mut ReplicaHandle) -> usize
-    ensures value { result ≡ min (length (copied_pairs replica.old.slot.value)) usize.MAX }
+    ensures value { result ≡ length (copied_pairs replica.old.slot.value) }
     ensures same { replica.new.slot.value ≡ replica.old.slot.value }
 {
     let Some(held) = replica.take(alloc) else {
