@@ -18,18 +18,18 @@
 // Keys: all types of integers, `bool`, characters, enums, `float` and `double`, in the order of `<`. Of floating
 // point, -0.0 is the key 0.0, and NaN is one key, above all others. Any other type becomes a key by a specialization
 // of `key_code`. A value is of a type that is trivially copyable and has at most 8 bytes: a number, a pointer, an
-// index. A collection returns copies: what an iterator leads to cannot be written through it.
+// index. A collection hands out copies: what an iterator leads to cannot be written through it.
 //
 // Iterators of set, map and byte_map are positions. They meet std::random_access_iterator of C++20, and all rules of
 // such an iterator of C++17 but one: `*it` is a value and no reference. Iterators of the others are bidirectional in
 // the same sense. A change of a collection invalidates its iterators, but for those that the change returns. As long
 // as the collection lives, to use an invalid one touches no freed memory, but it may lead to another element, or to
 // none, which an assertion refuses. After a move or a swap iterators lead into the collection that has the elements.
-// Elements are fetched in runs, so that an iteration does not search for each.
+// Elements are fetched in runs, so that a walk does not search for each.
 //
 // Exceptions: std::bad_alloc alone, where memory is refused, and what the caller's own iterators and functions throw.
 // Then nothing has changed, except by the calls that make several changes and say otherwise: `erase` and `insert` of
-// several pairs of a multimap, `apply_all` of a replica, and `erase_if`. Moves, swaps and `clear` allocate nothing, and
+// several pairs of a multimap, `apply_all` of a replica, and `erase_if`. Moves, swaps and `clear` take no memory, and
 // neither does `erase` of set, map and byte_map. An empty collection has none either.
 //
 // Threads: a collection is for one thread, the one that made it, reads too. Two collections do not touch each other,
@@ -71,7 +71,7 @@ auto erase_if(Collection &from, Condition condition) -> typename Collection::siz
 
 // What the iterators are.
 static_assert(std::is_same_v<set<int>::reference, int> && std::is_same_v<map<int, int>::reference, std::pair<int, int>>,
-              "what an iterator returns is a value, where C++17 asks a forward iterator for a reference");
+              "what an iterator hands out is a value, where C++17 asks a forward iterator for a reference");
 static_assert(std::is_nothrow_move_constructible_v<set<int>> && std::is_nothrow_move_assignable_v<map<int, int>> &&
               std::is_nothrow_swappable_v<byte_map<int>> && std::is_nothrow_default_constructible_v<set<int>>);
 #if __cplusplus >= 202002L
