@@ -4,8 +4,10 @@ pub mod EventLines
 pub mod Fits
 pub mod NodeLines
 pub mod Output
+pub mod Pages
 pub mod Passing
 pub mod Programs
+pub mod QueryLines
 pub mod Readings
 pub mod RequestLines
 pub mod Rows

@@ -4,6 +4,8 @@ pub mod Follow
 pub mod NodeLine
 pub mod Numbers
 pub mod Passed
+pub mod Query
+pub mod Reads
 pub mod Reply
 pub mod Request
 pub mod Run

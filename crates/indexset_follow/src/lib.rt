@@ -13,6 +13,7 @@ mod node;
 mod numbers;
 pub mod others;
 mod program;
+pub mod reads;
 mod reply;
 mod request;
 mod write;
