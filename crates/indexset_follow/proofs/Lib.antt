@@ -1,7 +1,9 @@
+pub mod Asked
 pub mod Delivered
 pub mod Drawing
 pub mod EventLines
 pub mod Fits
+pub mod Leads
 pub mod NodeLines
 pub mod Output
 pub mod Pages

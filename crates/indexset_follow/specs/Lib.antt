@@ -1,6 +1,7 @@
 pub mod Drawn
 pub mod EventLine
 pub mod Follow
+pub mod Leading
 pub mod NodeLine
 pub mod Numbers
 pub mod Passed
@@ -9,4 +10,6 @@ pub mod Reads
 pub mod Reply
 pub mod Request
 pub mod Run
+pub mod Store
+pub mod StoreRun
 pub mod Told
