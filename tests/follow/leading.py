@@ -1,9 +1,10 @@
 #!/usr/bin/env python3
 """Compares a map that leads with a model, line by line, and a follower that takes over with the leader that goes on.
 
-The lines to a leader are commands, reads, commands and reads with a word or a byte altered, and bytes of any kind. A
-follower reads the events of a leader up to some line, and then `lead` and the commands behind that line: what it
-answers must be, byte for byte, what the leader answered to these.
+The lines to a leader are commands, reads, commands and reads with a word or a byte altered, snapshots that it
+begins with while it has no node, and bytes of any kind. A follower reads the events of a leader up to some line,
+and then `lead` and the commands behind that line: what it answers must be, byte for byte, what the leader answered
+to these.
 
 Run it once the program is built. The last line is 'N passed, M failed'.
 """
@@ -13,13 +14,14 @@ from __future__ import annotations
 import argparse
 import pathlib
 import random
+import re
 import subprocess
 import sys
 
 sys.dont_write_bytecode = True
 HERE = pathlib.Path(__file__).resolve().parent
 sys.path[:0] = [str(HERE.parent.parent / "tools"), str(HERE.parent / "model")]
-from answers import EVENT, MOST, Model, is_number, number  # noqa: E402
+from answers import EVENT, MOST, NUMBER, Model, is_number, number  # noqa: E402
 from hostile import Counts, Hostile, agreed, joined  # noqa: E402
 from items import PAIRS, Item  # noqa: E402
 from logged import Tree, texts  # noqa: E402
@@ -28,18 +30,24 @@ from programs import built  # noqa: E402
 LINES = 20_000
 TURNS = 12
 SECONDS = 1200  # for one run, on a busy machine
+START = re.compile(rb"start " + NUMBER)
 
 
-class Leader(Model):
-    """What a map that leads should hold and answer."""
+class Store(Model):
+    """What a map that follows or leads should hold and answer."""
 
-    def __init__(self, size: int) -> None:
+    def __init__(self, size: int, leads: bool = True) -> None:
         super().__init__()
-        self.tree = Tree(size)
+        self.tree, self.leads = Tree(size), leads
 
-    def hold(self) -> None:
-        self.nodes = [[(item.key, int(item.value)) for item in node] for node in self.tree.nodes]
-        self.next = self.tree.next
+    def lead(self) -> bytes:
+        """The answer to `lead`: a follower becomes a leader of its nodes."""
+        if not self.leads:
+            if any(len(node) > self.tree.size for node in self.nodes):
+                return b"unfit %d size" % self.next
+            self.tree.nodes = [[Item(key, 0, str(value)) for key, value in node] for node in self.nodes]
+            self.tree.next, self.leads = self.next, True
+        return b"next %d" % self.next
 
     def command(self, line: bytes) -> bytes | None:
         """The answer to a command, or None where the line is none."""
@@ -52,25 +60,36 @@ class Leader(Model):
                 reply = "none" if out is None else f"gone {out.value}"
             case _:
                 return None
-        self.hold()
+        self.nodes = [[(item.key, int(item.value)) for item in node] for node in self.tree.nodes]
+        self.next = self.tree.next
         return "\n".join([reply, *texts(events, PAIRS)]).encode()
+
+    def led(self, line: bytes) -> bytes:
+        """The answer of a leader."""
+        told = self.read(line)
+        told = self.command(line) if told is None else told
+        return b"bad" if told is None else told
 
     def answer(self, line: bytes) -> bytes:
         if line == b"lead":
-            return b"next %d" % self.next
+            return self.lead()
         try:
-            told = self.read(line)
-            told = self.command(line) if told is None else told
+            if not self.nodes and (started := START.fullmatch(line)) and number(started[1]) >= 0:
+                self.leads = False
+            return self.led(line) if self.leads else super().answer(line)
         except OverflowError:
             return b"bad"
-        return b"bad" if told is None else told
 
 
 class Commands(Hostile):
-    """Lines to a leader, some of them adversarial."""
+    """Lines to a map that leads or has begun a snapshot, some of them adversarial."""
+
+    def __init__(self, model: Model, seed: int, keys: int) -> None:
+        super().__init__(model, seed)
+        self.keys = keys
 
     def command(self) -> bytes:
-        key = self.random.randrange(60) if self.random.random() < 0.95 else min(self.some_number(), MOST)
+        key = self.random.randrange(self.keys) if self.random.random() < 0.95 else min(self.some_number(), MOST)
         if self.random.random() < 0.55:
             return b"put %d %d" % (key, self.random.randrange(9))
         return b"cut %d" % key
@@ -84,8 +103,8 @@ class Commands(Hostile):
             return self.read()
         if kind < 0.96:
             return self.altered(random.choice([self.command(), self.read()]))
-        if kind < 0.97:
-            return random.choice([b"lead", b"snapshot", b"start 5", b"node 1:1", b"0 create 1:1"])
+        if kind < 0.98:
+            return random.choice([b"lead", b"lead", b"snapshot", b"start %d" % self.some_number(), self.whole_node(), b"0 create 1:1"])
         return bytes(random.choices(range(256), k=random.randrange(40))).replace(b"\n", b"")
 
 
@@ -93,12 +112,15 @@ def run(program: pathlib.Path, words: list[str], lines: list[bytes]) -> subproce
     return subprocess.run([program, *words], input=joined(lines), capture_output=True, timeout=SECONDS)
 
 
-def compare(program: pathlib.Path, size: int, seed: int) -> Counts:
+def compare(program: pathlib.Path, size: int, keys: int, seed: int) -> Counts:
     """Counts of lines whose answer is as the model's, and of others."""
-    leader = Leader(size)
-    author = Commands(leader, seed)
-    lines = [author.line() for _ in range(LINES)]
-    answers = [leader.answer(line) for line in lines]
+    leader = Store(size)
+    author = Commands(leader, seed, keys)
+    lines: list[bytes] = []
+    answers: list[bytes] = []
+    for _ in range(LINES):
+        lines.append(author.line())
+        answers.append(leader.answer(lines[-1]))
     done = run(program, ["--lead", "--node-size", str(size)], lines)
     if (done.returncode, done.stdout, done.stderr) == (0, joined(answers), b""):
         return Counts(LINES, 0)
@@ -108,8 +130,8 @@ def compare(program: pathlib.Path, size: int, seed: int) -> Counts:
 def take_over(program: pathlib.Path, size: int, seed: int) -> Counts:
     """Counts of lines that a follower that takes over answers as the leader that goes on, and of others."""
     chance = random.Random(seed)
-    leader = Leader(size)
-    author = Commands(leader, seed)
+    leader = Store(size)
+    author = Commands(leader, seed, 60)
     lines = [author.command() for _ in range(400)]
     answers = [leader.answer(line) for line in lines]
     whole = run(program, ["--lead", "--node-size", str(size)], lines)
@@ -155,7 +177,7 @@ def main() -> int:
     ask.add_argument("--seed", type=int, default=1)
     given = ask.parse_args()
     program = built("indexset_store")
-    counts = [compare(program, size, given.seed + size) for size in (2, 3, 4, 9)]
+    counts = [compare(program, size, keys, given.seed + size) for size, keys in ((2, 3), (3, 12), (4, 60), (9, 60))]
     counts += [take_over(program, random.Random(given.seed + turn).randrange(2, 9), given.seed + turn) for turn in range(TURNS)]
     counts += [too_large(program), arguments(program)]
     passed, failed = sum(it.passed for it in counts), sum(it.failed for it in counts)

@@ -60,8 +60,8 @@ module _ (q : Query) (fit : QueryFits q) where
   follower_answers o size s = rw (no_lead q, no_event q, no_node q, query_told q fit) refl
 
   pub leader_answers : (o : Others) (size : ℕ) (t : PairTree) → held_reply o (held size (Leading t)) (query_line q) ≡ query_text t.nodes t.next q
-  leader_answers o size t = rw (no_lead q, query_told q fit) refl
+  leader_answers o size t = rw (no_lead q, query_told q fit) (rw (query_told q fit) refl)
 
   pub nothing_changed : (size : ℕ) (r : Role) → after_held (held size r) (query_line q) ≡ held size r
   nothing_changed size (Following s) = rw (no_lead q, no_event q, no_node q, query_told q fit) refl
-  nothing_changed size (Leading t) = rw (no_lead q, query_told q fit) refl
+  nothing_changed size (Leading t) = rw (no_lead q, query_told q fit) (rw (query_told q fit) refl)

@@ -2,7 +2,9 @@
 use Rattle.std.proofs.Common.{Option, None, Some, ◌≡◌, ℕ, ◌<◌, ◌≤◌, ◌^◌, Bool, true, false, cond, List, [], ◌∷◌, ◌++◌, length, refl, ap, sym, ◌∙◌, subst, arith}
 use lib.Chars.{codes}
 use Rattle.std.proofs.lemmas.List.{take_all}
+use Rattle.std.proofs.lemmas.List.Elements.{All-head, All-tail}
 use Rattle.std.proofs.lemmas.Slice.Eq.{bytes_eq-Decides}
+use Rattle.std.specs.List.{All}
 use Rattle.std.specs.Option.{option_map_or}
 use Rattle.std.specs.Ordering.{nat_cmp}
 use Rattle.indexset_lines.specs.Run.{left_by, replies_to}
@@ -22,7 +24,7 @@ use Rattle.indexset_follow.specs.Follow.{State}
 use Rattle.indexset_follow.specs.Leading.{after_leading, events_led, leading_events, tree_of}
 use Rattle.indexset_follow.specs.Query.{query_of}
 use Rattle.indexset_follow.specs.Reply.{reply_ended}
-use Rattle.indexset_follow.specs.Store.{after_held, held, held_after, held_replies, is_lead, lead_reply, promoted}
+use Rattle.indexset_follow.specs.Store.{after_held, held, held_after, held_replies, is_lead, lead_reply, promoted, starts}
 use Rattle.indexset_follow.specs.declared.others.Others.{Others}
 use Rattle.indexset_follow.specs.declared.reads.query.Query.{Query}
 use Rattle.indexset_follow.specs.declared.reply.Reply.TheVariants as reply
@@ -75,17 +77,19 @@ word_still : (t : PairTree) (line : List ℕ) → line ≡ codes "lead" → t �
 unfolding pair_meaning
 word_still t line is = subst (λ l. t ≡ after_leading t l) (sym is) refl
 
-leader_line : (size : ℕ) (t : PairTree) (line : List ℕ) → after_held (held size (role.Leading t)) line ≡ held size (role.Leading (after_leading t line))
-leader_line size t line = at (is_lead line) refl
+leader_line : (size : ℕ) (t : PairTree) (line : List ℕ) → starts line ≡ false → after_held (held size (role.Leading t)) line ≡ held size (role.Leading (after_leading t line))
+leader_line size t line other = rw other (at (is_lead line) refl)
   where
     at : (b : Bool) → is_lead line ≡ b → held size (cond b (role.Leading t) (role.Leading (after_leading t line))) ≡ held size (role.Leading (after_leading t line))
     at true is = ap (λ r. held size (role.Leading r)) (word_still t line ((bytes_eq-Decides line (codes "lead")).0 is))
     at false is = refl
 
-pub leader_lines : (size : ℕ) (t : PairTree) (lines : List (List ℕ)) → held_after (held size (role.Leading t)) lines ≡ held size (role.Leading (tree_of t lines))
+pub leader_lines : (size : ℕ) (t : PairTree) (lines : List (List ℕ)) → All (λ line. starts line ≡ false) lines → held_after (held size (role.Leading t)) lines ≡ held size (role.Leading (tree_of t lines))
 unfolding left_by
-leader_lines size t [] = refl
-leader_lines size t (line ∷ lines) = ap (λ h. held_after h lines) (leader_line size t line) ∙ leader_lines size (after_leading t line) lines
+leader_lines size t [] none = refl
+leader_lines size t (line ∷ lines) none =
+    ap (λ h. held_after h lines) (leader_line size t line (All-head (λ line. starts line ≡ false) line lines none))
+    ∙ leader_lines size (after_leading t line) lines (All-tail (λ line. starts line ≡ false) line lines none)
 
 -- a follower becomes the leader of its nodes
 module _ (size : ℕ) (s : State) (fits : nodes_refusal (by_key nat_cmp) size s.nodes ≡ None) where
@@ -125,9 +129,8 @@ module _ (size : ℕ) (two : 2 ≤ size) (few : size < 2 ^ 64) (lines : List (Li
   same_tree : promoted size s ≡ tree
   same_tree = λ i. record { nodes = same_nodes i; size = sym same_size i; next = same_next i }
 
-  pub goes_on : after_held (held size (role.Following s)) (codes "lead") ≡ held_after (held size (role.Leading (fresh size))) lines
-  goes_on = takes_over size s can ∙ ap (λ t. held size (role.Leading t)) same_tree ∙ sym (leader_lines size (fresh size) lines)
+  pub goes_on : after_held (held size (role.Following s)) (codes "lead") ≡ held size (role.Leading tree)
+  goes_on = takes_over size s can ∙ ap (λ t. held size (role.Leading t)) same_tree
 
-  pub goes_on_answering : (o : Others) (more : List (List ℕ)) → held_replies o (held size (role.Following s)) (codes "lead" ∷ more) ≡ reply_ended (reply.Next s.next) ++ held_replies o (held_after (held size (role.Leading (fresh size))) lines) more
-  goes_on_answering o more =
-      answers_on size s can o more ∙ ap (λ h. reply_ended (reply.Next s.next) ++ held_replies o h more) (ap (λ t. held size (role.Leading t)) same_tree ∙ sym (leader_lines size (fresh size) lines))
+  pub goes_on_answering : (o : Others) (more : List (List ℕ)) → held_replies o (held size (role.Following s)) (codes "lead" ∷ more) ≡ reply_ended (reply.Next s.next) ++ held_replies o (held size (role.Leading tree)) more
+  goes_on_answering o more = answers_on size s can o more ∙ ap (λ t. reply_ended (reply.Next s.next) ++ held_replies o (held size (role.Leading t)) more) same_tree

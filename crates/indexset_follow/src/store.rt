@@ -2,13 +2,13 @@
 
 ghost use Rattle.std.specs.Prelude.{◌≡◌, ◌≢◌, ◌≤◌, if◌then◌else◌, Bool, Err, IfOk, IfErr, None, OnOk, Some, codes, ℕ};
 ghost use Rattle.std.specs.Io.KnownBytes.{Appends, Keeps};
-ghost use Rattle.indexset_follow.specs.Leading.{lacks};
-ghost use Rattle.indexset_follow.specs.Store.{after_lead, can_lead, first_held, held, lead_reply, promoted, size_text};
+ghost use Rattle.indexset_follow.specs.Store.{after_in_role, after_lead, begun, can_lead, first_held, held, lead_reply, promoted, reply_in_role, role_lacks, size_text, starts};
 
 use crate::answer::answer_line;
 use crate::leading::answer_leading;
 use crate::others::Others;
 use crate::reply::Reply;
+use crate::request::{Request, read_request};
 use crate::role::Role;
 use crate::write::{Nodes, write_reply};
 use indexset_bench::RunFault;
@@ -77,6 +77,51 @@ impl Store {
             Role::Leading(pairs) => write_reply(writer, Reply::Next(pairs.events_issued())),
         }
     }
+
+    /// Makes a leader without nodes a follower, where the line begins a snapshot.
+    fn begin(&mut self, line: &[u8])
+        ensures role { self.new.role ≡ begun self.old.role line.now }
+        ensures size { self.new.size ≡ self.old.size }
+        ensures others { self.new.others ≡ self.old.others }
+    {
+        if let Role::Leading(pairs) = &self.role {
+            if starts(line) && pairs.node_count() == 0 {
+                let next = pairs.events_issued();
+                self.role = Role::Following(Nodes::new(self.alloc, next));
+            }
+        }
+    }
+
+    /// Writes the answer to a line in the role that it has.
+    fn answer_in_role<W: Write>(&mut self, writer: &mut W, line: &[u8]) -> Result<(), RunFault>
+        ensures role { OnOk result (self.new.role ≡ after_in_role self.old.role line.now) }
+        ensures size { self.new.size ≡ self.old.size }
+        ensures others { self.new.others ≡ self.old.others }
+        ensures told { OnOk result (Appends (W.contents writer.old) (W.contents writer.new)
+            (reply_in_role self.old.others self.old.role line.now)) }
+        ensures memory_refused { result ≡ Err RunFault.Memory
+            → Keeps (W.contents writer.old) (W.contents writer.new) }
+        ensures numbers_refused { result ≡ Err RunFault.Numbers
+            → Keeps (W.contents writer.old) (W.contents writer.new) }
+        ensures no_numbers { result ≡ Err RunFault.Numbers
+            → role_lacks (after_in_role self.old.role line.now) }
+        ensures no_read { result ≢ Err RunFault.Read }
+    {
+        match &mut self.role {
+            Role::Following(nodes) => answer_line(self.alloc, self.others, writer, nodes, line),
+            Role::Leading(pairs) => answer_leading(self.others, writer, pairs, line),
+        }
+    }
+}
+
+/// Returns whether the line begins a snapshot.
+fn starts(line: &[u8]) -> bool
+    ensures { result ≡ starts line.now }
+{
+    match read_request(line) {
+        Some(Request::Start(_)) => true,
+        _ => false,
+    }
 }
 
 /// Takes the nodes for a leader of the same nodes, which goes on with the next number. Returns
@@ -125,9 +170,7 @@ impl Answers for Store {
         if line == b"lead".as_slice() {
             return self.lead(writer);
         }
-        match &mut self.role {
-            Role::Following(nodes) => { answer_line(self.alloc, self.others, writer, nodes, line) }
-            Role::Leading(pairs) => answer_leading(self.others, writer, pairs, line),
-        }
+        self.begin(line);
+        self.answer_in_role(writer, line)
     }
 }
