@@ -132,29 +132,47 @@ class Model:
         self.nodes = nodes
         return b"held"
 
-    def request(self, line: bytes) -> bytes:
-        """The answer to a request, or to a line that is none."""
+    def read(self, line: bytes) -> bytes | None:
+        """The answer to a read, or None where the line is none."""
         items = [item for node in self.nodes for item in node]
         match line.split(b" "):
             case [b"nodes"]:
                 return b"\n".join([shown(node) for node in self.nodes] + [b"next %d" % self.next])
-            case [b"snapshot"]:
-                return b"\n".join([b"start %d" % self.next] + [b"node " + shown(node) for node in self.nodes])
+            case [b"next"]:
+                return b"next %d" % self.next
             case [b"len"]:
                 return b"%d" % len(items)
             case [b"first"]:
                 return shown(items[:1]) or b"none"
             case [b"last"]:
                 return shown(items[-1:]) or b"none"
-            case [b"start", start] if is_number(start):
-                self.nodes, self.next = [], number(start)
-                return b"next %d" % self.next
             case [b"get", key] if is_number(key):
                 wanted = number(key)
                 return shown([item for item in items if item[0] == wanted]) or b"none"
+            case [b"rank", key] if is_number(key):
+                bound = number(key)
+                return b"%d" % sum(item[0] < bound for item in items)
+            case [b"at", place] if is_number(place):
+                at = number(place)
+                return shown(items[at : at + 1]) or b"none"
             case [b"range", first, last] if is_number(first) and is_number(last):
                 low, high = number(first), number(last)
                 return shown([item for item in items if low <= item[0] <= high]) or b"none"
+            case [b"page", place, count] if is_number(place) and is_number(count):
+                at, many = number(place), number(count)
+                return shown(items[at : at + many]) or b"none"
+        return None
+
+    def request(self, line: bytes) -> bytes:
+        """The answer to a request, or to a line that is none."""
+        if (told := self.read(line)) is not None:
+            return told
+        match line.split(b" "):
+            case [b"snapshot"]:
+                return b"\n".join([b"start %d" % self.next] + [b"node " + shown(node) for node in self.nodes])
+            case [b"start", start] if is_number(start):
+                self.nodes, self.next = [], number(start)
+                return b"next %d" % self.next
         return b"bad"
 
     def answer(self, line: bytes) -> bytes:

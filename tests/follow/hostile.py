@@ -108,10 +108,14 @@ class Hostile:
             keys = sorted(set(keys))
         return b"node " + shown([(key, self.random.randrange(5)) for key in keys])
 
+    def read(self) -> bytes:
+        number = self.some_number
+        words = [b"nodes", b"len", b"first", b"last", b"next"]
+        asked = [b"get %d" % number(), b"rank %d" % number(), b"at %d" % number()]
+        return self.random.choice(words + asked * 2 + [b"range %d %d" % (number(), number()), b"page %d %d" % (number(), number())] * 3)
+
     def request(self) -> bytes:
-        words = [b"nodes", b"snapshot", b"len", b"first", b"last"]
-        asked = [b"get %d" % self.some_number(), b"range %d %d" % (self.some_number(), self.some_number())]
-        return self.random.choice(words + asked * 3)
+        return b"snapshot" if self.random.random() < 0.05 else self.read()
 
     def line(self) -> bytes:
         random = self.random

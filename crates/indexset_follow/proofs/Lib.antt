@@ -1,11 +1,15 @@
+pub mod Asked
 pub mod Delivered
 pub mod Drawing
 pub mod EventLines
 pub mod Fits
+pub mod Leads
 pub mod NodeLines
 pub mod Output
+pub mod Pages
 pub mod Passing
 pub mod Programs
+pub mod QueryLines
 pub mod Readings
 pub mod RequestLines
 pub mod Rows

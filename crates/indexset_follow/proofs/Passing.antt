@@ -60,7 +60,8 @@ number_passed n small =
     let len : bytes_eq (decimal n) (codes "len") ≡ false = no_word n small 108 (codes "en") (omega arith) in
     let first : bytes_eq (decimal n) (codes "first") ≡ false = no_word n small 102 (codes "irst") (omega arith) in
     let last : bytes_eq (decimal n) (codes "last") ≡ false = no_word n small 108 (codes "ast") (omega arith) in
-    says_nothing (decimal n) (rw one refl) (rw one refl) (rw (one, nodes, snapshot, len, first, last) refl)
+    let next : bytes_eq (decimal n) (codes "next") ≡ false = no_word n small 110 (codes "ext") (omega arith) in
+    says_nothing (decimal n) (rw one refl) (rw one refl) (rw (one, len, first, last, nodes, next, snapshot) refl)
 
 old_passed : (v : ℕ) → IsPassedOver (codes "old " ++ decimal v)
 old_passed v =
@@ -130,11 +131,15 @@ node_passed (p ∷ []) fit =
     let len : bytes_eq (pair_text p) (codes "len") ≡ false = pair_no_word p fit.0 108 (codes "en") (omega arith, omega arith) in
     let first : bytes_eq (pair_text p) (codes "first") ≡ false = pair_no_word p fit.0 102 (codes "irst") (omega arith, omega arith) in
     let last : bytes_eq (pair_text p) (codes "last") ≡ false = pair_no_word p fit.0 108 (codes "ast") (omega arith, omega arith) in
-    says_nothing (pair_text p) (rw one refl) (rw one refl) (rw (one, nodes, snapshot, len, first, last) refl)
+    let next : bytes_eq (pair_text p) (codes "next") ≡ false = pair_no_word p fit.0 110 (codes "ext") (omega arith, omega arith) in
+    says_nothing (pair_text p) (rw one refl) (rw one refl) (rw (one, len, first, last, nodes, next, snapshot) refl)
 node_passed (p ∷ q ∷ ps) fit =
     let cut : cut_at 32 (node_text (p ∷ q ∷ ps)) ≡ Some (pair_text p, node_text (q ∷ ps)) = cut_told 32 (pair_text p) (node_text (q ∷ ps)) (pair_lacks 32 space_apart p fit.0) in
     let node : bytes_eq (pair_text p) (codes "node") ≡ false = pair_no_word p fit.0 110 (codes "ode") (omega arith, omega arith) in
     let start : bytes_eq (pair_text p) (codes "start") ≡ false = pair_no_word p fit.0 115 (codes "tart") (omega arith, omega arith) in
     let get : bytes_eq (pair_text p) (codes "get") ≡ false = pair_no_word p fit.0 103 (codes "et") (omega arith, omega arith) in
+    let rank : bytes_eq (pair_text p) (codes "rank") ≡ false = pair_no_word p fit.0 114 (codes "ank") (omega arith, omega arith) in
+    let at : bytes_eq (pair_text p) (codes "at") ≡ false = pair_no_word p fit.0 97 (codes "t") (omega arith, omega arith) in
     let range : bytes_eq (pair_text p) (codes "range") ≡ false = pair_no_word p fit.0 114 (codes "ange") (omega arith, omega arith) in
-    says_nothing (node_text (p ∷ q ∷ ps)) (node_alone (p ∷ q ∷ ps) fit) (rw (cut, node) refl) (rw (cut, start, get, range) refl)
+    let page : bytes_eq (pair_text p) (codes "page") ≡ false = pair_no_word p fit.0 112 (codes "age") (omega arith, omega arith) in
+    says_nothing (node_text (p ∷ q ∷ ps)) (node_alone (p ∷ q ∷ ps) fit) (rw (cut, node) refl) (rw (cut, get, rank, at, range, page, start) refl)

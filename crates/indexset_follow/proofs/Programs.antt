@@ -91,7 +91,7 @@ command_onward t g (Cut k) fit =
 command_onward t g Nodes fit =
     tree_onward t g [] (nothing_leads order (pairs_total nat_cmp nat_cmp_total) PairFits t.size t.next g.two t.nodes g.lawful g.held) tt
 
-still : (t : PairTree) → Good t → Onward t t []
+pub still : (t : PairTree) → Good t → Onward t t []
 still t g = record { good = g; replayed = refl; next = omega arith; numbered = λ i lt d. absurd (omega (arith, lt)); fits = λ less. tt }
 
 -- ---- lines
@@ -104,7 +104,7 @@ line_onward s g line = at (pair_meaning line) (λ c told. (pair_sound line c tol
     at None fit = still s.pairs g
     at (Some c) fit = command_onward s.pairs g c (fit c refl)
 
-both_onward : (t mid after : PairTree) (first rest : List Event) → Onward t mid first → Onward mid after rest → Onward t after (first ++ rest)
+pub both_onward : (t mid after : PairTree) (first rest : List Event) → Onward t mid first → Onward mid after rest → Onward t after (first ++ rest)
 both_onward t mid after first rest a b = record {
   good = b.good;
   replayed = replay-append order t.nodes first rest ∙ (ap (option_and_then (λ m. replay order m rest)) a.replayed ∙ b.replayed);

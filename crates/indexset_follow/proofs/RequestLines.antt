@@ -1,43 +1,30 @@
 -- A line makes the request of which it is the text, and no other.
-use Rattle.std.proofs.Common.{Option, None, Some, ◌≡◌, ℕ, ◌<◌, ◌^◌, Bool, true, false, cond, List, ◌∷◌, ◌++◌, refl, ap, subst, ◌∙◌, arith}
+use Rattle.std.proofs.Common.{Option, None, Some, ◌≡◌, ℕ, ◌<◌, ◌^◌, Bool, true, false, cond, List, ◌∷◌, ◌++◌, refl, ap, subst, ◌∙◌}
 use lib.Chars.{codes}
 use Rattle.std.proofs.lemmas.Slice.Eq.{bytes_eq-Decides}
 use Rattle.std.specs.Fmt.{decimal}
-use Rattle.std.specs.Option.{option_and_then, option_map, option_map_or}
+use Rattle.std.specs.Option.{option_map, option_map_or}
 use Rattle.std.specs.Str.{bytes_eq}
 use Rattle.indexset_events.specs.Spelling.{cut_at, number_of}
-use Rattle.indexset_follow.specs.Request.{RequestFits, numbered_request, range_of, request_line, request_of, word_request}
+use Rattle.indexset_follow.specs.Query.{query_line, query_of}
+use Rattle.indexset_follow.specs.Request.{RequestFits, own_request, request_line, request_of}
+use Rattle.indexset_follow.specs.declared.reads.query.Query.{Query}
 use Rattle.indexset_follow.specs.declared.request.Request.{Request}
-use Rattle.indexset_follow.specs.declared.request.Request.TheVariants.{Start, Nodes, Snapshot, Get, Len, First, Last, Range}
-use Rattle.indexset_events.specs.Spelling.Laws.{cut_sound, cut_told, lacks_tested, map_some, none_some, number_lacks, number_sound, number_told, some_inj, then_some}
+use Rattle.indexset_follow.specs.declared.request.Request.TheVariants.{Start, Snapshot, Read}
+use Rattle.indexset_follow.proofs.QueryLines.{query_sound, query_told}
+use Rattle.indexset_events.specs.Spelling.Laws.{cut_sound, cut_told, lacks_tested, map_some, none_some, number_sound, number_told, some_inj}
 
 -- ---- what is spelled is read
 
-start_told : (n : ℕ) → n < 2 ^ 64 → request_of (request_line (Start n)) ≡ Some (Start n)
+pub start_told : (n : ℕ) → n < 2 ^ 64 → request_of (request_line (Start n)) ≡ Some (Start n)
 start_told n fit =
     let cut : cut_at 32 (request_line (Start n)) ≡ Some (codes "start", decimal n) = cut_told 32 (codes "start") (decimal n) (lacks_tested 32 (codes "start") refl) in
     rw cut (ap (option_map Start) (number_told n fit))
 
-get_told : (k : ℕ) → k < 2 ^ 64 → request_of (request_line (Get k)) ≡ Some (Get k)
-get_told k fit =
-    let cut : cut_at 32 (request_line (Get k)) ≡ Some (codes "get", decimal k) = cut_told 32 (codes "get") (decimal k) (lacks_tested 32 (codes "get") refl) in
-    rw cut (ap (option_map Get) (number_told k fit))
-
-range_told : (a b : ℕ) → a < 2 ^ 64 → b < 2 ^ 64 → request_of (request_line (Range a b)) ≡ Some (Range a b)
-range_told a b low high =
-    let cut : cut_at 32 (request_line (Range a b)) ≡ Some (codes "range", decimal a ++ 32 ∷ decimal b) = cut_told 32 (codes "range") (decimal a ++ 32 ∷ decimal b) (lacks_tested 32 (codes "range") refl) in
-    let keys : cut_at 32 (decimal a ++ 32 ∷ decimal b) ≡ Some (decimal a, decimal b) = cut_told 32 (decimal a) (decimal b) (number_lacks 32 (omega arith) a low) in
-    rw cut (rw (keys, number_told a low, number_told b high) refl)
-
 pub request_told : (r : Request) → RequestFits r → request_of (request_line r) ≡ Some r
 request_told (Start n) fit = start_told n fit
-request_told Nodes fit = refl
 request_told Snapshot fit = refl
-request_told (Get k) fit = get_told k fit
-request_told Len fit = refl
-request_told First fit = refl
-request_told Last fit = refl
-request_told (Range a b) fit = range_told a b fit.0 fit.1
+request_told (Read q) fit = ap (λ o. option_map_or (λ q. Some (Read q)) o (own_request (query_line q))) (query_told q fit)
 
 -- ---- what is read is spelled
 
@@ -48,55 +35,30 @@ Spells text r = (text ≡ request_line r) × RequestFits r
 same : (word text : List ℕ) → bytes_eq word text ≡ true → word ≡ text
 same word text e = (bytes_eq-Decides word text).0 e
 
-word_sound : (word : List ℕ) (r : Request) → word_request word ≡ Some r → Spells word r
-word_sound word r h = at (bytes_eq word (codes "nodes")) (bytes_eq word (codes "snapshot")) (bytes_eq word (codes "len")) (bytes_eq word (codes "first")) (bytes_eq word (codes "last")) refl refl refl refl refl h
+snapshot_sound : (line : List ℕ) (r : Request) (b : Bool) → bytes_eq line (codes "snapshot") ≡ b → cond b (Some Snapshot) None ≡ Some r → Spells line r
+snapshot_sound line r true is h = subst (Spells line) (some_inj Snapshot r h) (same line (codes "snapshot") is, tt)
+snapshot_sound line r false is h = none_some r h
+
+start_sound : (word rest : List ℕ) (r : Request) (b : Bool) → bytes_eq word (codes "start") ≡ b → cond b (option_map Start (number_of rest)) None ≡ Some r → Spells (word ++ 32 ∷ rest) r
+start_sound word rest r true is h =
+    let made = map_some (number_of rest) Start r h in
+    let read = number_sound rest made.0 made.1 in
+    subst (Spells (word ++ 32 ∷ rest)) made.2 ((λ i. same word (codes "start") is i ++ 32 ∷ read.0 i), read.1)
+start_sound word rest r false is h = none_some r h
+
+own_sound : (line : List ℕ) (r : Request) → own_request line ≡ Some r → Spells line r
+own_sound line r e = at (cut_at 32 line) refl e
   where
-    -- the word is that of this request
-    is_word : (s : Request) → RequestFits s → word ≡ request_line s → Some s ≡ Some r → Spells word r
-    is_word s fit text e = subst (Spells word) (some_inj s r e) (text, fit)
-
-    at : (a b c d e : Bool) → bytes_eq word (codes "nodes") ≡ a → bytes_eq word (codes "snapshot") ≡ b → bytes_eq word (codes "len") ≡ c → bytes_eq word (codes "first") ≡ d → bytes_eq word (codes "last") ≡ e
-        → cond a (Some Nodes) (cond b (Some Snapshot) (cond c (Some Len) (cond d (Some First) (cond e (Some Last) None)))) ≡ Some r → Spells word r
-    at true b c d e is _ _ _ _ h = is_word Nodes tt (same word (codes "nodes") is) h
-    at false true c d e _ is _ _ _ h = is_word Snapshot tt (same word (codes "snapshot") is) h
-    at false false true d e _ _ is _ _ h = is_word Len tt (same word (codes "len") is) h
-    at false false false true e _ _ _ is _ h = is_word First tt (same word (codes "first") is) h
-    at false false false false true _ _ _ _ is h = is_word Last tt (same word (codes "last") is) h
-    at false false false false false _ _ _ _ _ h = none_some r h
-
-range_sound : (text : List ℕ) (r : Request) → range_of text ≡ Some r → Spells (codes "range " ++ text) r
-range_sound text r h =
-    let cut = then_some (cut_at 32 text) (λ cut. option_and_then (λ a. option_map (Range a) (number_of cut.1)) (number_of cut.0)) r h in
-    let first = then_some (number_of cut.0.0) (λ a. option_map (Range a) (number_of cut.0.1)) r cut.2 in
-    let second = map_some (number_of cut.0.1) (Range first.0) r first.2 in
-    let low = number_sound cut.0.0 first.0 first.1 in
-    let high = number_sound cut.0.1 second.0 second.1 in
-    let keys = cut_sound 32 text cut.0.0 cut.0.1 cut.1 ∙ (λ i. low.0 i ++ 32 ∷ high.0 i) in
-    subst (Spells (codes "range " ++ text)) second.2 (ap (λ t. codes "range " ++ t) keys, (low.1, high.1))
-
-numbered_sound : (word rest : List ℕ) (r : Request) → numbered_request word rest ≡ Some r → Spells (word ++ 32 ∷ rest) r
-numbered_sound word rest r h = at (bytes_eq word (codes "start")) (bytes_eq word (codes "get")) (bytes_eq word (codes "range")) refl refl refl h
-  where
-    at : (a b c : Bool) → bytes_eq word (codes "start") ≡ a → bytes_eq word (codes "get") ≡ b → bytes_eq word (codes "range") ≡ c
-        → cond a (option_map Start (number_of rest)) (cond b (option_map Get (number_of rest)) (cond c (range_of rest) None)) ≡ Some r → Spells (word ++ 32 ∷ rest) r
-    at true b c is _ _ h =
-        let made = map_some (number_of rest) Start r h in
-        let read = number_sound rest made.0 made.1 in
-        subst (Spells (word ++ 32 ∷ rest)) made.2 ((λ i. same word (codes "start") is i ++ 32 ∷ read.0 i), read.1)
-    at false true c _ is _ h =
-        let made = map_some (number_of rest) Get r h in
-        let read = number_sound rest made.0 made.1 in
-        subst (Spells (word ++ 32 ∷ rest)) made.2 ((λ i. same word (codes "get") is i ++ 32 ∷ read.0 i), read.1)
-    at false false true _ _ is h =
-        let read = range_sound rest r h in
-        (ap (λ w. w ++ 32 ∷ rest) (same word (codes "range") is) ∙ read.0, read.1)
-    at false false false _ _ _ h = none_some r h
+    at : (o : Option (List ℕ × List ℕ)) → cut_at 32 line ≡ o
+        → option_map_or (λ cut. cond (bytes_eq cut.0 (codes "start")) (option_map Start (number_of cut.1)) None) o (cond (bytes_eq line (codes "snapshot")) (Some Snapshot) None) ≡ Some r → Spells line r
+    at None is h = snapshot_sound line r (bytes_eq line (codes "snapshot")) refl h
+    at (Some cut) is h =
+        let read = start_sound cut.0 cut.1 r (bytes_eq cut.0 (codes "start")) refl h in
+        (cut_sound 32 line cut.0 cut.1 is ∙ read.0, read.1)
 
 pub request_sound : (line : List ℕ) (r : Request) → request_of line ≡ Some r → (line ≡ request_line r) × RequestFits r
-request_sound line r e = at (cut_at 32 line) refl e
+request_sound line r e = at (query_of line) refl e
   where
-    at : (o : Option (List ℕ × List ℕ)) → cut_at 32 line ≡ o → option_map_or (λ cut. numbered_request cut.0 cut.1) o (word_request line) ≡ Some r → Spells line r
-    at None is h = word_sound line r h
-    at (Some cut) is h =
-        let read = numbered_sound cut.0 cut.1 r h in
-        (cut_sound 32 line cut.0 cut.1 is ∙ read.0, read.1)
+    at : (o : Option Query) → query_of line ≡ o → option_map_or (λ q. Some (Read q)) o (own_request line) ≡ Some r → Spells line r
+    at None is h = own_sound line r h
+    at (Some q) is h = subst (Spells line) (some_inj (Read q) r h) (query_sound line q is)

@@ -8,7 +8,7 @@ use Rattle.indexset_bench.specs.PairText.{ended, lines_for, node_text}
 use Rattle.indexset_core.specs.declared.pair.Pair.{Pair}
 use Rattle.indexset_bench.proofs.CallerLemmas.{lead_after}
 use Rattle.std.specs.List.{join_with_byte}
-use Rattle.indexset_follow.specs.Follow.{row_text}
+use Rattle.indexset_follow.specs.Reads.{row_text}
 use Rattle.indexset_follow.specs.NodeLine.{node_line}
 
 module _ {R X : Type 0} (text : X → List ℕ) (read : R → X) where

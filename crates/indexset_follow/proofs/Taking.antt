@@ -8,8 +8,8 @@ use Rattle.std.specs.Ordering.{is_ge, is_le, is_lt, nat_cmp}
 use Rattle.std.specs.declared.cmp.Ordering.{Ordering}
 use Rattle.std.specs.declared.cmp.Ordering.TheVariants.{Less, Equal, Greater}
 use Rattle.std.specs.declared.ops.Bound.TheVariants.{Included}
-use Rattle.indexset_core.specs.Bounds.{in_range, is_within}
-use Rattle.indexset_core.specs.Pairs.{by_key, pair}
+use Rattle.indexset_core.specs.Bounds.{is_within}
+use Rattle.indexset_core.specs.Pairs.{by_key}
 use Rattle.indexset_core.specs.declared.pair.Pair.{Pair}
 use Rattle.indexset_core.specs.declared.refusal.Refusal.{Refusal}
 use Rattle.indexset_core.specs.declared.refusal.Refusal.TheVariants.{Gap, Memory, Numbers}
@@ -21,6 +21,7 @@ use Rattle.indexset_replica.specs.declared.lookup.Turn.{Turn}
 use Rattle.indexset_replica.specs.declared.lookup.Turn.TheVariants.{Next, Had, Missing}
 use Rattle.indexset_follow.specs.EventLine.{Event}
 use Rattle.indexset_follow.specs.Follow.{State, after_event, event_reply, state, taken_reply}
+use Rattle.indexset_follow.specs.Reads.{keys_from}
 use Rattle.indexset_lines.specs.declared.fault.RunFault.{RunFault}
 use Rattle.indexset_follow.specs.declared.reply.Reply.{Reply}
 use Rattle.indexset_follow.specs.declared.reply.Reply.TheVariants as reply
@@ -108,11 +109,11 @@ module _ (r : State) (e : Event) (here : (event_number e == r.next) ≡ true) wh
 -- ---- a range
 
 -- no pair is within bounds that run backwards
-pub none_within : (low high : ℕ) → high < low → (ps : List (Pair ℕ ℕ)) → in_range (by_key nat_cmp) ps (Included (pair low 0)) (Included (pair high 0)) ≡ []
+pub none_within : (low high : ℕ) → high < low → (ps : List (Pair ℕ ℕ)) → keys_from ps low high ≡ []
 none_within low high back [] = refl
 none_within low high back (p ∷ ps) = rw (outside p) (none_within low high back ps)
   where
-    outside : (p : Pair ℕ ℕ) → is_within (by_key nat_cmp) (Included (pair low 0)) (Included (pair high 0)) p ≡ false
+    outside : (p : Pair ℕ ℕ) → is_within nat_cmp (Included low) (Included high) p.key ≡ false
     outside p = at (is_ge (nat_cmp p.key low)) (is_le (nat_cmp p.key high)) refl refl
       where
         not_less : (o : Ordering) → is_ge o ≡ true → is_lt o ≡ false

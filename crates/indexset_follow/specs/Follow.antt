@@ -1,24 +1,19 @@
 -- What a line does to a follower, and the text that answers it.
-use Rattle.std.specs.Prelude.{ℕ, ◌==◌, is_none, if◌then◌else◌, nat_lt, List, [], ◌++◌, length, min, unwrap_or, Option}
-use Rattle.std.below.core.specs.declared.int.usize.TheConstants.{MAX}
+use Rattle.std.specs.Prelude.{ℕ, ◌==◌, is_none, if◌then◌else◌, nat_lt, List, [], ◌++◌, length, unwrap_or}
 use Rattle.std.specs.Option.{option_map_or}
 use Rattle.std.specs.Ordering.{nat_cmp}
-use Rattle.std.specs.declared.ops.Bound.TheVariants.{Included}
 use Rattle.indexset_lines.specs.Lines.{lines_of}
 use Rattle.indexset_lines.specs.Run.{left_by, replies_to}
-use Rattle.indexset_bench.specs.PairText.{ended, lines_for, node_text}
-use Rattle.indexset_core.specs.Bounds.{in_range}
-use Rattle.indexset_core.specs.Nodes.{joined}
-use Rattle.indexset_core.specs.Order.{equal_element}
-use Rattle.indexset_core.specs.Pairs.{by_key, pair}
+use Rattle.indexset_bench.specs.PairText.{lines_for}
+use Rattle.indexset_core.specs.Pairs.{by_key}
 use Rattle.indexset_core.specs.declared.pair.Pair.{Pair}
 use Rattle.indexset_events.specs.Attach.{attach_refusal, attached}
-use Rattle.indexset_events.specs.Nodes.{is_filled}
 use Rattle.indexset_events.specs.Replay.{event_number}
 use Rattle.indexset_replica.specs.Delivery.{delivered}
-use Rattle.indexset_replica.specs.Replica.{ReplicaState, first_item, last_item}
+use Rattle.indexset_replica.specs.Replica.{ReplicaState}
 use Rattle.indexset_follow.specs.EventLine.{Event, event_of}
 use Rattle.indexset_follow.specs.NodeLine.{node_line, node_of}
+use Rattle.indexset_follow.specs.Reads.{query_text}
 use Rattle.indexset_follow.specs.Reply.{reply_ended}
 use Rattle.indexset_follow.specs.Request.{request_of}
 use Rattle.indexset_follow.specs.declared.others.Others.{Others}
@@ -26,7 +21,7 @@ use Rattle.indexset_follow.specs.declared.others.Others.TheVariants as others
 use Rattle.indexset_follow.specs.declared.reply.Reply.{Reply}
 use Rattle.indexset_follow.specs.declared.reply.Reply.TheVariants as reply
 use Rattle.indexset_follow.specs.declared.request.Request.{Request}
-use Rattle.indexset_follow.specs.declared.request.Request.TheVariants.{Start, Nodes, Snapshot, Get, Len, First, Last, Range}
+use Rattle.indexset_follow.specs.declared.request.Request.TheVariants.{Start, Snapshot, Read}
 
 -- the nodes, and the number of the event that is awaited
 abbrev pub State : Type 0
@@ -63,28 +58,8 @@ node_reply s n = if is_none (attach_refusal (by_key nat_cmp) (length n) s.nodes 
 
 abbrev pub after_request : State → Request → State
 after_request s (Start n) = state [] n
-after_request s Nodes = s
 after_request s Snapshot = s
-after_request s (Get k) = s
-after_request s Len = s
-after_request s First = s
-after_request s Last = s
-after_request s (Range a b) = s
-
--- the pairs, in the order of their keys
-abbrev pub pairs : State → List (Pair ℕ ℕ)
-pairs s = joined s.nodes
-
-abbrev pub item_reply : Option (Pair ℕ ℕ) → Reply
-item_reply o = option_map_or (λ p. reply.Item p.key p.value) o reply.Nothing
-
--- the pairs in one line
-abbrev pub row_text : List (Pair ℕ ℕ) → List ℕ
-row_text ps = if is_filled ps then ended (node_text ps) else reply_ended reply.Nothing
-
--- the nodes, one a line, and then the awaited number
-abbrev pub nodes_text : State → List ℕ
-nodes_text s = lines_for node_text s.nodes ++ reply_ended (reply.Next s.next)
+after_request s (Read q) = s
 
 -- the lines that make another follower the same
 abbrev pub snapshot_text : State → List ℕ
@@ -92,13 +67,8 @@ snapshot_text s = reply_ended (reply.Start s.next) ++ lines_for node_line s.node
 
 abbrev pub request_text : State → Request → List ℕ
 request_text s (Start n) = reply_ended (reply.Next n)
-request_text s Nodes = nodes_text s
 request_text s Snapshot = snapshot_text s
-request_text s (Get k) = reply_ended (item_reply (equal_element (by_key nat_cmp) (pairs s) (pair k 0)))
-request_text s Len = reply_ended (reply.Count (min (length (pairs s)) MAX))
-request_text s First = reply_ended (item_reply (first_item (pairs s)))
-request_text s Last = reply_ended (item_reply (last_item (pairs s)))
-request_text s (Range a b) = row_text (in_range (by_key nat_cmp) (pairs s) (Included (pair a 0)) (Included (pair b 0)))
+request_text s (Read q) = query_text s.nodes s.next q
 
 -- ---- a line
 

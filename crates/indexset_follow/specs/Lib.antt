@@ -1,10 +1,15 @@
 pub mod Drawn
 pub mod EventLine
 pub mod Follow
+pub mod Leading
 pub mod NodeLine
 pub mod Numbers
 pub mod Passed
+pub mod Query
+pub mod Reads
 pub mod Reply
 pub mod Request
 pub mod Run
+pub mod Store
+pub mod StoreRun
 pub mod Told

@@ -2,18 +2,17 @@
 
 ghost use Rattle.std.specs.Prelude.{◌≡◌, ◌≢◌, IfOk, OnOk, IfErr, Err};
 ghost use Rattle.std.specs.Io.KnownBytes.{Appends, Keeps};
-ghost use Rattle.std.specs.Option.{option_copied};
-ghost use Rattle.indexset_follow.specs.Follow.{after_event, after_line, after_node, after_request, event_reply, item_reply, node_reply, others_text, reply_line, request_text};
+ghost use Rattle.indexset_follow.specs.Follow.{after_event, after_line, after_node, after_request, event_reply, node_reply, others_text, reply_line, request_text};
 ghost use Rattle.indexset_follow.specs.Reply.{reply_ended};
 
 use crate::event::{Event, read_event};
 use crate::node::{Node, read_node};
 use crate::others::Others;
+use crate::reads::answer_query;
 use crate::reply::Reply;
 use crate::request::{Request, read_request};
-use crate::write::{Nodes, write_nodes, write_range, write_reply, write_snapshot};
+use crate::write::{Nodes, write_reply, write_snapshot};
 use indexset_bench::RunFault;
-use indexset_core::pair::Pair;
 use indexset_core::refusal::Refusal;
 use indexset_replica::lookup::Turn;
 use std::alloc::Global;
@@ -108,31 +107,13 @@ fn answer_request<W: Write>(
             *nodes = Nodes::new(alloc, next);
             write_reply(writer, Reply::Next(next))
         }
-        Request::Nodes => write_nodes(writer, nodes),
         Request::Snapshot => write_snapshot(writer, nodes),
-        Request::Get(key) => {
-            let sought = Pair { key, value: 0 };
-            write_reply(writer, reply_of(nodes.get(&sought)))
-        }
-        Request::Len => write_reply(writer, Reply::Count(nodes.len())),
-        Request::First => write_reply(writer, reply_of(nodes.first())),
-        Request::Last => write_reply(writer, reply_of(nodes.last())),
-        Request::Range(low, high) => write_range(writer, nodes, low, high),
-    }
-}
-
-/// Returns the reply that gives a pair, or `None` where there is none.
-fn reply_of(pair: Option<&Pair<u64, u64>>) -> Reply
-    ensures { result ≡ item_reply (option_copied pair.entry) }
-{
-    match pair {
-        Some(pair) => Reply::Item(pair.key, pair.value),
-        None => Reply::Nothing,
+        Request::Read(query) => answer_query(writer, nodes, query),
     }
 }
 
 /// Writes the reply to a line that is no event, no node and no request.
-fn answer_other<W: Write>(others: Others, writer: &mut W) -> Result<(), RunFault>
+pub fn answer_other<W: Write>(others: Others, writer: &mut W) -> Result<(), RunFault>
     ensures told { OnOk result (Appends (W.contents writer.old) (W.contents writer.new)
         (others_text others)) }
     ensures fault { IfErr result (λ fault. fault ≡ RunFault.Write) }

@@ -9,12 +9,19 @@
 mod answer;
 mod event;
 pub mod laws;
+mod leading;
 mod node;
 mod numbers;
 pub mod others;
 mod program;
+pub mod reads;
 mod reply;
 mod request;
+mod role;
+mod serving;
+mod store;
+pub mod takeover;
 mod write;
 
 pub use program::run;
+pub use serving::serve;

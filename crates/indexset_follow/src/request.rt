@@ -1,8 +1,9 @@
 //! A command to a follower.
 
 ghost use Rattle.std.specs.Prelude.{◌≡◌};
-ghost use Rattle.indexset_follow.specs.Request.{numbered_request, range_of, request_of, word_request};
+ghost use Rattle.indexset_follow.specs.Request.{own_request, request_of};
 
+use crate::reads::query::{Query, read_query};
 use indexset_events::parts::{cut, read_number};
 
 /// A command to a follower.
@@ -10,72 +11,40 @@ use indexset_events::parts::{cut, read_number};
 pub enum Request {
     /// Begins anew, without nodes: the event of this number is expected.
     Start(u64),
-    /// Returns the nodes and the expected number.
-    Nodes,
     /// Returns the lines that make another follower the same.
     Snapshot,
-    /// Returns the pair of this key.
-    Get(u64),
-    /// Returns how many pairs there are.
-    Len,
-    /// Returns the pair of the least key.
-    First,
-    /// Returns the pair of the greatest key.
-    Last,
-    /// Returns the pairs from one key to another, both included.
-    Range(u64, u64),
+    /// Returns what the nodes hold.
+    Read(Query),
 }
 
 /// Returns the request that the line makes, if it makes one.
 pub fn read_request(line: &[u8]) -> Option<Request>
     ensures { result ≡ request_of line.now }
 {
+    match read_query(line) {
+        Some(query) => Some(Request::Read(query)),
+        None => read_own(line),
+    }
+}
+
+/// Returns the request that the line makes, where it is no read.
+fn read_own(line: &[u8]) -> Option<Request>
+    ensures { result ≡ own_request line.now }
+{
     match cut(line, b' ') {
-        Some((word, rest)) => read_numbered(word, rest),
-        None => read_word(line),
+        Some((word, rest)) => {
+            if word == b"start".as_slice() {
+                read_number(rest).map(Request::Start)
+            } else {
+                None
+            }
+        }
+        None => {
+            if line == b"snapshot".as_slice() {
+                Some(Request::Snapshot)
+            } else {
+                None
+            }
+        }
     }
-}
-
-/// Returns the request of one word.
-fn read_word(word: &[u8]) -> Option<Request>
-    ensures { result ≡ word_request word.now }
-{
-    if word == b"nodes".as_slice() {
-        Some(Request::Nodes)
-    } else if word == b"snapshot".as_slice() {
-        Some(Request::Snapshot)
-    } else if word == b"len".as_slice() {
-        Some(Request::Len)
-    } else if word == b"first".as_slice() {
-        Some(Request::First)
-    } else if word == b"last".as_slice() {
-        Some(Request::Last)
-    } else {
-        None
-    }
-}
-
-/// Returns the request of a word and what stands behind it.
-fn read_numbered(word: &[u8], rest: &[u8]) -> Option<Request>
-    ensures { result ≡ numbered_request word.now rest.now }
-{
-    if word == b"start".as_slice() {
-        read_number(rest).map(Request::Start)
-    } else if word == b"get".as_slice() {
-        read_number(rest).map(Request::Get)
-    } else if word == b"range".as_slice() {
-        read_range(rest)
-    } else {
-        None
-    }
-}
-
-/// Returns the range between two keys.
-fn read_range(text: &[u8]) -> Option<Request>
-    ensures { result ≡ range_of text.now }
-{
-    let (low, high) = cut(text, b' ')?;
-    let low = read_number(low)?;
-    let high = read_number(high)?;
-    Some(Request::Range(low, high))
 }

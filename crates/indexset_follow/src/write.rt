@@ -1,23 +1,18 @@
 //! What is written: lines of a reply, of nodes and of pairs.
 
 ghost use Rattle.std.specs.Prelude.{◌≡◌, ◌++◌, [], codes, OnOk, IfErr};
-ghost use Rattle.std.specs.Ordering.{nat_cmp};
 ghost use Rattle.std.specs.Io.KnownBytes.{Appends};
-ghost use Rattle.std.specs.declared.ops.Bound.TheVariants.{Included};
 ghost use Rattle.indexset_bench.specs.PairText.{lines_for, node_text};
-ghost use Rattle.indexset_core.specs.Bounds.{in_range};
-ghost use Rattle.indexset_core.specs.Pairs.{by_key, pair};
-ghost use Rattle.indexset_follow.specs.Follow.{nodes_text, pairs, row_text, snapshot_text};
+ghost use Rattle.indexset_follow.specs.Follow.{snapshot_text};
 ghost use Rattle.indexset_follow.specs.NodeLine.{node_line};
+ghost use Rattle.indexset_follow.specs.Reads.{nodes_text};
 ghost use Rattle.indexset_follow.specs.Reply.{reply_ended};
 
 use crate::reply::Reply;
-use indexset_bench::pair_text::PairText;
 use indexset_bench::write::write_node;
 use indexset_bench::{Replica, RunFault};
 use indexset_core::pair::Pair;
 use std::io::Write;
-use std::ops::Bound;
 
 /// The nodes that follow a map of numbers.
 pub type Nodes = Replica<Pair<u64, u64>>;
@@ -34,7 +29,7 @@ pub fn write_reply<W: Write>(writer: &mut W, reply: Reply) -> Result<(), RunFaul
 /// Writes the nodes, one a line, and then the expected number.
 pub fn write_nodes<W: Write>(writer: &mut W, nodes: &Nodes) -> Result<(), RunFault>
     ensures told { OnOk result (Appends (W.contents writer.old) (W.contents writer.new)
-        (nodes_text nodes.now)) }
+        (nodes_text nodes.now.nodes nodes.now.next)) }
     ensures fault { IfErr result (λ fault. fault ≡ RunFault.Write) }
 {
     for node in nodes.nodes() {
@@ -55,37 +50,4 @@ pub fn write_snapshot<W: Write>(writer: &mut W, nodes: &Nodes) -> Result<(), Run
         write_node(writer, node)?;
     }
     Ok(())
-}
-
-/// Writes the pairs from one key to another, both included, in one line.
-pub fn write_range<W: Write>(
-    writer: &mut W,
-    nodes: &Nodes,
-    low: u64,
-    high: u64,
-) -> Result<(), RunFault>
-    ensures told { OnOk result (Appends (W.contents writer.old) (W.contents writer.new)
-        (row_text (in_range (by_key nat_cmp) (pairs nodes.now)
-        (Included (pair low 0)) (Included (pair high 0))))) }
-    ensures fault { IfErr result (λ fault. fault ≡ RunFault.Write) }
-{
-    if high < low {
-        return write_reply(writer, Reply::Nothing);
-    }
-    let first = Pair { key: low, value: 0 };
-    let last = Pair {
-        key: high,
-        value: 0,
-    };
-    let mut lead = "";
-    for pair in nodes.range((Bound::Included(&first), Bound::Included(&last))) {
-        let shown = PairText(pair);
-        write!(writer, "{lead}{shown}").map_err(|_| RunFault::Write)?;
-        lead = " ";
-    }
-    if lead.is_empty() {
-        write_reply(writer, Reply::Nothing)
-    } else {
-        writeln!(writer).map_err(|_| RunFault::Write)
-    }
 }

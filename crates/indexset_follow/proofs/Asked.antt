@@ -1,0 +1,67 @@
+-- A read is answered alike in both roles, and changes nothing.
+use Rattle.std.proofs.Common.{None, ◌≡◌, ℕ, false, refl, arith}
+use lib.Chars.{codes}
+use Rattle.indexset_bench.specs.Pairs.{PairTree}
+use Rattle.indexset_follow.specs.EventLine.{event_of}
+use Rattle.indexset_follow.specs.Follow.{State}
+use Rattle.indexset_follow.specs.NodeLine.{node_of}
+use Rattle.indexset_follow.specs.Query.{QueryFits, query_line}
+use Rattle.indexset_follow.specs.Reads.{query_text}
+use Rattle.indexset_follow.specs.Store.{after_held, held, held_reply, is_lead}
+use Rattle.indexset_follow.specs.declared.others.Others.{Others}
+use Rattle.indexset_follow.specs.declared.reads.query.Query.{Query}
+use Rattle.indexset_follow.specs.declared.reads.query.Query.TheVariants.{Get, Len, First, Last, Range, Rank, At, Page, Nodes, Next}
+use Rattle.indexset_follow.specs.declared.role.Role.{Role}
+use Rattle.indexset_follow.specs.declared.role.Role.TheVariants.{Following, Leading}
+use Rattle.indexset_follow.proofs.QueryLines.{query_cut, query_told}
+use Rattle.indexset_follow.proofs.Readings.{no_number}
+
+-- the line of a read is no event
+no_event : (q : Query) → event_of (query_line q) ≡ None
+no_event (Get k) = rw (query_cut (Get k), no_number 103 (codes "et") (omega arith)) refl
+no_event Len = refl
+no_event First = refl
+no_event Last = refl
+no_event (Range a b) = rw (query_cut (Range a b), no_number 114 (codes "ange") (omega arith)) refl
+no_event (Rank k) = rw (query_cut (Rank k), no_number 114 (codes "ank") (omega arith)) refl
+no_event (At i) = rw (query_cut (At i), no_number 97 (codes "t") (omega arith)) refl
+no_event (Page i n) = rw (query_cut (Page i n), no_number 112 (codes "age") (omega arith)) refl
+no_event Nodes = refl
+no_event Next = refl
+
+-- nor is it a node
+no_node : (q : Query) → node_of (query_line q) ≡ None
+no_node (Get k) = rw (query_cut (Get k)) refl
+no_node Len = refl
+no_node First = refl
+no_node Last = refl
+no_node (Range a b) = rw (query_cut (Range a b)) refl
+no_node (Rank k) = rw (query_cut (Rank k)) refl
+no_node (At i) = rw (query_cut (At i)) refl
+no_node (Page i n) = rw (query_cut (Page i n)) refl
+no_node Nodes = refl
+no_node Next = refl
+
+-- nor does it make a follower lead
+no_lead : (q : Query) → is_lead (query_line q) ≡ false
+no_lead (Get k) = refl
+no_lead Len = refl
+no_lead First = refl
+no_lead Last = refl
+no_lead (Range a b) = refl
+no_lead (Rank k) = refl
+no_lead (At i) = refl
+no_lead (Page i n) = refl
+no_lead Nodes = refl
+no_lead Next = refl
+
+module _ (q : Query) (fit : QueryFits q) where
+  pub follower_answers : (o : Others) (size : ℕ) (s : State) → held_reply o (held size (Following s)) (query_line q) ≡ query_text s.nodes s.next q
+  follower_answers o size s = rw (no_lead q, no_event q, no_node q, query_told q fit) refl
+
+  pub leader_answers : (o : Others) (size : ℕ) (t : PairTree) → held_reply o (held size (Leading t)) (query_line q) ≡ query_text t.nodes t.next q
+  leader_answers o size t = rw (no_lead q, query_told q fit) (rw (query_told q fit) refl)
+
+  pub nothing_changed : (size : ℕ) (r : Role) → after_held (held size r) (query_line q) ≡ held size r
+  nothing_changed size (Following s) = rw (no_lead q, no_event q, no_node q, query_told q fit) refl
+  nothing_changed size (Leading t) = rw (no_lead q, query_told q fit) (rw (query_told q fit) refl)

@@ -1,0 +1,11 @@
+use Rattle.indexset_follow.proofs.Asked.{follower_answers, leader_answers, nothing_changed}
+use Rattle.indexset_follow.proofs.takeover.reads_agree.Goals as goal
+
+pub returns-clause-follows : goal.returns-clause-follows
+returns-clause-follows c = λ o size s q fit. follower_answers q fit o size s
+
+pub returns-clause-leads : goal.returns-clause-leads
+returns-clause-leads c = λ o size t q fit. leader_answers q fit o size t
+
+pub returns-clause-still : goal.returns-clause-still
+returns-clause-still c = λ size r q fit. nothing_changed q fit size r

@@ -1,0 +1,62 @@
+-- What a line asks to read, and how it is written.
+use Rattle.std.specs.Prelude.{ℕ, ◌<◌, ◌^◌, if◌then◌else◌, List, ◌∷◌, ◌++◌, Option, None, Some, codes}
+use Rattle.std.specs.Fmt.{decimal}
+use Rattle.std.specs.Option.{option_map, option_and_then, option_map_or}
+use Rattle.std.specs.Str.{bytes_eq}
+use Rattle.indexset_events.specs.Spelling.{cut_at, number_of}
+use Rattle.indexset_follow.specs.declared.reads.query.Query.{Query}
+use Rattle.indexset_follow.specs.declared.reads.query.Query.TheVariants.{Get, Len, First, Last, Range, Rank, At, Page, Nodes, Next}
+
+-- the line of a read
+abbrev pub query_line : Query → List ℕ
+query_line (Get k) = codes "get " ++ decimal k
+query_line Len = codes "len"
+query_line First = codes "first"
+query_line Last = codes "last"
+query_line (Range a b) = codes "range " ++ decimal a ++ 32 ∷ decimal b
+query_line (Rank k) = codes "rank " ++ decimal k
+query_line (At i) = codes "at " ++ decimal i
+query_line (Page i n) = codes "page " ++ decimal i ++ 32 ∷ decimal n
+query_line Nodes = codes "nodes"
+query_line Next = codes "next"
+
+-- the numbers of a read are of 64 bits
+abbrev pub QueryFits : Query → Type 0
+QueryFits (Get k) = k < 2 ^ 64
+QueryFits Len = Unit {0}
+QueryFits First = Unit {0}
+QueryFits Last = Unit {0}
+QueryFits (Range a b) = (a < 2 ^ 64) × (b < 2 ^ 64)
+QueryFits (Rank k) = k < 2 ^ 64
+QueryFits (At i) = i < 2 ^ 64
+QueryFits (Page i n) = (i < 2 ^ 64) × (n < 2 ^ 64)
+QueryFits Nodes = Unit {0}
+QueryFits Next = Unit {0}
+
+-- the read of one word
+abbrev pub word_query : List ℕ → Option Query
+word_query word =
+    if bytes_eq word (codes "len") then Some Len
+    else if bytes_eq word (codes "first") then Some First
+    else if bytes_eq word (codes "last") then Some Last
+    else if bytes_eq word (codes "nodes") then Some Nodes
+    else if bytes_eq word (codes "next") then Some Next
+    else None
+
+-- two numbers with a space between them
+abbrev pub two_numbers : List ℕ → Option (ℕ × ℕ)
+two_numbers text = option_and_then (λ cut. option_and_then (λ a. option_map (λ b. (a, b)) (number_of cut.1)) (number_of cut.0)) (cut_at 32 text)
+
+-- the read of a word and what stands behind it
+abbrev pub numbered_query : List ℕ → List ℕ → Option Query
+numbered_query word rest =
+    if bytes_eq word (codes "get") then option_map Get (number_of rest)
+    else if bytes_eq word (codes "rank") then option_map Rank (number_of rest)
+    else if bytes_eq word (codes "at") then option_map At (number_of rest)
+    else if bytes_eq word (codes "range") then option_map (λ p. Range p.0 p.1) (two_numbers rest)
+    else if bytes_eq word (codes "page") then option_map (λ p. Page p.0 p.1) (two_numbers rest)
+    else None
+
+-- the read that a line asks for
+abbrev pub query_of : List ℕ → Option Query
+query_of line = option_map_or (λ cut. numbered_query cut.0 cut.1) (cut_at 32 line) (word_query line)

@@ -1,0 +1,57 @@
+-- What is read of a map: of its nodes, and of the list that they make joined.
+use Rattle.std.specs.Prelude.{ℕ, if◌then◌else◌, List, ◌++◌, Option, drop, length, slice_get, take}
+use Rattle.std.specs.Option.{option_map, option_map_or}
+use Rattle.std.specs.Ordering.{nat_cmp}
+use Rattle.std.specs.declared.ops.Bound.TheVariants.{Included}
+use Rattle.indexset_bench.specs.PairText.{ended, lines_for, node_text}
+use Rattle.indexset_core.specs.Nodes.{joined}
+use Rattle.indexset_core.specs.Pairs.{entry_of, key_rank, pair_of, pairs_within}
+use Rattle.indexset_core.specs.declared.pair.Pair.{Pair}
+use Rattle.indexset_events.specs.Nodes.{is_filled}
+use Rattle.indexset_replica.specs.Replica.{first_item, last_item}
+use Rattle.indexset_follow.specs.Reply.{reply_ended}
+use Rattle.indexset_follow.specs.declared.reads.query.Query.{Query}
+use Rattle.indexset_follow.specs.declared.reads.query.Query.TheVariants.{Get, Len, First, Last, Range, Rank, At, Page, Nodes, Next}
+use Rattle.indexset_follow.specs.declared.reply.Reply.{Reply}
+use Rattle.indexset_follow.specs.declared.reply.Reply.TheVariants as reply
+
+-- the nodes of a map of numbers
+abbrev pub PairNodes : Type 0
+PairNodes = List (List (Pair ℕ ℕ))
+
+-- the n pairs from position i on, or those that there are
+abbrev pub page : List (Pair ℕ ℕ) → ℕ → ℕ → List (Pair ℕ ℕ)
+page ps i n = take n (drop i ps)
+
+-- the pairs whose keys are from a to b
+abbrev pub keys_from : List (Pair ℕ ℕ) → ℕ → ℕ → List (Pair ℕ ℕ)
+keys_from ps a b = pairs_within nat_cmp ps (Included a) (Included b)
+
+-- the reply that gives a key and its value
+abbrev pub entry_reply : Option (ℕ × ℕ) → Reply
+entry_reply o = option_map_or (λ e. reply.Item e.0 e.1) o reply.Nothing
+
+-- the same of a pair
+abbrev pub item_reply : Option (Pair ℕ ℕ) → Reply
+item_reply o = entry_reply (option_map entry_of o)
+
+-- the pairs in one line
+abbrev pub row_text : List (Pair ℕ ℕ) → List ℕ
+row_text ps = if is_filled ps then ended (node_text ps) else reply_ended reply.Nothing
+
+-- the nodes, one a line, and then the next number
+abbrev pub nodes_text : PairNodes → ℕ → List ℕ
+nodes_text ns next = lines_for node_text ns ++ reply_ended (reply.Next next)
+
+-- the answer to a read
+abbrev pub query_text : PairNodes → ℕ → Query → List ℕ
+query_text ns next (Get k) = reply_ended (item_reply (pair_of nat_cmp (joined ns) k))
+query_text ns next Len = reply_ended (reply.Count (length (joined ns)))
+query_text ns next First = reply_ended (item_reply (first_item (joined ns)))
+query_text ns next Last = reply_ended (item_reply (last_item (joined ns)))
+query_text ns next (Range a b) = row_text (keys_from (joined ns) a b)
+query_text ns next (Rank k) = reply_ended (reply.Count (key_rank nat_cmp (joined ns) k))
+query_text ns next (At i) = reply_ended (item_reply (slice_get (joined ns) i))
+query_text ns next (Page i n) = row_text (page (joined ns) i n)
+query_text ns next Nodes = nodes_text ns next
+query_text ns next Next = reply_ended (reply.Next next)

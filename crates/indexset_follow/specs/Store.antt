@@ -1,0 +1,109 @@
+-- What a line does to a map that follows or leads, and the text that answers it.
+use Rattle.std.specs.Prelude.{ℕ, ◌&&◌, is_none, not, if◌then◌else◌, Bool, true, false, List, [], ◌++◌, codes, Option, None, Some}
+use Rattle.std.specs.Fmt.{decimal}
+use Rattle.std.specs.Ordering.{nat_cmp}
+use Rattle.std.specs.Str.{bytes_eq}
+use Rattle.indexset_bench.specs.PairText.{ended}
+use Rattle.indexset_bench.specs.Pairs.{PairTree}
+use Rattle.indexset_core.specs.Pairs.{by_key}
+use Rattle.indexset_events.specs.Attach.{nodes_refusal}
+use Rattle.indexset_events.specs.Nodes.{is_filled}
+use Rattle.indexset_lines.specs.Run.{left_by, replies_to}
+use Rattle.indexset_follow.specs.Follow.{State, after_line, reply_line, state}
+use Rattle.indexset_follow.specs.Leading.{after_leading, lacks, leading_reply}
+use Rattle.indexset_follow.specs.Reply.{reply_ended}
+use Rattle.indexset_follow.specs.Request.{request_of}
+use Rattle.indexset_follow.specs.declared.others.Others.{Others}
+use Rattle.indexset_follow.specs.declared.reply.Reply.TheVariants as reply
+use Rattle.indexset_follow.specs.declared.request.Request.{Request}
+use Rattle.indexset_follow.specs.declared.request.Request.TheVariants.{Start, Snapshot, Read}
+use Rattle.indexset_follow.specs.declared.role.Role.{Role}
+use Rattle.indexset_follow.specs.declared.role.Role.TheVariants.{Following, Leading}
+
+-- a map in one of two roles, and how many pairs a node of a leader holds at most
+pub record Held : Type 0 where
+  pub size : ℕ
+  pub role : Role
+
+abbrev pub held : ℕ → Role → Held
+held size role = record { size = size; role = role }
+
+-- ---- a follower leads
+
+-- a leader of the follower's nodes, which goes on with the number that was awaited
+abbrev pub promoted : ℕ → State → PairTree
+promoted size s = record { nodes = s.nodes; size = size; next = s.next }
+
+-- no node has more pairs than one of a leader
+abbrev pub can_lead : ℕ → State → Bool
+can_lead size s = is_none (nodes_refusal (by_key nat_cmp) size s.nodes)
+
+abbrev pub after_lead : ℕ → Role → Role
+after_lead size (Following s) = if can_lead size s then Leading (promoted size s) else Following s
+after_lead size (Leading t) = Leading t
+
+-- a node has more pairs than one of a leader
+abbrev pub size_text : ℕ → List ℕ
+size_text next = ended (codes "unfit " ++ decimal next ++ codes " size")
+
+abbrev pub lead_reply : ℕ → Role → List ℕ
+lead_reply size (Following s) = if can_lead size s then reply_ended (reply.Next s.next) else size_text s.next
+lead_reply size (Leading t) = reply_ended (reply.Next t.next)
+
+-- ---- a snapshot begins a leader without nodes
+
+abbrev pub is_start : Option Request → Bool
+is_start None = false
+is_start (Some (Start n)) = true
+is_start (Some Snapshot) = false
+is_start (Some (Read q)) = false
+
+-- the line begins a snapshot
+abbrev pub starts : List ℕ → Bool
+starts line = is_start (request_of line)
+
+-- it finds a leader without nodes, which then follows
+abbrev pub begun : Role → List ℕ → Role
+begun (Following s) line = Following s
+begun (Leading t) line = if starts line && not (is_filled t.nodes) then Following (state [] t.next) else Leading t
+
+-- ---- a line, by the role
+
+abbrev pub is_lead : List ℕ → Bool
+is_lead line = bytes_eq line (codes "lead")
+
+abbrev pub after_in_role : Role → List ℕ → Role
+after_in_role (Following s) line = Following (after_line s line)
+after_in_role (Leading t) line = Leading (after_leading t line)
+
+abbrev pub reply_in_role : Others → Role → List ℕ → List ℕ
+reply_in_role o (Following s) line = reply_line o s line
+reply_in_role o (Leading t) line = leading_reply o t line
+
+abbrev pub after_held : Held → List ℕ → Held
+after_held h line = held h.size (if is_lead line then after_lead h.size h.role else after_in_role (begun h.role line) line)
+
+abbrev pub held_reply : Others → Held → List ℕ → List ℕ
+held_reply o h line = if is_lead line then lead_reply h.size h.role else reply_in_role o (begun h.role line) line
+
+-- the role tells events, and more of them than there are numbers
+abbrev pub role_lacks : Role → Type 0
+role_lacks (Following s) = ⊥
+role_lacks (Leading t) = lacks t
+
+abbrev pub held_lacks : Held → Type 0
+held_lacks h = role_lacks h.role
+
+-- ---- lines
+
+-- the answers to the lines, joined
+abbrev pub held_replies : Others → Held → List (List ℕ) → List ℕ
+held_replies o = replies_to (held_reply o) after_held
+
+-- what is held after the lines
+abbrev pub held_after : Held → List (List ℕ) → Held
+held_after = left_by after_held
+
+-- at first: no nodes, and event 0 is awaited, or to be told
+abbrev pub first_held : ℕ → Bool → Held
+first_held size leads = held size (if leads then Leading (record { nodes = []; size = size; next = 0 }) else Following (record { nodes = []; next = 0 }))

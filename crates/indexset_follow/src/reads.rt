@@ -1,0 +1,146 @@
+//! Reads of a map of numbers, whether it follows or leads.
+//!
+//! [`Reads`] is what a read needs, [`replica`] and [`logged`] have it, and [`answer_query`] answers
+//! each read by it. [`query`] says what a line asks to read, and [`row`] writes pairs in a line.
+
+ghost use Rattle.std.specs.Prelude.{◌≡◌, ◌≤◌, ℕ, OnOk, IfErr, length, slice_get};
+ghost use Rattle.std.specs.Io.KnownBytes.{Appends};
+ghost use Rattle.std.specs.List.{between};
+ghost use Rattle.std.specs.Option.{option_map};
+ghost use Rattle.std.specs.Ordering.{nat_cmp};
+ghost use Rattle.indexset_core.specs.Nodes.{joined};
+ghost use Rattle.indexset_core.specs.Pairs.{entry_of, key_rank, pair_of};
+ghost use Rattle.indexset_follow.specs.Reads.{PairNodes, entry_reply, keys_from, nodes_text, page, query_text, row_text};
+ghost use Rattle.indexset_follow.specs.Reply.{reply_ended};
+
+mod logged;
+pub mod query;
+mod replica;
+mod row;
+
+use crate::reply::Reply;
+use crate::write::write_reply;
+use indexset_bench::RunFault;
+use query::Query;
+use std::io::Write;
+
+/// A map of numbers that can be read: its nodes, and the number of the next event.
+pub trait Reads {
+    ghost nodes: { Self → PairNodes };
+
+    ghost next: { Self → ℕ };
+
+    /// Returns a key and its value.
+    fn entry(&self, key: u64) -> Option<(u64, u64)>
+        ensures { result ≡ option_map entry_of (pair_of nat_cmp (joined (nodes self.now)) key) };
+
+    /// Returns how many pairs there are.
+    fn count(&self) -> usize
+        ensures { result ≡ length (joined (nodes self.now)) };
+
+    /// Returns the key and the value at a position, counted from 0.
+    fn entry_at(&self, position: usize) -> Option<(u64, u64)>
+        ensures { result ≡ option_map entry_of (slice_get (joined (nodes self.now)) position) };
+
+    /// Returns how many keys are below this one.
+    fn rank_of(&self, key: u64) -> usize
+        ensures { result ≡ key_rank nat_cmp (joined (nodes self.now)) key };
+
+    /// Returns the number of the next event.
+    fn next_number(&self) -> u64
+        ensures { result ≡ next self.now };
+
+    /// Writes the pairs from one key to another, both included, in one line.
+    fn write_keys<W: Write>(&self, writer: &mut W, low: u64, high: u64) -> Result<(), RunFault>
+        requires { low ≤ high }
+        ensures told { OnOk result (Appends (W.contents writer.old) (W.contents writer.new)
+            (row_text (keys_from (joined (nodes self.now)) low high))) }
+        ensures fault { IfErr result (λ fault. fault ≡ RunFault.Write) };
+
+    /// Writes the pairs from one position on, before another, in one line.
+    fn write_positions<W: Write>(
+        &self,
+        writer: &mut W,
+        from: usize,
+        to: usize,
+    ) -> Result<(), RunFault>
+        ensures told { OnOk result (Appends (W.contents writer.old) (W.contents writer.new)
+            (row_text (between from to (joined (nodes self.now))))) }
+        ensures fault { IfErr result (λ fault. fault ≡ RunFault.Write) };
+
+    /// Writes the nodes, one a line, and then the next number.
+    fn write_all<W: Write>(&self, writer: &mut W) -> Result<(), RunFault>
+        ensures told { OnOk result (Appends (W.contents writer.old) (W.contents writer.new)
+            (nodes_text (nodes self.now) (next self.now))) }
+        ensures fault { IfErr result (λ fault. fault ≡ RunFault.Write) };
+}
+
+/// Writes the answer to a read.
+pub fn answer_query<R: Reads, W: Write>(
+    writer: &mut W,
+    map: &R,
+    query: Query,
+) -> Result<(), RunFault>
+    ensures told { OnOk result (Appends (W.contents writer.old) (W.contents writer.new)
+        (query_text (R.nodes map.now) (R.next map.now) query)) }
+    ensures fault { IfErr result (λ fault. fault ≡ RunFault.Write) }
+{
+    match query {
+        Query::Get(key) => write_entry(writer, map.entry(key)),
+        Query::Len => write_reply(writer, Reply::Count(map.count())),
+        Query::First => write_entry(writer, map.entry_at(0)),
+        Query::Last => write_entry(writer, map.entry_at(map.count().saturating_sub(1))),
+        Query::Range(low, high) => write_range(writer, map, low, high),
+        Query::Rank(key) => write_reply(writer, Reply::Count(map.rank_of(key))),
+        Query::At(position) => write_entry(writer, map.entry_at(position as usize)),
+        Query::Page(position, count) => write_page(writer, map, position as usize, count as usize),
+        Query::Nodes => map.write_all(writer),
+        Query::Next => write_reply(writer, Reply::Next(map.next_number())),
+    }
+}
+
+/// Writes a key and its value, or `none` where there is none.
+fn write_entry<W: Write>(writer: &mut W, entry: Option<(u64, u64)>) -> Result<(), RunFault>
+    ensures told { OnOk result (Appends (W.contents writer.old) (W.contents writer.new)
+        (reply_ended (entry_reply entry))) }
+    ensures fault { IfErr result (λ fault. fault ≡ RunFault.Write) }
+{
+    let reply = match entry {
+        Some((key, value)) => Reply::Item(key, value),
+        None => Reply::Nothing,
+    };
+    write_reply(writer, reply)
+}
+
+/// Writes the pairs from one key to another, both included, in one line.
+fn write_range<R: Reads, W: Write>(
+    writer: &mut W,
+    map: &R,
+    low: u64,
+    high: u64,
+) -> Result<(), RunFault>
+    ensures told { OnOk result (Appends (W.contents writer.old) (W.contents writer.new)
+        (row_text (keys_from (joined (R.nodes map.now)) low high))) }
+    ensures fault { IfErr result (λ fault. fault ≡ RunFault.Write) }
+{
+    if high < low {
+        write_reply(writer, Reply::Nothing)
+    } else {
+        map.write_keys(writer, low, high)
+    }
+}
+
+/// Writes the pairs from a position on, `count` at most, in one line.
+fn write_page<R: Reads, W: Write>(
+    writer: &mut W,
+    map: &R,
+    position: usize,
+    count: usize,
+) -> Result<(), RunFault>
+    ensures told { OnOk result (Appends (W.contents writer.old) (W.contents writer.new)
+        (row_text (page (joined (R.nodes map.now)) position count))) }
+    ensures fault { IfErr result (λ fault. fault ≡ RunFault.Write) }
+{
+    let end = position.saturating_add(count).min(map.count());
+    map.write_positions(writer, position, end)
+}

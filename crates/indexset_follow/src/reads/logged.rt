@@ -1,0 +1,74 @@
+//! Reads of a map that leads.
+
+use super::Reads;
+use super::row::{Walk, write_row};
+use crate::reply::Reply;
+use crate::write::write_reply;
+use indexset_bench::RunFault;
+use indexset_bench::pairs::Pairs;
+use indexset_bench::write::write_nodes;
+use indexset_core::pair::Pair;
+use indexset_log::map::iter::Iter;
+use std::io::Write;
+use std::ops::Bound;
+
+impl Reads for Pairs {
+    ghost nodes = { λ t. t.nodes };
+
+    ghost next = { λ t. t.next };
+
+    fn entry(&self, key: u64) -> Option<(u64, u64)> {
+        let (key, value) = self.get_key_value(&key)?;
+        Some((*key, *value))
+    }
+
+    fn count(&self) -> usize {
+        self.len()
+    }
+
+    fn entry_at(&self, position: usize) -> Option<(u64, u64)> {
+        let (key, value) = self.get_index(position)?;
+        Some((*key, *value))
+    }
+
+    fn rank_of(&self, key: u64) -> usize {
+        self.rank(&key)
+    }
+
+    fn next_number(&self) -> u64 {
+        self.events_issued()
+    }
+
+    fn write_keys<W: Write>(&self, writer: &mut W, low: u64, high: u64) -> Result<(), RunFault> {
+        write_row(
+            writer,
+            self.range((Bound::Included(&low), Bound::Included(&high))),
+        )
+    }
+
+    fn write_positions<W: Write>(
+        &self,
+        writer: &mut W,
+        from: usize,
+        to: usize,
+    ) -> Result<(), RunFault> {
+        write_row(
+            writer,
+            self.range_idx((Bound::Included(from), Bound::Excluded(to))),
+        )
+    }
+
+    fn write_all<W: Write>(&self, writer: &mut W) -> Result<(), RunFault> {
+        write_nodes(writer, self)?;
+        write_reply(writer, Reply::Next(self.events_issued()))
+    }
+}
+
+impl<'a> Walk for Iter<'a, u64, u64, Vec<Pair<u64, u64>>> {
+    ghost rest = { λ pairs. pairs };
+
+    fn next_entry(&mut self) -> Option<(u64, u64)> {
+        let (key, value) = self.next()?;
+        Some((*key, *value))
+    }
+}

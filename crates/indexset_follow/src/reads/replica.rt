@@ -1,0 +1,70 @@
+//! Reads of nodes that follow.
+
+use super::Reads;
+use super::row::{Walk, write_row};
+use crate::write::{Nodes, write_nodes};
+use indexset_bench::RunFault;
+use indexset_core::pair::Pair;
+use indexset_replica::iter::Iter;
+use std::io::Write;
+use std::ops::Bound;
+
+impl Reads for Nodes {
+    ghost nodes = { λ r. r.nodes };
+
+    ghost next = { λ r. r.next };
+
+    fn entry(&self, key: u64) -> Option<(u64, u64)> {
+        let pair = self.get(&key)?;
+        Some((pair.key, pair.value))
+    }
+
+    fn count(&self) -> usize {
+        self.len()
+    }
+
+    fn entry_at(&self, position: usize) -> Option<(u64, u64)> {
+        let pair = self.get_index(position)?;
+        Some((pair.key, pair.value))
+    }
+
+    fn rank_of(&self, key: u64) -> usize {
+        self.rank(&key)
+    }
+
+    fn next_number(&self) -> u64 {
+        self.next()
+    }
+
+    fn write_keys<W: Write>(&self, writer: &mut W, low: u64, high: u64) -> Result<(), RunFault> {
+        write_row(
+            writer,
+            self.range((Bound::Included(&low), Bound::Included(&high))),
+        )
+    }
+
+    fn write_positions<W: Write>(
+        &self,
+        writer: &mut W,
+        from: usize,
+        to: usize,
+    ) -> Result<(), RunFault> {
+        write_row(
+            writer,
+            self.range_idx((Bound::Included(from), Bound::Excluded(to))),
+        )
+    }
+
+    fn write_all<W: Write>(&self, writer: &mut W) -> Result<(), RunFault> {
+        write_nodes(writer, self)
+    }
+}
+
+impl<'a> Walk for Iter<'a, Pair<u64, u64>> {
+    ghost rest = { λ pairs. pairs };
+
+    fn next_entry(&mut self) -> Option<(u64, u64)> {
+        let pair = self.next()?;
+        Some((pair.key, pair.value))
+    }
+}

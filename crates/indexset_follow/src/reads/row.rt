@@ -1,0 +1,46 @@
+//! Pairs that are walked over, written in one line.
+
+ghost use Rattle.std.specs.Prelude.{◌≡◌, ℕ, List, [], ◌∷◌, OnOk, IfErr, MatchOption};
+ghost use Rattle.std.specs.Io.KnownBytes.{Appends};
+ghost use Rattle.indexset_core.specs.Pairs.{pair};
+ghost use Rattle.indexset_core.specs.declared.pair.Pair.{Pair};
+ghost use Rattle.indexset_follow.specs.Reads.{row_text};
+
+use crate::reply::Reply;
+use crate::write::write_reply;
+use indexset_bench::RunFault;
+use indexset_bench::pair_text::PairText;
+use indexset_core::pair::Pair;
+use std::io::Write;
+
+/// Pairs that are walked over, one after another.
+pub trait Walk {
+    /// The pairs that are left.
+    ghost rest: { Self → List (Pair ℕ ℕ) };
+
+    /// Returns the key and the value of the next pair.
+    fn next_entry(&mut self) -> Option<(u64, u64)>
+        ensures { MatchOption result (rest self.old ≡ [])
+            (λ e. rest self.old ≡ pair e.0 e.1 ∷ rest self.new) };
+}
+
+/// Writes the pairs that are left in one line, or `none` where there is none.
+pub fn write_row<P: Walk + Drop, W: Write>(writer: &mut W, pairs: P) -> Result<(), RunFault>
+    ensures told { OnOk result (Appends (W.contents writer.old) (W.contents writer.new)
+        (row_text (P.rest pairs))) }
+    ensures fault { IfErr result (λ fault. fault ≡ RunFault.Write) }
+{
+    let mut walk = pairs;
+    let mut lead = "";
+    while let Some((key, value)) = walk.next_entry() {
+        let pair = Pair { key, value };
+        let shown = PairText(&pair);
+        write!(writer, "{lead}{shown}").map_err(|_| RunFault::Write)?;
+        lead = " ";
+    }
+    if lead.is_empty() {
+        write_reply(writer, Reply::Nothing)
+    } else {
+        writeln!(writer).map_err(|_| RunFault::Write)
+    }
+}

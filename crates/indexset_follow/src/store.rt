@@ -1,0 +1,176 @@
+//! A map of numbers that follows another or leads.
+
+ghost use Rattle.std.specs.Prelude.{◌≡◌, ◌≢◌, ◌≤◌, if◌then◌else◌, Bool, Err, IfOk, IfErr, None, OnOk, Some, codes, ℕ};
+ghost use Rattle.std.specs.Io.KnownBytes.{Appends, Keeps};
+ghost use Rattle.indexset_follow.specs.Store.{after_in_role, after_lead, begun, can_lead, first_held, held, lead_reply, promoted, reply_in_role, role_lacks, size_text, starts};
+
+use crate::answer::answer_line;
+use crate::leading::answer_leading;
+use crate::others::Others;
+use crate::reply::Reply;
+use crate::request::{Request, read_request};
+use crate::role::Role;
+use crate::write::{Nodes, write_reply};
+use indexset_bench::RunFault;
+use indexset_bench::pairs::Pairs;
+use indexset_events::nodes::test_nodes;
+use indexset_lines::run::Answers;
+use std::alloc::Global;
+use std::io::Write;
+use std::mem;
+
+/// A map in one of two roles, as a run has lines answered.
+#[derive(Drop)]
+pub struct Store {
+    alloc: Global,
+    others: Others,
+    /// How many pairs a node holds at most while it leads.
+    size: usize,
+    role: Role,
+    ghost two: { 2 ≤ size },
+}
+
+impl Store {
+    /// Returns a map without nodes, which leads or follows from event 0 on.
+    pub fn new(alloc: Global, others: Others, size: usize, leads: bool) -> Store
+        requires { 2 ≤ size }
+        ensures others { result.others ≡ others }
+        ensures held { held result.size result.role ≡ first_held size leads }
+    {
+        let role = if leads {
+            Role::Leading(Pairs::with_maximum_node_size(alloc, size))
+        } else {
+            Role::Following(Nodes::new(alloc, 0))
+        };
+        Store {
+            alloc,
+            others,
+            size,
+            role,
+        }
+    }
+
+    /// Makes a follower a leader of the same nodes, which goes on with the next number, and writes
+    /// the reply. It stays a follower where a node is larger than one of a leader.
+    fn lead<W: Write>(&mut self, writer: &mut W) -> Result<(), RunFault>
+        ensures role { OnOk result (self.new.role ≡ after_lead self.old.size self.old.role) }
+        ensures size { self.new.size ≡ self.old.size }
+        ensures others { self.new.others ≡ self.old.others }
+        ensures told { OnOk result (Appends (W.contents writer.old) (W.contents writer.new)
+            (lead_reply self.old.size self.old.role)) }
+        ensures memory_refused { result ≡ Err RunFault.Memory
+            → Keeps (W.contents writer.old) (W.contents writer.new) }
+        ensures no_numbers { result ≢ Err RunFault.Numbers }
+        ensures no_read { result ≢ Err RunFault.Read }
+    {
+        match &mut self.role {
+            Role::Following(nodes) => {
+                let next = nodes.next();
+                match promote(self.alloc, nodes, self.size)? {
+                    Some(pairs) => {
+                        self.role = Role::Leading(pairs);
+                        write_reply(writer, Reply::Next(next))
+                    }
+                    None => write_too_large(writer, next),
+                }
+            }
+            Role::Leading(pairs) => write_reply(writer, Reply::Next(pairs.events_issued())),
+        }
+    }
+
+    /// Makes a leader without nodes a follower, where the line begins a snapshot.
+    fn begin(&mut self, line: &[u8])
+        ensures role { self.new.role ≡ begun self.old.role line.now }
+        ensures size { self.new.size ≡ self.old.size }
+        ensures others { self.new.others ≡ self.old.others }
+    {
+        if let Role::Leading(pairs) = &self.role {
+            if starts(line) && pairs.node_count() == 0 {
+                let next = pairs.events_issued();
+                self.role = Role::Following(Nodes::new(self.alloc, next));
+            }
+        }
+    }
+
+    /// Writes the answer to a line in the role that it has.
+    fn answer_in_role<W: Write>(&mut self, writer: &mut W, line: &[u8]) -> Result<(), RunFault>
+        ensures role { OnOk result (self.new.role ≡ after_in_role self.old.role line.now) }
+        ensures size { self.new.size ≡ self.old.size }
+        ensures others { self.new.others ≡ self.old.others }
+        ensures told { OnOk result (Appends (W.contents writer.old) (W.contents writer.new)
+            (reply_in_role self.old.others self.old.role line.now)) }
+        ensures memory_refused { result ≡ Err RunFault.Memory
+            → Keeps (W.contents writer.old) (W.contents writer.new) }
+        ensures numbers_refused { result ≡ Err RunFault.Numbers
+            → Keeps (W.contents writer.old) (W.contents writer.new) }
+        ensures no_numbers { result ≡ Err RunFault.Numbers
+            → role_lacks (after_in_role self.old.role line.now) }
+        ensures no_read { result ≢ Err RunFault.Read }
+    {
+        match &mut self.role {
+            Role::Following(nodes) => answer_line(self.alloc, self.others, writer, nodes, line),
+            Role::Leading(pairs) => answer_leading(self.others, writer, pairs, line),
+        }
+    }
+}
+
+/// Returns whether the line begins a snapshot.
+fn starts(line: &[u8]) -> bool
+    ensures { result ≡ starts line.now }
+{
+    match read_request(line) {
+        Some(Request::Start(_)) => true,
+        _ => false,
+    }
+}
+
+/// Takes the nodes for a leader of the same nodes, which goes on with the next number. Returns
+/// `None`, and takes nothing, where a node has more than `size` pairs.
+fn promote(alloc: Global, nodes: &mut Nodes, size: usize) -> Result<Option<Pairs>, RunFault>
+    requires { 2 ≤ size }
+    ensures leader { IfOk result (λ leader. leader
+        ≡ (if can_lead size nodes.old then Some (promoted size nodes.old) else None)) }
+    ensures kept { IfOk result (λ leader. leader ≡ None → nodes.new ≡ nodes.old) }
+    ensures fault { IfErr result (λ fault. fault ≡ RunFault.Memory) }
+{
+    if test_nodes(nodes.nodes(), size).is_err() {
+        return Ok(None);
+    }
+    let next = nodes.next();
+    let taken = mem::replace(nodes, Nodes::new(alloc, next));
+    match Pairs::from_nodes(taken.into_nodes(), size, next) {
+        Ok(pairs) => Ok(Some(pairs)),
+        Err(_) => Err(RunFault::Memory),
+    }
+}
+
+/// Writes that a node is larger than one of a leader.
+fn write_too_large<W: Write>(writer: &mut W, next: u64) -> Result<(), RunFault>
+    ensures told { OnOk result (Appends (W.contents writer.old) (W.contents writer.new)
+        (size_text next)) }
+    ensures fault { IfErr result (λ fault. fault ≡ RunFault.Write) }
+{
+    writeln!(writer, "unfit {next} size").map_err(|_| RunFault::Write)
+}
+
+impl Answers for Store {
+    ghost use Rattle.indexset_follow.specs.Store.{Held, after_held, held, held_lacks, held_reply};
+
+    ghost State = { Held };
+
+    ghost state = { λ store. held store.size store.role };
+
+    ghost reply = { λ store. held_reply store.others };
+
+    ghost after = { after_held };
+
+    ghost lacks_numbers = { held_lacks };
+
+    fn answer<W: Write>(&mut self, writer: &mut W, line: &[u8]) -> Result<(), RunFault> {
+        if line == b"lead".as_slice() {
+            return self.lead(writer);
+        }
+        self.begin(line);
+        self.answer_in_role(writer, line)
+    }
+}

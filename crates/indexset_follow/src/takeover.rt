@@ -1,0 +1,77 @@
+//! Laws of a follower that takes over and of reads in both roles, whatever the code.
+
+ghost use Rattle.std.specs.Prelude.{◌≡◌, ◌<◌, ◌≤◌, ◌^◌, ◌++◌, ◌∷◌, ℕ, List, [], codes, false, length, None, Some};
+ghost use Rattle.std.specs.List.{All};
+ghost use Rattle.std.specs.Ordering.{nat_cmp};
+ghost use Rattle.indexset_bench.specs.Pairs.{PairTree};
+ghost use Rattle.indexset_core.specs.Pairs.{by_key};
+ghost use Rattle.indexset_events.specs.Attach.{nodes_refusal};
+ghost use Rattle.indexset_events.specs.Replay.{IsNumberedFrom, replay};
+ghost use Rattle.indexset_log.specs.Tree.{fresh};
+ghost use Rattle.indexset_follow.specs.Drawn.{HoldsFirst};
+ghost use Rattle.indexset_follow.specs.Follow.{State, state};
+ghost use Rattle.indexset_follow.specs.Leading.{events_led, tree_of};
+ghost use Rattle.indexset_follow.specs.Query.{QueryFits, query_line};
+ghost use Rattle.indexset_follow.specs.Reads.{query_text};
+ghost use Rattle.indexset_follow.specs.Reply.{reply_ended};
+ghost use Rattle.indexset_follow.specs.Store.{after_held, held, held_after, held_replies, held_reply, starts};
+ghost use Rattle.indexset_follow.specs.declared.others.Others.{Others};
+ghost use Rattle.indexset_follow.specs.declared.reads.query.Query.{Query};
+ghost use Rattle.indexset_follow.specs.declared.reply.Reply.TheVariants as reply;
+ghost use Rattle.indexset_follow.specs.declared.role.Role.{Role};
+ghost use Rattle.indexset_follow.specs.declared.role.Role.TheVariants as role;
+
+/// A follower that is told to lead is the leader of the same nodes that goes on with the same
+/// number. So it answers all further lines, and tells the events of them, as that leader does.
+pub fn follower_takes_over()
+    ensures held { (t : PairTree) → nodes_refusal (by_key nat_cmp) t.size t.nodes ≡ None
+        → after_held (held t.size (role.Following (state t.nodes t.next))) (codes "lead")
+        ≡ held t.size (role.Leading t) }
+    ensures answers { (o : Others) (t : PairTree) (lines : List (List ℕ))
+        → nodes_refusal (by_key nat_cmp) t.size t.nodes ≡ None
+        → held_replies o (held t.size (role.Following (state t.nodes t.next))) (codes "lead" ∷ lines)
+        ≡ reply_ended (reply.Next t.next) ++ held_replies o (held t.size (role.Leading t)) lines }
+{}
+
+/// The events that a leader tells, whatever lines it reads, are numbered from 0 without a gap. They
+/// lead from no nodes to the nodes that it holds after these lines, and the number that it gives
+/// next is how many they are. It leads until a line that begins a snapshot finds it without nodes.
+pub fn led_events_lead_to_the_nodes()
+    ensures numbered { (size : ℕ) (lines : List (List ℕ)) → 2 ≤ size → size < 2 ^ 64
+        → IsNumberedFrom 0 (events_led (fresh size) lines) }
+    ensures replayed { (size : ℕ) (lines : List (List ℕ)) → 2 ≤ size → size < 2 ^ 64
+        → replay (by_key nat_cmp) [] (events_led (fresh size) lines)
+        ≡ Some (tree_of (fresh size) lines).nodes }
+    ensures count { (size : ℕ) (lines : List (List ℕ)) → 2 ≤ size → size < 2 ^ 64
+        → (tree_of (fresh size) lines).next ≡ length (events_led (fresh size) lines) }
+    ensures role { (size : ℕ) (t : PairTree) (lines : List (List ℕ))
+        → All (λ line. starts line ≡ false) lines
+        → held_after (held size (role.Leading t)) lines ≡ held size (role.Leading (tree_of t lines)) }
+{}
+
+/// Let a leader begin without nodes and read some lines, and let a follower hold what all events
+/// lead to that it told. The follower that is told to lead is what the leader is, and answers all
+/// further lines, and tells the events of them, as the leader that goes on.
+pub fn follower_goes_on_as_the_leader()
+    ensures held { (size : ℕ) (lines : List (List ℕ)) (s : State) → 2 ≤ size → size < 2 ^ 64
+        → HoldsFirst 0 [] (events_led (fresh size) lines) (length (events_led (fresh size) lines)) s
+        → after_held (held size (role.Following s)) (codes "lead")
+        ≡ held size (role.Leading (tree_of (fresh size) lines)) }
+    ensures answers { (o : Others) (size : ℕ) (lines more : List (List ℕ)) (s : State)
+        → 2 ≤ size → size < 2 ^ 64
+        → HoldsFirst 0 [] (events_led (fresh size) lines) (length (events_led (fresh size) lines)) s
+        → held_replies o (held size (role.Following s)) (codes "lead" ∷ more)
+        ≡ reply_ended (reply.Next s.next)
+        ++ held_replies o (held size (role.Leading (tree_of (fresh size) lines))) more }
+{}
+
+/// A read is answered by the nodes and the next number alone, whatever the role, and changes
+/// nothing.
+pub fn reads_agree()
+    ensures follows { (o : Others) (size : ℕ) (s : State) (q : Query) → QueryFits q
+        → held_reply o (held size (role.Following s)) (query_line q) ≡ query_text s.nodes s.next q }
+    ensures leads { (o : Others) (size : ℕ) (t : PairTree) (q : Query) → QueryFits q
+        → held_reply o (held size (role.Leading t)) (query_line q) ≡ query_text t.nodes t.next q }
+    ensures still { (size : ℕ) (r : Role) (q : Query) → QueryFits q
+        → after_held (held size r) (query_line q) ≡ held size r }
+{}

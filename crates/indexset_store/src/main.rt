@@ -1,0 +1,51 @@
+//! Keeps a map of numbers that follows another by its events, or leads by commands and tells its
+//! events, and writes the answer to each line of its input.
+//!
+//! The arguments are `--follow` or `--lead`, the role that it begins in (it follows unless said),
+//! `--node-size N`, how many pairs a node of a leader holds at most (2 to 65,535; 256 unless said),
+//! and `--pass-others`, with which a line that means nothing is passed over in silence.
+#![tactic(auto)]
+
+mod arguments;
+
+use arguments::{Settings, read_settings};
+use indexset_bench::RunFault;
+use indexset_follow::serve;
+use std::io::{self, BufReader, BufWriter};
+use std::process::ExitCode;
+
+/// The exit status for arguments that it does not know.
+const BAD_ARGUMENTS: u8 = 5;
+
+/// Runs from standard input to standard output.
+fn run(rt: &HostRuntime, settings: Settings) -> Result<(), RunFault> {
+    let alloc = rt.alloc();
+    let mut reader = BufReader::new(alloc, rt.reader()).map_err(|_| RunFault::Memory)?;
+    let mut writer = BufWriter::new(alloc, io::writer(rt)).map_err(|_| RunFault::Memory)?;
+    serve(
+        alloc,
+        settings.others,
+        settings.node_size(),
+        settings.leads,
+        &mut reader,
+        &mut writer,
+    )
+}
+
+fn main(rt: HostRuntime) -> ExitCode {
+    let served = match read_settings(&rt) {
+        Ok(Some(settings)) => run(&rt, settings),
+        Ok(None) => {
+            let _ = eprintln!(&rt; "arguments");
+            return ExitCode::from(BAD_ARGUMENTS);
+        }
+        Err(_) => Err(RunFault::Memory),
+    };
+    match served {
+        Ok(()) => ExitCode::SUCCESS,
+        Err(fault) => {
+            let _ = eprintln!(&rt; "{fault}");
+            ExitCode::from(fault.status())
+        }
+    }
+}

@@ -1,0 +1,189 @@
+#!/usr/bin/env python3
+"""Compares a map that leads with a model, line by line, and a follower that takes over with the leader that goes on.
+
+The lines to a leader are commands, reads, commands and reads with a word or a byte altered, snapshots that it
+begins with while it has no node, and bytes of any kind. A follower reads the events of a leader up to some line,
+and then `lead` and the commands behind that line: what it answers must be, byte for byte, what the leader answered
+to these.
+
+Run it once the program is built. The last line is 'N passed, M failed'.
+"""
+
+from __future__ import annotations
+
+import argparse
+import pathlib
+import random
+import re
+import subprocess
+import sys
+
+sys.dont_write_bytecode = True
+HERE = pathlib.Path(__file__).resolve().parent
+sys.path[:0] = [str(HERE.parent.parent / "tools"), str(HERE.parent / "model")]
+from answers import EVENT, MOST, NUMBER, Model, is_number, number  # noqa: E402
+from hostile import Counts, Hostile, agreed, joined  # noqa: E402
+from items import PAIRS, Item  # noqa: E402
+from logged import Tree, texts  # noqa: E402
+from programs import built  # noqa: E402
+
+LINES = 20_000
+TURNS = 12
+SECONDS = 1200  # for one run, on a busy machine
+START = re.compile(rb"start " + NUMBER)
+
+
+class Store(Model):
+    """What a map that follows or leads should hold and answer."""
+
+    def __init__(self, size: int, leads: bool = True) -> None:
+        super().__init__()
+        self.tree, self.leads = Tree(size), leads
+
+    def lead(self) -> bytes:
+        """The answer to `lead`: a follower becomes a leader of its nodes."""
+        if not self.leads:
+            if any(len(node) > self.tree.size for node in self.nodes):
+                return b"unfit %d size" % self.next
+            self.tree.nodes = [[Item(key, 0, str(value)) for key, value in node] for node in self.nodes]
+            self.tree.next, self.leads = self.next, True
+        return b"next %d" % self.next
+
+    def command(self, line: bytes) -> bytes | None:
+        """The answer to a command, or None where the line is none."""
+        match line.split(b" "):
+            case [b"put", key, value] if is_number(key) and is_number(value):
+                old, events = self.tree.put(Item(number(key), 0, str(number(value))))
+                reply = "new" if old is None else f"old {old.value}"
+            case [b"cut", key] if is_number(key):
+                out, events = self.tree.remove(Item(number(key)))
+                reply = "none" if out is None else f"gone {out.value}"
+            case _:
+                return None
+        self.nodes = [[(item.key, int(item.value)) for item in node] for node in self.tree.nodes]
+        self.next = self.tree.next
+        return "\n".join([reply, *texts(events, PAIRS)]).encode()
+
+    def led(self, line: bytes) -> bytes:
+        """The answer of a leader."""
+        told = self.read(line)
+        told = self.command(line) if told is None else told
+        return b"bad" if told is None else told
+
+    def answer(self, line: bytes) -> bytes:
+        if line == b"lead":
+            return self.lead()
+        try:
+            if not self.nodes and (started := START.fullmatch(line)) and number(started[1]) >= 0:
+                self.leads = False
+            return self.led(line) if self.leads else super().answer(line)
+        except OverflowError:
+            return b"bad"
+
+
+class Commands(Hostile):
+    """Lines to a map that leads or has begun a snapshot, some of them adversarial."""
+
+    def __init__(self, model: Model, seed: int, keys: int) -> None:
+        super().__init__(model, seed)
+        self.keys = keys
+
+    def command(self) -> bytes:
+        key = self.random.randrange(self.keys) if self.random.random() < 0.95 else min(self.some_number(), MOST)
+        if self.random.random() < 0.55:
+            return b"put %d %d" % (key, self.random.randrange(9))
+        return b"cut %d" % key
+
+    def line(self) -> bytes:
+        random = self.random
+        kind = random.random()
+        if kind < 0.6:
+            return self.command()
+        if kind < 0.8:
+            return self.read()
+        if kind < 0.96:
+            return self.altered(random.choice([self.command(), self.read()]))
+        if kind < 0.98:
+            return random.choice([b"lead", b"lead", b"snapshot", b"start %d" % self.some_number(), self.whole_node(), b"0 create 1:1"])
+        return bytes(random.choices(range(256), k=random.randrange(40))).replace(b"\n", b"")
+
+
+def run(program: pathlib.Path, words: list[str], lines: list[bytes]) -> subprocess.CompletedProcess[bytes]:
+    return subprocess.run([program, *words], input=joined(lines), capture_output=True, timeout=SECONDS)
+
+
+def compare(program: pathlib.Path, size: int, keys: int, seed: int) -> Counts:
+    """Counts of lines whose answer is as the model's, and of others."""
+    leader = Store(size)
+    author = Commands(leader, seed, keys)
+    lines: list[bytes] = []
+    answers: list[bytes] = []
+    for _ in range(LINES):
+        lines.append(author.line())
+        answers.append(leader.answer(lines[-1]))
+    done = run(program, ["--lead", "--node-size", str(size)], lines)
+    if (done.returncode, done.stdout, done.stderr) == (0, joined(answers), b""):
+        return Counts(LINES, 0)
+    return Counts(agreed(lines, answers, done.stdout.split(b"\n")), 1)
+
+
+def take_over(program: pathlib.Path, size: int, seed: int) -> Counts:
+    """Counts of lines that a follower that takes over answers as the leader that goes on, and of others."""
+    chance = random.Random(seed)
+    leader = Store(size)
+    author = Commands(leader, seed, 60)
+    lines = [author.command() for _ in range(400)]
+    answers = [leader.answer(line) for line in lines]
+    whole = run(program, ["--lead", "--node-size", str(size)], lines)
+    at = chance.randrange(len(lines))
+    before = b"\n".join(answers[:at]).split(b"\n")
+    told = [line for line in before if EVENT.fullmatch(line)]
+    goes_on = [b"next %d" % len(told), *answers[at:]]
+    done = run(program, ["--node-size", str(size)], [*told, b"lead", *lines[at:]])
+    replies = done.stdout.split(b"\n")[len(told) :]
+    if whole.stdout != joined(answers) or joined(goes_on) != b"\n".join(replies):
+        print(f"seed {seed}, size {size}: after line {at} the follower goes on in another way")
+        return Counts(0, 1)
+    return Counts(len(goes_on), 0)
+
+
+def too_large(program: pathlib.Path) -> Counts:
+    """A follower whose node is too large for a leader stays one."""
+    lines = [b"start 7", b"node 1:1 2:2 3:3", b"lead", b"put 1 1", b"7 split 3:3 1", b"lead", b"8 create 9:9", b"put 9 9", b"nodes"]
+    wanted = [b"next 7", b"held", b"unfit 7 size", b"bad", b"next 8", b"next 8", b"bad"]
+    wanted += [b"new", b"8 split 3:3 1", b"9 insert 3:3 9:9 1", b"1:1", b"2:2", b"3:3 9:9", b"next 10"]
+    done = run(program, ["--node-size", "2"], lines)
+    passed = done.stdout == joined(wanted)
+    if not passed:
+        print(f"nodes that are too large: {done.stdout!r}, not {joined(wanted)!r}")
+    return Counts(int(passed), int(not passed))
+
+
+def arguments(program: pathlib.Path) -> Counts:
+    """Arguments that the program knows, and others."""
+    bad = [["--node-size"], ["--node-size", "1"], ["--node-size", "65536"], ["--node-size", "x"], ["--leads"], ["--lead", "-"]]
+    good = [["--lead"], ["--follow"], ["--lead", "--follow"], ["--node-size", "2"], ["--node-size", "65535", "--pass-others"]]
+    failed = 0
+    for words, wanted in [(it, (5, b"arguments\n")) for it in bad] + [(it, (0, b"")) for it in good]:
+        done = run(program, words, [])
+        if (done.returncode, done.stderr) != wanted or done.stdout:
+            print(f"{words}: status {done.returncode}, {done.stderr!r}")
+            failed += 1
+    return Counts(len(bad) + len(good) - failed, failed)
+
+
+def main() -> int:
+    ask = argparse.ArgumentParser(description="Compares a map that leads with a model.")
+    ask.add_argument("--seed", type=int, default=1)
+    given = ask.parse_args()
+    program = built("indexset_store")
+    counts = [compare(program, size, keys, given.seed + size) for size, keys in ((2, 3), (3, 12), (4, 60), (9, 60))]
+    counts += [take_over(program, random.Random(given.seed + turn).randrange(2, 9), given.seed + turn) for turn in range(TURNS)]
+    counts += [too_large(program), arguments(program)]
+    passed, failed = sum(it.passed for it in counts), sum(it.failed for it in counts)
+    print(f"{passed} passed, {failed} failed")
+    return 1 if failed else 0
+
+
+if __name__ == "__main__":
+    sys.exit(main())
