@@ -196,7 +196,7 @@ def asked(what: str) -> Run:
     ask = argparse.ArgumentParser(description=what)
     ask.add_argument("seed", type=int, nargs="?", default=1, metavar="SEED", help="default: %(default)s")
     chance = random.Random(ask.parse_args().seed)
-    return Run(built("indexset_program"), built("indexset_follower"), chance)
+    return Run(built("indexset_program"), built("indexset_store"), chance)
 
 
 def restarted(follower: Lines, giver: Lines, results: Results) -> Lines:

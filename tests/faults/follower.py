@@ -1,7 +1,7 @@
 #!/usr/bin/env python3
 """Has each request of the follower fail in turn, and compares what it does with what it should.
 
-`indexset_follower` gets the lines of `follower_lines`, to which `follower_replies` has the replies, those to
+`indexset_store` gets the lines of `follower_lines`, to which `follower_replies` has the replies, those to
 one line parted by ` / `. Where a request for memory, a read or a write fails, it must write the replies to
 the lines before, the fault's word and nothing else, end with the fault's status, and free all memory. Three
 more things are tried. The reply to a last line without an end is written by the last flush alone: where that
@@ -72,10 +72,10 @@ def read_in_time(descriptor: int, length: int) -> bytes:
 
 def main() -> int:
     ask = argparse.ArgumentParser(description="Has each request of the follower fail in turn.")
-    ask.add_argument("--follower", type=pathlib.Path, help="the program indexset_follower")
+    ask.add_argument("--follower", type=pathlib.Path, help="the program indexset_store")
     ask.add_argument("--linked", action="store_true", help="refuse.c stands in the program")
     arguments = ask.parse_args()
-    follower = (arguments.follower or built("indexset_follower")).resolve()
+    follower = (arguments.follower or built("indexset_store")).resolve()
     given, replies = (HERE / "follower_lines").read_bytes(), replies_to_first("follower_replies")
     with sweeping(arguments.linked) as sweep:
         sweep.each_request(follower, given, replies)

@@ -225,7 +225,7 @@ def main() -> int:
     ask.add_argument("--seed", type=int, default=1)
     ask.add_argument("--sanitized", action="store_true", help="the program is one that the sanitizer checks")
     given = ask.parse_args()
-    program = built("indexset_follower")
+    program = built("indexset_store")
     counts = [compare(program, given.seed), long_lines(program, sanitized if given.sanitized else limited)]
     passed, failed = sum(it.passed for it in counts), sum(it.failed for it in counts)
     print(f"{passed} passed, {failed} failed")
