@@ -15,6 +15,7 @@ EVENT = re.compile(
     ).replace(b"NUM", NUMBER)
 )
 NODE = re.compile(rb"node (PAIR(?: PAIR)*)".replace(b"PAIR", PAIR))
+START = re.compile(rb"start " + NUMBER)
 
 Pair = tuple[int, int]
 Node = list[Pair]
@@ -132,6 +133,13 @@ class Model:
         self.nodes = nodes
         return b"held"
 
+    def cut(self, line: bytes) -> bytes:
+        """The answer to a last line that lacks its end: it changes nothing, whatever it is."""
+        try:
+            return self.request(line)
+        except OverflowError:
+            return b"bad"
+
     def request(self, line: bytes) -> bytes:
         """The answer to a request, or to a line that is none."""
         items = [item for node in self.nodes for item in node]
@@ -146,9 +154,6 @@ class Model:
                 return shown(items[:1]) or b"none"
             case [b"last"]:
                 return shown(items[-1:]) or b"none"
-            case [b"start", start] if is_number(start):
-                self.nodes, self.next = [], number(start)
-                return b"next %d" % self.next
             case [b"get", key] if is_number(key):
                 wanted = number(key)
                 return shown([item for item in items if item[0] == wanted]) or b"none"
@@ -157,12 +162,19 @@ class Model:
                 return shown([item for item in items if low <= item[0] <= high]) or b"none"
         return b"bad"
 
+    def start(self, at: int) -> bytes:
+        self.nodes, self.next = [], at
+        return b"next %d" % self.next
+
     def answer(self, line: bytes) -> bytes:
+        """The answer to a line with its end."""
         try:
             if told := EVENT.fullmatch(line):
                 return self.event(event_of(told))
             if told := NODE.fullmatch(line):
                 return self.node([pair(part) for part in told[1].split(b" ")])
+            if told := START.fullmatch(line):
+                return self.start(number(told[1]))
             return self.request(line)
         except OverflowError:
             return b"bad"

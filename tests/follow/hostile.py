@@ -3,8 +3,9 @@
 
 The lines are events in turn and out of turn, events with a number, a name, an item, an index or a word
 altered, whole nodes that do not fit, snapshots cut short, requests, and bytes of any kind. The model is
-written from docs/FOLLOWING.md, and shares nothing with the program. Lines of megabytes follow, each in a
-run of its own whose memory is bounded.
+written from docs/FOLLOWING.md, and shares nothing with the program. Some lines are then cut at every byte:
+what a last line without its end would be is not done. Lines of megabytes follow, each in a run of its own
+whose memory is bounded.
 
 Run it once the program is built. With `--sanitized` the sanitizer in the program bounds the memory, which needs
 address space for its own. The last line is 'N passed, M failed'.
@@ -22,8 +23,9 @@ import subprocess
 import sys
 from collections.abc import Callable
 
+HERE = pathlib.Path(__file__).resolve().parent
 sys.dont_write_bytecode = True
-sys.path.insert(0, str(pathlib.Path(__file__).resolve().parent.parent.parent / "tools"))
+sys.path.insert(0, str(HERE.parent.parent / "tools"))
 from answers import MOST, Model, shown  # noqa: E402
 from programs import built  # noqa: E402
 
@@ -210,10 +212,27 @@ def long_lines(program: pathlib.Path, run: Run) -> Counts:
     failed = 0
     for name, (line, answer) in cases.items():
         done = run(program, line + b"\nlen\n" + line, 160_000_000)
-        if (done.returncode, done.stdout) != (0, answer + b"\n0\n" + answer + b"\n"):
+        if (done.returncode, done.stdout) != (0, answer + b"\n0\nbad\n"):
             print(f"{name}: status {done.returncode}, {done.stdout[:80]!r} {done.stderr[:80]!r}")
             failed += 1
     return Counts(len(cases) - failed, failed)
+
+
+def cuts(program: pathlib.Path) -> Counts:
+    """The same for inputs that end at each byte of some lines: what is cut off is answered, and changes nothing."""
+    given = (HERE.parent / "faults" / "follower_lines").read_bytes()
+    failed = 0
+    for end in range(len(given) + 1):
+        model = Model()
+        *whole, rest = given[:end].split(b"\n")
+        answers = [model.answer(line) for line in whole]
+        if rest:
+            answers.append(model.cut(rest))
+        done = subprocess.run([program], input=given[:end], capture_output=True, timeout=SECONDS)
+        if (done.returncode, done.stdout, done.stderr) != (0, joined(answers), b""):
+            print(f"cut at {end}, {rest!r}: {done.stdout[-80:]!r}, not {answers[-1:]}")
+            failed += 1
+    return Counts(len(given) + 1 - failed, failed)
 
 
 def main() -> int:
@@ -222,7 +241,7 @@ def main() -> int:
     ask.add_argument("--sanitized", action="store_true", help="the program is one that the sanitizer checks")
     given = ask.parse_args()
     program = built("indexset_follower")
-    counts = [compare(program, given.seed), long_lines(program, sanitized if given.sanitized else limited)]
+    counts = [compare(program, given.seed), cuts(program), long_lines(program, sanitized if given.sanitized else limited)]
     passed, failed = sum(it.passed for it in counts), sum(it.failed for it in counts)
     print(f"{passed} passed, {failed} failed")
     return 1 if failed else 0

@@ -1,7 +1,9 @@
+pub mod Cut
 pub mod Delivered
 pub mod Drawing
 pub mod EventLines
 pub mod Fits
+pub mod MarkLines
 pub mod NodeLines
 pub mod Output
 pub mod Passing

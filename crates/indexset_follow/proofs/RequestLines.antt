@@ -8,15 +8,10 @@ use Rattle.std.specs.Str.{bytes_eq}
 use Rattle.indexset_events.specs.Spelling.{cut_at, number_of}
 use Rattle.indexset_follow.specs.Request.{RequestFits, numbered_request, range_of, request_line, request_of, word_request}
 use Rattle.indexset_follow.specs.declared.request.Request.{Request}
-use Rattle.indexset_follow.specs.declared.request.Request.TheVariants.{Start, Nodes, Snapshot, Get, Len, First, Last, Range}
+use Rattle.indexset_follow.specs.declared.request.Request.TheVariants.{Nodes, Snapshot, Get, Len, First, Last, Range}
 use Rattle.indexset_events.specs.Spelling.Laws.{cut_sound, cut_told, lacks_tested, map_some, none_some, number_lacks, number_sound, number_told, some_inj, then_some}
 
 -- ---- what is spelled is read
-
-start_told : (n : ℕ) → n < 2 ^ 64 → request_of (request_line (Start n)) ≡ Some (Start n)
-start_told n fit =
-    let cut : cut_at 32 (request_line (Start n)) ≡ Some (codes "start", decimal n) = cut_told 32 (codes "start") (decimal n) (lacks_tested 32 (codes "start") refl) in
-    rw cut (ap (option_map Start) (number_told n fit))
 
 get_told : (k : ℕ) → k < 2 ^ 64 → request_of (request_line (Get k)) ≡ Some (Get k)
 get_told k fit =
@@ -30,7 +25,6 @@ range_told a b low high =
     rw cut (rw (keys, number_told a low, number_told b high) refl)
 
 pub request_told : (r : Request) → RequestFits r → request_of (request_line r) ≡ Some r
-request_told (Start n) fit = start_told n fit
 request_told Nodes fit = refl
 request_told Snapshot fit = refl
 request_told (Get k) fit = get_told k fit
@@ -45,7 +39,7 @@ request_told (Range a b) fit = range_told a b fit.0 fit.1
 abbrev Spells : List ℕ → Request → Type 0
 Spells text r = (text ≡ request_line r) × RequestFits r
 
-same : (word text : List ℕ) → bytes_eq word text ≡ true → word ≡ text
+pub same : (word text : List ℕ) → bytes_eq word text ≡ true → word ≡ text
 same word text e = (bytes_eq-Decides word text).0 e
 
 word_sound : (word : List ℕ) (r : Request) → word_request word ≡ Some r → Spells word r
@@ -75,22 +69,18 @@ range_sound text r h =
     subst (Spells (codes "range " ++ text)) second.2 (ap (λ t. codes "range " ++ t) keys, (low.1, high.1))
 
 numbered_sound : (word rest : List ℕ) (r : Request) → numbered_request word rest ≡ Some r → Spells (word ++ 32 ∷ rest) r
-numbered_sound word rest r h = at (bytes_eq word (codes "start")) (bytes_eq word (codes "get")) (bytes_eq word (codes "range")) refl refl refl h
+numbered_sound word rest r h = at (bytes_eq word (codes "get")) (bytes_eq word (codes "range")) refl refl h
   where
-    at : (a b c : Bool) → bytes_eq word (codes "start") ≡ a → bytes_eq word (codes "get") ≡ b → bytes_eq word (codes "range") ≡ c
-        → cond a (option_map Start (number_of rest)) (cond b (option_map Get (number_of rest)) (cond c (range_of rest) None)) ≡ Some r → Spells (word ++ 32 ∷ rest) r
-    at true b c is _ _ h =
-        let made = map_some (number_of rest) Start r h in
-        let read = number_sound rest made.0 made.1 in
-        subst (Spells (word ++ 32 ∷ rest)) made.2 ((λ i. same word (codes "start") is i ++ 32 ∷ read.0 i), read.1)
-    at false true c _ is _ h =
+    at : (b c : Bool) → bytes_eq word (codes "get") ≡ b → bytes_eq word (codes "range") ≡ c
+        → cond b (option_map Get (number_of rest)) (cond c (range_of rest) None) ≡ Some r → Spells (word ++ 32 ∷ rest) r
+    at true c is _ h =
         let made = map_some (number_of rest) Get r h in
         let read = number_sound rest made.0 made.1 in
         subst (Spells (word ++ 32 ∷ rest)) made.2 ((λ i. same word (codes "get") is i ++ 32 ∷ read.0 i), read.1)
-    at false false true _ _ is h =
+    at false true _ is h =
         let read = range_sound rest r h in
         (ap (λ w. w ++ 32 ∷ rest) (same word (codes "range") is) ∙ read.0, read.1)
-    at false false false _ _ _ h = none_some r h
+    at false false _ _ h = none_some r h
 
 pub request_sound : (line : List ℕ) (r : Request) → request_of line ≡ Some r → (line ≡ request_line r) × RequestFits r
 request_sound line r e = at (cut_at 32 line) refl e

@@ -24,10 +24,11 @@ use Rattle.indexset_follow.specs.Follow.{State, after_line, after_node, snapshot
 use Rattle.indexset_follow.specs.NodeLine.{NodeFits, node_line, node_of}
 use Rattle.indexset_events.specs.Spelling.{cut_at}
 use Rattle.indexset_follow.specs.Numbers.{PairFits}
-use Rattle.indexset_follow.specs.Request.{request_of}
-use Rattle.indexset_follow.specs.declared.request.Request.TheVariants.{Start}
+use Rattle.indexset_follow.specs.Mark.{mark_line}
+use Rattle.indexset_follow.specs.declared.mark.Mark.TheVariants.{Start}
+use Rattle.indexset_follow.proofs.MarkLines.{mark_told}
 use Rattle.indexset_follow.proofs.NodeLines.{node_told}
-use Rattle.indexset_events.specs.Spelling.Laws.{Lacks, cut_told, lacks_tested, number_lacks, number_told}
+use Rattle.indexset_events.specs.Spelling.Laws.{Lacks, cut_told, lacks_tested, number_lacks}
 use Rattle.indexset_follow.proofs.Readings.{end_apart, no_number, pair_lacks}
 
 -- ---- nodes one after the other
@@ -80,7 +81,7 @@ module _ {T : Type 0} (cmp : T → T → Ordering) where
 
 -- the line that begins a snapshot
 abbrev start_line : ℕ → List ℕ
-start_line n = codes "start " ++ decimal n
+start_line n = mark_line (Start n)
 
 start_told : (s : State) (n : ℕ) → n < 2 ^ 64 → after_line s (start_line n) ≡ state [] n
 start_told s n small =
@@ -88,8 +89,7 @@ start_told s n small =
     let word = no_number 115 (codes "tart") (omega arith) in
     let event : event_of (start_line n) ≡ None = rw (cut, word) refl in
     let node : node_of (start_line n) ≡ None = rw cut refl in
-    let request : request_of (start_line n) ≡ Some (Start n) = rw (cut, number_told n small) refl in
-    rw (event, node, request) refl
+    rw (event, node, mark_told (Start n) small) refl
 
 node_line_told : (s : State) (n : List (Pair ℕ ℕ)) → NodeFits n → after_line s (node_line n) ≡ after_node s n
 node_line_told s n fit =

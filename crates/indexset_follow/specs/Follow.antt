@@ -4,8 +4,9 @@ use Rattle.std.below.core.specs.declared.int.usize.TheConstants.{MAX}
 use Rattle.std.specs.Option.{option_map_or}
 use Rattle.std.specs.Ordering.{nat_cmp}
 use Rattle.std.specs.declared.ops.Bound.TheVariants.{Included}
-use Rattle.indexset_lines.specs.Lines.{lines_of}
-use Rattle.indexset_lines.specs.Run.{left_by, replies_to}
+use Rattle.indexset_lines.specs.Lines.{whole_lines}
+use Rattle.indexset_lines.specs.Run.{left_by}
+use Rattle.indexset_lines.specs.Run as lines
 use Rattle.indexset_bench.specs.PairText.{ended, lines_for, node_text}
 use Rattle.indexset_core.specs.Bounds.{in_range}
 use Rattle.indexset_core.specs.Nodes.{joined}
@@ -18,15 +19,18 @@ use Rattle.indexset_events.specs.Replay.{event_number}
 use Rattle.indexset_replica.specs.Delivery.{delivered}
 use Rattle.indexset_replica.specs.Replica.{ReplicaState, first_item, last_item}
 use Rattle.indexset_follow.specs.EventLine.{Event, event_of}
+use Rattle.indexset_follow.specs.Mark.{mark_of}
 use Rattle.indexset_follow.specs.NodeLine.{node_line, node_of}
 use Rattle.indexset_follow.specs.Reply.{reply_ended}
 use Rattle.indexset_follow.specs.Request.{request_of}
+use Rattle.indexset_follow.specs.declared.mark.Mark.{Mark}
+use Rattle.indexset_follow.specs.declared.mark.Mark.TheVariants.{Start}
 use Rattle.indexset_follow.specs.declared.others.Others.{Others}
 use Rattle.indexset_follow.specs.declared.others.Others.TheVariants as others
 use Rattle.indexset_follow.specs.declared.reply.Reply.{Reply}
 use Rattle.indexset_follow.specs.declared.reply.Reply.TheVariants as reply
 use Rattle.indexset_follow.specs.declared.request.Request.{Request}
-use Rattle.indexset_follow.specs.declared.request.Request.TheVariants.{Start, Nodes, Snapshot, Get, Len, First, Last, Range}
+use Rattle.indexset_follow.specs.declared.request.Request.TheVariants.{Nodes, Snapshot, Get, Len, First, Last, Range}
 
 -- the nodes, and the number of the event that is awaited
 abbrev pub State : Type 0
@@ -59,17 +63,15 @@ after_node s n = if is_none (attach_refusal (by_key nat_cmp) (length n) s.nodes 
 abbrev pub node_reply : State → List (Pair ℕ ℕ) → Reply
 node_reply s n = if is_none (attach_refusal (by_key nat_cmp) (length n) s.nodes n) then reply.Held else reply.Unfit s.next
 
--- ---- a request
+-- ---- the beginning of a snapshot
 
-abbrev pub after_request : State → Request → State
-after_request s (Start n) = state [] n
-after_request s Nodes = s
-after_request s Snapshot = s
-after_request s (Get k) = s
-after_request s Len = s
-after_request s First = s
-after_request s Last = s
-after_request s (Range a b) = s
+abbrev pub after_mark : State → Mark → State
+after_mark s (Start n) = state [] n
+
+abbrev pub mark_reply : State → Mark → Reply
+mark_reply s (Start n) = reply.Next n
+
+-- ---- a request, which changes nothing
 
 -- the pairs, in the order of their keys
 abbrev pub pairs : State → List (Pair ℕ ℕ)
@@ -91,7 +93,6 @@ abbrev pub snapshot_text : State → List ℕ
 snapshot_text s = reply_ended (reply.Start s.next) ++ lines_for node_line s.nodes
 
 abbrev pub request_text : State → Request → List ℕ
-request_text s (Start n) = reply_ended (reply.Next n)
 request_text s Nodes = nodes_text s
 request_text s Snapshot = snapshot_text s
 request_text s (Get k) = reply_ended (item_reply (equal_element (by_key nat_cmp) (pairs s) (pair k 0)))
@@ -108,17 +109,17 @@ others_text others.Tell = reply_ended reply.Bad
 others_text others.Pass = []
 
 abbrev pub after_line : State → List ℕ → State
-after_line s line = option_map_or (after_event s) (event_of line) (option_map_or (after_node s) (node_of line) (option_map_or (after_request s) (request_of line) s))
+after_line s line = option_map_or (after_event s) (event_of line) (option_map_or (after_node s) (node_of line) (option_map_or (after_mark s) (mark_of line) s))
+
+-- the answer to a line that is no event and none of a snapshot, and to a last line that lacks its end, whatever it is
+abbrev pub reply_cut : Others → State → List ℕ → List ℕ
+reply_cut o s line = option_map_or (request_text s) (request_of line) (others_text o)
 
 abbrev pub reply_line : Others → State → List ℕ → List ℕ
 reply_line o s line =
     option_map_or (λ e. reply_ended (event_reply s e)) (event_of line)
     (option_map_or (λ n. reply_ended (node_reply s n)) (node_of line)
-    (option_map_or (request_text s) (request_of line) (others_text o)))
-
--- the answers to the lines, joined
-abbrev pub replies_of : Others → State → List (List ℕ) → List ℕ
-replies_of o = replies_to (reply_line o) after_line
+    (option_map_or (λ m. reply_ended (mark_reply s m)) (mark_of line) (reply_cut o s line)))
 
 -- the state after the lines
 abbrev pub state_after : State → List (List ℕ) → State
@@ -128,6 +129,10 @@ state_after = left_by after_line
 abbrev pub start_state : State
 start_state = state [] 0
 
+-- the state after an input: what stands behind its last line end changes nothing
+abbrev pub held_after : List ℕ → State
+held_after input = state_after start_state (whole_lines input)
+
 -- the answers to the lines of the input, from nothing on
 abbrev pub text_of : Others → List ℕ → List ℕ
-text_of o input = replies_of o start_state (lines_of input)
+text_of o = lines.text_of (reply_line o) after_line (reply_cut o) start_state

@@ -1,6 +1,7 @@
 pub mod Drawn
 pub mod EventLine
 pub mod Follow
+pub mod Mark
 pub mod NodeLine
 pub mod Numbers
 pub mod Passed

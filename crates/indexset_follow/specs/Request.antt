@@ -5,11 +5,10 @@ use Rattle.std.specs.Option.{option_map, option_and_then, option_map_or}
 use Rattle.std.specs.Str.{bytes_eq}
 use Rattle.indexset_events.specs.Spelling.{cut_at, number_of}
 use Rattle.indexset_follow.specs.declared.request.Request.{Request}
-use Rattle.indexset_follow.specs.declared.request.Request.TheVariants.{Start, Nodes, Snapshot, Get, Len, First, Last, Range}
+use Rattle.indexset_follow.specs.declared.request.Request.TheVariants.{Nodes, Snapshot, Get, Len, First, Last, Range}
 
 -- the line of a request
 abbrev pub request_line : Request → List ℕ
-request_line (Start n) = codes "start " ++ decimal n
 request_line Nodes = codes "nodes"
 request_line Snapshot = codes "snapshot"
 request_line (Get k) = codes "get " ++ decimal k
@@ -20,7 +19,6 @@ request_line (Range a b) = codes "range " ++ decimal a ++ 32 ∷ decimal b
 
 -- the numbers of a request are of 64 bits
 abbrev pub RequestFits : Request → Type 0
-RequestFits (Start n) = n < 2 ^ 64
 RequestFits Nodes = Unit {0}
 RequestFits Snapshot = Unit {0}
 RequestFits (Get k) = k < 2 ^ 64
@@ -46,8 +44,7 @@ range_of text = option_and_then (λ cut. option_and_then (λ a. option_map (Rang
 -- the request of a word and what stands behind it
 abbrev pub numbered_request : List ℕ → List ℕ → Option Request
 numbered_request word rest =
-    if bytes_eq word (codes "start") then option_map Start (number_of rest)
-    else if bytes_eq word (codes "get") then option_map Get (number_of rest)
+    if bytes_eq word (codes "get") then option_map Get (number_of rest)
     else if bytes_eq word (codes "range") then range_of rest
     else None
 

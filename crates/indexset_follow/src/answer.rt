@@ -3,10 +3,11 @@
 ghost use Rattle.std.specs.Prelude.{◌≡◌, ◌≢◌, IfOk, OnOk, IfErr, Err};
 ghost use Rattle.std.specs.Io.KnownBytes.{Appends, Keeps};
 ghost use Rattle.std.specs.Option.{option_copied};
-ghost use Rattle.indexset_follow.specs.Follow.{after_event, after_line, after_node, after_request, event_reply, item_reply, node_reply, others_text, reply_line, request_text};
+ghost use Rattle.indexset_follow.specs.Follow.{after_event, after_line, after_mark, after_node, event_reply, item_reply, mark_reply, node_reply, others_text, reply_cut, reply_line, request_text};
 ghost use Rattle.indexset_follow.specs.Reply.{reply_ended};
 
 use crate::event::{Event, read_event};
+use crate::mark::{Mark, read_mark};
 use crate::node::{Node, read_node};
 use crate::others::Others;
 use crate::reply::Reply;
@@ -43,13 +44,34 @@ pub fn answer_line<W: Write>(
         let reply = take_node(nodes, node)?;
         return write_reply(writer, reply);
     }
+    match read_mark(line) {
+        Some(mark) => {
+            let reply = take_mark(alloc, nodes, mark);
+            write_reply(writer, reply)
+        }
+        None => answer_cut(others, writer, nodes, line),
+    }
+}
+
+/// Writes the reply to a last line that lacks its end. A request has its own, and any other line is
+/// as one that says nothing: it may be the beginning of another line.
+pub fn answer_cut<W: Write>(
+    others: Others,
+    writer: &mut W,
+    nodes: &Nodes,
+    line: &[u8],
+) -> Result<(), RunFault>
+    ensures told { OnOk result (Appends (W.contents writer.old) (W.contents writer.new)
+        (reply_cut others nodes.now line.now)) }
+    ensures fault { IfErr result (λ fault. fault ≡ RunFault.Write) }
+{
     match read_request(line) {
-        Some(request) => answer_request(alloc, writer, nodes, request),
+        Some(request) => answer_request(writer, nodes, request),
         None => answer_other(others, writer),
     }
 }
 
-/// Makes the step of the expected event, and returns the reply to any event.
+/// Makes the step of the awaited event, and returns the reply to any event.
 fn take_event(nodes: &mut Nodes, event: &Event) -> Result<Reply, RunFault>
     ensures held { OnOk result (nodes.new ≡ after_event nodes.old event.now) }
     ensures reply { IfOk result (λ reply. reply ≡ event_reply nodes.old event.now) }
@@ -91,23 +113,30 @@ fn reply_unless_memory(refusal: Refusal, next: u64) -> Result<Reply, RunFault>
     }
 }
 
+/// Begins a snapshot, and returns the reply.
+fn take_mark(alloc: Global, nodes: &mut Nodes, mark: Mark) -> Reply
+    ensures held { nodes.new ≡ after_mark nodes.old mark }
+    ensures reply { result ≡ mark_reply nodes.old mark }
+{
+    match mark {
+        Mark::Start(next) => {
+            *nodes = Nodes::new(alloc, next);
+            Reply::Next(next)
+        }
+    }
+}
+
 /// Writes the reply to a request.
 fn answer_request<W: Write>(
-    alloc: Global,
     writer: &mut W,
-    nodes: &mut Nodes,
+    nodes: &Nodes,
     request: Request,
 ) -> Result<(), RunFault>
-    ensures held { nodes.new ≡ after_request nodes.old request }
     ensures told { OnOk result (Appends (W.contents writer.old) (W.contents writer.new)
-        (request_text nodes.old request)) }
+        (request_text nodes.now request)) }
     ensures fault { IfErr result (λ fault. fault ≡ RunFault.Write) }
 {
     match request {
-        Request::Start(next) => {
-            *nodes = Nodes::new(alloc, next);
-            write_reply(writer, Reply::Next(next))
-        }
         Request::Nodes => write_nodes(writer, nodes),
         Request::Snapshot => write_snapshot(writer, nodes),
         Request::Get(key) => {

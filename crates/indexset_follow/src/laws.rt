@@ -1,9 +1,9 @@
 //! Laws of the definitions of lines and replies, whatever the code.
 
-ghost use Rattle.std.specs.Prelude.{◌≡◌, ◌↔◌, ◌<◌, ◌≤◌, ◌^◌, ℕ, List, [], length, map, drop, take, Some};
+ghost use Rattle.std.specs.Prelude.{◌≡◌, ◌↔◌, ◌<◌, ◌≤◌, ◌^◌, ◌++◌, ℕ, List, [], length, map, drop, take, None, Some};
 ghost use Rattle.std.specs.List.{All};
 ghost use Rattle.std.specs.Ordering.{nat_cmp};
-ghost use Rattle.indexset_lines.specs.Lines.{lines_of};
+ghost use Rattle.indexset_lines.specs.Lines.{HasNoEnd, IsWhole, lines_of};
 ghost use Rattle.indexset_bench.specs.PairText.{event_text};
 ghost use Rattle.indexset_bench.specs.Reply.{reply_text};
 ghost use Rattle.indexset_bench.specs.Text.{no_stores, stores_of};
@@ -13,11 +13,14 @@ ghost use Rattle.indexset_core.specs.Pairs.{by_key};
 ghost use Rattle.indexset_core.specs.declared.pair.Pair.{Pair};
 ghost use Rattle.indexset_follow.specs.Drawn.{HoldsFirst, IsDrawn, IsFeedOfPairs};
 ghost use Rattle.indexset_follow.specs.EventLine.{Event, EventFits, event_of};
-ghost use Rattle.indexset_follow.specs.Follow.{State, snapshot_text, start_state, state, state_after};
+ghost use Rattle.indexset_follow.specs.Follow.{State, held_after, reply_cut, snapshot_text, start_state, state, state_after, text_of};
+ghost use Rattle.indexset_follow.specs.Mark.{MarkFits, mark_line, mark_of};
 ghost use Rattle.indexset_follow.specs.NodeLine.{NodeFits, node_line, node_of};
 ghost use Rattle.indexset_follow.specs.Passed.{IsPassedOver, ReplyFits};
 ghost use Rattle.indexset_follow.specs.Request.{RequestFits, request_line, request_of};
 ghost use Rattle.indexset_follow.specs.Told.{IsAmong, event_lines, events_of_lines, output_lines};
+ghost use Rattle.indexset_follow.specs.declared.mark.Mark.{Mark};
+ghost use Rattle.indexset_follow.specs.declared.others.Others.{Others};
 ghost use Rattle.indexset_follow.specs.declared.request.Request.{Request};
 ghost use Rattle.indexset_events.specs.Replay.{replay, IsNumberedFrom};
 ghost use Rattle.indexset_replica.specs.Delivery.{IsSubsequence};
@@ -41,6 +44,29 @@ pub fn request_meaning_is_spelling()
     ensures spelled { (line : List ℕ) (r : Request) → RequestFits r
         → (request_of line ≡ Some r) ↔ (line ≡ request_line r) }
     ensures fits { (line : List ℕ) (r : Request) → request_of line ≡ Some r → RequestFits r }
+{}
+
+/// The same of the line that begins a snapshot.
+pub fn mark_meaning_is_spelling()
+    ensures spelled { (line : List ℕ) (m : Mark) → MarkFits m
+        → (mark_of line ≡ Some m) ↔ (line ≡ mark_line m) }
+    ensures fits { (line : List ℕ) (m : Mark) → mark_of line ≡ Some m → MarkFits m }
+{}
+
+/// A last line that lacks its end changes nothing, whatever it would be with its end: what is held
+/// after whole lines and a cut one is what is held after the whole lines. The answer to the cut
+/// line stands behind those to the whole ones, and is none where a follower passes over lines that
+/// say nothing and the cut one is no request.
+pub fn cut_lines_change_nothing()
+    ensures held { (whole rest : List ℕ) → IsWhole whole → HasNoEnd rest
+        → held_after (whole ++ rest) ≡ held_after whole }
+    ensures all_held { (whole : List ℕ) → IsWhole whole
+        → held_after whole ≡ state_after start_state (lines_of whole) }
+    ensures told { (others : Others) (whole rest : List ℕ) → IsWhole whole → HasNoEnd rest
+        → 0 < length rest → text_of others (whole ++ rest)
+        ≡ text_of others whole ++ reply_cut others (held_after whole) rest }
+    ensures silent { (s : State) (rest : List ℕ) → request_of rest ≡ None
+        → reply_cut Others.Pass s rest ≡ [] }
 {}
 
 /// Let the events be numbered without a gap and lead from some nodes on, and let a follower hold

@@ -6,7 +6,7 @@ ghost use Rattle.indexset_lines.specs.Lines.{HasNoEnd, IsLinePart};
 ghost use Rattle.indexset_follow.specs.Follow.{text_of};
 ghost use Rattle.indexset_follow.specs.Run.{AnswersAll, AnswersWholeLines};
 
-use crate::answer::answer_line;
+use crate::answer::{answer_cut, answer_line};
 use crate::others::Others;
 use crate::write::Nodes;
 use indexset_lines::RunFault;
@@ -19,8 +19,8 @@ use std::io::{BufRead, Write};
 /// nodes and expects event 0. The writer is flushed where the reader's buffer is empty, so that
 /// each reply is out before the next read.
 ///
-/// A fault ends the run at once, and the first fault is returned. It is never `Numbers`. A line
-/// past the first 2^64 - 1 is a fault of the reader. After a failed write nothing is said of what
+/// A last line that lacks its end changes nothing. A fault ends the run at once, and the first
+/// fault is returned. It is never `Numbers`. A line past the first 2^64 - 1 is a fault of the reader. After a failed write nothing is said of what
 /// was written.
 pub fn run<R: BufRead, W: Write>(
     alloc: Global,
@@ -64,7 +64,7 @@ struct Following {
 }
 
 impl Answers for Following {
-    ghost use Rattle.indexset_follow.specs.Follow.{State, after_line, reply_line};
+    ghost use Rattle.indexset_follow.specs.Follow.{State, after_line, reply_cut, reply_line};
 
     ghost State = { State };
 
@@ -72,12 +72,18 @@ impl Answers for Following {
 
     ghost reply = { λ following. reply_line following.others };
 
+    ghost cut_reply = { λ following. reply_cut following.others };
+
     ghost after = { after_line };
 
     ghost lacks_numbers = { λ _. ⊥ };
 
     fn answer<W: Write>(&mut self, writer: &mut W, line: &[u8]) -> Result<(), RunFault> {
         answer_line(self.alloc, self.others, writer, &mut self.nodes, line)
+    }
+
+    fn answer_cut<W: Write>(&mut self, writer: &mut W, line: &[u8]) -> Result<(), RunFault> {
+        answer_cut(self.others, writer, &self.nodes, line)
     }
 }
 

@@ -1,15 +1,13 @@
-//! A command to a follower.
+//! A question to a follower.
 
 ghost use Rattle.std.specs.Prelude.{◌≡◌};
 ghost use Rattle.indexset_follow.specs.Request.{numbered_request, range_of, request_of, word_request};
 
 use indexset_events::parts::{cut, read_number};
 
-/// A command to a follower.
+/// A question to a follower. It changes nothing.
 #[derive(Clone, Copy, Debug, PartialEq, Eq)]
 pub enum Request {
-    /// Begins anew, without nodes: the event of this number is expected.
-    Start(u64),
     /// Returns the nodes and the expected number.
     Nodes,
     /// Returns the lines that make another follower the same.
@@ -59,9 +57,7 @@ fn read_word(word: &[u8]) -> Option<Request>
 fn read_numbered(word: &[u8], rest: &[u8]) -> Option<Request>
     ensures { result ≡ numbered_request word.now rest.now }
 {
-    if word == b"start".as_slice() {
-        read_number(rest).map(Request::Start)
-    } else if word == b"get".as_slice() {
+    if word == b"get".as_slice() {
         read_number(rest).map(Request::Get)
     } else if word == b"range".as_slice() {
         read_range(rest)
