@@ -26,7 +26,7 @@ from collections.abc import Callable
 HERE = pathlib.Path(__file__).resolve().parent
 sys.dont_write_bytecode = True
 sys.path.insert(0, str(HERE.parent.parent / "tools"))
-from answers import MOST, Model, shown  # noqa: E402
+from answers import MOST, Model, shown, snapshot  # noqa: E402
 from programs import built  # noqa: E402
 
 LINES = 100_000
@@ -110,8 +110,13 @@ class Hostile:
             keys = sorted(set(keys))
         return b"node " + shown([(key, self.random.randrange(5)) for key in keys])
 
+    def end(self) -> bytes:
+        """The end of a snapshot, most often the right one."""
+        came = snapshot(self.model.coming or [], self.model.coming_next)[-1]
+        return came if self.random.random() < 0.7 else self.altered(came)
+
     def request(self) -> bytes:
-        words = [b"nodes", b"snapshot", b"len", b"first", b"last"]
+        words = [b"nodes", b"snapshot", b"sum", b"len", b"first", b"last"]
         asked = [b"get %d" % self.some_number(), b"range %d %d" % (self.some_number(), self.some_number())]
         return self.random.choice(words + asked * 3)
 
@@ -132,8 +137,10 @@ class Hostile:
             return self.whole_node()
         if kind < 0.82:
             return self.altered(self.whole_node())
-        if kind < 0.825:
+        if kind < 0.83:
             return b"start %d" % random.choice([0] * 9 + [5, MOST - 3, MOST])
+        if kind < 0.84:
+            return self.end()
         if kind < 0.92:
             return self.request()
         if kind < 0.95:
@@ -205,7 +212,7 @@ def long_lines(program: pathlib.Path, run: Run) -> Counts:
         "NULs": (b"\0" * size, b"bad"),
         "no UTF-8": (b"\xff" * size, b"bad"),
         "digits": (b"9" * size, b"bad"),
-        "a node of one key": (b"node" + b" 1:1" * (size // 4), b"unfit 0"),
+        "a node of one key": (b"node" + b" 1:1" * (size // 4), b"unfit 0 start"),
         "a node with a bad end": (b"node" + b" 1:1" * (size // 4) + b" ", b"bad"),
         "an event with a long index": (b"0 insert 1:1 1:1 " + b"1" * size, b"bad"),
     }

@@ -12,4 +12,5 @@ pub mod Readings
 pub mod RequestLines
 pub mod Rows
 pub mod Snapshots
+pub mod Sums
 pub mod Taking

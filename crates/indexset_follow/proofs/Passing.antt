@@ -58,10 +58,11 @@ number_passed n small =
     let one = uncut 32 (decimal n) (number_lacks 32 (omega arith) n small) in
     let nodes : bytes_eq (decimal n) (codes "nodes") ≡ false = no_word n small 110 (codes "odes") (omega arith) in
     let snapshot : bytes_eq (decimal n) (codes "snapshot") ≡ false = no_word n small 115 (codes "napshot") (omega arith) in
+    let sum : bytes_eq (decimal n) (codes "sum") ≡ false = no_word n small 115 (codes "um") (omega arith) in
     let len : bytes_eq (decimal n) (codes "len") ≡ false = no_word n small 108 (codes "en") (omega arith) in
     let first : bytes_eq (decimal n) (codes "first") ≡ false = no_word n small 102 (codes "irst") (omega arith) in
     let last : bytes_eq (decimal n) (codes "last") ≡ false = no_word n small 108 (codes "ast") (omega arith) in
-    says_nothing (decimal n) (rw one refl) (rw one refl) (rw one refl) (rw (one, nodes, snapshot, len, first, last) refl)
+    says_nothing (decimal n) (rw one refl) (rw one refl) (rw one refl) (rw (one, nodes, snapshot, sum, len, first, last) refl)
 
 old_passed : (v : ℕ) → IsPassedOver (codes "old " ++ decimal v)
 old_passed v =
@@ -128,14 +129,16 @@ node_passed (p ∷ []) fit =
     let one = uncut 32 (pair_text p) (pair_lacks 32 space_apart p fit.0) in
     let nodes : bytes_eq (pair_text p) (codes "nodes") ≡ false = pair_no_word p fit.0 110 (codes "odes") (omega arith, omega arith) in
     let snapshot : bytes_eq (pair_text p) (codes "snapshot") ≡ false = pair_no_word p fit.0 115 (codes "napshot") (omega arith, omega arith) in
+    let sum : bytes_eq (pair_text p) (codes "sum") ≡ false = pair_no_word p fit.0 115 (codes "um") (omega arith, omega arith) in
     let len : bytes_eq (pair_text p) (codes "len") ≡ false = pair_no_word p fit.0 108 (codes "en") (omega arith, omega arith) in
     let first : bytes_eq (pair_text p) (codes "first") ≡ false = pair_no_word p fit.0 102 (codes "irst") (omega arith, omega arith) in
     let last : bytes_eq (pair_text p) (codes "last") ≡ false = pair_no_word p fit.0 108 (codes "ast") (omega arith, omega arith) in
-    says_nothing (pair_text p) (rw one refl) (rw one refl) (rw one refl) (rw (one, nodes, snapshot, len, first, last) refl)
+    says_nothing (pair_text p) (rw one refl) (rw one refl) (rw one refl) (rw (one, nodes, snapshot, sum, len, first, last) refl)
 node_passed (p ∷ q ∷ ps) fit =
     let cut : cut_at 32 (node_text (p ∷ q ∷ ps)) ≡ Some (pair_text p, node_text (q ∷ ps)) = cut_told 32 (pair_text p) (node_text (q ∷ ps)) (pair_lacks 32 space_apart p fit.0) in
     let node : bytes_eq (pair_text p) (codes "node") ≡ false = pair_no_word p fit.0 110 (codes "ode") (omega arith, omega arith) in
     let start : bytes_eq (pair_text p) (codes "start") ≡ false = pair_no_word p fit.0 115 (codes "tart") (omega arith, omega arith) in
+    let end : bytes_eq (pair_text p) (codes "end") ≡ false = pair_no_word p fit.0 101 (codes "nd") (omega arith, omega arith) in
     let get : bytes_eq (pair_text p) (codes "get") ≡ false = pair_no_word p fit.0 103 (codes "et") (omega arith, omega arith) in
     let range : bytes_eq (pair_text p) (codes "range") ≡ false = pair_no_word p fit.0 114 (codes "ange") (omega arith, omega arith) in
-    says_nothing (node_text (p ∷ q ∷ ps)) (node_alone (p ∷ q ∷ ps) fit) (rw (cut, node) refl) (rw (cut, start) refl) (rw (cut, get, range) refl)
+    says_nothing (node_text (p ∷ q ∷ ps)) (node_alone (p ∷ q ∷ ps) fit) (rw (cut, node) refl) (rw (cut, start, end) refl) (rw (cut, get, range) refl)

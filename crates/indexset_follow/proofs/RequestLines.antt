@@ -8,7 +8,7 @@ use Rattle.std.specs.Str.{bytes_eq}
 use Rattle.indexset_events.specs.Spelling.{cut_at, number_of}
 use Rattle.indexset_follow.specs.Request.{RequestFits, numbered_request, range_of, request_line, request_of, word_request}
 use Rattle.indexset_follow.specs.declared.request.Request.{Request}
-use Rattle.indexset_follow.specs.declared.request.Request.TheVariants.{Nodes, Snapshot, Get, Len, First, Last, Range}
+use Rattle.indexset_follow.specs.declared.request.Request.TheVariants.{Nodes, Snapshot, Sum, Get, Len, First, Last, Range}
 use Rattle.indexset_events.specs.Spelling.Laws.{cut_sound, cut_told, lacks_tested, map_some, none_some, number_lacks, number_sound, number_told, some_inj, then_some}
 
 -- ---- what is spelled is read
@@ -27,6 +27,7 @@ range_told a b low high =
 pub request_told : (r : Request) → RequestFits r → request_of (request_line r) ≡ Some r
 request_told Nodes fit = refl
 request_told Snapshot fit = refl
+request_told Sum fit = refl
 request_told (Get k) fit = get_told k fit
 request_told Len fit = refl
 request_told First fit = refl
@@ -43,20 +44,21 @@ pub same : (word text : List ℕ) → bytes_eq word text ≡ true → word ≡ t
 same word text e = (bytes_eq-Decides word text).0 e
 
 word_sound : (word : List ℕ) (r : Request) → word_request word ≡ Some r → Spells word r
-word_sound word r h = at (bytes_eq word (codes "nodes")) (bytes_eq word (codes "snapshot")) (bytes_eq word (codes "len")) (bytes_eq word (codes "first")) (bytes_eq word (codes "last")) refl refl refl refl refl h
+word_sound word r h = at (bytes_eq word (codes "nodes")) (bytes_eq word (codes "snapshot")) (bytes_eq word (codes "sum")) (bytes_eq word (codes "len")) (bytes_eq word (codes "first")) (bytes_eq word (codes "last")) refl refl refl refl refl refl h
   where
     -- the word is that of this request
     is_word : (s : Request) → RequestFits s → word ≡ request_line s → Some s ≡ Some r → Spells word r
     is_word s fit text e = subst (Spells word) (some_inj s r e) (text, fit)
 
-    at : (a b c d e : Bool) → bytes_eq word (codes "nodes") ≡ a → bytes_eq word (codes "snapshot") ≡ b → bytes_eq word (codes "len") ≡ c → bytes_eq word (codes "first") ≡ d → bytes_eq word (codes "last") ≡ e
-        → cond a (Some Nodes) (cond b (Some Snapshot) (cond c (Some Len) (cond d (Some First) (cond e (Some Last) None)))) ≡ Some r → Spells word r
-    at true b c d e is _ _ _ _ h = is_word Nodes tt (same word (codes "nodes") is) h
-    at false true c d e _ is _ _ _ h = is_word Snapshot tt (same word (codes "snapshot") is) h
-    at false false true d e _ _ is _ _ h = is_word Len tt (same word (codes "len") is) h
-    at false false false true e _ _ _ is _ h = is_word First tt (same word (codes "first") is) h
-    at false false false false true _ _ _ _ is h = is_word Last tt (same word (codes "last") is) h
-    at false false false false false _ _ _ _ _ h = none_some r h
+    at : (a b f c d e : Bool) → bytes_eq word (codes "nodes") ≡ a → bytes_eq word (codes "snapshot") ≡ b → bytes_eq word (codes "sum") ≡ f → bytes_eq word (codes "len") ≡ c → bytes_eq word (codes "first") ≡ d → bytes_eq word (codes "last") ≡ e
+        → cond a (Some Nodes) (cond b (Some Snapshot) (cond f (Some Sum) (cond c (Some Len) (cond d (Some First) (cond e (Some Last) None))))) ≡ Some r → Spells word r
+    at true b f c d e is _ _ _ _ _ h = is_word Nodes tt (same word (codes "nodes") is) h
+    at false true f c d e _ is _ _ _ _ h = is_word Snapshot tt (same word (codes "snapshot") is) h
+    at false false true c d e _ _ is _ _ _ h = is_word Sum tt (same word (codes "sum") is) h
+    at false false false true d e _ _ _ is _ _ h = is_word Len tt (same word (codes "len") is) h
+    at false false false false true e _ _ _ _ is _ h = is_word First tt (same word (codes "first") is) h
+    at false false false false false true _ _ _ _ _ is h = is_word Last tt (same word (codes "last") is) h
+    at false false false false false false _ _ _ _ _ _ h = none_some r h
 
 range_sound : (text : List ℕ) (r : Request) → range_of text ≡ Some r → Spells (codes "range " ++ text) r
 range_sound text r h =

@@ -16,14 +16,19 @@ module _ {R X : Type 0} (text : X → List ℕ) (read : R → X) where
   lines_push [] x = append-nil (ended (text (read x)))
   lines_push (y ∷ xs) x = ap (λ l. ended (text (read y)) ++ l) (lines_push xs x) ∙ sym (append_assoc (ended (text (read y))) (lines_for text (map read xs)) (ended (text (read x))))
 
+  -- one more line
+  pub one_line : (front : List ℕ) (xs : List R) (i : ℕ) (d : R) → i < length xs → (front ++ lines_for text (map read (take i xs))) ++ ended (text (read (get_or xs i d))) ≡ front ++ lines_for text (map read (take (i + 1) xs))
+  one_line front xs i d lt =
+      let x = get_or xs i d in
+      let next = ap (λ l. lines_for text (map read l)) (take_more xs i d lt) ∙ lines_push (take i xs) x in
+      append_assoc front (lines_for text (map read (take i xs))) (ended (text (read x))) ∙ ap (λ l. front ++ l) (sym next)
+
   -- one more line was written
   pub one_more : (front : List ℕ) (xs : List R) (i : ℕ) (d : R) → i < length xs → (w w1 w2 : Option (List ℕ)) → Appends w w1 (front ++ lines_for text (map read (take i xs))) → Appends w1 w2 (ended (text (read (get_or xs i d))))
       → Appends w w2 (front ++ lines_for text (map read (take (i + 1) xs)))
   one_more front xs i d lt w w1 w2 far told =
-      let x = get_or xs i d in
-      let next = ap (λ l. lines_for text (map read l)) (take_more xs i d lt) ∙ lines_push (take i xs) x in
-      subst (Appends w w2) (append_assoc front (lines_for text (map read (take i xs))) (ended (text (read x))) ∙ ap (λ l. front ++ l) (sym next))
-      (Appends-trans w w1 w2 (front ++ lines_for text (map read (take i xs))) (ended (text (read x))) far told)
+      subst (Appends w w2) (one_line front xs i d lt)
+      (Appends-trans w w1 w2 (front ++ lines_for text (map read (take i xs))) (ended (text (read (get_or xs i d)))) far told)
 
 -- the same, where the things are read one by one, and written in a row
 module _ {R X : Type 0} (text : X → List ℕ) (read : R → X) where

@@ -1,3 +1,4 @@
+pub mod Copy
 pub mod Drawn
 pub mod EventLine
 pub mod Follow
@@ -5,6 +6,7 @@ pub mod Mark
 pub mod NodeLine
 pub mod Numbers
 pub mod Passed
+pub mod Reason
 pub mod Reply
 pub mod Request
 pub mod Run

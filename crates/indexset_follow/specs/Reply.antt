@@ -2,16 +2,17 @@
 use Rattle.std.specs.Prelude.{ℕ, List, ◌++◌, codes}
 use Rattle.std.specs.Fmt.{decimal}
 use Rattle.indexset_bench.specs.PairText.{ended}
+use Rattle.indexset_follow.specs.Reason.{word_of}
 use Rattle.indexset_follow.specs.declared.reply.Reply.{Reply}
-use Rattle.indexset_follow.specs.declared.reply.Reply.TheVariants.{Next, Had, Gap, Unfit, Start, Held, Item, Count, Nothing, Bad}
+use Rattle.indexset_follow.specs.declared.reply.Reply.TheVariants.{Next, Had, Gap, Unfit, Held, Sum, Item, Count, Nothing, Bad}
 
 abbrev pub reply_text : Reply → List ℕ
 reply_text (Next n) = codes "next " ++ decimal n
 reply_text (Had n) = codes "had " ++ decimal n
 reply_text (Gap n) = codes "gap " ++ decimal n
-reply_text (Unfit n) = codes "unfit " ++ decimal n
-reply_text (Start n) = codes "start " ++ decimal n
+reply_text (Unfit n reason) = codes "unfit " ++ decimal n ++ codes " " ++ word_of reason
 reply_text Held = codes "held"
+reply_text (Sum n count sum) = codes "sum " ++ decimal n ++ codes " " ++ decimal count ++ codes " " ++ decimal sum
 reply_text (Item k v) = decimal k ++ codes ":" ++ decimal v
 reply_text (Count n) = decimal n
 reply_text Nothing = codes "none"

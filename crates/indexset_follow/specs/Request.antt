@@ -5,12 +5,13 @@ use Rattle.std.specs.Option.{option_map, option_and_then, option_map_or}
 use Rattle.std.specs.Str.{bytes_eq}
 use Rattle.indexset_events.specs.Spelling.{cut_at, number_of}
 use Rattle.indexset_follow.specs.declared.request.Request.{Request}
-use Rattle.indexset_follow.specs.declared.request.Request.TheVariants.{Nodes, Snapshot, Get, Len, First, Last, Range}
+use Rattle.indexset_follow.specs.declared.request.Request.TheVariants.{Nodes, Snapshot, Sum, Get, Len, First, Last, Range}
 
 -- the line of a request
 abbrev pub request_line : Request → List ℕ
 request_line Nodes = codes "nodes"
 request_line Snapshot = codes "snapshot"
+request_line Sum = codes "sum"
 request_line (Get k) = codes "get " ++ decimal k
 request_line Len = codes "len"
 request_line First = codes "first"
@@ -21,6 +22,7 @@ request_line (Range a b) = codes "range " ++ decimal a ++ 32 ∷ decimal b
 abbrev pub RequestFits : Request → Type 0
 RequestFits Nodes = Unit {0}
 RequestFits Snapshot = Unit {0}
+RequestFits Sum = Unit {0}
 RequestFits (Get k) = k < 2 ^ 64
 RequestFits Len = Unit {0}
 RequestFits First = Unit {0}
@@ -32,6 +34,7 @@ abbrev pub word_request : List ℕ → Option Request
 word_request word =
     if bytes_eq word (codes "nodes") then Some Nodes
     else if bytes_eq word (codes "snapshot") then Some Snapshot
+    else if bytes_eq word (codes "sum") then Some Sum
     else if bytes_eq word (codes "len") then Some Len
     else if bytes_eq word (codes "first") then Some First
     else if bytes_eq word (codes "last") then Some Last

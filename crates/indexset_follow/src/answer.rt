@@ -3,16 +3,19 @@
 ghost use Rattle.std.specs.Prelude.{◌≡◌, ◌≢◌, IfOk, OnOk, IfErr, Err};
 ghost use Rattle.std.specs.Io.KnownBytes.{Appends, Keeps};
 ghost use Rattle.std.specs.Option.{option_copied};
-ghost use Rattle.indexset_follow.specs.Follow.{after_event, after_line, after_mark, after_node, event_reply, item_reply, mark_reply, node_reply, others_text, reply_cut, reply_line, request_text};
-ghost use Rattle.indexset_follow.specs.Reply.{reply_ended};
+ghost use Rattle.indexset_follow.specs.Follow.{after_line, copy_after, event_reply, item_reply, others_text, reply_cut, reply_line, request_text};
 
 use crate::event::{Event, read_event};
-use crate::mark::{Mark, read_mark};
-use crate::node::{Node, read_node};
+use crate::follower::Follower;
+use crate::mark::read_mark;
+use crate::node::read_node;
 use crate::others::Others;
+use crate::reason::Reason;
 use crate::reply::Reply;
 use crate::request::{Request, read_request};
-use crate::write::{Nodes, write_nodes, write_range, write_reply, write_snapshot};
+use crate::snapshot::{take_mark, take_node};
+use crate::sum::sum;
+use crate::write::{Nodes, count, write_nodes, write_range, write_reply, write_snapshot};
 use indexset_bench::RunFault;
 use indexset_core::pair::Pair;
 use indexset_core::refusal::Refusal;
@@ -25,55 +28,60 @@ pub fn answer_line<W: Write>(
     alloc: Global,
     others: Others,
     writer: &mut W,
-    nodes: &mut Nodes,
+    follower: &mut Follower,
     line: &[u8],
 ) -> Result<(), RunFault>
-    ensures held { OnOk result (nodes.new ≡ after_line nodes.old line.now) }
+    ensures held { OnOk result (follower.new ≡ after_line follower.old line.now) }
     ensures told { OnOk result (Appends (W.contents writer.old) (W.contents writer.new)
-        (reply_line others nodes.old line.now)) }
+        (reply_line others follower.old line.now)) }
     ensures memory_refused { result ≡ Err RunFault.Memory
         → Keeps (W.contents writer.old) (W.contents writer.new) }
     ensures no_read { result ≢ Err RunFault.Read }
     ensures no_numbers { result ≢ Err RunFault.Numbers }
 {
     if let Some(event) = read_event(line) {
-        let reply = take_event(nodes, &event)?;
+        let reply = take_event(&mut follower.held, &event)?;
         return write_reply(writer, reply);
     }
     if let Some(node) = read_node(alloc, line)? {
-        let reply = take_node(nodes, node)?;
+        let reply = take_node(follower, node)?;
         return write_reply(writer, reply);
     }
     match read_mark(line) {
         Some(mark) => {
-            let reply = take_mark(alloc, nodes, mark);
+            let reply = take_mark(alloc, follower, mark)?;
             write_reply(writer, reply)
         }
-        None => answer_cut(others, writer, nodes, line),
+        None => answer_cut(alloc, others, writer, follower, line),
     }
 }
 
 /// Writes the reply to a last line that lacks its end. A request has its own, and any other line is
-/// as one that says nothing: it may be the beginning of another line.
+/// as one that says nothing: it may be the beginning of another line. Where memory runs out,
+/// nothing is written.
 pub fn answer_cut<W: Write>(
+    alloc: Global,
     others: Others,
     writer: &mut W,
-    nodes: &Nodes,
+    follower: &Follower,
     line: &[u8],
 ) -> Result<(), RunFault>
     ensures told { OnOk result (Appends (W.contents writer.old) (W.contents writer.new)
-        (reply_cut others nodes.now line.now)) }
-    ensures fault { IfErr result (λ fault. fault ≡ RunFault.Write) }
+        (reply_cut others follower.now line.now)) }
+    ensures memory_refused { result ≡ Err RunFault.Memory
+        → Keeps (W.contents writer.old) (W.contents writer.new) }
+    ensures no_read { result ≢ Err RunFault.Read }
+    ensures no_numbers { result ≢ Err RunFault.Numbers }
 {
     match read_request(line) {
-        Some(request) => answer_request(writer, nodes, request),
+        Some(request) => answer_request(alloc, writer, &follower.held, request),
         None => answer_other(others, writer),
     }
 }
 
 /// Makes the step of the awaited event, and returns the reply to any event.
 fn take_event(nodes: &mut Nodes, event: &Event) -> Result<Reply, RunFault>
-    ensures held { OnOk result (nodes.new ≡ after_event nodes.old event.now) }
+    ensures held { OnOk result (nodes.new ≡ copy_after nodes.old event.now) }
     ensures reply { IfOk result (λ reply. reply ≡ event_reply nodes.old event.now) }
     ensures fault { IfErr result (λ fault. fault ≡ RunFault.Memory) }
 {
@@ -88,57 +96,42 @@ fn take_event(nodes: &mut Nodes, event: &Event) -> Result<Reply, RunFault>
     }
 }
 
-/// Inserts a whole node in its place, and returns the reply.
-fn take_node(nodes: &mut Nodes, node: Node) -> Result<Reply, RunFault>
-    ensures held { OnOk result (nodes.new ≡ after_node nodes.old node.items) }
-    ensures reply { IfOk result (λ reply. reply ≡ node_reply nodes.old node.items) }
-    ensures fault { IfErr result (λ fault. fault ≡ RunFault.Memory) }
-{
-    let next = nodes.next();
-    match nodes.attach(node) {
-        Ok(()) => Ok(Reply::Held),
-        Err(refused) => reply_unless_memory(refused.cause, next),
-    }
-}
-
 /// Returns the reply to what does not apply. A lack of memory is a fault.
-fn reply_unless_memory(refusal: Refusal, next: u64) -> Result<Reply, RunFault>
+pub fn reply_unless_memory(refusal: Refusal, next: u64) -> Result<Reply, RunFault>
     ensures unfit { OnOk result (refusal ≢ Refusal.Memory) }
-    ensures reply { IfOk result (λ reply. reply ≡ Reply.Unfit next) }
+    ensures reply { IfOk result (λ reply. reply ≡ Reply.Unfit next (Reason.Refused refusal)) }
     ensures fault { IfErr result (λ fault. fault ≡ RunFault.Memory) }
 {
     match refusal {
         Refusal::Memory => Err(RunFault::Memory),
-        _ => Ok(Reply::Unfit(next)),
+        _ => Ok(Reply::Unfit(next, Reason::Refused(refusal))),
     }
 }
 
-/// Begins a snapshot, and returns the reply.
-fn take_mark(alloc: Global, nodes: &mut Nodes, mark: Mark) -> Reply
-    ensures held { nodes.new ≡ after_mark nodes.old mark }
-    ensures reply { result ≡ mark_reply nodes.old mark }
-{
-    match mark {
-        Mark::Start(next) => {
-            *nodes = Nodes::new(alloc, next);
-            Reply::Next(next)
-        }
-    }
-}
-
-/// Writes the reply to a request.
+/// Writes the reply to a request. Where memory runs out, nothing is written.
 fn answer_request<W: Write>(
+    alloc: Global,
     writer: &mut W,
     nodes: &Nodes,
     request: Request,
 ) -> Result<(), RunFault>
     ensures told { OnOk result (Appends (W.contents writer.old) (W.contents writer.new)
         (request_text nodes.now request)) }
-    ensures fault { IfErr result (λ fault. fault ≡ RunFault.Write) }
+    ensures memory_refused { result ≡ Err RunFault.Memory
+        → Keeps (W.contents writer.old) (W.contents writer.new) }
+    ensures no_read { result ≢ Err RunFault.Read }
+    ensures no_numbers { result ≢ Err RunFault.Numbers }
 {
     match request {
         Request::Nodes => write_nodes(writer, nodes),
-        Request::Snapshot => write_snapshot(writer, nodes),
+        Request::Snapshot => {
+            let sum = sum(alloc, nodes)?;
+            write_snapshot(writer, nodes, sum)
+        }
+        Request::Sum => {
+            let sum = sum(alloc, nodes)?;
+            write_reply(writer, Reply::Sum(nodes.next(), count(nodes), sum))
+        }
         Request::Get(key) => {
             let sought = Pair { key, value: 0 };
             write_reply(writer, reply_of(nodes.get(&sought)))

@@ -1,6 +1,6 @@
 //! Laws of the definitions of lines and replies, whatever the code.
 
-ghost use Rattle.std.specs.Prelude.{◌≡◌, ◌↔◌, ◌<◌, ◌≤◌, ◌^◌, ◌++◌, ℕ, List, [], length, map, drop, take, None, Some};
+ghost use Rattle.std.specs.Prelude.{◌≡◌, ◌≢◌, ◌⊎◌, ◌↔◌, ◌<◌, ◌≤◌, ◌^◌, ◌++◌, ℕ, List, [], length, map, drop, take, None, Some};
 ghost use Rattle.std.specs.List.{All};
 ghost use Rattle.std.specs.Ordering.{nat_cmp};
 ghost use Rattle.indexset_lines.specs.Lines.{HasNoEnd, IsWhole, lines_of};
@@ -13,8 +13,9 @@ ghost use Rattle.indexset_core.specs.Pairs.{by_key};
 ghost use Rattle.indexset_core.specs.declared.pair.Pair.{Pair};
 ghost use Rattle.indexset_follow.specs.Drawn.{HoldsFirst, IsDrawn, IsFeedOfPairs};
 ghost use Rattle.indexset_follow.specs.EventLine.{Event, EventFits, event_of};
-ghost use Rattle.indexset_follow.specs.Follow.{State, held_after, reply_cut, snapshot_text, start_state, state, state_after, text_of};
-ghost use Rattle.indexset_follow.specs.Mark.{MarkFits, mark_line, mark_of};
+ghost use Rattle.indexset_follow.specs.Copy.{Copy, copy, snapshot_text, sum_of};
+ghost use Rattle.indexset_follow.specs.Follow.{State, after_mark, held_after, holding, reply_cut, start_state, state_after, text_of};
+ghost use Rattle.indexset_follow.specs.Mark.{LacksEnd, MarkFits, mark_line, mark_of};
 ghost use Rattle.indexset_follow.specs.NodeLine.{NodeFits, node_line, node_of};
 ghost use Rattle.indexset_follow.specs.Passed.{IsPassedOver, ReplyFits};
 ghost use Rattle.indexset_follow.specs.Request.{RequestFits, request_line, request_of};
@@ -84,15 +85,26 @@ pub fn deliveries_lead_to_a_beginning()
         → IsSubsequence (map event_text (drop j es)) lines
         → HoldsFirst s ns es (length es) (state_after r lines) }
     ensures none { (s : ℕ) (ns : List (List (Pair ℕ ℕ))) (es : List Event)
-        → HoldsFirst s ns es 0 (state ns s) }
+        → HoldsFirst s ns es 0 (holding (copy ns s)) }
 {}
 
 /// The lines of a snapshot, sent to any follower, make it what its source is: the nodes, and the
 /// expected number. Where the source holds what the first k events lead to, the other does.
 pub fn snapshot_gives_the_follower()
-    ensures { (giver taker : State) → IsNodeList (by_key nat_cmp) giver.nodes
-        → giver.next < 2 ^ 64 → All NodeFits giver.nodes
-        → state_after taker (lines_of (snapshot_text giver)) ≡ giver }
+    ensures { (giver : Copy) (taker : State) → IsNodeList (by_key nat_cmp) giver.nodes
+        → giver.next < 2 ^ 64 → length giver.nodes < 2 ^ 64 → All NodeFits giver.nodes
+        → state_after taker (lines_of (snapshot_text giver)) ≡ holding giver }
+{}
+
+/// Nothing of a snapshot is held before its end: lines that are neither events nor such an end
+/// change nothing that is held. An end that tells another number of nodes than came, or another
+/// sum, leaves what was held and ends the snapshot.
+pub fn snapshots_are_held_whole()
+    ensures before { (s : State) (lines : List (List ℕ)) → All LacksEnd lines
+        → (state_after s lines).held ≡ s.held }
+    ensures wrong { (s : State) (came : Copy) (count sum : ℕ) → s.coming ≡ Some came
+        → ((length came.nodes ≢ count) ⊎ (sum_of came ≢ sum))
+        → after_mark s (Mark.End count sum) ≡ holding s.held }
 {}
 
 /// A follower that passes over other lines writes nothing for a reply of the first program, and no
@@ -142,18 +154,18 @@ pub fn programs_agree()
     ensures same { (lines delivered : List (List ℕ)) → length lines < 2 ^ 64
         → (stores_of no_stores lines).pairs.next < 2 ^ 64
         → All (IsAmong (output_lines lines)) delivered
-        → (n : ℕ) → (state_after start_state delivered).next
+        → (n : ℕ) → (state_after start_state delivered).held.next
         ≡ (stores_of no_stores (take n lines)).pairs.next
-        → (state_after start_state delivered).nodes
+        → (state_after start_state delivered).held.nodes
         ≡ (stores_of no_stores (take n lines)).pairs.nodes }
     ensures whole { (lines delivered : List (List ℕ)) → length lines < 2 ^ 64
         → (stores_of no_stores lines).pairs.next < 2 ^ 64
         → All (IsAmong (output_lines lines)) delivered
         → IsSubsequence (event_lines (output_lines lines)) (event_lines delivered)
-        → state_after start_state delivered
-        ≡ state (stores_of no_stores lines).pairs.nodes (stores_of no_stores lines).pairs.next }
+        → (state_after start_state delivered).held
+        ≡ copy (stores_of no_stores lines).pairs.nodes (stores_of no_stores lines).pairs.next }
     ensures piped { (lines : List (List ℕ)) → length lines < 2 ^ 64
         → (stores_of no_stores lines).pairs.next < 2 ^ 64
-        → state_after start_state (output_lines lines)
-        ≡ state (stores_of no_stores lines).pairs.nodes (stores_of no_stores lines).pairs.next }
+        → (state_after start_state (output_lines lines)).held
+        ≡ copy (stores_of no_stores lines).pairs.nodes (stores_of no_stores lines).pairs.next }
 {}

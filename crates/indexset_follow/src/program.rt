@@ -7,6 +7,7 @@ ghost use Rattle.indexset_follow.specs.Follow.{text_of};
 ghost use Rattle.indexset_follow.specs.Run.{AnswersAll, AnswersWholeLines};
 
 use crate::answer::{answer_cut, answer_line};
+use crate::follower::Follower;
 use crate::others::Others;
 use crate::write::Nodes;
 use indexset_lines::RunFault;
@@ -55,12 +56,12 @@ pub fn run<R: BufRead, W: Write>(
     answered.and(flushed)
 }
 
-/// Nodes that follow, as a run has lines answered.
+/// A follower, as a run has lines answered.
 #[derive(Drop)]
 struct Following {
     alloc: Global,
     others: Others,
-    nodes: Nodes,
+    follower: Follower,
 }
 
 impl Answers for Following {
@@ -68,7 +69,7 @@ impl Answers for Following {
 
     ghost State = { State };
 
-    ghost state = { λ following. following.nodes };
+    ghost state = { λ following. following.follower };
 
     ghost reply = { λ following. reply_line following.others };
 
@@ -79,11 +80,11 @@ impl Answers for Following {
     ghost lacks_numbers = { λ _. ⊥ };
 
     fn answer<W: Write>(&mut self, writer: &mut W, line: &[u8]) -> Result<(), RunFault> {
-        answer_line(self.alloc, self.others, writer, &mut self.nodes, line)
+        answer_line(self.alloc, self.others, writer, &mut self.follower, line)
     }
 
     fn answer_cut<W: Write>(&mut self, writer: &mut W, line: &[u8]) -> Result<(), RunFault> {
-        answer_cut(self.others, writer, &self.nodes, line)
+        answer_cut(self.alloc, self.others, writer, &self.follower, line)
     }
 }
 
@@ -105,13 +106,16 @@ fn answer_all<R: BufRead, W: Write>(
         (W.contents writer.old) (W.contents writer.new) }
     ensures no_numbers { result ≢ Err RunFault.Numbers }
 {
-    let nodes = Nodes::new(alloc, 0);
+    let follower = Follower {
+        held: Nodes::new(alloc, 0),
+        coming: None,
+    };
     let mut line = Vec::new(alloc);
     answer_lines(
         &mut Following {
             alloc,
             others,
-            nodes,
+            follower,
         },
         reader,
         writer,

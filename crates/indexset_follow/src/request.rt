@@ -12,6 +12,8 @@ pub enum Request {
     Nodes,
     /// Returns the lines that make another follower the same.
     Snapshot,
+    /// Returns the expected number, how many nodes there are, and their sum.
+    Sum,
     /// Returns the pair of this key.
     Get(u64),
     /// Returns how many pairs there are.
@@ -42,6 +44,8 @@ fn read_word(word: &[u8]) -> Option<Request>
         Some(Request::Nodes)
     } else if word == b"snapshot".as_slice() {
         Some(Request::Snapshot)
+    } else if word == b"sum".as_slice() {
+        Some(Request::Sum)
     } else if word == b"len".as_slice() {
         Some(Request::Len)
     } else if word == b"first".as_slice() {

@@ -1,16 +1,19 @@
 //! What is written: lines of a reply, of nodes and of pairs.
 
-ghost use Rattle.std.specs.Prelude.{◌≡◌, ◌++◌, [], codes, OnOk, IfErr};
+ghost use Rattle.std.specs.Prelude.{◌≡◌, ◌++◌, [], codes, length, OnOk, IfErr};
 ghost use Rattle.std.specs.Ordering.{nat_cmp};
 ghost use Rattle.std.specs.Io.KnownBytes.{Appends};
 ghost use Rattle.std.specs.declared.ops.Bound.TheVariants.{Included};
-ghost use Rattle.indexset_bench.specs.PairText.{lines_for, node_text};
+ghost use Rattle.indexset_bench.specs.PairText.{ended, lines_for, node_text};
 ghost use Rattle.indexset_core.specs.Bounds.{in_range};
 ghost use Rattle.indexset_core.specs.Pairs.{by_key, pair};
-ghost use Rattle.indexset_follow.specs.Follow.{nodes_text, pairs, row_text, snapshot_text};
+ghost use Rattle.indexset_follow.specs.Copy.{body_text};
+ghost use Rattle.indexset_follow.specs.Follow.{nodes_text, pairs, row_text};
+ghost use Rattle.indexset_follow.specs.Mark.{mark_line};
 ghost use Rattle.indexset_follow.specs.NodeLine.{node_line};
 ghost use Rattle.indexset_follow.specs.Reply.{reply_ended};
 
+use crate::mark::Mark;
 use crate::reply::Reply;
 use indexset_bench::pair_text::PairText;
 use indexset_bench::write::write_node;
@@ -43,18 +46,43 @@ pub fn write_nodes<W: Write>(writer: &mut W, nodes: &Nodes) -> Result<(), RunFau
     write_reply(writer, Reply::Next(nodes.next()))
 }
 
-/// Writes the lines that make another follower the same.
-pub fn write_snapshot<W: Write>(writer: &mut W, nodes: &Nodes) -> Result<(), RunFault>
+/// Writes the beginning or the end of a snapshot as a line.
+pub fn write_mark<W: Write>(writer: &mut W, mark: Mark) -> Result<(), RunFault>
     ensures told { OnOk result (Appends (W.contents writer.old) (W.contents writer.new)
-        (snapshot_text nodes.now)) }
+        (ended (mark_line mark))) }
     ensures fault { IfErr result (λ fault. fault ≡ RunFault.Write) }
 {
-    write_reply(writer, Reply::Start(nodes.next()))?;
+    writer.writeln(mark).map_err(|_| RunFault::Write)
+}
+
+/// Writes the line that gives a node.
+pub fn write_node_line<W: Write>(writer: &mut W, node: &[Pair<u64, u64>]) -> Result<(), RunFault>
+    ensures told { OnOk result (Appends (W.contents writer.old) (W.contents writer.new)
+        (ended (node_line node.now))) }
+    ensures fault { IfErr result (λ fault. fault ≡ RunFault.Write) }
+{
+    write!(writer, "node ").map_err(|_| RunFault::Write)?;
+    write_node(writer, node)
+}
+
+/// Writes the lines of a snapshot with this sum.
+pub fn write_snapshot<W: Write>(writer: &mut W, nodes: &Nodes, sum: u64) -> Result<(), RunFault>
+    ensures told { OnOk result (Appends (W.contents writer.old) (W.contents writer.new)
+        (body_text nodes.now ++ ended (mark_line (Mark.End (length nodes.now.nodes) sum)))) }
+    ensures fault { IfErr result (λ fault. fault ≡ RunFault.Write) }
+{
+    write_mark(writer, Mark::Start(nodes.next()))?;
     for node in nodes.nodes() {
-        write!(writer, "node ").map_err(|_| RunFault::Write)?;
-        write_node(writer, node)?;
+        write_node_line(writer, node)?;
     }
-    Ok(())
+    write_mark(writer, Mark::End(count(nodes), sum))
+}
+
+/// Returns how many nodes there are.
+pub fn count(nodes: &Nodes) -> u64
+    ensures { result ≡ length nodes.now.nodes }
+{
+    nodes.nodes().len() as u64
 }
 
 /// Writes the pairs from one key to another, both included, in one line.
