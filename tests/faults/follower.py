@@ -79,7 +79,7 @@ def main() -> int:
     given, replies = (HERE / "follower_lines").read_bytes(), replies_to_first("follower_replies")
     with sweeping(arguments.linked) as sweep:
         sweep.each_request(follower, given, replies)
-        last_flush(sweep, follower, given.splitlines()[0], replies[1])
+        last_flush(sweep, follower, b"len", b"0\n")
         first_fault(sweep, follower, given, replies)
         waits(sweep, follower)
         return sweep.end()
