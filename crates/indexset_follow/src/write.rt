@@ -61,7 +61,7 @@ pub fn write_node_line<W: Write>(writer: &mut W, node: &[Pair<u64, u64>]) -> Res
 }
 
 /// Writes the lines of a snapshot before its last.
-pub fn write_body<N: WalkNodes + Drop, W: Write>(
+pub fn write_body<'a, N: WalkNodes<'a> + Drop, W: Write>(
     writer: &mut W,
     next: u64,
     nodes: N,

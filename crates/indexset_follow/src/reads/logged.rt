@@ -89,12 +89,12 @@ impl<'a> Walk for Iter<'a, u64, u64, Vec<Pair<u64, u64>>> {
     }
 }
 
-impl<'a> WalkNodes for Nodes<'a, Vec<Pair<u64, u64>>> {
+impl<'a> WalkNodes<'a> for Nodes<'a, Vec<Pair<u64, u64>>> {
     ghost use Rattle.indexset_core.specs.Nodes.{vec_items};
 
     ghost rest = { λ nodes. vec_items nodes };
 
-    fn next_node(&mut self) -> Option<&[Pair<u64, u64>]> {
+    fn next_node(&mut self) -> Option<&'a [Pair<u64, u64>]> {
         let node = self.next()?;
         Some(node.as_slice())
     }

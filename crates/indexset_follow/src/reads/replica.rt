@@ -85,13 +85,13 @@ impl<'a> Walk for Iter<'a, Pair<u64, u64>> {
     }
 }
 
-impl<'a> WalkNodes for slice::Iter<'a, Vec<Pair<u64, u64>>> {
+impl<'a> WalkNodes<'a> for slice::Iter<'a, Vec<Pair<u64, u64>>> {
     ghost use Rattle.std.specs.Slice.Iter.{iter_rest};
     ghost use Rattle.indexset_core.specs.Nodes.{vec_items};
 
     ghost rest = { λ nodes. vec_items (iter_rest nodes) };
 
-    fn next_node(&mut self) -> Option<&[Pair<u64, u64>]> {
+    fn next_node(&mut self) -> Option<&'a [Pair<u64, u64>]> {
         let node = self.next()?;
         Some(node.as_slice())
     }
