@@ -9,7 +9,7 @@ use Rattle.indexset_events.specs.Nodes.{is_filled}
 use Rattle.indexset_lines.specs.Run.{left_by, replies_to}
 use Rattle.indexset_core.specs.declared.refusal.Refusal.TheVariants.{TooLarge}
 use Rattle.indexset_follow.specs.Copy.{Copy, copy}
-use Rattle.indexset_follow.specs.Follow.{State, after_line, holding, reply_line}
+use Rattle.indexset_follow.specs.Follow.{after_line, holding, reply_line}
 use Rattle.indexset_follow.specs.Leading.{after_leading, lacks, leading_reply}
 use Rattle.indexset_follow.specs.Mark.{mark_of}
 use Rattle.indexset_follow.specs.Reads.{read_reply}

@@ -5,8 +5,8 @@ ghost use Rattle.std.specs.Io.KnownBytes.{Appends, Keeps};
 ghost use Rattle.indexset_follow.specs.Leading.{after_leading, lacks, leading_reply};
 
 use crate::others::Others;
-use crate::reads::{answer_other, answer_query};
 use crate::reads::query::read_query;
+use crate::reads::{answer_other, answer_query};
 use indexset_bench::RunFault;
 use indexset_bench::pair_command::parse_pairs;
 use indexset_bench::pairs::{Pairs, answer_pairs};

@@ -216,7 +216,10 @@ fn write_sum<R: Reads, W: Write>(alloc: Global, writer: &mut W, map: &R) -> Resu
     ensures no_numbers { result ≢ Err RunFault.Numbers }
 {
     let sum = map.sum_of_nodes(alloc)?;
-    write_reply(writer, Reply::Sum(map.next_number(), map.node_total() as u64, sum))
+    write_reply(
+        writer,
+        Reply::Sum(map.next_number(), map.node_total() as u64, sum),
+    )
 }
 
 /// Writes the lines that make another map the same.

@@ -1,6 +1,6 @@
 //! A map of numbers that follows another or leads.
 
-ghost use Rattle.std.specs.Prelude.{◌≡◌, ◌≢◌, ◌≤◌, if◌then◌else◌, Bool, Err, IfOk, IfErr, None, OnOk, Some, codes, ℕ};
+ghost use Rattle.std.specs.Prelude.{◌≡◌, ◌≢◌, ◌≤◌, if◌then◌else◌, Err, IfOk, IfErr, None, OnOk, Some};
 ghost use Rattle.std.specs.Io.KnownBytes.{Appends, Keeps};
 ghost use Rattle.indexset_follow.specs.Follow.{holding};
 ghost use Rattle.indexset_follow.specs.Store.{after_in_role, after_lead, begun, can_lead, cut_in_role, first_held, held, lead_reply, promoted, reply_in_role, role_lacks, starts};

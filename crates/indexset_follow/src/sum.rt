@@ -11,11 +11,7 @@ use sha2::{Digest, Sha256};
 use std::alloc::Global;
 
 /// Returns the first 64 bits of the SHA-256 of the lines of a snapshot before its last.
-pub fn sum<'a, N: WalkNodes<'a> + Drop>(
-    alloc: Global,
-    next: u64,
-    nodes: N,
-) -> Result<u64, RunFault>
+pub fn sum<'a, N: WalkNodes<'a> + Drop>(alloc: Global, next: u64, nodes: N) -> Result<u64, RunFault>
     ensures sum { IfOk result (λ sum. sum ≡ sum_of (copy (N.rest nodes) next)) }
     ensures fault { IfErr result (λ fault. fault ≡ RunFault.Memory) }
 {

@@ -1,8 +1,8 @@
 //! What is written: lines of a reply, of nodes and of a snapshot.
 
-ghost use Rattle.std.specs.Prelude.{◌≡◌, ◌++◌, [], codes, OnOk, IfErr};
+ghost use Rattle.std.specs.Prelude.{◌≡◌, OnOk, IfErr};
 ghost use Rattle.std.specs.Io.KnownBytes.{Appends};
-ghost use Rattle.indexset_bench.specs.PairText.{ended, lines_for, node_text};
+ghost use Rattle.indexset_bench.specs.PairText.{ended};
 ghost use Rattle.indexset_follow.specs.Copy.{body_text, copy};
 ghost use Rattle.indexset_follow.specs.Mark.{mark_line};
 ghost use Rattle.indexset_follow.specs.NodeLine.{node_line};
