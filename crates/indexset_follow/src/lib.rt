@@ -19,6 +19,7 @@ mod reply;
 mod request;
 mod role;
 mod serving;
+mod step_down;
 mod store;
 pub mod takeover;
 mod write;
