@@ -2,9 +2,9 @@
 """Compares a map that leads with a model, line by line, and a follower that takes over with the leader that goes on.
 
 The lines to a leader are commands, reads, commands and reads with a word or a byte altered, snapshots that it
-begins with while it has no node, and bytes of any kind. A follower reads the events of a leader up to some line,
-and then `lead` and the commands behind that line: what it answers must be, byte for byte, what the leader answered
-to these.
+begins with while it has no node, `follow` and then events, and bytes of any kind. A follower reads the events of a
+leader up to some line, and then `lead` and the commands behind that line: what it answers must be, byte for byte,
+what the leader answered to these.
 
 Run it once the program is built. The last line is 'N passed, M failed'.
 """
@@ -73,6 +73,9 @@ class Store(Model):
     def answer(self, line: bytes) -> bytes:
         if line == b"lead":
             return self.lead()
+        if line == b"follow":
+            self.leads = False
+            return b"next %d" % self.next
         try:
             if not self.nodes and (started := START.fullmatch(line)) and number(started[1]) >= 0:
                 self.leads = False
@@ -97,6 +100,10 @@ class Commands(Hostile):
     def line(self) -> bytes:
         random = self.random
         kind = random.random()
+        if kind < 0.02:
+            return b"lead"
+        if kind < 0.04:
+            return b"%d %b" % (self.model.next, self.likely())
         if kind < 0.6:
             return self.command()
         if kind < 0.8:
@@ -104,7 +111,7 @@ class Commands(Hostile):
         if kind < 0.96:
             return self.altered(random.choice([self.command(), self.read()]))
         if kind < 0.98:
-            return random.choice([b"lead", b"lead", b"snapshot", b"start %d" % self.some_number(), self.whole_node(), b"0 create 1:1"])
+            return random.choice([b"lead", b"lead", b"follow", b"snapshot", b"start %d" % random.choice([0, 3, 60, MOST + 1]), self.whole_node(), b"0 create 1:1"])
         return bytes(random.choices(range(256), k=random.randrange(40))).replace(b"\n", b"")
 
 
@@ -159,6 +166,15 @@ def too_large(program: pathlib.Path) -> Counts:
     return Counts(int(passed), int(not passed))
 
 
+def no_number(program: pathlib.Path) -> Counts:
+    """A leader that has no number left for an event ends with a fault, and the answers before it are told."""
+    done = run(program, [], [b"start %d" % MOST, b"lead", b"cut 1", b"put 1 1", b"len"])
+    passed = (done.returncode, done.stdout, done.stderr) == (2, b"next %d\nnext %d\nnone\n" % (MOST, MOST), b"numbers\n")
+    if not passed:
+        print(f"no number left: status {done.returncode}, {done.stdout!r} {done.stderr!r}")
+    return Counts(int(passed), int(not passed))
+
+
 def arguments(program: pathlib.Path) -> Counts:
     """Arguments that the program knows, and others."""
     bad = [["--node-size"], ["--node-size", "1"], ["--node-size", "65536"], ["--node-size", "x"], ["--leads"], ["--lead", "-"]]
@@ -179,7 +195,7 @@ def main() -> int:
     program = built("indexset_store")
     counts = [compare(program, size, keys, given.seed + size) for size, keys in ((2, 3), (3, 12), (4, 60), (9, 60))]
     counts += [take_over(program, random.Random(given.seed + turn).randrange(2, 9), given.seed + turn) for turn in range(TURNS)]
-    counts += [too_large(program), arguments(program)]
+    counts += [too_large(program), no_number(program), arguments(program)]
     passed, failed = sum(it.passed for it in counts), sum(it.failed for it in counts)
     print(f"{passed} passed, {failed} failed")
     return 1 if failed else 0
