@@ -1,6 +1,6 @@
 // multimap, logged_map and replica of indexset.hpp beside std::multimap and std::map: random scripts, also with every Nth
 // request for memory refused.
-#include "checks.hpp"
+#include "walks.hpp"
 #include <limits>
 #include <map>
 
@@ -11,35 +11,6 @@ K draw_key() {
     if (drawn < 2) return drawn == 0 ? std::numeric_limits<K>::lowest() : std::numeric_limits<K>::max();
     if constexpr (std::is_floating_point_v<K>) return (static_cast<K>(drawn) - 100) / 4;
     return static_cast<K>(drawn) * static_cast<K>(drawn % 4 == 0 ? std::numeric_limits<K>::max() / 256 : 1);
-}
-
-template <class Ours, class Peer>
-bool same(const Ours &ours, const Peer &peer) {
-    using pair = typename Ours::value_type;
-    const auto is_pair = [](const auto &a, const auto &b) { return a == pair(b); };
-    return ours.size() == peer.size() && ours.empty() == peer.empty() &&
-           std::equal(ours.begin(), ours.end(), peer.begin(), peer.end(), is_pair) &&
-           std::equal(ours.rbegin(), ours.rend(), peer.rbegin(), peer.rend(), is_pair);
-}
-
-template <class Ours, class Peer>
-bool is_at(const Ours &ours, const Peer &peer, typename Ours::iterator it, typename Peer::const_iterator other) {
-    if (other == peer.end()) return it == ours.end();
-    if (it == ours.end() || *it != typename Ours::value_type(*other) || it->first != other->first) return false;
-    if (other != peer.begin() && *std::prev(it) != typename Ours::value_type(*std::prev(other))) return false;
-    ++it, ++other;
-    return other == peer.end() ? it == ours.end() : it != ours.end() && *it == typename Ours::value_type(*other);
-}
-
-template <class Ours, class Peer, class K>
-void check_reads(const Ours &ours, const Peer &peer, K key) {
-    CHECK(ours.contains(key) == (peer.count(key) != 0) && ours.count(key) == peer.count(key));
-    const auto found = ours.find(key);
-    CHECK(peer.count(key) == 0 ? found == ours.end() : is_at(ours, peer, found, peer.lower_bound(key)));
-    CHECK(is_at(ours, peer, ours.lower_bound(key), peer.lower_bound(key)));
-    CHECK(is_at(ours, peer, ours.upper_bound(key), peer.upper_bound(key)));
-    const auto range = ours.equal_range(key);
-    CHECK(std::distance(range.first, range.second) == static_cast<std::ptrdiff_t>(peer.count(key)));
 }
 
 // ---- a multimap
@@ -74,7 +45,7 @@ struct multimap_script {
         for (auto &pair : pairs) pair = {draw_key<K>(), draw_value()};
         const Ours before(ours);
         if (is_refused(refuse, [&] { ours.insert(pairs.begin(), pairs.end()); })) {
-            if (ours != before) ours = before;
+            if (ours != before) ours = before; // what was added stays where memory is refused for its removal too
             return;
         }
         for (const auto &pair : pairs) {
@@ -104,14 +75,14 @@ struct multimap_script {
         if (peer.empty()) return;
         const auto steps = static_cast<std::ptrdiff_t>(draw_below(peer.size()));
         auto after = ours.end();
-        if (is_refused(refuse, [&] { after = ours.erase(std::next(ours.begin(), steps)); })) return;
+        if (is_refused(refuse, [&] { after = ours.erase(ours.find_by_order(static_cast<std::size_t>(steps))); })) return;
         CHECK(is_at(ours, peer, after, peer.erase(std::next(peer.begin(), steps))));
     }
     void erase_range() {
         const auto first = static_cast<std::ptrdiff_t>(draw_below(peer.size() + 1));
         const auto many = static_cast<std::ptrdiff_t>(draw_below(std::min<std::size_t>(peer.size() - static_cast<std::size_t>(first), 9) + 1));
         const auto from = std::next(ours.begin(), first);
-        CHECK(is_at(ours, peer, ours.erase(from, std::next(from, many)), peer.erase(std::next(peer.begin(), first), std::next(peer.begin(), first + many))));
+        CHECK(is_at(ours, peer, ours.erase(from, from + many), peer.erase(std::next(peer.begin(), first), std::next(peer.begin(), first + many))));
         const K key = draw_key<K>();
         CHECK(ours.erase(key) == peer.erase(key));
     }
@@ -150,6 +121,7 @@ struct multimap_script {
             CHECK(ours.values(key) == wanted);
             if (i % 32 == 0) {
                 CHECK(same(ours, peer));
+                check_walks(ours);
                 check_life();
                 erase_range();
             }
@@ -193,6 +165,10 @@ static void test_sweep() {
     sweep(multi, less, [](auto &copy) { copy.erase(50, 151); });
     sweep(multi, less, [](auto &copy) { copy.erase(copy.find(50, 151)); });
     sweep(other, multi, [&](auto &copy) { copy = multi; });
+    const auto is_odd = [](const auto &pair) { return pair.second % 2 != 0; };
+    indexset::multimap<int, int> even(multi);
+    CHECK(indexset::erase_if(even, is_odd) == 150 && even.size() == 150);
+    sweep(multi, even, [&](auto &copy) { indexset::erase_if(copy, is_odd); });
     CHECK(more.size() == 301 && less.size() == 299 && multi < less && multi != more);
 }
 
@@ -238,6 +214,8 @@ struct log_script {
 
     void compare() {
         CHECK(same(log, peer) && same(replica, peer) && log.node_lengths() == replica.node_lengths());
+        check_walks(log);
+        check_walks(replica);
         CHECK(log.node_count() == replica.node_count() && log.next() == replica.next());
         Replica late(0);
         if (!is_refused(refuse, [&] { late = Replica(log); })) CHECK(late == replica && late.next() == log.next());

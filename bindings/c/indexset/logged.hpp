@@ -2,7 +2,8 @@
 #ifndef INDEXSET_LOGGED_HPP
 #define INDEXSET_LOGGED_HPP
 
-#include "order.hpp"
+#include "numbers.hpp"
+#include "positions.hpp"
 
 #include <array>
 #include <cstddef>
@@ -10,8 +11,47 @@
 #include <memory>
 #include <optional>
 #include <utility>
+#include <vector>
 
 namespace indexset {
+
+namespace detail {
+
+// What logged_map and replica have alike.
+template <class Self, class Store, class V>
+class nodes : public reading<Self, Store> {
+    using base = reading<Self, Store>;
+    using calls = typename Store::calls;
+
+  public:
+    using mapped_type = V;
+    using typename base::key_argument;
+
+    // Returns the value of a key. One search.
+    std::optional<V> get(key_argument key) const noexcept {
+        std::uint64_t code;
+        if (!this->store_ || !this->store_->get(key, code)) return std::nullopt;
+        return value_code<V>::decode(code);
+    }
+
+    // Returns the number of the next change: that it makes, or that it awaits.
+    std::uint64_t next() const noexcept { return this->store_ ? calls::next(this->store_->handle()) : next_; }
+
+    // Returns how many nodes there are, and how many pairs each has, in order.
+    std::size_t node_count() const noexcept { return this->store_ ? calls::node_count(this->store_->handle()) : 0; }
+    std::vector<std::size_t> node_lengths() const {
+        std::vector<std::size_t> lengths(node_count());
+        if (!lengths.empty()) calls::node_lengths(this->store_->handle(), lengths.data(), lengths.size());
+        return lengths;
+    }
+
+  protected:
+    explicit nodes(std::uint64_t next) noexcept : next_(next) {}
+
+    std::uint64_t next_; // where there is no store
+};
+
+} // namespace detail
 
 // What a call of a logged map or of a replica answers.
 enum class status : std::uint32_t {
@@ -57,7 +97,8 @@ class told {
 // An ordered map that tells its changes, one number after another. It is moved, and not copied; one that was moved
 // from is as it began.
 template <class K = std::uint64_t, class V = std::uint64_t>
-class logged_map : public detail::nodes<logged_map<K, V>, detail::key_store<detail::log_calls, detail::map_code<K, V>>, K, V> {
+class logged_map
+    : public detail::nodes<logged_map<K, V>, detail::number_store<detail::log_calls, detail::map_code<K, V>>, V> {
   public:
     using base = typename logged_map::nodes;
 
@@ -67,11 +108,7 @@ class logged_map : public detail::nodes<logged_map<K, V>, detail::key_store<deta
 
     // Makes a value that of a key, and tells the changes and the value before.
     told<V> insert_or_assign(K key, const V &value) {
-        if (!this->store_) {
-            auto made = std::make_unique<typename base::store_type>();
-            detail::pass(indexset_log_new(made->handle(), node_size_, this->next_));
-            this->store_ = std::move(made);
-        }
+        this->made_of(indexset_log_new, node_size_, this->next_);
         told<V> told;
         std::uint64_t before;
         const std::uint32_t answer = indexset_log_insert(handle(), key_code<K>::encode(key), value_code<V>::encode(value),
@@ -115,7 +152,8 @@ class logged_map : public detail::nodes<logged_map<K, V>, detail::key_store<deta
 
 // A copy of the nodes of a logged map, which follows the map by its changes. It is moved, and not copied.
 template <class K = std::uint64_t, class V = std::uint64_t>
-class replica : public detail::nodes<replica<K, V>, detail::key_store<detail::replica_calls, detail::map_code<K, V>>, K, V> {
+class replica
+    : public detail::nodes<replica<K, V>, detail::number_store<detail::replica_calls, detail::map_code<K, V>>, V> {
   public:
     using base = typename replica::nodes;
 
@@ -124,10 +162,7 @@ class replica : public detail::nodes<replica<K, V>, detail::key_store<detail::re
 
     // A replica with the nodes of a logged map, which awaits its next change.
     explicit replica(const logged_map<K, V> &log) : base(log.next()) {
-        if (!log.store_) return;
-        auto made = std::make_unique<typename base::store_type>();
-        detail::pass(indexset_replica_from_log(made->handle(), log.handle()));
-        this->store_ = std::move(made);
+        if (log.store_) this->made_of(indexset_replica_from_log, log.handle());
     }
 
     // Makes a change of the logged map, and awaits the next. It answers `changed`; `unchanged` where the change was made
@@ -158,14 +193,7 @@ class replica : public detail::nodes<replica<K, V>, detail::key_store<detail::re
     }
 
   private:
-    typename base::store_type &made() {
-        if (!this->store_) {
-            auto made = std::make_unique<typename base::store_type>();
-            detail::pass(indexset_replica_new(made->handle(), this->next_));
-            this->store_ = std::move(made);
-        }
-        return *this->store_;
-    }
+    typename base::store_type &made() { return this->made_of(indexset_replica_new, this->next_); }
 };
 
 } // namespace indexset
