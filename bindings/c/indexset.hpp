@@ -12,8 +12,8 @@
 //     for (auto [price, amount] : prices) std::printf("%g %u\n", price, amount);
 //
 // Collections: `set<K>`, `map<K, V>`, `byte_map<V>`, whose keys are byte strings, `multimap<K, V>`, whose keys may have
-// several distinct values, `logged_map<K, V>`, which tells its changes, and `replica<K, V>`, which follows such a map by
-// them. All have an order and positions.
+// several distinct values, `logged_map<K, V>` and `logged_byte_map<V>`, which tell their changes, and `replica<K, V>`,
+// which follows a logged_map by them. All have an order and positions.
 //
 // Keys: all types of integers, `bool`, characters, enums, `float` and `double`, in the order of `<`. Of floating
 // point, -0.0 is the key 0.0, and NaN is one key, above all others. Any other type becomes a key by a specialization
@@ -89,7 +89,8 @@ static_assert(std::ranges::random_access_range<const set<int>> && std::ranges::r
 static_assert(std::ranges::sized_range<const set<int>> && std::ranges::common_range<const set<int>> &&
               !std::ranges::contiguous_range<const set<int>>);
 static_assert(std::ranges::random_access_range<const multimap<int, int>> &&
-              std::ranges::random_access_range<const logged_map<>> && std::ranges::random_access_range<const replica<>>);
+              std::ranges::random_access_range<const logged_map<>> &&
+              std::ranges::random_access_range<const logged_byte_map<>> && std::ranges::random_access_range<const replica<>>);
 static_assert(!std::indirectly_writable<set<int>::iterator, int>);
 static_assert(std::three_way_comparable<set<int>> && std::three_way_comparable<map<int, int>>);
 #endif

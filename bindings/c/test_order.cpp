@@ -1,8 +1,9 @@
-// multimap, logged_map and replica of indexset.hpp beside std::multimap and std::map: random scripts, also with every Nth
-// request for memory refused.
+// multimap, logged_map, logged_byte_map and replica of indexset.hpp beside std::multimap and std::map: random scripts, also
+// with every Nth request for memory refused.
 #include "walks.hpp"
 #include <limits>
 #include <map>
+#include <string>
 
 // Keys near each other, and far apart; the least and the greatest of the type come up too.
 template <class K>
@@ -243,9 +244,101 @@ struct log_script {
     }
 };
 
+// ---- a logged_byte_map, and nodes to which its changes are made
+struct byte_log_script {
+    using pair = std::pair<std::string, int>;
+    unsigned long refuse;
+    indexset::logged_byte_map<int> log{4, 1000};
+    std::map<std::string, int> peer{};
+    std::vector<std::vector<pair>> nodes{};
+
+    // Many keys begin alike; no byte, zeros, bytes above 127 and more bytes than a run has room for come up.
+    static std::string draw_bytes() {
+        static const char letters[4] = {'\0', 'a', 'b', '\xff'};
+        std::string key(draw_below(5), 'x');
+        for (char &letter : key) letter = letters[draw_below(4)];
+        if (draw_below(60) == 0) key.append(draw_below(5000), 'z');
+        return key;
+    }
+
+    auto named(const pair &name) {
+        return std::find_if(nodes.begin(), nodes.end(), [&](const auto &node) { return node.back() == name; });
+    }
+    void make_change(const indexset::byte_event &event) {
+        const pair name(event.node, static_cast<int>(event.code.node_value)), of(event.key, static_cast<int>(event.code.value));
+        const auto index = static_cast<std::ptrdiff_t>(event.code.index);
+        auto at = named(name);
+        CHECK((at == nodes.end()) == (event.code.kind == INDEXSET_CREATE));
+        switch (event.code.kind) {
+        case INDEXSET_CREATE:
+            at = std::find_if(nodes.begin(), nodes.end(), [&](const auto &node) { return node.back().first > name.first; });
+            nodes.insert(at, {name});
+            break;
+        case INDEXSET_INSERT: at->insert(at->begin() + index, of); break;
+        case INDEXSET_REMOVE:
+            CHECK(at->at(event.code.index) == of);
+            at->erase(at->begin() + index);
+            break;
+        case INDEXSET_DROP: nodes.erase(at); break;
+        case INDEXSET_SPLIT: {
+            std::vector<pair> rest(at->begin() + index, at->end());
+            at->erase(at->begin() + index, at->end());
+            nodes.insert(at + 1, rest);
+            break;
+        }
+        default:
+            CHECK(event.code.kind == INDEXSET_MERGE && (at + 1)->back() == of);
+            at->insert(at->end(), (at + 1)->begin(), (at + 1)->end());
+            nodes.erase(at + 1);
+        }
+    }
+
+    void change() {
+        const std::string key = draw_bytes();
+        const int value = static_cast<int>(draw() >> 40);
+        const std::size_t kind = draw_below(5);
+        const auto found = peer.find(key);
+        const std::uint64_t next = log.next();
+        indexset::told_bytes<int> told;
+        if (is_refused(refuse, [&] { told = kind == 0 ? log.insert({key, value}) : kind < 3 ? log.insert_or_assign(key, value) : log.erase(key); })) {
+            CHECK(log.next() == next);
+            return;
+        }
+        CHECK(!told.out_of_numbers && told.before.has_value() == (found != peer.end()) && (!told.before || *told.before == found->second));
+        CHECK((told.changes == 0) == (kind == 0 ? found != peer.end() : kind >= 3 && found == peer.end()) && log.next() == next + told.changes);
+        std::vector<indexset::byte_event> changes;
+        while (told.changes != 0 && is_refused(refuse, [&] { changes = log.last_told(); })) CHECK(changes.empty());
+        CHECK(changes.size() == told.changes);
+        for (std::size_t i = 0; i < changes.size(); i++) {
+            CHECK(changes[i].code.number == next + i);
+            make_change(changes[i]);
+        }
+        kind == 0 ? void(peer.insert({key, value})) : kind < 3 ? void(peer[key] = value) : void(peer.erase(key));
+    }
+
+    void run(unsigned steps) {
+        for (unsigned i = 0; i < steps; i++) {
+            change();
+            const std::string key = draw_bytes();
+            check_reads(log, peer, key);
+            CHECK(log.get(key).has_value() == (peer.count(key) != 0) && (peer.count(key) == 0 || log.get(key) == peer.at(key)));
+            if (i % 32 != 0) continue;
+            std::vector<pair> all;
+            for (const auto &node : nodes) all.insert(all.end(), node.begin(), node.end());
+            CHECK(same(log, peer) && std::equal(log.begin(), log.end(), all.begin(), all.end()) && log.node_count() == nodes.size());
+            check_walks(log);
+            indexset::logged_byte_map<int> moved(std::move(log));
+            CHECK(log.empty() && log.next() == 1000 && log.last_told().empty()); // NOLINT: what was moved from is as it began
+            swap(log, moved);
+        }
+    }
+};
+
 static void test_statuses() {
     indexset::logged_map log(2, std::numeric_limits<std::uint64_t>::max());
     CHECK(log.insert_or_assign(1, 2).out_of_numbers && log.empty());
+    indexset::logged_byte_map<> bytes(2, std::numeric_limits<std::uint64_t>::max());
+    CHECK(bytes.insert_or_assign("a", 2).out_of_numbers && bytes.empty() && bytes.last_told().empty() && bytes.erase("a").changes == 0);
     indexset::replica<> replica;
     const indexset::event create{0, 10, 1, 0, 0, 0, INDEXSET_CREATE}, unfit{1, 10, 1, 0, 0, 0, 0}, drop{1, 9, 1, 0, 0, 0, INDEXSET_DROP};
     CHECK(replica.apply(create) == indexset::status::changed && replica.get(10) == 1 && replica.next() == 1);
@@ -264,6 +357,8 @@ int main() {
     log_script<std::uint64_t, std::uint64_t>{0}.run(2000);
     log_script<int, float>{0}.run(1500);
     for (unsigned long refuse = 2; refuse <= 12; refuse++) log_script<std::uint64_t, std::uint64_t>{refuse}.run(200);
+    byte_log_script{0}.run(2000);
+    for (unsigned long refuse = 2; refuse <= 12; refuse++) byte_log_script{refuse}.run(200);
     test_statuses();
     return told();
 }
