@@ -51,9 +51,11 @@ pub is_told_or : (s t : ℕ) (cause why : Refusal) → s ≡ t → (cause ≢ re
 is_told_or s t cause why is other one memory numbers = decide (eqb t MEMORY) refl where
   apart : eqb t MEMORY ≡ false → cause ≢ refusals.Memory
   apart e m = eqb-false t MEMORY e (memory.1 m)
+
   else_why : (why ≡ refusals.Memory) ⊎ (why ≡ refusals.Numbers) → eqb t MEMORY ≡ false → IsToldOr s cause why
   else_why (inl m) e = absurd (apart e (other (apart e) ∙ m))
   else_why (inr n) e = record { refused = is_refused s t cause cause is refl (inr (other (apart e) ∙ n)) memory numbers; numbers = λ h. n }
+
   decide : (b : Bool) → eqb t MEMORY ≡ b → IsToldOr s cause why
   decide true e =
       let at : t ≡ MEMORY = eqb-true t MEMORY e in
