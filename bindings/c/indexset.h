@@ -1,5 +1,6 @@
 /* Ordered sets and maps of 64-bit numbers, with positions; maps whose keys may have several values; maps
- * that tell their changes, and replicas that follow such a map; and maps from byte strings to 64-bit numbers.
+ * that tell their changes, and replicas that follow such a map; maps from byte strings to 64-bit numbers; and
+ * such maps that tell their changes.
  *
  * A handle leads to a collection on the heap, or to none. It starts as INDEXSET_HANDLE, which leads to
  * none; indexset_set_new has it lead to an empty set, and indexset_set_free to none again; the handles of the
@@ -648,6 +649,86 @@ size_t indexset_text_map_range_by_position(const indexset_text_map *map, size_t 
  * `byte_places` places, as many as it has room for: what has no room is cut, also within a key. Returns how
  * many lengths it wrote. */
 size_t indexset_text_map_keys_by_position(const indexset_text_map *map, size_t from, void *bytes, size_t byte_places, size_t *lengths, size_t length_places);
+
+/* A change of a logged map from byte strings. The bytes of its two keys are written beside it. What a kind has
+ * no use for is 0. */
+typedef struct indexset_text_event {
+    uint64_t number;
+    size_t node_len;     /* how many bytes the key has that names the node */
+    uint64_t node_value; /* the value of that pair */
+    size_t key_len;      /* how many bytes the pair's key has */
+    uint64_t value;      /* the pair's value */
+    size_t index;
+    uint32_t kind;
+} indexset_text_event;
+
+/* The handle of an ordered map from byte strings to uint64_t that tells its changes, one number after another.
+ * Both fields are the library's own. Its keys are those of an indexset_text_map. It keeps the changes of the
+ * last call that made any, from which indexset_text_log_change reads them. */
+typedef struct indexset_text_log {
+    void *at;
+    bool live;
+} indexset_text_log;
+
+/* Makes an empty map, whose nodes hold at most `size` pairs and whose first change has the number `next`.
+ * INDEXSET_YES, or INDEXSET_MEMORY, or INDEXSET_HELD where the handle leads to a map, or INDEXSET_UNFIT
+ * where the size is below 2; unless it is INDEXSET_YES, nothing changes. */
+uint32_t indexset_text_log_new(indexset_text_log *log, size_t size, uint64_t next);
+
+/* Frees the map, and leaves the handle with none. Of a handle with none it does nothing. */
+void indexset_text_log_free(indexset_text_log *log);
+
+/* Makes an empty map as indexset_text_log_new does, under a handle on the heap, and writes where the handle
+ * lies. INDEXSET_YES, or INDEXSET_MEMORY, or INDEXSET_UNFIT; unless it is INDEXSET_YES, nothing is written. Each
+ * call takes this handle too. */
+uint32_t indexset_text_log_create(indexset_text_log **log, size_t size, uint64_t next);
+
+/* Frees a handle that indexset_text_log_create made, and what it leads to, and writes a null pointer. */
+void indexset_text_log_destroy(indexset_text_log **log);
+
+/* Moves a map from one handle to another: frees what `to` leads to, has `to` lead to what `from` leads to, and
+ * leaves `from` with none. */
+void indexset_text_log_move(indexset_text_log *to, indexset_text_log *from);
+
+/* Swaps what two handles lead to. */
+void indexset_text_log_swap(indexset_text_log *one, indexset_text_log *other);
+
+/* Returns how many pairs there are, how many nodes, and the number of the next change. */
+size_t indexset_text_log_len(const indexset_text_log *log);
+size_t indexset_text_log_node_count(const indexset_text_log *log);
+uint64_t indexset_text_log_next(const indexset_text_log *log);
+
+/* Makes a value that of a key, keeps the changes in the place of those before, and writes how many they are to
+ * `told`: at most INDEXSET_CHANGES. INDEXSET_YES where the key was not there; INDEXSET_NO where it was, and
+ * then the value before is written to `before`; or INDEXSET_MEMORY, INDEXSET_NUMBERS or INDEXSET_NONE: then
+ * nothing changes, and 0 is written to `told` alone. */
+uint32_t indexset_text_log_insert(indexset_text_log *log, const void *key, size_t key_len, uint64_t value, uint64_t *before, size_t *told);
+
+/* Removes a key and writes its value, keeps the changes, and writes how many they are. INDEXSET_YES, or
+ * INDEXSET_NO where the key is not there, or INDEXSET_MEMORY or INDEXSET_NUMBERS; unless it is INDEXSET_YES,
+ * nothing changes, and 0 is written to `told` alone. */
+uint32_t indexset_text_log_remove(indexset_text_log *log, const void *key, size_t key_len, uint64_t *out, size_t *told);
+
+/* Writes one of the changes that are kept, counted from 0: its record, and the bytes of the key that names its
+ * node and of its pair's key into two arrays, as many as each has room for; the record has how many there are.
+ * True, or false where there is none, and then nothing is written. */
+bool indexset_text_log_change(const indexset_text_log *log, size_t i, indexset_text_event *event, void *node, size_t node_places, void *key, size_t key_places);
+
+/* Writes the value of a key. True, or false where the key is not there, and then nothing is written. */
+bool indexset_text_log_get(const indexset_text_log *log, const void *key, size_t key_len, uint64_t *out);
+
+/* Tells whether a key is there. */
+bool indexset_text_log_contains(const indexset_text_log *log, const void *key, size_t key_len);
+
+/* Returns how many keys are below a key, or not above it. */
+size_t indexset_text_log_rank(const indexset_text_log *log, const void *key, size_t key_len);
+size_t indexset_text_log_count_up_to(const indexset_text_log *log, const void *key, size_t key_len);
+
+/* Writes the pair at a position, and the values or the keys of the pairs from a position on, as the calls of
+ * an indexset_text_map do. */
+bool indexset_text_log_at(const indexset_text_log *log, size_t position, void *key, size_t places, size_t *len, uint64_t *value);
+size_t indexset_text_log_range_by_position(const indexset_text_log *log, size_t from, uint64_t *values, size_t places);
+size_t indexset_text_log_keys_by_position(const indexset_text_log *log, size_t from, void *bytes, size_t byte_places, size_t *lengths, size_t length_places);
 
 #ifdef __cplusplus
 }

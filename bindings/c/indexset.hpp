@@ -11,26 +11,26 @@
 //     prices[2.5] = 7;
 //     for (auto [price, amount] : prices) std::printf("%g %u\n", price, amount);
 //
-// Collections: `set<K>`, `map<K, V>` and `byte_map<V>`, whose keys are byte strings, have positions.
-// `multimap<K, V>`, whose keys may have several distinct values, `logged_map<K, V>`, which tells its changes, and
-// `replica<K, V>`, which follows such a map by them, have an order alone.
+// Collections: `set<K>`, `map<K, V>`, `byte_map<V>`, whose keys are byte strings, `multimap<K, V>`, whose keys may have
+// several distinct values, `logged_map<K, V>` and `logged_byte_map<V>`, which tell their changes, and `replica<K, V>`,
+// which follows a logged_map by them. All have an order and positions.
 //
 // Keys: all types of integers, `bool`, characters, enums, `float` and `double`, in the order of `<`. Of floating
 // point, -0.0 is the key 0.0, and NaN is one key, above all others. Any other type becomes a key by a specialization
 // of `key_code`. A value is of a type that is trivially copyable and has at most 8 bytes: a number, a pointer, an
 // index. A collection hands out copies: what an iterator leads to cannot be written through it.
 //
-// Iterators of set, map and byte_map are positions. They meet std::random_access_iterator of C++20, and all rules of
-// such an iterator of C++17 but one: `*it` is a value and no reference. Iterators of the others are bidirectional in
-// the same sense. A change of a collection invalidates its iterators, but for those that the change returns. As long
-// as the collection lives, to use an invalid one touches no freed memory, but it may lead to another element, or to
-// none, which an assertion refuses. After a move or a swap iterators lead into the collection that has the elements.
-// Elements are fetched in runs, so that a walk does not search for each.
+// Iterators are positions. They meet std::random_access_iterator of C++20, and all rules of such an iterator of C++17 but
+// one: `*it` is a value and no reference. A change of a collection invalidates its iterators, but for those that the
+// change returns. As long as the collection lives, to use an invalid one touches no freed memory, but it may lead to
+// another element, or to none, which an assertion refuses. After a move or a swap iterators lead into the collection
+// that has the elements. Elements are fetched in runs, so that a walk does not search for each; where there is no memory
+// for a run, it does.
 //
 // Exceptions: std::bad_alloc alone, where memory is refused, and what the caller's own iterators and functions throw.
-// Then nothing has changed, except by the calls that make several changes and say otherwise: `erase` and `insert` of
-// several pairs of a multimap, `apply_all` of a replica, and `erase_if`. Moves, swaps and `clear` take no memory, and
-// neither does `erase` of set, map and byte_map. An empty collection has none either.
+// Then nothing has changed, except by three calls that make several changes: `erase` and `insert` of several pairs of a
+// multimap, and `apply_all` of a replica, which say what they leave. Moves, swaps and `clear` take no memory, and neither
+// does `erase` of set, map and byte_map. An empty collection has none either.
 //
 // Threads: a collection is for one thread, the one that made it, reads too. Two collections do not touch each other,
 // except a byte_map and its copies, which share the bytes of keys.
@@ -45,6 +45,7 @@
 #include <iterator>
 #include <type_traits>
 #include <utility>
+#include <vector>
 #if __cplusplus >= 202002L
 #include <compare>
 #include <ranges>
@@ -55,18 +56,26 @@ namespace indexset {
 // Returns the version of the library: major * 65536 + minor * 256 + patch.
 inline std::uint32_t version() noexcept { return indexset_version(); }
 
-// Removes the elements for which `condition` holds, one after another. Returns how many it removed.
+// Removes the elements for which `condition` holds. Returns how many it removed. It asks of all of them before it
+// removes any; a multimap is copied first, and so is left as it was where memory is refused.
 template <class Collection, class Condition>
 auto erase_if(Collection &from, Condition condition) -> typename Collection::size_type {
-    const auto before = from.size();
-    for (auto it = from.begin(); it != from.end();) {
-        if (condition(*it)) {
-            it = from.erase(it);
-        } else {
-            ++it;
-        }
+    std::vector<typename Collection::size_type> positions;
+    typename Collection::size_type at = 0;
+    for (auto it = from.begin(); it != from.end(); ++it, at++) {
+        if (condition(*it)) positions.push_back(at);
     }
-    return before - from.size();
+    const auto remove = [&positions](Collection &of) {
+        for (auto it = positions.rbegin(); it != positions.rend(); ++it) of.erase(of.find_by_order(*it));
+    };
+    if constexpr (noexcept(from.erase(from.begin()))) {
+        remove(from);
+    } else if (!positions.empty()) {
+        Collection changed(from);
+        remove(changed);
+        from.swap(changed);
+    }
+    return positions.size();
 }
 
 // What the iterators are.
@@ -79,8 +88,9 @@ static_assert(std::ranges::random_access_range<const set<int>> && std::ranges::r
               std::ranges::random_access_range<const byte_map<int>>);
 static_assert(std::ranges::sized_range<const set<int>> && std::ranges::common_range<const set<int>> &&
               !std::ranges::contiguous_range<const set<int>>);
-static_assert(std::ranges::bidirectional_range<const multimap<int, int>> &&
-              std::ranges::bidirectional_range<const logged_map<>> && std::ranges::bidirectional_range<const replica<>>);
+static_assert(std::ranges::random_access_range<const multimap<int, int>> &&
+              std::ranges::random_access_range<const logged_map<>> &&
+              std::ranges::random_access_range<const logged_byte_map<>> && std::ranges::random_access_range<const replica<>>);
 static_assert(!std::indirectly_writable<set<int>::iterator, int>);
 static_assert(std::three_way_comparable<set<int>> && std::three_way_comparable<map<int, int>>);
 #endif

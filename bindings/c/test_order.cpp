@@ -1,8 +1,9 @@
-// multimap, logged_map and replica of indexset.hpp beside std::multimap and std::map: random scripts, also with every Nth
-// request for memory refused.
-#include "checks.hpp"
+// multimap, logged_map, logged_byte_map and replica of indexset.hpp beside std::multimap and std::map: random scripts, also
+// with every Nth request for memory refused.
+#include "walks.hpp"
 #include <limits>
 #include <map>
+#include <string>
 
 // Keys near each other, and far apart; the least and the greatest of the type come up too.
 template <class K>
@@ -11,35 +12,6 @@ K draw_key() {
     if (drawn < 2) return drawn == 0 ? std::numeric_limits<K>::lowest() : std::numeric_limits<K>::max();
     if constexpr (std::is_floating_point_v<K>) return (static_cast<K>(drawn) - 100) / 4;
     return static_cast<K>(drawn) * static_cast<K>(drawn % 4 == 0 ? std::numeric_limits<K>::max() / 256 : 1);
-}
-
-template <class Ours, class Peer>
-bool same(const Ours &ours, const Peer &peer) {
-    using pair = typename Ours::value_type;
-    const auto is_pair = [](const auto &a, const auto &b) { return a == pair(b); };
-    return ours.size() == peer.size() && ours.empty() == peer.empty() &&
-           std::equal(ours.begin(), ours.end(), peer.begin(), peer.end(), is_pair) &&
-           std::equal(ours.rbegin(), ours.rend(), peer.rbegin(), peer.rend(), is_pair);
-}
-
-template <class Ours, class Peer>
-bool is_at(const Ours &ours, const Peer &peer, typename Ours::iterator it, typename Peer::const_iterator other) {
-    if (other == peer.end()) return it == ours.end();
-    if (it == ours.end() || *it != typename Ours::value_type(*other) || it->first != other->first) return false;
-    if (other != peer.begin() && *std::prev(it) != typename Ours::value_type(*std::prev(other))) return false;
-    ++it, ++other;
-    return other == peer.end() ? it == ours.end() : it != ours.end() && *it == typename Ours::value_type(*other);
-}
-
-template <class Ours, class Peer, class K>
-void check_reads(const Ours &ours, const Peer &peer, K key) {
-    CHECK(ours.contains(key) == (peer.count(key) != 0) && ours.count(key) == peer.count(key));
-    const auto found = ours.find(key);
-    CHECK(peer.count(key) == 0 ? found == ours.end() : is_at(ours, peer, found, peer.lower_bound(key)));
-    CHECK(is_at(ours, peer, ours.lower_bound(key), peer.lower_bound(key)));
-    CHECK(is_at(ours, peer, ours.upper_bound(key), peer.upper_bound(key)));
-    const auto range = ours.equal_range(key);
-    CHECK(std::distance(range.first, range.second) == static_cast<std::ptrdiff_t>(peer.count(key)));
 }
 
 // ---- a multimap
@@ -74,7 +46,7 @@ struct multimap_script {
         for (auto &pair : pairs) pair = {draw_key<K>(), draw_value()};
         const Ours before(ours);
         if (is_refused(refuse, [&] { ours.insert(pairs.begin(), pairs.end()); })) {
-            if (ours != before) ours = before;
+            if (ours != before) ours = before; // what was added stays where memory is refused for its removal too
             return;
         }
         for (const auto &pair : pairs) {
@@ -104,14 +76,14 @@ struct multimap_script {
         if (peer.empty()) return;
         const auto steps = static_cast<std::ptrdiff_t>(draw_below(peer.size()));
         auto after = ours.end();
-        if (is_refused(refuse, [&] { after = ours.erase(std::next(ours.begin(), steps)); })) return;
+        if (is_refused(refuse, [&] { after = ours.erase(ours.find_by_order(static_cast<std::size_t>(steps))); })) return;
         CHECK(is_at(ours, peer, after, peer.erase(std::next(peer.begin(), steps))));
     }
     void erase_range() {
         const auto first = static_cast<std::ptrdiff_t>(draw_below(peer.size() + 1));
         const auto many = static_cast<std::ptrdiff_t>(draw_below(std::min<std::size_t>(peer.size() - static_cast<std::size_t>(first), 9) + 1));
         const auto from = std::next(ours.begin(), first);
-        CHECK(is_at(ours, peer, ours.erase(from, std::next(from, many)), peer.erase(std::next(peer.begin(), first), std::next(peer.begin(), first + many))));
+        CHECK(is_at(ours, peer, ours.erase(from, from + many), peer.erase(std::next(peer.begin(), first), std::next(peer.begin(), first + many))));
         const K key = draw_key<K>();
         CHECK(ours.erase(key) == peer.erase(key));
     }
@@ -150,6 +122,7 @@ struct multimap_script {
             CHECK(ours.values(key) == wanted);
             if (i % 32 == 0) {
                 CHECK(same(ours, peer));
+                check_walks(ours);
                 check_life();
                 erase_range();
             }
@@ -193,6 +166,10 @@ static void test_sweep() {
     sweep(multi, less, [](auto &copy) { copy.erase(50, 151); });
     sweep(multi, less, [](auto &copy) { copy.erase(copy.find(50, 151)); });
     sweep(other, multi, [&](auto &copy) { copy = multi; });
+    const auto is_odd = [](const auto &pair) { return pair.second % 2 != 0; };
+    indexset::multimap<int, int> even(multi);
+    CHECK(indexset::erase_if(even, is_odd) == 150 && even.size() == 150);
+    sweep(multi, even, [&](auto &copy) { indexset::erase_if(copy, is_odd); });
     CHECK(more.size() == 301 && less.size() == 299 && multi < less && multi != more);
 }
 
@@ -238,6 +215,8 @@ struct log_script {
 
     void compare() {
         CHECK(same(log, peer) && same(replica, peer) && log.node_lengths() == replica.node_lengths());
+        check_walks(log);
+        check_walks(replica);
         CHECK(log.node_count() == replica.node_count() && log.next() == replica.next());
         Replica late(0);
         if (!is_refused(refuse, [&] { late = Replica(log); })) CHECK(late == replica && late.next() == log.next());
@@ -265,9 +244,101 @@ struct log_script {
     }
 };
 
+// ---- a logged_byte_map, and nodes to which its changes are made
+struct byte_log_script {
+    using pair = std::pair<std::string, int>;
+    unsigned long refuse;
+    indexset::logged_byte_map<int> log{4, 1000};
+    std::map<std::string, int> peer{};
+    std::vector<std::vector<pair>> nodes{};
+
+    // Many keys begin alike; no byte, zeros, bytes above 127 and more bytes than a run has room for come up.
+    static std::string draw_bytes() {
+        static const char letters[4] = {'\0', 'a', 'b', '\xff'};
+        std::string key(draw_below(5), 'x');
+        for (char &letter : key) letter = letters[draw_below(4)];
+        if (draw_below(60) == 0) key.append(draw_below(5000), 'z');
+        return key;
+    }
+
+    auto named(const pair &name) {
+        return std::find_if(nodes.begin(), nodes.end(), [&](const auto &node) { return node.back() == name; });
+    }
+    void make_change(const indexset::byte_event &event) {
+        const pair name(event.node, static_cast<int>(event.code.node_value)), of(event.key, static_cast<int>(event.code.value));
+        const auto index = static_cast<std::ptrdiff_t>(event.code.index);
+        auto at = named(name);
+        CHECK((at == nodes.end()) == (event.code.kind == INDEXSET_CREATE));
+        switch (event.code.kind) {
+        case INDEXSET_CREATE:
+            at = std::find_if(nodes.begin(), nodes.end(), [&](const auto &node) { return node.back().first > name.first; });
+            nodes.insert(at, {name});
+            break;
+        case INDEXSET_INSERT: at->insert(at->begin() + index, of); break;
+        case INDEXSET_REMOVE:
+            CHECK(at->at(event.code.index) == of);
+            at->erase(at->begin() + index);
+            break;
+        case INDEXSET_DROP: nodes.erase(at); break;
+        case INDEXSET_SPLIT: {
+            std::vector<pair> rest(at->begin() + index, at->end());
+            at->erase(at->begin() + index, at->end());
+            nodes.insert(at + 1, rest);
+            break;
+        }
+        default:
+            CHECK(event.code.kind == INDEXSET_MERGE && (at + 1)->back() == of);
+            at->insert(at->end(), (at + 1)->begin(), (at + 1)->end());
+            nodes.erase(at + 1);
+        }
+    }
+
+    void change() {
+        const std::string key = draw_bytes();
+        const int value = static_cast<int>(draw() >> 40);
+        const std::size_t kind = draw_below(5);
+        const auto found = peer.find(key);
+        const std::uint64_t next = log.next();
+        indexset::told_bytes<int> told;
+        if (is_refused(refuse, [&] { told = kind == 0 ? log.insert({key, value}) : kind < 3 ? log.insert_or_assign(key, value) : log.erase(key); })) {
+            CHECK(log.next() == next);
+            return;
+        }
+        CHECK(!told.out_of_numbers && told.before.has_value() == (found != peer.end()) && (!told.before || *told.before == found->second));
+        CHECK((told.changes == 0) == (kind == 0 ? found != peer.end() : kind >= 3 && found == peer.end()) && log.next() == next + told.changes);
+        std::vector<indexset::byte_event> changes;
+        while (told.changes != 0 && is_refused(refuse, [&] { changes = log.last_told(); })) CHECK(changes.empty());
+        CHECK(changes.size() == told.changes);
+        for (std::size_t i = 0; i < changes.size(); i++) {
+            CHECK(changes[i].code.number == next + i);
+            make_change(changes[i]);
+        }
+        kind == 0 ? void(peer.insert({key, value})) : kind < 3 ? void(peer[key] = value) : void(peer.erase(key));
+    }
+
+    void run(unsigned steps) {
+        for (unsigned i = 0; i < steps; i++) {
+            change();
+            const std::string key = draw_bytes();
+            check_reads(log, peer, key);
+            CHECK(log.get(key).has_value() == (peer.count(key) != 0) && (peer.count(key) == 0 || log.get(key) == peer.at(key)));
+            if (i % 32 != 0) continue;
+            std::vector<pair> all;
+            for (const auto &node : nodes) all.insert(all.end(), node.begin(), node.end());
+            CHECK(same(log, peer) && std::equal(log.begin(), log.end(), all.begin(), all.end()) && log.node_count() == nodes.size());
+            check_walks(log);
+            indexset::logged_byte_map<int> moved(std::move(log));
+            CHECK(log.empty() && log.next() == 1000 && log.last_told().empty()); // NOLINT: what was moved from is as it began
+            swap(log, moved);
+        }
+    }
+};
+
 static void test_statuses() {
     indexset::logged_map log(2, std::numeric_limits<std::uint64_t>::max());
     CHECK(log.insert_or_assign(1, 2).out_of_numbers && log.empty());
+    indexset::logged_byte_map<> bytes(2, std::numeric_limits<std::uint64_t>::max());
+    CHECK(bytes.insert_or_assign("a", 2).out_of_numbers && bytes.empty() && bytes.last_told().empty() && bytes.erase("a").changes == 0);
     indexset::replica<> replica;
     const indexset::event create{0, 10, 1, 0, 0, 0, INDEXSET_CREATE}, unfit{1, 10, 1, 0, 0, 0, 0}, drop{1, 9, 1, 0, 0, 0, INDEXSET_DROP};
     CHECK(replica.apply(create) == indexset::status::changed && replica.get(10) == 1 && replica.next() == 1);
@@ -286,6 +357,8 @@ int main() {
     log_script<std::uint64_t, std::uint64_t>{0}.run(2000);
     log_script<int, float>{0}.run(1500);
     for (unsigned long refuse = 2; refuse <= 12; refuse++) log_script<std::uint64_t, std::uint64_t>{refuse}.run(200);
+    byte_log_script{0}.run(2000);
+    for (unsigned long refuse = 2; refuse <= 12; refuse++) byte_log_script{refuse}.run(200);
     test_statuses();
     return told();
 }

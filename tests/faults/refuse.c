@@ -83,9 +83,10 @@ static void read_alone(void) {
     close(input);
 }
 
-/* Tells whether this is the copy of the program in which the present request fails. */
+/* Tells whether this is the copy of the program in which the present request fails. The program has one thread, so no
+   handler of a fork is needed: the sanitizer's write four megabytes in each copy. */
 static int is_copy(void) {
-    pid_t copy = fork();
+    pid_t copy = _Fork();
     if (copy == 0) {
         each = 0;
         read_alone();

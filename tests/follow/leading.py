@@ -2,10 +2,10 @@
 """Compares a map that leads with a model, line by line, and a follower that takes over with the leader that goes on.
 
 The lines to a leader are commands, reads, commands and reads with a word or a byte altered, snapshots that it
-begins with while it has no node, and bytes of any kind. A follower reads the events of a leader up to some line,
-and then `lead` and the commands behind that line: what it answers must be, byte for byte, what the leader answered
-to these. Another begins from the snapshot that the leader gives at that line. Some lines to a leader are cut at
-every byte.
+begins with while it has no node, `follow` and then events, and bytes of any kind. A follower reads the events of a
+leader up to some line, and then `lead` and the commands behind that line: what it answers must be, byte for byte,
+what the leader answered to these. Another begins from the snapshot that the leader gives at that line. Some lines
+to a leader are cut at every byte.
 
 Run it once the program is built. The last line is 'N passed, M failed'.
 """
@@ -73,6 +73,9 @@ class Store(Model):
         """The answer to a line with its end, in the role that it has."""
         if line == b"lead":
             return self.lead()
+        if line == b"follow":
+            self.leads = False
+            return b"next %d" % self.next
         try:
             if not self.nodes and (started := START.fullmatch(line)) and number(started[1]) >= 0:
                 self.leads = False
@@ -97,6 +100,10 @@ class Commands(Hostile):
     def line(self) -> bytes:
         random = self.random
         kind = random.random()
+        if kind < 0.02:
+            return b"lead"
+        if kind < 0.04:
+            return b"%d %b" % (self.model.next, self.likely())
         if kind < 0.6:
             return self.command()
         if kind < 0.8:
@@ -104,7 +111,8 @@ class Commands(Hostile):
         if kind < 0.96:
             return self.altered(random.choice([self.command(), self.read()]))
         if kind < 0.98:
-            return random.choice([b"lead", b"lead", b"snapshot", b"start %d" % self.some_number(), self.end(), self.whole_node(), b"0 create 1:1"])
+            given = [b"start %d" % random.choice([0, 3, 60, MOST + 1]), self.end(), self.whole_node(), b"0 create 1:1"]
+            return random.choice([b"lead", b"lead", b"follow", b"snapshot", *given])
         return bytes(random.choices(range(256), k=random.randrange(40))).replace(b"\n", b"")
 
 
@@ -167,7 +175,7 @@ def begins_late(program: pathlib.Path, size: int, seed: int) -> Counts:
 
 def cut_lines(program: pathlib.Path) -> Counts:
     """The counts for commands, reads and `lead` to a leader and a follower that end at each byte."""
-    lines = [b"put 3 30", b"put 12 120", b"lead", b"cut 3", b"range 1 20", b"sum", b"start 5", b"lead", b"put 4 40", b"next"]
+    lines = [b"put 3 30", b"put 12 120", b"lead", b"cut 3", b"range 1 20", b"sum", b"start 5", b"lead", b"put 4 40", b"follow", b"next"]
     leading = cuts(program, joined(lines), ["--lead"], lambda: Store(256))
     following = cuts(program, joined(lines), [], lambda: Store(256, leads=False))
     return Counts(leading.passed + following.passed, leading.failed + following.failed)
@@ -182,6 +190,15 @@ def too_large(program: pathlib.Path) -> Counts:
     passed = done.stdout == joined(wanted)
     if not passed:
         print(f"nodes that are too large: {done.stdout!r}, not {joined(wanted)!r}")
+    return Counts(int(passed), int(not passed))
+
+
+def no_number(program: pathlib.Path) -> Counts:
+    """A leader that has no number left for an event ends with a fault, and the answers before it are told."""
+    done = run(program, [], [*snapshot([], MOST), b"lead", b"cut 1", b"put 1 1", b"len"])
+    passed = (done.returncode, done.stdout, done.stderr) == (2, b"held\nnext %d\nnext %d\nnone\n" % (MOST, MOST), b"numbers\n")
+    if not passed:
+        print(f"no number left: status {done.returncode}, {done.stdout!r} {done.stderr!r}")
     return Counts(int(passed), int(not passed))
 
 
@@ -206,7 +223,7 @@ def main() -> int:
     counts = [compare(program, size, keys, given.seed + size) for size, keys in ((2, 3), (3, 12), (4, 60), (9, 60))]
     counts += [take_over(program, random.Random(given.seed + turn).randrange(2, 9), given.seed + turn) for turn in range(TURNS)]
     counts += [begins_late(program, random.Random(turn).randrange(2, 9), given.seed + turn) for turn in range(TURNS)]
-    counts += [cut_lines(program), too_large(program), arguments(program)]
+    counts += [cut_lines(program), too_large(program), no_number(program), arguments(program)]
     passed, failed = sum(it.passed for it in counts), sum(it.failed for it in counts)
     print(f"{passed} passed, {failed} failed")
     return 1 if failed else 0

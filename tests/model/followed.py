@@ -4,11 +4,13 @@ from __future__ import annotations
 
 from collections.abc import Sequence
 
-from definitions import Bound, bounds_are_ordered, equal_to, in_range, read_bound
+from definitions import Bound, bounds_are_ordered, in_range, read_bound
 from items import DEFAULT_SIZE, Item, Spelling, read_natural
 from language import Group, NoCall, Refused, Subject, Words, one, shown
 from logged import Tree, refusal_of_nodes, texts
 from nodes import Event, Events, Node, Nodes
+from positions import at_positions
+from reading import Reading
 from replica import Replica, replica_of
 from walks import NONE, walk
 
@@ -24,8 +26,8 @@ class Followed(Subject):
 
     def common(self) -> Sequence[Group]:
         """The groups of calls that all logged subjects have."""
-        return (self.make, self.tell, self.tell_nodes, self.tell_all, self.range, self.change_copy,
-                self.tell_copy, self.find_in_copy, self.run, self.briefly)  # fmt: skip
+        return (self.make, self.tell, self.tell_nodes, self.tell_all, self.range, self.at_positions,
+                self.change_copy, self.tell_copy, self.read_copy, self.run, self.briefly)  # fmt: skip
 
     def text(self, item: Item | None) -> str:
         """The text of an item, or `none`."""
@@ -154,6 +156,10 @@ class Followed(Subject):
             return f"({len(within)}, Some({len(within)}))"
         return " ".join(within if name == "range" else within[::-1])
 
+    def at_positions(self, name: str, words: Words) -> str | None:
+        """The items at positions."""
+        return at_positions(name, words, self.tree.items, self.shown_item)
+
     def within(self, words: Words, items: Sequence[Item]) -> list[Item]:
         """The items within two bounds."""
         start, end = self.bounds(words)
@@ -198,12 +204,11 @@ class Followed(Subject):
             case _:
                 return None
 
-    def find_in_copy(self, name: str, words: Words) -> str | None:
-        """Looks for an item in the replica."""
-        if name not in ("copy_get", "copy_contains"):
+    def read_copy(self, name: str, words: Words) -> str | None:
+        """Makes a call that reads the replica."""
+        if not name.startswith("copy_"):
             return None
-        found = equal_to(self.replica.items, self.spelling.read(" ".join(words)))
-        return self.text(found) if name == "copy_get" else shown(found is not None)
+        return Reading(self.replica.items, self.spelling).answer(name.removeprefix("copy_"), words)
 
     def follow(self) -> None:
         """Has the replica apply the events that it has not followed yet."""

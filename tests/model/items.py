@@ -9,6 +9,7 @@ from __future__ import annotations
 import re
 from collections.abc import Callable, Sequence
 from dataclasses import dataclass
+from operator import itemgetter
 from typing import NamedTuple
 
 LARGEST = 2**64 - 1
@@ -28,9 +29,8 @@ class BadWord(Exception):
     """A word that is missing, or is not what the call takes."""
 
 
-def order(item: Item) -> tuple[int, int]:
-    """What the order compares."""
-    return item[0], item[1]
+# What the order compares of an item: its key and its number.
+order: Callable[[Item], tuple[int, int]] = itemgetter(0, 1)
 
 
 def read_natural(word: str) -> int:

@@ -9,6 +9,7 @@ from items import PAIRS, Item, read_natural
 from language import Group, Refused, Words, none, one, shown
 from logged_pairs import LoggedPairs
 from nodes import Events
+from positions import by_key, counted, key_of, ranks
 
 
 class LoggedMaps(LoggedPairs):
@@ -18,7 +19,7 @@ class LoggedMaps(LoggedPairs):
         super().__init__(size, PAIRS)
 
     def groups(self) -> Sequence[Group]:
-        return (self.fill, self.put, self.put_checked, self.remove, self.pop, self.find, *self.common())
+        return (self.fill, self.put, self.put_checked, self.remove, self.pop, self.find, self.rank, *self.common())
 
     def put_pair(self, pair: Item) -> tuple[str, Events]:
         """Puts a pair whole: the old value, and the events."""
@@ -70,7 +71,16 @@ class LoggedMaps(LoggedPairs):
 
     def find(self, name: str, words: Words) -> str | None:
         """Looks for a key."""
-        if name not in ("get", "contains_key"):
+        if name not in ("get", "get_key_value", "get_key_value_by", "contains_key"):
             return None
         pair = equal_to(self.tree.items, Item(read_natural(one(words))))
-        return self.text(pair) if name == "get" else shown(pair is not None)
+        return shown(pair is not None) if name == "contains_key" else self.text(pair)
+
+    def rank(self, name: str, words: Words) -> str | None:
+        """How the keys stand to one, or to a bound."""
+        items = self.tree.items
+        if name in ("count_before", "count_up_to"):
+            return counted(name, words, items)
+        if name == "ranks":
+            return ranks(list(map(key_of, items)))
+        return by_key(name, items, read_natural(one(words))) if name in ("rank", "index_of") else None

@@ -5,11 +5,12 @@ from __future__ import annotations
 from collections.abc import Sequence
 
 from definitions import equal_to, rank
-from items import DEFAULT_SIZE, Item, read_natural
+from items import DEFAULT_SIZE, Item, order, read_natural
 from followed import Followed
 from language import Group, NoCall, Refused, Words, none, one, shown
 from logged import Tree, refusal_of_nodes
 from nodes import Events
+from positions import by_order, counted, ranks
 from replica import Replica
 
 
@@ -20,7 +21,7 @@ class LoggedSets(Followed):
     """A logged set, and a replica that follows it."""
 
     def groups(self) -> Sequence[Group]:
-        return (self.fill, self.put, self.remove, self.pop, self.find, self.remove_range, *self.common())
+        return (self.fill, self.put, self.remove, self.pop, self.find, self.rank, self.remove_range, *self.common())
 
     def item(self, words: Words) -> Item:
         """The item that the words are."""
@@ -122,6 +123,15 @@ class LoggedSets(Followed):
             case _:
                 is_there, node, place = self.tree.place_of(item)
                 return f"{node} {place}" if is_there else f"absent {node} {place}"
+
+    def rank(self, name: str, words: Words) -> str | None:
+        """How the items stand to one, or to a bound."""
+        items = self.tree.items
+        if name in ("count_before", "count_up_to"):
+            return counted(name, words, items)
+        if name == "ranks":
+            return ranks(list(map(order, items)))
+        return by_order(name, items, self.item(words)) if name in ("rank", "index_of", "position_by") else None
 
     def remove_range(self, name: str, words: Words) -> str | None:
         """Removes the items within a range."""

@@ -9,6 +9,7 @@ from language import Group, Refused, Words, none, one, shown
 from logged import Tree
 from logged_pairs import LoggedPairs
 from nodes import Events, Node, Nodes
+from positions import by_key, key_of, ranks
 from walks import NONE
 
 
@@ -20,7 +21,8 @@ class MultiMaps(LoggedPairs):
         self.pair_next = 0
 
     def groups(self) -> Sequence[Group]:
-        return (self.fill, self.put, self.remove, self.take, self.remove_all, self.find, *self.common())
+        return (self.fill, self.put, self.push, self.remove, self.take, self.remove_all, self.find, self.rank,
+                *self.common())  # fmt: skip
 
     def shown_item(self, item: Item | None) -> str:
         return NONE if item is None else write_pair(item)
@@ -49,11 +51,25 @@ class MultiMaps(LoggedPairs):
         old = next(iter(self.equal_pairs(pair)), None)
         if old is not None:
             return old.value, self.tree.put(pair._replace(number=old.number))[1]
+        return NONE, self.add_pair(pair)
+
+    def add_pair(self, pair: Item) -> Events:
+        """Puts a pair with a new number, as the last of its key."""
         if self.pair_next == LARGEST:
             raise Refused("Numbers")
         events = self.tree.put(pair._replace(number=self.pair_next))[1]
         self.pair_next += 1
-        return NONE, events
+        return events
+
+    def push(self, name: str, words: Words) -> str | None:
+        """Stores a pair beside those of its key, whatever they are."""
+        if name not in ("push", "push_cdc"):
+            return None
+        try:
+            events = self.add_pair(PAIRS.read(one(words)))
+        except Refused as refused:
+            raise Refused(refused.cause, one(words)) from None
+        return self.told("some", events) if name == "push_cdc" else ""
 
     def equal_pairs(self, pair: Item) -> list[Item]:
         """The pairs of a key whose value is equal."""
@@ -66,7 +82,7 @@ class MultiMaps(LoggedPairs):
         return self.removed(self.equal_pairs(PAIRS.read(one(words)))[:1], name.endswith("_cdc"))
 
     def take(self, name: str, words: Words) -> str | None:
-        """Removes the first pair of a key, or the pair at an end."""
+        """Removes the first pair of a key, or the pair at an end or at a position."""
         match name:
             case "remove_some" | "remove_some_cdc":
                 pairs = self.pairs_of(read_natural(one(words)))[:1]
@@ -76,6 +92,9 @@ class MultiMaps(LoggedPairs):
             case "pop_last" | "pop_last_cdc":
                 none(words)
                 pairs = self.tree.items[-1:]
+            case "pop_index" | "pop_index_cdc":
+                place = read_natural(one(words))
+                pairs = self.tree.items[place : place + 1]
             case _:
                 return None
         return self.removed(pairs, name.endswith("_cdc"))
@@ -119,3 +138,17 @@ class MultiMaps(LoggedPairs):
                 return " ".join(map(write_pair, pairs))
             case _:
                 return self.spelling.write_all(pairs if name == "raw_get" else pairs[::-1])
+
+    def rank(self, name: str, words: Words) -> str | None:
+        """How the keys stand to one, and where the first pair with an equal value is."""
+        items = self.tree.items
+        match name:
+            case "index_of":
+                equal = self.equal_pairs(PAIRS.read(one(words)))
+                return str(items.index(equal[0])) if equal else NONE
+            case "rank" | "count_of":
+                return by_key(name, items, read_natural(one(words)))
+            case "ranks":
+                return ranks(list(map(key_of, items)))
+            case _:
+                return None

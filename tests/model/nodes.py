@@ -58,12 +58,14 @@ def is_node_list(nodes: Sequence[Node]) -> bool:
 
 def node_named(nodes: Sequence[Node], last: Item) -> int | None:
     """The place of the node whose last item equals this one, if any."""
-    return next((i for i, node in enumerate(nodes) if order(node[-1]) == order(last)), None)
+    wanted = order(last)
+    return next((i for i, node in enumerate(nodes) if order(node[-1]) == wanted), None)
 
 
 def with_node(nodes: Sequence[Node], node: Node) -> Nodes:
     """The nodes with one more, behind all that end below its last item."""
-    before = [it for it in nodes if order(it[-1]) < order(node[-1])]
+    last = order(node[-1])
+    before = [it for it in nodes if order(it[-1]) < last]
     return [*before, node, *nodes[len(before) :]]
 
 
@@ -106,7 +108,8 @@ def replay(nodes: Nodes, events: Iterable[Event]) -> Nodes | None:
 
 def target_of(nodes: Sequence[Node], item: Item) -> int:
     """The first node whose last item is not below this one, else the last node."""
-    ahead = [node for node in nodes if order(node[-1]) < order(item)]
+    wanted = order(item)
+    ahead = [node for node in nodes if order(node[-1]) < wanted]
     return min(len(ahead), len(nodes) - 1)
 
 

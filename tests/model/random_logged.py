@@ -12,6 +12,8 @@ from items import LARGEST, Item
 
 MODES = ("follows", "follows", "delivered", "untold")
 NEXT = ("next", "next_back")
+LONG = ("nodes", "items", "items_back", "text", "copy", "follow", "range", "range_back", "ranks", "copy_ranks",
+        "range_idx", "range_idx_back", "copy_range_idx", "copy_range_idx_back")  # fmt: skip
 
 
 class LoggedAuthor(Author):
@@ -30,7 +32,7 @@ class LoggedAuthor(Author):
         return len(self.trees.tree.items)
 
     def is_long(self, name: str) -> bool:
-        return name in ("nodes", "items", "items_back", "text", "copy", "follow", "range", "range_back")
+        return name in LONG
 
     def cdc(self, name: str) -> str:
         """A change by its name, in the form that gives its events, at times with few words."""
@@ -88,8 +90,37 @@ class LoggedAuthor(Author):
             (12, lambda: f"{rng.choice(('range', 'range_back'))} {self.key_bounds()}"),
             (3, lambda: f"has_room_for {rng.randint(0, self.length())}"),
             (20, self.copy),
-            (4, lambda: f"{rng.choice(('copy_get', 'copy_contains'))} {self.whole_item()}"),
+            (30, self.position),
+            (8, self.in_copy),
         )
+
+    def position(self) -> str:
+        """A call by positions."""
+        rng = self.draw.rng
+        match rng.choice(("ranks", "ranks", "get_index", "range_idx", "by_key", "by_key")):
+            case "ranks":
+                return rng.choice(("ranks", "copy_ranks"))
+            case "get_index":
+                return f"{rng.choice(('get_index', 'copy_get_index'))} {self.draw.position(self.length())}"
+            case "range_idx":
+                name = rng.choice(("range_idx", "range_idx_back", "copy_range_idx", "copy_range_idx_back"))
+                return f"{name} {self.draw.bounds(lambda: self.draw.position(self.length()))}"
+            case _:
+                return self.rank()
+
+    def rank(self) -> str:
+        """Asks how the items stand to one."""
+        raise NotImplementedError
+
+    def count_at(self) -> str:
+        """Asks how many items stand before a bound, or up to it."""
+        start, end = self.key_bounds().split()
+        return self.draw.rng.choice((f"count_before {start}", f"count_up_to {end}"))
+
+    def in_copy(self) -> str:
+        """A call that seeks an item of the replica."""
+        names = ("copy_get", "copy_contains", "copy_rank", "copy_index_of", "copy_count_of")
+        return f"{self.draw.rng.choice(names)} {self.whole_item()}"
 
     def whole_item(self) -> str:
         """The words of an item that the replica may hold."""

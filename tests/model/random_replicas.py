@@ -6,7 +6,7 @@ from collections.abc import Sequence
 from dataclasses import replace
 
 from draw import Author, Draw, Make
-from items import LARGEST, NUMBERS, Item
+from items import LARGEST, NUMBERED, NUMBERS, Item
 from logged import Tree
 from nodes import KINDS, Event, Events
 from replicas import Replicas
@@ -17,16 +17,19 @@ WHOLE = ("nodes", "nodes", "text", "next", "len", "is_empty", "first", "last", "
 class ReplicaAuthor(Author):
     """An author of scripts of replicas."""
 
-    def __init__(self, draw: Draw, model: Replicas, size: int) -> None:
+    def __init__(self, draw: Draw, model: Replicas, size: int, by_keys: bool) -> None:
         super().__init__(draw, model)
         self.copies, self.size, self.tree = model, size, Tree(size)
+        self.by_keys = by_keys
         self.ahead: Events = []
 
     def length(self) -> int:
         return len(self.copies.replica.items)
 
     def item(self, key: int) -> Item:
-        """An item of a key."""
+        """An item of a key; one with a number is the first of its key, or one of a few."""
+        if self.copies.spelling is NUMBERED:
+            return Item(key, self.draw.rng.choice((0, 0, 1, 2)), self.draw.letter())
         return Item(key, 0, "" if self.copies.spelling is NUMBERS else self.draw.letter())
 
     def near(self) -> int:
@@ -60,6 +63,7 @@ class ReplicaAuthor(Author):
             (10, lambda: rng.choice(WHOLE)),
             (8, self.find),
             (4, self.range),
+            (14, self.position),
             (3, lambda: f"walk {self.draw.steps(('next', 'next_back'))}"),
             (6, lambda: f"expects {self.text(*self.turned(self.next_event()))}"),
             (4, self.attach),
@@ -168,12 +172,33 @@ class ReplicaAuthor(Author):
         return f"attach {self.copies.spelling.write_nodes([node])}"
 
     def find(self) -> str:
-        """Looks for an item."""
-        item = self.item(self.near())
-        return f"{self.draw.rng.choice(('get', 'contains'))} {self.copies.spelling.write(item)}"
+        """Looks for an item, or for a key of a pair."""
+        name = self.draw.rng.choice(("get", "contains", "rank", "index_of", "count_of"))
+        if self.by_keys and self.draw.chance(0.5):
+            return f"by_key {name} {self.near()}"
+        return f"{name} {self.copies.spelling.write(self.item(self.near()))}"
 
     def range(self) -> str:
-        """A range of keys."""
+        """A range of items, or of keys of pairs."""
         name = self.draw.rng.choice(("range", "range_back"))
+        if self.copies.spelling is NUMBERED or (self.by_keys and self.draw.chance(0.5)):
+            return f"by_key {name} {self.draw.bounds(self.near)}"
+        return f"{name} {self.bounds()}"
+
+    def bounds(self) -> str:
+        """Two bounds."""
         tag = "" if self.copies.spelling is NUMBERS else f":{self.draw.letter()}"
-        return f"{name} {self.draw.bounds(self.near, tag)}"
+        return self.draw.bounds(self.near, tag)
+
+    def position(self) -> str:
+        """A call by positions."""
+        rng = self.draw.rng
+        name = rng.choice(("ranks", "get_index", "range_idx", "range_idx_back", "count_before", "count_up_to"))
+        if name == "ranks":
+            return "by_key ranks" if self.by_keys and self.draw.chance(0.5) else "ranks"
+        if name.startswith("range"):
+            return f"{name} {self.draw.bounds(lambda: self.draw.position(self.length()))}"
+        if name == "get_index" or self.copies.spelling is NUMBERED:
+            return f"get_index {self.draw.position(self.length())}"
+        start, end = self.bounds().split()
+        return f"{name} {start if name == 'count_before' else end}"

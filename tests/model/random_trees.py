@@ -48,6 +48,11 @@ class LoggedSetAuthor(LoggedAuthor):
             return f"range_hint {self.key_bounds()}"
         return f"{rng.choice(('get', 'contains', 'place_of', 'below'))} {self.word()}"
 
+    def rank(self) -> str:
+        if self.draw.chance(0.3):
+            return self.count_at()
+        return f"{self.draw.rng.choice(('rank', 'index_of', 'position_by'))} {self.word()}"
+
     def key_bounds(self) -> str:
         tag = "" if self.trees.spelling is NUMBERS else f":{self.draw.letter()}"
         return self.draw.bounds(self.near, tag)
@@ -73,7 +78,13 @@ class LoggedMapAuthor(LoggedAuthor):
         return [self.draw.rng.choice(words) for _ in range(self.draw.rng.randint(0, 6))]
 
     def find(self) -> str:
-        return f"{self.draw.rng.choice(('get', 'contains_key'))} {self.near()}"
+        names = ("get", "contains_key", "get_key_value", "get_key_value_by")
+        return f"{self.draw.rng.choice(names)} {self.near()}"
+
+    def rank(self) -> str:
+        if self.draw.chance(0.3):
+            return self.count_at()
+        return f"{self.draw.rng.choice(('rank', 'index_of'))} {self.near()}"
 
 
 class MultiMapAuthor(LoggedAuthor):
@@ -93,14 +104,18 @@ class MultiMapAuthor(LoggedAuthor):
         return f"{self.near()}:{self.draw.letter()}"
 
     def add(self) -> str:
-        return f"{self.cdc('insert')} {self.pair()}"
+        return f"{self.cdc(self.draw.rng.choice(('insert', 'insert', 'push')))} {self.pair()}"
 
     def remove(self) -> str:
         name = self.draw.rng.choice(("remove", "remove", "remove_some"))
         return f"{self.cdc(name)} {self.pair() if name == 'remove' else self.near()}"
 
     def removing(self) -> Sequence[tuple[int, Make]]:
-        return (*super().removing(), (4, self.remove_all))
+        return (*super().removing(), (4, self.remove_all), (8, self.pop_index))
+
+    def pop_index(self) -> str:
+        """Removes the pair at a position."""
+        return f"{self.cdc('pop_index')} {self.draw.position(self.length())}"
 
     def remove_all(self) -> str:
         """Removes all pairs of a key, where their events fit."""
@@ -112,3 +127,8 @@ class MultiMapAuthor(LoggedAuthor):
 
     def find(self) -> str:
         return f"{self.draw.rng.choice(('get', 'raw_get', 'raw_get_back', 'contains_key'))} {self.near()}"
+
+    def rank(self) -> str:
+        if self.draw.chance(0.3):
+            return f"index_of {self.pair()}"
+        return f"{self.draw.rng.choice(('rank', 'count_of'))} {self.near()}"

@@ -4,10 +4,10 @@ from __future__ import annotations
 
 from collections.abc import Sequence
 
-from definitions import bounds_are_ordered, equal_to, in_range, read_bound
 from items import Item, Spelling, read_natural
 from language import Group, NoCall, Refused, Subject, Words, one, shown
 from nodes import Events, read_event
+from reading import Reading
 from replica import Replica, replica_of
 from walks import NONE, walk
 
@@ -20,7 +20,7 @@ class Replicas(Subject):
         self.events: Events = []
 
     def groups(self) -> Sequence[Group]:
-        return self.make, self.attach, self.deliver, self.tell, self.find, self.tell_all, self.range
+        return self.make, self.attach, self.deliver, self.tell, self.tell_all, self.read
 
     def text(self, item: Item | None) -> str:
         """The text of an item, or `none`."""
@@ -90,12 +90,12 @@ class Replicas(Subject):
             case _:
                 return None
 
-    def find(self, name: str, words: Words) -> str | None:
-        """Looks for an item."""
-        if name not in ("get", "contains"):
-            return None
-        found = equal_to(self.replica.items, self.spelling.read(" ".join(words)))
-        return self.text(found) if name == "get" else shown(found is not None)
+    def read(self, name: str, words: Words) -> str | None:
+        """A call that seeks items: by themselves, by keys, or by positions."""
+        reading = Reading(self.replica.items, self.spelling)
+        if name == "by_key":
+            return reading.by_key(words[0], words[1:])
+        return reading.answer(name, words)
 
     def tell_all(self, name: str, words: Words) -> str | None:
         """The items of the replica."""
@@ -107,13 +107,3 @@ class Replicas(Subject):
                 return walk(texts, words)
             case _:
                 return None
-
-    def range(self, name: str, words: Words) -> str | None:
-        """The items within a range."""
-        if name not in ("range", "range_back"):
-            return None
-        start, end = map(read_bound, words)
-        if not bounds_are_ordered(start, end):
-            raise NoCall("bounds that are not in order")
-        within = in_range(self.replica.items, start, end)
-        return self.spelling.write_all(within if name == "range" else within[::-1])

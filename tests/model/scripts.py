@@ -14,7 +14,7 @@ from collections.abc import Iterator
 from typing import NamedTuple
 
 from draw import SMALL_SIZES, Author, Draw
-from items import NUMBERS, PAIRS
+from items import NUMBERED, NUMBERS, PAIRS
 from lending import Form
 from lending_maps import LendingMaps
 from logged_maps import LoggedMaps
@@ -102,9 +102,11 @@ def tree_start(family: str, rng: random.Random) -> Start:
 def replica_start(rng: random.Random) -> Start:
     """A script of a replica."""
     size, keys = rng.choice(SMALL_SIZES), rng.choice((6, 12, 25, 60))
-    name = rng.choice(("replica", "replica", "tagged_replica", "letter_replica", "owned_replica"))
-    model = Replicas(NUMBERS if name in ("replica", "owned_replica") else PAIRS)
-    return Start(f"make {name} 2", ReplicaAuthor(Draw(rng, keys), model, size), 1)
+    name = rng.choice(("replica", "tagged_replica", "letter_replica", "numbered_replica", "owned_replica"))
+    spellings = {"tagged_replica": PAIRS, "letter_replica": PAIRS, "numbered_replica": NUMBERED}
+    model = Replicas(spellings.get(name, NUMBERS))
+    by_keys = name in ("letter_replica", "numbered_replica")
+    return Start(f"make {name} 2", ReplicaAuthor(Draw(rng, keys), model, size, by_keys), 1)
 
 
 def start_of(family: str, rng: random.Random) -> Start:

@@ -2,7 +2,7 @@
 
 from __future__ import annotations
 
-from items import NUMBERS, PAIRS
+from items import NUMBERED, NUMBERS, PAIRS
 from language import Subject
 from lending import Form
 from lending_maps import LendingMaps
@@ -29,6 +29,8 @@ def subject_of(name: str, size: int) -> Subject | None:
             return LoggedMaps(size)
         case "multimap":
             return MultiMaps(size)
+        case "numbered_replica":
+            return Replicas(NUMBERED)
         case "replica" | "tagged_replica" | "letter_replica" as kind:
             return Replicas(NUMBERS if kind == "replica" else PAIRS)
         case _:

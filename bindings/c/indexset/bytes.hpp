@@ -1,4 +1,4 @@
-// Maps from byte strings, behind the pointers of their collections. Included by indexset.hpp.
+// Collections of byte strings, behind the pointers of their collections. Included by indexset.hpp.
 #ifndef INDEXSET_BYTES_HPP
 #define INDEXSET_BYTES_HPP
 
@@ -16,6 +16,9 @@ namespace indexset {
 
 namespace detail {
 
+// The library takes no null pointer.
+inline const char *bytes_of(std::string_view key) noexcept { return key.data() == nullptr ? "" : key.data(); }
+
 // The calls of the library for a map from byte strings.
 struct byte_calls {
     using handle = indexset_text_map;
@@ -24,12 +27,33 @@ struct byte_calls {
     static constexpr auto release = indexset_text_map_free;
     static constexpr auto clear = indexset_text_map_clear;
     static constexpr auto len = indexset_text_map_len;
+    static constexpr auto rank = indexset_text_map_rank;
+    static constexpr auto count_up_to = indexset_text_map_count_up_to;
+    static constexpr auto contains = indexset_text_map_contains;
+    static constexpr auto get = indexset_text_map_get;
+    static constexpr auto at = indexset_text_map_at;
+    static constexpr auto keys = indexset_text_map_keys_by_position;
+    static constexpr auto values = indexset_text_map_range_by_position;
+};
 
-    // The library takes no null pointer.
-    static const char *bytes(std::string_view key) noexcept { return key.data() == nullptr ? "" : key.data(); }
+// The calls of the library for a logged map from byte strings.
+struct logged_byte_calls {
+    using handle = indexset_text_log;
+    static constexpr auto release = indexset_text_log_free;
+    static constexpr auto len = indexset_text_log_len;
+    static constexpr auto rank = indexset_text_log_rank;
+    static constexpr auto count_up_to = indexset_text_log_count_up_to;
+    static constexpr auto contains = indexset_text_log_contains;
+    static constexpr auto get = indexset_text_log_get;
+    static constexpr auto at = indexset_text_log_at;
+    static constexpr auto keys = indexset_text_log_keys_by_position;
+    static constexpr auto values = indexset_text_log_range_by_position;
+    static constexpr auto next = indexset_text_log_next;
+    static constexpr auto node_count = indexset_text_log_node_count;
 };
 
 // A run of byte strings and their values: as many as have room.
+template <class Calls>
 struct byte_run {
     static constexpr std::size_t room = 64;
     std::size_t first = 0, count = 0;
@@ -44,21 +68,20 @@ struct byte_run {
         return {bytes + start, ends[index] - start};
     }
 
-    void read(indexset_text_map *handle, std::size_t from, std::size_t places) noexcept {
+    void read(typename Calls::handle *handle, std::size_t from, std::size_t places) noexcept {
         first = from;
-        const std::size_t wrote =
-            indexset_text_map_keys_by_position(handle, from, bytes, sizeof bytes, ends, places);
+        const std::size_t wrote = Calls::keys(handle, from, bytes, sizeof bytes, ends, places);
         std::size_t end = 0;
         for (count = 0; count < wrote && ends[count] <= sizeof bytes - end; count++) ends[count] = end += ends[count];
-        indexset_text_map_range_by_position(handle, from, values, count);
+        Calls::values(handle, from, values, count);
     }
 };
 
-// A map from byte strings, behind the pointer of its collection.
-template <class V>
-class byte_store : public held<byte_calls> {
+// Byte strings and their values, behind the pointer of their collection.
+template <class Calls, class V>
+class byte_store : public held<Calls> {
   public:
-    using calls = byte_calls;
+    using calls = Calls;
     using value_type = std::pair<std::string, V>;
     using key_type = std::string;
     using key_argument = std::string_view;
@@ -73,41 +96,39 @@ class byte_store : public held<byte_calls> {
         runs_.forget();
     }
 
-    std::size_t rank(std::string_view key) const noexcept {
-        return indexset_text_map_rank(handle(), byte_calls::bytes(key), key.size());
+    std::size_t rank(std::string_view key) const noexcept { return Calls::rank(this->handle(), bytes_of(key), key.size()); }
+    std::size_t count_up_to(std::string_view key) const noexcept {
+        return Calls::count_up_to(this->handle(), bytes_of(key), key.size());
     }
     bool contains(std::string_view key) const noexcept {
-        return indexset_text_map_contains(handle(), byte_calls::bytes(key), key.size());
-    }
-    std::size_t count_up_to(std::string_view key) const noexcept {
-        return indexset_text_map_count_up_to(handle(), byte_calls::bytes(key), key.size());
+        return Calls::contains(this->handle(), bytes_of(key), key.size());
     }
     bool get(std::string_view key, std::uint64_t &value) const noexcept {
-        return indexset_text_map_get(handle(), byte_calls::bytes(key), key.size(), &value);
+        return Calls::get(this->handle(), bytes_of(key), key.size(), &value);
     }
     std::uint32_t put(std::string_view key, std::uint64_t value, std::uint64_t &before) noexcept {
-        return indexset_text_map_insert(handle(), byte_calls::bytes(key), key.size(), value, &before);
+        return indexset_text_map_insert(this->handle(), bytes_of(key), key.size(), value, &before);
     }
 
     value_type at(std::size_t position) {
-        if (const byte_run *run = runs_.at(handle(), position)) {
+        if (const auto *run = runs_.at(this->handle(), position)) {
             const std::size_t index = position - run->first;
             return {std::string(run->key(index)), value_code<V>::decode(run->values[index])};
         }
         std::size_t length = 0;
         std::uint64_t value = 0;
         char none;
-        const bool found = indexset_text_map_at(handle(), position, &none, 0, &length, &value);
+        const bool found = Calls::at(this->handle(), position, &none, 0, &length, &value);
         assert(found && "an iterator at the end leads to no element");
         static_cast<void>(found);
         std::string key(length, '\0');
-        if (length != 0) indexset_text_map_at(handle(), position, &key[0], length, &length, &value);
+        if (length != 0) Calls::at(this->handle(), position, &key[0], length, &length, &value);
         return {std::move(key), value_code<V>::decode(value)};
     }
 
     bool remove(std::string_view key) noexcept {
         std::uint64_t value;
-        const bool removed = indexset_text_map_remove(handle(), byte_calls::bytes(key), key.size(), &value);
+        const bool removed = indexset_text_map_remove(this->handle(), bytes_of(key), key.size(), &value);
         if (removed) changed();
         return removed;
     }
@@ -116,7 +137,7 @@ class byte_store : public held<byte_calls> {
         char key;
         std::size_t length;
         std::uint64_t value;
-        while (count != 0 && indexset_text_map_remove_at(handle(), position, &key, 0, &length, &value)) count--;
+        while (count != 0 && indexset_text_map_remove_at(this->handle(), position, &key, 0, &length, &value)) count--;
         changed();
     }
 
@@ -133,7 +154,7 @@ class byte_store : public held<byte_calls> {
 
   private:
     std::uint64_t changes_ = 1;
-    runs<byte_run> runs_;
+    runs<byte_run<Calls>> runs_;
 };
 
 } // namespace detail

@@ -2,16 +2,71 @@
 #ifndef INDEXSET_LOGGED_HPP
 #define INDEXSET_LOGGED_HPP
 
-#include "order.hpp"
+#include "bytes.hpp"
+#include "numbers.hpp"
+#include "positions.hpp"
 
 #include <array>
 #include <cstddef>
 #include <cstdint>
 #include <memory>
 #include <optional>
+#include <string>
+#include <string_view>
 #include <utility>
+#include <vector>
 
 namespace indexset {
+
+namespace detail {
+
+// What logged_map, logged_byte_map and replica have alike.
+template <class Self, class Store, class V>
+class nodes : public reading<Self, Store> {
+    using base = reading<Self, Store>;
+    using calls = typename Store::calls;
+
+  public:
+    using mapped_type = V;
+    using typename base::key_argument;
+
+    // Returns the value of a key. One search.
+    std::optional<V> get(key_argument key) const noexcept {
+        std::uint64_t code;
+        if (!this->store_ || !this->store_->get(key, code)) return std::nullopt;
+        return value_code<V>::decode(code);
+    }
+
+    // Returns the number of the next change: that it makes, or that it awaits.
+    std::uint64_t next() const noexcept { return this->store_ ? calls::next(this->store_->handle()) : next_; }
+
+    // Returns how many nodes there are.
+    std::size_t node_count() const noexcept { return this->store_ ? calls::node_count(this->store_->handle()) : 0; }
+
+  protected:
+    explicit nodes(std::uint64_t next) noexcept : next_(next) {}
+
+    std::uint64_t next_; // where there is no store
+};
+
+// What logged_map and replica have alike.
+template <class Self, class Store, class V>
+class number_nodes : public nodes<Self, Store, V> {
+    using calls = typename Store::calls;
+
+  public:
+    // Returns how many pairs each node has, in order.
+    std::vector<std::size_t> node_lengths() const {
+        std::vector<std::size_t> lengths(this->node_count());
+        if (!lengths.empty()) calls::node_lengths(this->store_->handle(), lengths.data(), lengths.size());
+        return lengths;
+    }
+
+  protected:
+    using nodes<Self, Store, V>::nodes;
+};
+
+} // namespace detail
 
 // What a call of a logged map or of a replica answers.
 enum class status : std::uint32_t {
@@ -57,9 +112,10 @@ class told {
 // An ordered map that tells its changes, one number after another. It is moved, and not copied; one that was moved
 // from is as it began.
 template <class K = std::uint64_t, class V = std::uint64_t>
-class logged_map : public detail::nodes<logged_map<K, V>, detail::key_store<detail::log_calls, detail::map_code<K, V>>, K, V> {
+class logged_map
+    : public detail::number_nodes<logged_map<K, V>, detail::number_store<detail::log_calls, detail::map_code<K, V>>, V> {
   public:
-    using base = typename logged_map::nodes;
+    using base = typename logged_map::number_nodes;
 
     // An empty map, whose nodes hold at most `node_size` pairs, at least 2, and whose first change has the number `next`.
     explicit logged_map(std::size_t node_size = 1024, std::uint64_t next = 0) noexcept
@@ -67,11 +123,7 @@ class logged_map : public detail::nodes<logged_map<K, V>, detail::key_store<deta
 
     // Makes a value that of a key, and tells the changes and the value before.
     told<V> insert_or_assign(K key, const V &value) {
-        if (!this->store_) {
-            auto made = std::make_unique<typename base::store_type>();
-            detail::pass(indexset_log_new(made->handle(), node_size_, this->next_));
-            this->store_ = std::move(made);
-        }
+        this->made_of(indexset_log_new, node_size_, this->next_);
         told<V> told;
         std::uint64_t before;
         const std::uint32_t answer = indexset_log_insert(handle(), key_code<K>::encode(key), value_code<V>::encode(value),
@@ -113,21 +165,101 @@ class logged_map : public detail::nodes<logged_map<K, V>, detail::key_store<deta
     std::size_t node_size_;
 };
 
+// A change of a logged_byte_map: what `event` has, and the bytes of the key that names the node and of the pair's key.
+struct byte_event {
+    indexset_text_event code;
+    std::string node, key;
+};
+
+// What a call of a logged_byte_map found, and how many changes it made, which `last_told` returns.
+template <class V>
+struct told_bytes {
+    std::optional<V> before{};   // the value that the key had
+    bool out_of_numbers = false; // whether too few numbers were left, so that nothing was done
+    std::size_t changes = 0;
+};
+
+// An ordered map from byte strings that tells its changes, one number after another. It is moved, and not copied; one
+// that was moved from is as it began.
+template <class V = std::uint64_t>
+class logged_byte_map
+    : public detail::nodes<logged_byte_map<V>, detail::byte_store<detail::logged_byte_calls, V>, V> {
+  public:
+    using base = typename logged_byte_map::nodes;
+
+    // An empty map, whose nodes hold at most `node_size` pairs, at least 2, and whose first change has the number `next`.
+    explicit logged_byte_map(std::size_t node_size = 1024, std::uint64_t next = 0) noexcept
+        : base(next), node_size_(node_size < 2 ? 2 : node_size) {}
+
+    // Makes a value that of a key. Returns how many changes it made, and the value before.
+    told_bytes<V> insert_or_assign(std::string_view key, const V &value) {
+        this->made_of(indexset_text_log_new, node_size_, this->next_);
+        std::uint64_t before;
+        std::size_t changes;
+        const std::uint32_t answer = indexset_text_log_insert(handle(), detail::bytes_of(key), key.size(),
+                                                              value_code<V>::encode(value), &before, &changes);
+        return told_of(answer, answer == INDEXSET_NO, before, changes);
+    }
+
+    // Adds a pair whose key is not there. Returns how many changes it made: none where the key is there, and then the
+    // value that it has.
+    told_bytes<V> insert(const std::pair<std::string_view, V> &pair) {
+        if (const std::optional<V> before = this->get(pair.first)) return {before, false, 0};
+        return insert_or_assign(pair.first, pair.second);
+    }
+
+    // Removes a key. Returns how many changes it made, and the value that the key had.
+    told_bytes<V> erase(std::string_view key) {
+        if (!this->store_) return {};
+        std::uint64_t before;
+        std::size_t changes;
+        const std::uint32_t answer =
+            indexset_text_log_remove(handle(), detail::bytes_of(key), key.size(), &before, &changes);
+        return told_of(answer, answer == INDEXSET_YES, before, changes);
+    }
+
+    // Returns the changes of the last call that made any, in order. Where memory is refused, they can be asked for again.
+    std::vector<byte_event> last_told() const {
+        std::vector<byte_event> told;
+        byte_event event;
+        char none;
+        while (this->store_ && indexset_text_log_change(handle(), told.size(), &event.code, &none, 0, &none, 0)) {
+            event.node.resize(event.code.node_len);
+            event.key.resize(event.code.key_len);
+            indexset_text_log_change(handle(), told.size(), &event.code, event.node.data(), event.node.size(),
+                                     event.key.data(), event.key.size());
+            told.push_back(event);
+        }
+        return told;
+    }
+
+  private:
+    indexset_text_log *handle() const noexcept { return this->store_->handle(); }
+
+    told_bytes<V> told_of(std::uint32_t answer, bool has_before, std::uint64_t before, std::size_t changes) {
+        detail::pass(answer);
+        this->store_->changed();
+        told_bytes<V> told{{}, answer == INDEXSET_NUMBERS, changes};
+        if (has_before) told.before = value_code<V>::decode(before);
+        return told;
+    }
+
+    std::size_t node_size_;
+};
+
 // A copy of the nodes of a logged map, which follows the map by its changes. It is moved, and not copied.
 template <class K = std::uint64_t, class V = std::uint64_t>
-class replica : public detail::nodes<replica<K, V>, detail::key_store<detail::replica_calls, detail::map_code<K, V>>, K, V> {
+class replica
+    : public detail::number_nodes<replica<K, V>, detail::number_store<detail::replica_calls, detail::map_code<K, V>>, V> {
   public:
-    using base = typename replica::nodes;
+    using base = typename replica::number_nodes;
 
     // A replica without nodes, which awaits the change of the number `next`.
     explicit replica(std::uint64_t next = 0) noexcept : base(next) {}
 
     // A replica with the nodes of a logged map, which awaits its next change.
     explicit replica(const logged_map<K, V> &log) : base(log.next()) {
-        if (!log.store_) return;
-        auto made = std::make_unique<typename base::store_type>();
-        detail::pass(indexset_replica_from_log(made->handle(), log.handle()));
-        this->store_ = std::move(made);
+        if (log.store_) this->made_of(indexset_replica_from_log, log.handle());
     }
 
     // Makes a change of the logged map, and awaits the next. It answers `changed`; `unchanged` where the change was made
@@ -158,14 +290,7 @@ class replica : public detail::nodes<replica<K, V>, detail::key_store<detail::re
     }
 
   private:
-    typename base::store_type &made() {
-        if (!this->store_) {
-            auto made = std::make_unique<typename base::store_type>();
-            detail::pass(indexset_replica_new(made->handle(), this->next_));
-            this->store_ = std::move(made);
-        }
-        return *this->store_;
-    }
+    typename base::store_type &made() { return this->made_of(indexset_replica_new, this->next_); }
 };
 
 } // namespace indexset

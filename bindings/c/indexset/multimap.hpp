@@ -2,7 +2,8 @@
 #ifndef INDEXSET_MULTIMAP_HPP
 #define INDEXSET_MULTIMAP_HPP
 
-#include "order.hpp"
+#include "numbers.hpp"
+#include "positions.hpp"
 
 #include <cstdint>
 #include <initializer_list>
@@ -20,29 +21,19 @@ namespace indexset {
 // order in which they came.
 template <class K, class V>
 class multimap
-    : public detail::keyed<multimap<K, V>, detail::key_store<detail::multi_calls, detail::map_code<K, V>>, K, V> {
+    : public detail::copied<multimap<K, V>, detail::number_store<detail::multi_calls, detail::map_code<K, V>>> {
     static_assert(std::has_unique_object_representations_v<V> || std::is_floating_point_v<V>,
                   "equal values of a multimap have equal bytes");
 
   public:
-    using base = typename multimap::keyed;
+    using base = typename multimap::copied;
+    using mapped_type = V;
     using typename base::const_iterator;
     using typename base::iterator;
     using typename base::size_type;
     using typename base::value_type;
 
     multimap() noexcept = default;
-    multimap(multimap &&) noexcept = default;
-    multimap &operator=(multimap &&) noexcept = default;
-    multimap(const multimap &other) : base() {
-        multimap copied;
-        for (auto it = other.begin(); it != other.end(); ++it) copied.add(it.where().at.key, it.where().at.value);
-        this->store_ = std::move(copied.store_);
-    }
-    multimap &operator=(const multimap &other) {
-        if (this != &other) *this = multimap(other);
-        return *this;
-    }
     multimap(std::initializer_list<value_type> pairs) { insert(pairs); }
     template <class It, class = detail::only_iterators<It>>
     multimap(It first, It last) {
@@ -50,14 +41,15 @@ class multimap
     }
     multimap &operator=(std::initializer_list<value_type> pairs) { return *this = multimap(pairs); }
 
-    // Tells whether a key is there, or has a value, and how many values it has. One search.
-    bool contains(K key) const noexcept { return count(key) != 0; }
+    // Tells whether a key has a value, and how many it has. One search.
+    using base::contains;
     bool contains(K key, const V &value) const noexcept {
         return this->store_ && indexset_multi_contains(handle(), key_of(key), value_of(value));
     }
     size_type count(K key) const noexcept { return this->store_ ? indexset_multi_count(handle(), key_of(key)) : 0; }
 
-    // Returns the pair of a key and a value, or the end where there is none.
+    // Returns the pair of a key and a value, or the end where there is none. One search; where its position is asked
+    // for, another, and a walk over the values of its key before it.
     using base::find;
     iterator find(K key, const V &value) const noexcept {
         return contains(key, value) ? placed(key, value) : this->end();
@@ -134,22 +126,20 @@ class multimap
     // Removes a pair, or those from `first` to before `last`, one after another; where memory is refused, those before
     // stay removed. Returns the pair after them.
     iterator erase(iterator it) {
-        const detail::place at = it.where();
-        const size_type before = this->store_->nth(at);
-        this->store_->reserve(before + this->store_->few);
-        pass(remove(at.at.key, at.at.value));
-        return iterator(this->store_.get(), this->store_->at_nth(at.at.key, before));
+        const size_type position = it.position();
+        std::uint64_t key, value;
+        pass(indexset_multi_remove_at(handle(), position, &key, &value));
+        this->store_->changed();
+        return this->at_position(position);
     }
     iterator erase(iterator first, iterator last) {
-        while (first != last) first = erase(first);
+        const size_type from = first.position(), past = last.position();
+        if (from == 0 && past == this->size()) {
+            this->clear();
+            return this->end();
+        }
+        for (size_type left = past - from; left != 0; left--) first = erase(first);
         return first;
-    }
-
-    // Removes all pairs.
-    void clear() noexcept {
-        if (!this->store_) return;
-        indexset_multi_clear(handle());
-        this->store_->changed();
     }
 
   private:
@@ -158,11 +148,7 @@ class multimap
     indexset_multi *handle() const noexcept { return this->store_->handle(); }
 
     iterator placed(K key, const V &value) const noexcept {
-        detail::place at;
-        at.at = {key_of(key), value_of(value)};
-        at.nth = detail::unknown;
-        at.is_end = false;
-        return iterator(this->store_.get(), at);
+        return iterator(this->store_.get(), detail::pair{key_of(key), value_of(value)});
     }
 
     // Throws where it is refused. Each change uses up a number of 64 bits: they do not run out in practice.
@@ -171,11 +157,7 @@ class multimap
     }
 
     bool add(std::uint64_t key, std::uint64_t value) {
-        auto store = this->store_ ? nullptr : std::make_unique<typename base::store_type>();
-        if (store) {
-            detail::pass(indexset_multi_new(store->handle()));
-            this->store_ = std::move(store);
-        }
+        this->made();
         const std::uint32_t answer = indexset_multi_insert(handle(), key, value);
         pass(answer);
         if (answer == INDEXSET_YES) this->store_->changed();

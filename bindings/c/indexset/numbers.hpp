@@ -1,4 +1,4 @@
-// Sets and maps of numbers, behind the pointers of their collections. Included by indexset.hpp.
+// Collections of numbers, behind the pointers of their collections. Included by indexset.hpp.
 #ifndef INDEXSET_NUMBERS_HPP
 #define INDEXSET_NUMBERS_HPP
 
@@ -17,6 +17,7 @@ namespace detail {
 struct set_calls {
     using handle = indexset_set;
     static constexpr bool has_values = false;
+    static constexpr bool repeats = false; // whether a key may have several values
     static constexpr auto make = indexset_set_new;
     static constexpr auto clone = indexset_set_clone;
     static constexpr auto release = indexset_set_free;
@@ -40,10 +41,25 @@ struct set_calls {
     }
 };
 
+// What the library's calls for pairs of numbers have alike.
+template <class Handle, auto At, auto Read, auto Get>
+struct pair_calls {
+    using handle = Handle;
+    static constexpr bool has_values = true, repeats = false;
+    static constexpr auto get = Get;
+
+    static std::size_t read(handle *of, std::size_t from, std::uint64_t *keys, std::uint64_t *values, std::size_t places) {
+        return Read(of, from, keys, places, values, places);
+    }
+    static bool at(handle *of, std::size_t position, pair &out) { return At(of, position, &out.key, &out.value); }
+    static bool find(handle *of, std::uint64_t key, pair &out) {
+        out.key = key;
+        return Get(of, key, &out.value);
+    }
+};
+
 // The calls of the library for a map of numbers.
-struct map_calls {
-    using handle = indexset_map;
-    static constexpr bool has_values = true;
+struct map_calls : pair_calls<indexset_map, indexset_map_at, indexset_map_range_by_position, indexset_map_get> {
     static constexpr auto make = indexset_map_new;
     static constexpr auto clone = indexset_map_clone;
     static constexpr auto release = indexset_map_free;
@@ -52,16 +68,6 @@ struct map_calls {
     static constexpr auto rank = indexset_map_rank;
     static constexpr auto count_up_to = indexset_map_count_up_to;
 
-    static std::size_t read(handle *of, std::size_t from, std::uint64_t *keys, std::uint64_t *values, std::size_t places) {
-        return indexset_map_range_by_position(of, from, keys, places, values, places);
-    }
-    static bool at(handle *of, std::size_t position, pair &out) {
-        return indexset_map_at(of, position, &out.key, &out.value);
-    }
-    static bool find(handle *of, std::uint64_t key, pair &out) {
-        out.key = key;
-        return indexset_map_get(of, key, &out.value);
-    }
     static bool remove(handle *of, std::uint64_t key) {
         std::uint64_t value;
         return indexset_map_remove(of, key, &value);
@@ -70,6 +76,64 @@ struct map_calls {
         std::uint64_t key, value;
         return indexset_map_remove_at(of, position, &key, &value);
     }
+};
+
+// How many keys are not above one, where the library has no call for it: those below the next key.
+template <class Calls>
+std::size_t count_below_next(typename Calls::handle *of, std::uint64_t key) {
+    return key == greatest ? Calls::len(of) : Calls::rank(of, key + 1);
+}
+
+// The first value of a key of a multimap.
+inline bool first_value(indexset_multi *of, std::uint64_t key, std::uint64_t *out) {
+    return indexset_multi_get(of, key, out, 1) != 0;
+}
+
+// Copies a multimap to a handle that leads to none, pair by pair.
+inline std::uint32_t copy_multi(indexset_multi *from, indexset_multi *to) {
+    std::uint64_t keys[64], values[64];
+    std::uint32_t answer = indexset_multi_new(to);
+    for (std::size_t at = 0, many = 64; many == 64 && answer == INDEXSET_YES; at += many) {
+        many = indexset_multi_range_by_position(from, at, keys, 64, values, 64);
+        for (std::size_t i = 0; i < many && answer == INDEXSET_YES; i++) answer = indexset_multi_push(to, keys[i], values[i]);
+    }
+    return answer;
+}
+
+// The calls of the library for a multimap.
+struct multi_calls : pair_calls<indexset_multi, indexset_multi_at, indexset_multi_range_by_position, first_value> {
+    static constexpr bool repeats = true;
+    static constexpr auto make = indexset_multi_new;
+    static constexpr auto clone = copy_multi;
+    static constexpr auto release = indexset_multi_free;
+    static constexpr auto clear = indexset_multi_clear;
+    static constexpr auto len = indexset_multi_len;
+    static constexpr auto rank = indexset_multi_rank;
+    static constexpr auto count = indexset_multi_count;
+    static constexpr auto count_up_to = count_below_next<multi_calls>;
+};
+
+// The calls of the library for a logged map.
+struct log_calls : pair_calls<indexset_log, indexset_log_at, indexset_log_range_by_position, indexset_log_get> {
+    static constexpr auto release = indexset_log_free;
+    static constexpr auto len = indexset_log_len;
+    static constexpr auto rank = indexset_log_rank;
+    static constexpr auto count_up_to = count_below_next<log_calls>;
+    static constexpr auto next = indexset_log_next;
+    static constexpr auto node_count = indexset_log_node_count;
+    static constexpr auto node_lengths = indexset_log_node_lengths;
+};
+
+// The calls of the library for a replica.
+struct replica_calls
+    : pair_calls<indexset_replica, indexset_replica_at, indexset_replica_range_by_position, indexset_replica_get> {
+    static constexpr auto release = indexset_replica_free;
+    static constexpr auto len = indexset_replica_len;
+    static constexpr auto rank = indexset_replica_rank;
+    static constexpr auto count_up_to = count_below_next<replica_calls>;
+    static constexpr auto next = indexset_replica_next;
+    static constexpr auto node_count = indexset_replica_node_count;
+    static constexpr auto node_lengths = indexset_replica_node_lengths;
 };
 
 // A run of numbers, or of pairs of them.
@@ -87,7 +151,7 @@ struct number_run {
     }
 };
 
-// A set or a map of numbers, behind the pointer of its collection.
+// A collection of numbers, behind the pointer of its collection.
 template <class Calls, class Code>
 class number_store : public held<Calls> {
   public:
@@ -107,12 +171,21 @@ class number_store : public held<Calls> {
         runs_.forget();
     }
 
-    std::size_t rank(key_type key) const noexcept { return rank_of(Code::key(key)); }
-    std::size_t rank_of(std::uint64_t key) const noexcept { return Calls::rank(this->handle(), key); }
+    std::size_t rank(key_type key) const noexcept { return Calls::rank(this->handle(), Code::key(key)); }
+    // Returns where an element stands that is there: where a key may have several values, behind a walk over those
+    // before it.
+    std::size_t position_of(const pair &element) noexcept {
+        std::size_t position = Calls::rank(this->handle(), element.key);
+        if constexpr (Calls::repeats) {
+            std::size_t left = Calls::count(this->handle(), element.key);
+            for (; left > 1 && at(position).value != element.value; left--) position++;
+        }
+        return position;
+    }
     std::size_t count_up_to(key_type key) const noexcept { return Calls::count_up_to(this->handle(), Code::key(key)); }
     bool find(key_type key, pair &out) const noexcept { return Calls::find(this->handle(), Code::key(key), out); }
     bool get(key_type key, std::uint64_t &value) const noexcept {
-        return indexset_map_get(this->handle(), Code::key(key), &value);
+        return Calls::get(this->handle(), Code::key(key), &value);
     }
     std::uint32_t put(key_type key, std::uint64_t value, std::uint64_t &before) noexcept {
         return indexset_map_insert(this->handle(), Code::key(key), value, &before);

@@ -1,4 +1,4 @@
-// What set, map and byte_map have alike. Included by indexset.hpp.
+// What all collections have alike: iterators that are positions. Included by indexset.hpp.
 #ifndef INDEXSET_POSITIONS_HPP
 #define INDEXSET_POSITIONS_HPP
 
@@ -91,7 +91,7 @@ class position_iterator {
     // Returns how many elements are before it.
     std::size_t position() const noexcept {
         if constexpr (Store::notes) {
-            if (position_ == unknown) position_ = store_->rank_of(element_.key);
+            if (position_ == unknown) position_ = store_->position_of(element_);
         }
         return position_;
     }
@@ -110,9 +110,9 @@ class position_iterator {
     std::uint64_t changes_ = 0; // of the collection, when the element was noted; 0: none is
 };
 
-// What set, map and byte_map have alike.
+// What all collections have alike: their elements in order, by key and by position.
 template <class Self, class Store>
-class positions : public comparisons<Self, typename Store::order> {
+class reading : public comparisons<Self, typename Store::order> {
   public:
     using key_type = typename Store::key_type;
     using value_type = typename Store::value_type;
@@ -147,7 +147,8 @@ class positions : public comparisons<Self, typename Store::order> {
     // Returns the element at a position, counted from 0, or the end where there is none. No search.
     iterator find_by_order(size_type position) const noexcept { return at_position(position < size() ? position : size()); }
 
-    // Returns how many keys are below a key. One search, as each call below, unless it says otherwise.
+    // Returns how many keys are below a key, each as often as it has values. One search, as each call below, unless it
+    // says otherwise.
     size_type order_of_key(key_argument key) const noexcept { return store_ ? store_->rank(key) : 0; }
 
     // Returns the first element that is not below a key, or that is above it, or the end where there is none.
@@ -159,7 +160,7 @@ class positions : public comparisons<Self, typename Store::order> {
         return {lower_bound(key), upper_bound(key)};
     }
 
-    // Returns the element of a key, or the end where there is none. Of a byte_map two searches.
+    // Returns the first element of a key, or the end where there is none. Of byte strings two searches.
     iterator find(key_argument key) const noexcept {
         if constexpr (Store::notes) {
             pair element;
@@ -180,60 +181,29 @@ class positions : public comparisons<Self, typename Store::order> {
     }
     size_type count(key_argument key) const noexcept { return contains(key) ? 1 : 0; }
 
-    // Removes a key. Returns how many elements it removed: 0 or 1.
-    size_type erase(key_argument key) noexcept { return store_ && store_->remove(key) ? 1 : 0; }
-
-    // Removes an element, or those from `first` to before `last`. Returns the element after them. Each element takes
-    // a search.
-    iterator erase(iterator it) noexcept {
-        const size_type position = it.position();
-        store_->remove_from(position, 1);
-        return at_position(position);
+    void swap(Self &other) noexcept {
+        Self &self = static_cast<Self &>(*this);
+        Self passed = std::move(self);
+        self = std::move(other);
+        other = std::move(passed);
     }
-    iterator erase(iterator first, iterator last) noexcept {
-        const size_type from = first.position(), past = last.position();
-        if (from == past) return first;
-        if (from == 0 && past == size()) {
-            clear();
-        } else {
-            store_->remove_from(from, past - from);
-        }
-        return at_position(from);
-    }
-
-    // Removes all elements.
-    void clear() noexcept {
-        if (!store_) return;
-        Store::calls::clear(store_->handle());
-        store_->changed();
-    }
-
-    void swap(Self &other) noexcept { store_.swap(other.store_); }
 
   protected:
-    positions() noexcept = default;
-    positions(positions &&) noexcept = default;
-    positions &operator=(positions &&) noexcept = default;
-    ~positions() = default;
+    using store_type = Store;
 
-    positions(const positions &other) {
-        if (!other.store_) return;
-        auto made = std::make_unique<Store>();
-        pass(Store::calls::clone(other.store_->handle(), made->handle()));
-        store_ = std::move(made);
-    }
-    positions &operator=(const positions &other) {
-        if (this != &other) *this = positions(other);
-        return *this;
-    }
+    reading() noexcept = default;
+    reading(reading &&) noexcept = default;
+    reading &operator=(reading &&) noexcept = default;
+    ~reading() = default;
 
     iterator at_position(size_type position) const noexcept { return iterator(store_.get(), position); }
 
-    // Returns the store, which is made where there is none.
-    Store &made() {
+    // Returns the store; where there is none, the one that a call of the library makes of these.
+    template <class... Of>
+    Store &made_of(std::uint32_t (*make)(typename Store::calls::handle *, Of...), std::common_type_t<Of>... of) {
         if (!store_) {
             auto made = std::make_unique<Store>();
-            pass(Store::calls::make(made->handle()));
+            pass(make(made->handle(), of...));
             store_ = std::move(made);
         }
         return *store_;
@@ -254,6 +224,69 @@ class positions : public comparisons<Self, typename Store::order> {
         }
     };
     element_walk walk() const noexcept { return {store_.get(), 0, size()}; }
+};
+
+// What those have alike that are copied and emptied: set, map, byte_map and multimap.
+template <class Self, class Store>
+class copied : public reading<Self, Store> {
+  public:
+    // Removes all elements.
+    void clear() noexcept {
+        if (!this->store_) return;
+        Store::calls::clear(this->store_->handle());
+        this->store_->changed();
+    }
+
+  protected:
+    copied() noexcept = default;
+    copied(copied &&) noexcept = default;
+    copied &operator=(copied &&) noexcept = default;
+    ~copied() = default;
+
+    copied(const copied &other) : reading<Self, Store>() {
+        if (!other.store_) return;
+        auto made = std::make_unique<Store>();
+        pass(Store::calls::clone(other.store_->handle(), made->handle()));
+        this->store_ = std::move(made);
+    }
+    copied &operator=(const copied &other) {
+        if (this != &other) *this = copied(other);
+        return *this;
+    }
+
+    Store &made() { return this->made_of(Store::calls::make); }
+};
+
+// What set, map and byte_map have alike.
+template <class Self, class Store>
+class positions : public copied<Self, Store> {
+    using base = copied<Self, Store>;
+
+  public:
+    using typename base::iterator;
+    using typename base::key_argument;
+    using typename base::size_type;
+
+    // Removes a key. Returns how many elements it removed: 0 or 1.
+    size_type erase(key_argument key) noexcept { return this->store_ && this->store_->remove(key) ? 1 : 0; }
+
+    // Removes an element, or those from `first` to before `last`. Returns the element after them. Each element takes
+    // a search.
+    iterator erase(iterator it) noexcept {
+        const size_type position = it.position();
+        this->store_->remove_from(position, 1);
+        return this->at_position(position);
+    }
+    iterator erase(iterator first, iterator last) noexcept {
+        const size_type from = first.position(), past = last.position();
+        if (from == past) return first;
+        if (from == 0 && past == this->size()) {
+            this->clear();
+        } else {
+            this->store_->remove_from(from, past - from);
+        }
+        return this->at_position(from);
+    }
 };
 
 } // namespace detail

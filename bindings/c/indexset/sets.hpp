@@ -116,7 +116,7 @@ map(It, It) -> map<std::remove_const_t<typename std::iterator_traits<It>::value_
 // An ordered map from byte strings to values, with positions. Keys stand in the order of std::string, which of text in
 // UTF-8 is that of its code points.
 template <class V>
-class byte_map : public detail::mapped<byte_map<V>, detail::byte_store<V>, V> {
+class byte_map : public detail::mapped<byte_map<V>, detail::byte_store<detail::byte_calls, V>, V> {
   public:
     using base = typename byte_map::mapped;
     using typename base::pair_argument;

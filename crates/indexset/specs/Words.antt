@@ -33,6 +33,7 @@ pub use Rattle.indexset_core.specs.Bounds.{are_ordered, is_within, in_range, in_
 pub use Rattle.indexset_core.specs.Digits.{digits}
 pub use Rattle.indexset_core.specs.Pairs.{by_key, entry_of, has_key, key_rank, pair, pair_keys, pair_of, pair_values, pairs_within, put_value, set_value, value_of, without_key}
 pub use Rattle.indexset_core.specs.MultiPairs.{by_number}
+pub use Rattle.indexset_core.specs.declared.multipair.MultiPair.{MultiPair}
 pub use Rattle.indexset_set.specs.SetAlgebra.{difference, intersection, symmetric_difference, union, put_all}
 pub use Rattle.indexset_set.specs.SetRanges.{not_below, upper_element}
 pub use Rattle.indexset_map.specs.Contents.{with_entry, with_pairs, without_at, without_entry}
@@ -47,8 +48,10 @@ unfoldable pub use Rattle.indexset_events.specs.Spelling.{is_item, is_word}
 pub use Rattle.indexset_events.specs.Table.{put_events, checked_put_events, removal_events}
 pub use Rattle.indexset_events.specs.Replay.{IsNumberedFrom, numbered_from, replay, step, unassigned}
 pub use Rattle.indexset_log.specs.Tree.{Tree, refusal_for}
+pub use Rattle.indexset_multi.specs.Changed.{IsAdded, IsInserted}
 pub use Rattle.indexset_multi.specs.Keys.{entries, equal_pair, has_pair_of, pairs_of, without_first}
 pub use Rattle.indexset_multi.specs.Tree.{MultiTree, inserted_pair, insertion_refusal, pair_removal_events}
 pub use Rattle.indexset_replica.specs.Copies.{AreClonesEqual, AreCopies, IsCopy, LeadsToCopies}
 pub use Rattle.indexset_replica.specs.Delivery.{CopiesAll, CopiesBeginning, HasStopped, HoldsAll, IsAlike, IsAt, IsBeginning, IsDelivered, IsDelivery, IsFeed, IsFollowed, IsReached, IsSubsequence, numbers_from}
-pub use Rattle.indexset_replica.specs.Replica.{apply_refusal, AddsClone, IsClonedStep, IsEqualClone}
+pub use Rattle.indexset_replica.specs.Keyed.{count_by_key, find_by_key, has_by_key, index_by_key, range_by_key, rank_by_key}
+pub use Rattle.indexset_replica.specs.Replica.{ReplicaState, apply_refusal, AddsClone, IsClonedStep, IsEqualClone}

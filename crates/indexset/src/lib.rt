@@ -62,6 +62,6 @@ pub use indexset_map::{
     OccupiedEntry, RangeMap, RangeMut, VacantEntry, Values, ValuesMut,
 };
 pub use indexset_set::{
-    BTreeSet, Bounds, Cursor, Difference, Intersection, IntoIter, Iter, Range, SymmetricDifference,
-    Union, laws,
+    BTreeSet, Bounds, Cursor, Difference, Intersection, IntoIter, Iter, Positions, Range,
+    SymmetricDifference, Union, laws,
 };

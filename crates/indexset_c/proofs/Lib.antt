@@ -1,4 +1,5 @@
 mod MultiLemmas
 pub mod PairLemmas
 mod StatusLemmas
+mod TextLogLemmas
 pub mod WrittenLemmas

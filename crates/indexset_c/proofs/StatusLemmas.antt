@@ -1,6 +1,6 @@
 -- What a status is not, and what it tells of a refusal.
 use Rattle.std.proofs.Common.{◌≡◌, ◌≢◌, ℕ, ◌+◌, ◌<◌, ◌≤◌, Bool, true, false, eqb, ltb, nat_lt, refl, sym, ◌∙◌, arith}
-use Rattle.std.proofs.lemmas.Bool.{eqb-false, ltb-true}
+use Rattle.std.proofs.lemmas.Bool.{eqb-false, eqb-true, ltb-true}
 use Rattle.std.proofs.Math.Logic.{◌⊎◌, inl, inr}
 use Rattle.std.specs.Prelude.{if◌then◌else◌, ◌↔◌}
 use Rattle.indexset_core.specs.declared.refusal.Refusal.{Refusal}
@@ -41,6 +41,26 @@ for_events next n = either (nat_lt MAX (next + n)) where
   either : (b : Bool) → ((if b then refusals.Numbers else refusals.Memory) ≡ refusals.Memory) ⊎ ((if b then refusals.Numbers else refusals.Memory) ≡ refusals.Numbers)
   either true = inr refl
   either false = inl refl
+
+-- the status of a refusal that is for memory, or else as it is said
+pub record IsToldOr (s : ℕ) (cause why : Refusal) : Type 0 where
+  pub refused : IsRefused s cause
+  pub numbers : s ≡ NUMBERS → why ≡ refusals.Numbers
+
+pub is_told_or : (s t : ℕ) (cause why : Refusal) → s ≡ t → (cause ≢ refusals.Memory → cause ≡ why) → (why ≡ refusals.Memory) ⊎ (why ≡ refusals.Numbers) → (t ≡ MEMORY ↔ (cause ≡ refusals.Memory)) → (t ≡ NUMBERS ↔ (cause ≡ refusals.Numbers)) → IsToldOr s cause why
+is_told_or s t cause why is other one memory numbers = decide (eqb t MEMORY) refl where
+  apart : eqb t MEMORY ≡ false → cause ≢ refusals.Memory
+  apart e m = eqb-false t MEMORY e (memory.1 m)
+
+  else_why : (why ≡ refusals.Memory) ⊎ (why ≡ refusals.Numbers) → eqb t MEMORY ≡ false → IsToldOr s cause why
+  else_why (inl m) e = absurd (apart e (other (apart e) ∙ m))
+  else_why (inr n) e = record { refused = is_refused s t cause cause is refl (inr (other (apart e) ∙ n)) memory numbers; numbers = λ h. n }
+
+  decide : (b : Bool) → eqb t MEMORY ≡ b → IsToldOr s cause why
+  decide true e =
+      let at : t ≡ MEMORY = eqb-true t MEMORY e in
+      record { refused = is_refused s t cause cause is refl (inl (memory.0 at)) memory numbers; numbers = λ h. not_at s MEMORY NUMBERS (is ∙ at) refl h }
+  decide false e = else_why one e
 
 -- what such a status is not
 module _ (s : ℕ) (cause : Refusal) (r : IsRefused s cause) where

@@ -32,6 +32,10 @@ mod set_positions;
 mod set_ranges;
 mod text_keys;
 mod text_life;
+mod text_log_edits;
+mod text_log_keys;
+mod text_log_life;
+mod text_log_positions;
 mod text_positions;
 mod text_ranges;
 

@@ -8,7 +8,7 @@ use Rattle.indexset_follow.specs.Mark.{mark_of}
 use Rattle.indexset_follow.specs.NodeLine.{node_of}
 use Rattle.indexset_follow.specs.Query.{QueryFits, query_line}
 use Rattle.indexset_follow.specs.Reads.{query_text}
-use Rattle.indexset_follow.specs.Store.{after_held, held, held_reply, is_lead}
+use Rattle.indexset_follow.specs.Store.{after_held, held, held_reply, is_follow, is_lead}
 use Rattle.indexset_follow.specs.declared.others.Others.{Others}
 use Rattle.indexset_follow.specs.declared.reads.query.Query.{Query}
 use Rattle.indexset_follow.specs.declared.reads.query.Query.TheVariants.{Get, Len, First, Last, Range, Rank, At, Page, Nodes, Next, Snapshot, Sum}
@@ -77,13 +77,28 @@ no_lead Next = refl
 no_lead Snapshot = refl
 no_lead Sum = refl
 
+-- nor a leader follow
+no_follow : (q : Query) → is_follow (query_line q) ≡ false
+no_follow (Get k) = refl
+no_follow Len = refl
+no_follow First = refl
+no_follow Last = refl
+no_follow (Range a b) = refl
+no_follow (Rank k) = refl
+no_follow (At i) = refl
+no_follow (Page i n) = refl
+no_follow Nodes = refl
+no_follow Next = refl
+no_follow Snapshot = refl
+no_follow Sum = refl
+
 module _ (q : Query) (fit : QueryFits q) where
   pub follower_answers : (o : Others) (size : ℕ) (s : State) → held_reply o (held size (Following s)) (query_line q) ≡ query_text s.held.nodes s.held.next q
-  follower_answers o size s = rw (no_lead q, no_event q, no_node q, no_mark q, query_told q fit) refl
+  follower_answers o size s = rw (no_lead q, no_follow q, no_event q, no_node q, no_mark q, query_told q fit) refl
 
   pub leader_answers : (o : Others) (size : ℕ) (t : PairTree) → held_reply o (held size (Leading t)) (query_line q) ≡ query_text t.nodes t.next q
-  leader_answers o size t = rw (no_lead q, no_mark q) (rw (query_told q fit) refl)
+  leader_answers o size t = rw (no_lead q, no_follow q, no_mark q) (rw (query_told q fit) refl)
 
   pub nothing_changed : (size : ℕ) (r : Role) → after_held (held size r) (query_line q) ≡ held size r
-  nothing_changed size (Following s) = rw (no_lead q, no_event q, no_node q, no_mark q) refl
-  nothing_changed size (Leading t) = rw (no_lead q, no_mark q) (rw (query_told q fit) refl)
+  nothing_changed size (Following s) = rw (no_lead q, no_follow q, no_event q, no_node q, no_mark q) refl
+  nothing_changed size (Leading t) = rw (no_lead q, no_follow q, no_mark q) (rw (query_told q fit) refl)

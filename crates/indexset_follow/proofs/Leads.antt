@@ -1,5 +1,5 @@
 -- The events that a leader tells lead from no nodes to its nodes, and a follower that holds them takes over.
-use Rattle.std.proofs.Common.{Option, None, Some, ◌≡◌, ℕ, ◌<◌, ◌≤◌, ◌^◌, Bool, true, false, cond, List, [], ◌∷◌, ◌++◌, length, refl, ap, sym, ◌∙◌, subst, arith}
+use Rattle.std.proofs.Common.{Option, None, Some, ◌≡◌, ℕ, ◌<◌, ◌≤◌, ◌^◌, Bool, true, false, ◌&&◌, ◌||◌, not, cond, List, [], ◌∷◌, ◌++◌, length, refl, ap, sym, ◌∙◌, subst, arith}
 use lib.Chars.{codes}
 use Rattle.std.proofs.lemmas.List.{take_all}
 use Rattle.std.proofs.lemmas.List.Elements.{All-head, All-tail}
@@ -14,6 +14,7 @@ use Rattle.indexset_bench.specs.declared.pair_command.PairCommand.{PairCommand}
 use Rattle.indexset_bench.proofs.CallerLemmas.{pair_sound}
 use Rattle.indexset_core.specs.Pairs.{by_key}
 use Rattle.indexset_events.specs.Attach.{nodes_refusal}
+use Rattle.indexset_events.specs.Nodes.{is_filled}
 use Rattle.indexset_events.specs.Replay.{replay}
 use Rattle.indexset_events.specs.Spelling.Laws.{some_inj}
 use Rattle.indexset_events.proofs.CallerLemmas.{lawful_taken, none_lawful}
@@ -21,11 +22,11 @@ use Rattle.indexset_log.specs.Tree.{fresh}
 use Rattle.indexset_follow.specs.Copy.{copy}
 use Rattle.indexset_follow.specs.Drawn.{HoldsFirst}
 use Rattle.indexset_follow.specs.EventLine.{Event}
-use Rattle.indexset_follow.specs.Follow.{State}
+use Rattle.indexset_follow.specs.Follow.{State, holding}
 use Rattle.indexset_follow.specs.Leading.{after_leading, events_led, leading_events, tree_of}
 use Rattle.indexset_follow.specs.Query.{query_of}
 use Rattle.indexset_follow.specs.Reply.{reply_ended}
-use Rattle.indexset_follow.specs.Store.{after_held, held, held_after, held_replies, is_lead, lead_reply, promoted, starts}
+use Rattle.indexset_follow.specs.Store.{after_held, held, held_after, held_replies, after_in_role, is_follow, is_lead, lead_reply, promoted, starts}
 use Rattle.indexset_follow.specs.declared.others.Others.{Others}
 use Rattle.indexset_follow.specs.declared.reads.query.Query.{Query}
 use Rattle.indexset_follow.specs.declared.reply.Reply.TheVariants as reply
@@ -78,19 +79,25 @@ word_still : (t : PairTree) (line : List ℕ) → line ≡ codes "lead" → t �
 unfolding pair_meaning
 word_still t line is = subst (λ l. t ≡ after_leading t l) (sym is) refl
 
-leader_line : (size : ℕ) (t : PairTree) (line : List ℕ) → starts line ≡ false → after_held (held size (role.Leading t)) line ≡ held size (role.Leading (after_leading t line))
-leader_line size t line other = rw other (at (is_lead line) refl)
-  where
-    at : (b : Bool) → is_lead line ≡ b → held size (cond b (role.Leading t) (role.Leading (after_leading t line))) ≡ held size (role.Leading (after_leading t line))
-    at true is = ap (λ r. held size (role.Leading r)) (word_still t line ((bytes_eq-Decides line (codes "lead")).0 is))
-    at false is = refl
+-- the line leaves a leader one
+abbrev stays : List ℕ → Type 0
+stays line = (starts line || is_follow line) ≡ false
 
-pub leader_lines : (size : ℕ) (t : PairTree) (lines : List (List ℕ)) → All (λ line. starts line ≡ false) lines → held_after (held size (role.Leading t)) lines ≡ held size (role.Leading (tree_of t lines))
+leader_line : (size : ℕ) (t : PairTree) (line : List ℕ) → stays line → after_held (held size (role.Leading t)) line ≡ held size (role.Leading (after_leading t line))
+leader_line size t line stay = at (is_lead line) (starts line) (is_follow line) (not (is_filled t.nodes)) refl stay
+  where
+    at : (b c d e : Bool) → is_lead line ≡ b → (c || d) ≡ false
+        → held size (cond b (role.Leading t) (cond d (role.Following (holding (copy t.nodes t.next))) (after_in_role (cond (c && e) (role.Following (holding (copy [] t.next))) (role.Leading t)) line))) ≡ held size (role.Leading (after_leading t line))
+    at true c d e is none = ap (λ r. held size (role.Leading r)) (word_still t line ((bytes_eq-Decides line (codes "lead")).0 is))
+    at false false false e is none = refl
+    at false true d e is none = absurd (cc)
+    at false false true e is none = absurd (cc)
+
+pub leader_lines : (size : ℕ) (t : PairTree) (lines : List (List ℕ)) → All stays lines → held_after (held size (role.Leading t)) lines ≡ held size (role.Leading (tree_of t lines))
 unfolding left_by
 leader_lines size t [] none = refl
 leader_lines size t (line ∷ lines) none =
-    ap (λ h. held_after h lines) (leader_line size t line (All-head (λ line. starts line ≡ false) line lines none))
-    ∙ leader_lines size (after_leading t line) lines (All-tail (λ line. starts line ≡ false) line lines none)
+    ap (λ h. held_after h lines) (leader_line size t line (All-head stays line lines none)) ∙ leader_lines size (after_leading t line) lines (All-tail stays line lines none)
 
 -- a follower becomes the leader of its nodes
 module _ (size : ℕ) (s : State) (fits : nodes_refusal (by_key nat_cmp) size s.held.nodes ≡ None) where

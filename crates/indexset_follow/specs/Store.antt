@@ -48,6 +48,17 @@ abbrev pub lead_reply : ℕ → Role → List ℕ
 lead_reply size (Following s) = reply_ended (if can_lead size s.held then reply.Next s.held.next else reply.Unfit s.held.next (Refused TooLarge))
 lead_reply size (Leading t) = reply_ended (reply.Next t.next)
 
+-- ---- a leader follows
+
+-- a follower of the leader's nodes, which awaits the number that it would have given next
+abbrev pub after_follow : Role → Role
+after_follow (Following s) = Following s
+after_follow (Leading t) = Following (holding (copy t.nodes t.next))
+
+abbrev pub follow_reply : Role → List ℕ
+follow_reply (Following s) = reply_ended (reply.Next s.held.next)
+follow_reply (Leading t) = reply_ended (reply.Next t.next)
+
 -- ---- a snapshot begins a leader without nodes
 
 abbrev pub is_start : Option Mark → Bool
@@ -69,6 +80,9 @@ begun (Leading t) line = if starts line && not (is_filled t.nodes) then Followin
 abbrev pub is_lead : List ℕ → Bool
 is_lead line = bytes_eq line (codes "lead")
 
+abbrev pub is_follow : List ℕ → Bool
+is_follow line = bytes_eq line (codes "follow")
+
 abbrev pub after_in_role : Role → List ℕ → Role
 after_in_role (Following s) line = Following (after_line s line)
 after_in_role (Leading t) line = Leading (after_leading t line)
@@ -77,11 +91,20 @@ abbrev pub reply_in_role : Others → Role → List ℕ → List ℕ
 reply_in_role o (Following s) line = reply_line o s line
 reply_in_role o (Leading t) line = leading_reply o t line
 
+abbrev pub role_after : Held → List ℕ → Role
+role_after h line =
+    if is_lead line then after_lead h.size h.role
+    else if is_follow line then after_follow h.role
+    else after_in_role (begun h.role line) line
+
 abbrev pub after_held : Held → List ℕ → Held
-after_held h line = held h.size (if is_lead line then after_lead h.size h.role else after_in_role (begun h.role line) line)
+after_held h line = held h.size (role_after h line)
 
 abbrev pub held_reply : Others → Held → List ℕ → List ℕ
-held_reply o h line = if is_lead line then lead_reply h.size h.role else reply_in_role o (begun h.role line) line
+held_reply o h line =
+    if is_lead line then lead_reply h.size h.role
+    else if is_follow line then follow_reply h.role
+    else reply_in_role o (begun h.role line) line
 
 -- a last line that lacks its end is answered where it asks for a read, and changes nothing
 abbrev pub cut_in_role : Others → Role → List ℕ → List ℕ

@@ -3,7 +3,7 @@
 ghost use Rattle.std.specs.Prelude.{◌≡◌, ◌≢◌, ◌≤◌, if◌then◌else◌, Err, IfOk, IfErr, None, OnOk, Some};
 ghost use Rattle.std.specs.Io.KnownBytes.{Appends, Keeps};
 ghost use Rattle.indexset_follow.specs.Follow.{holding};
-ghost use Rattle.indexset_follow.specs.Store.{after_in_role, after_lead, begun, can_lead, cut_in_role, first_held, held, lead_reply, promoted, reply_in_role, role_lacks, starts};
+ghost use Rattle.indexset_follow.specs.Store.{after_follow, after_in_role, after_lead, begun, can_lead, cut_in_role, first_held, follow_reply, held, lead_reply, promoted, reply_in_role, role_lacks, starts};
 
 use crate::answer::answer_line;
 use crate::follower::Follower;
@@ -14,6 +14,7 @@ use crate::reads::answer_read;
 use crate::reason::Reason;
 use crate::reply::Reply;
 use crate::role::Role;
+use crate::step_down::follower_of;
 use crate::write::{Nodes, write_reply};
 use indexset_bench::RunFault;
 use indexset_bench::pairs::Pairs;
@@ -84,6 +85,30 @@ impl Store {
                 }
             }
             Role::Leading(pairs) => write_reply(writer, Reply::Next(pairs.events_issued())),
+        }
+    }
+
+    /// Makes a leader a follower of its own nodes, which awaits the next number, and writes the
+    /// reply.
+    fn follow<W: Write>(&mut self, writer: &mut W) -> Result<(), RunFault>
+        ensures role { OnOk result (self.new.role ≡ after_follow self.old.role) }
+        ensures size { self.new.size ≡ self.old.size }
+        ensures others { self.new.others ≡ self.old.others }
+        ensures told { OnOk result (Appends (W.contents writer.old) (W.contents writer.new)
+            (follow_reply self.old.role)) }
+        ensures memory_refused { result ≡ Err RunFault.Memory
+            → Keeps (W.contents writer.old) (W.contents writer.new) }
+        ensures no_numbers { result ≢ Err RunFault.Numbers }
+        ensures no_read { result ≢ Err RunFault.Read }
+    {
+        match &self.role {
+            Role::Following(follower) => write_reply(writer, Reply::Next(follower.held.next())),
+            Role::Leading(pairs) => {
+                let nodes = follower_of(self.alloc, pairs)?;
+                let next = nodes.next();
+                self.role = Role::Following(holding(nodes));
+                write_reply(writer, Reply::Next(next))
+            }
         }
     }
 
@@ -198,6 +223,9 @@ impl Answers for Store {
     fn answer<W: Write>(&mut self, writer: &mut W, line: &[u8]) -> Result<(), RunFault> {
         if line == b"lead".as_slice() {
             return self.lead(writer);
+        }
+        if line == b"follow".as_slice() {
+            return self.follow(writer);
         }
         self.begin(line);
         self.answer_in_role(writer, line)

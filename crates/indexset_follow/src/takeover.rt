@@ -1,7 +1,7 @@
 //! Laws of a follower that takes over, of reads in both roles, and of a last line without its end,
 //! whatever the code.
 
-ghost use Rattle.std.specs.Prelude.{◌≡◌, ◌<◌, ◌≤◌, ◌^◌, ◌++◌, ◌∷◌, Bool, ℕ, List, [], codes, false, length, None, Some};
+ghost use Rattle.std.specs.Prelude.{◌≡◌, ◌<◌, ◌≤◌, ◌^◌, ◌++◌, ◌∷◌, ◌||◌, Bool, ℕ, List, [], codes, false, length, None, Some};
 ghost use Rattle.std.specs.List.{All};
 ghost use Rattle.std.specs.Ordering.{nat_cmp};
 ghost use Rattle.indexset_lines.specs.Lines.{HasNoEnd, IsWhole, lines_of};
@@ -17,7 +17,7 @@ ghost use Rattle.indexset_follow.specs.Leading.{events_led, tree_of};
 ghost use Rattle.indexset_follow.specs.Query.{QueryFits, query_line, query_of};
 ghost use Rattle.indexset_follow.specs.Reads.{query_text};
 ghost use Rattle.indexset_follow.specs.Reply.{reply_ended};
-ghost use Rattle.indexset_follow.specs.Store.{Held, after_held, first_held, held, held_after, held_cut, held_replies, held_reply, starts};
+ghost use Rattle.indexset_follow.specs.Store.{Held, after_held, first_held, held, held_after, held_cut, held_replies, held_reply, is_follow, starts};
 ghost use Rattle.indexset_follow.specs.StoreRun.{store_after, store_text};
 ghost use Rattle.indexset_follow.specs.declared.others.Others.{Others};
 ghost use Rattle.indexset_follow.specs.declared.reads.query.Query.{Query};
@@ -40,7 +40,8 @@ pub fn follower_takes_over()
 
 /// The events that a leader tells, whatever lines it reads, are numbered from 0 without a gap. They
 /// lead from no nodes to the nodes that it holds after these lines, and the number that it gives
-/// next is how many they are. It leads until a line that begins a snapshot finds it without nodes.
+/// next is how many they are. It leads until it is told to follow, or a line that begins a snapshot
+/// finds it without nodes.
 pub fn led_events_lead_to_the_nodes()
     ensures numbered { (size : ℕ) (lines : List (List ℕ)) → 2 ≤ size → size < 2 ^ 64
         → IsNumberedFrom 0 (events_led (fresh size) lines) }
@@ -50,7 +51,7 @@ pub fn led_events_lead_to_the_nodes()
     ensures count { (size : ℕ) (lines : List (List ℕ)) → 2 ≤ size → size < 2 ^ 64
         → (tree_of (fresh size) lines).next ≡ length (events_led (fresh size) lines) }
     ensures role { (size : ℕ) (t : PairTree) (lines : List (List ℕ))
-        → All (λ line. starts line ≡ false) lines
+        → All (λ line. (starts line || is_follow line) ≡ false) lines
         → held_after (held size (role.Leading t)) lines ≡ held size (role.Leading (tree_of t lines)) }
 {}
 

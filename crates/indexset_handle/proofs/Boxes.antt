@@ -25,7 +25,8 @@ use Rattle.indexset_map.proofs.BTreeMap.TheLaws as map
 use Rattle.indexset_log.proofs.map.BTreeMap.TheLaws as logged
 use Rattle.indexset_multi.proofs.multimap.BTreeMultiMap.TheLaws as multi
 use Rattle.indexset_replica.proofs.Replica.TheLaws as replica
-use Rattle.indexset_handle.specs.Slots.{log_row, map_row, multi_pair_row, multi_row, node_row, nodes, pair_row, pairs_cloned, pairs_compare, pairs_equal, pairs_partial, replica_row, set_row}
+use Rattle.indexset_handle.proofs.text_log.TextLog.TheLaws as text_log
+use Rattle.indexset_handle.specs.Slots.{log_row, map_row, multi_pair_row, multi_row, node_row, nodes, pair_row, pairs_cloned, pairs_compare, pairs_equal, pairs_partial, replica_row, set_row, text_log_row}
 
 number_laws : Laws u64
 number_laws = of_field u64-field u64-laws refl (copy_shared u64-field u64-copy)
@@ -71,3 +72,6 @@ replica_laws = replica.the_row_laws pair_row pairs_compare pairs_equal pairs_par
 
 abbrev pub replica_box : Bx
 replica_box = on_heap replica_row replica_laws
+
+abbrev pub text_log_box : Bx
+text_log_box = on_heap text_log_row text_log.the_row_laws

@@ -7,7 +7,8 @@ use Rattle.indexset_handle.proofs.multi_handle.MultiHandle.TheLaws as multi
 use Rattle.indexset_handle.proofs.replica_handle.ReplicaHandle.TheLaws as replica
 use Rattle.indexset_handle.proofs.set_handle.SetHandle.TheLaws as set
 use Rattle.indexset_handle.proofs.text_handle.TextHandle.TheLaws as text
-use Rattle.indexset_handle.specs.Owners.{log_handle_row, map_handle_row, multi_handle_row, replica_handle_row, set_handle_row, text_handle_row}
+use Rattle.indexset_handle.proofs.text_log_handle.TextLogHandle.TheLaws as text_log
+use Rattle.indexset_handle.specs.Owners.{log_handle_row, map_handle_row, multi_handle_row, replica_handle_row, set_handle_row, text_handle_row, text_log_handle_row}
 
 abbrev pub set_handle_box : Bx
 set_handle_box = on_heap set_handle_row set.the_row_laws
@@ -26,3 +27,6 @@ log_handle_box = on_heap log_handle_row log.the_row_laws
 
 abbrev pub replica_handle_box : Bx
 replica_handle_box = on_heap replica_handle_row replica.the_row_laws
+
+abbrev pub text_log_handle_box : Bx
+text_log_handle_box = on_heap text_log_handle_row text_log.the_row_laws

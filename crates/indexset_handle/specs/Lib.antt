@@ -6,3 +6,4 @@ pub mod Replicas
 pub mod Slots
 pub mod Statuses
 pub mod Text
+pub mod TextLogs

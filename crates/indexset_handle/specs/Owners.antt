@@ -12,6 +12,7 @@ use Rattle.indexset_handle.specs.contracts.multi_handle.MultiHandle as Multi
 use Rattle.indexset_handle.specs.contracts.replica_handle.ReplicaHandle as Replica
 use Rattle.indexset_handle.specs.contracts.set_handle.SetHandle as Set
 use Rattle.indexset_handle.specs.contracts.text_handle.TextHandle as Text
+use Rattle.indexset_handle.specs.contracts.text_log_handle.TextLogHandle as TextLog
 
 abbrev pub set_handle_row : RattleType
 set_handle_row = Set.the_row
@@ -48,3 +49,9 @@ replica_handle_row = Replica.the_row
 
 abbrev pub holds_replica_handle : Global → Ptr → Option replica_handle_row.Denot → Fml
 holds_replica_handle alloc = holds (frees.dealloc_token alloc) replica_handle_row
+
+abbrev pub text_log_handle_row : RattleType
+text_log_handle_row = TextLog.the_row
+
+abbrev pub holds_text_log_handle : Global → Ptr → Option text_log_handle_row.Denot → Fml
+holds_text_log_handle alloc = holds (frees.dealloc_token alloc) text_log_handle_row

@@ -33,6 +33,7 @@ use Rattle.indexset_map.specs.contracts.BTreeMap as Map
 use Rattle.indexset_log.specs.contracts.map.BTreeMap as Logged
 use Rattle.indexset_multi.specs.contracts.multimap.BTreeMultiMap as Multi
 use Rattle.indexset_replica.specs.contracts.Replica as Replica
+use Rattle.indexset_handle.specs.contracts.text_log.TextLog as TextLog
 
 abbrev pub set_row : RattleType
 set_row = Set.the_row u64 ord equal partial
@@ -90,3 +91,9 @@ replica_row = Replica.the_row pair_row pairs_compare pairs_equal pairs_partial p
 
 abbrev pub holds_replica : Global → Ptr → Option replica_row.Denot → Fml
 holds_replica alloc = holds (frees.dealloc_token alloc) replica_row
+
+abbrev pub text_log_row : RattleType
+text_log_row = TextLog.the_row
+
+abbrev pub holds_text_log : Global → Ptr → Option text_log_row.Denot → Fml
+holds_text_log alloc = holds (frees.dealloc_token alloc) text_log_row

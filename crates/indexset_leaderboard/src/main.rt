@@ -7,7 +7,6 @@ use indexset::base::pair::Pair;
 use indexset::concurrent::map::BTreeMap;
 use indexset::replica::Replica;
 use std::cmp::Reverse;
-use std::ops::Bound;
 
 fn main(rt: HostRuntime) -> Result<()> {
     let mut board = BTreeSet::new(rt.alloc())?; // the best score first
@@ -25,8 +24,7 @@ fn main(rt: HostRuntime) -> Result<()> {
         }
     }
     println!(rt; "better than Ben: {}", board.rank(&(Reverse(250), "Ben")))?;
-    let page = (Bound::Included(1), Bound::Excluded(3));
-    for (Reverse(score), name) in board.range_idx(page) {
+    for (Reverse(score), name) in board.range_idx(1..3) {
         println!(rt; "{name} has {score}")?;
     }
     println!(rt; "the replica: {replica}")?;

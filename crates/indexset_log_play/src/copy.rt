@@ -5,6 +5,7 @@ use crate::item::{Item, Source};
 use crate::node::{Whole, read_nodes, tell_nodes};
 use crate::order::{deliver, deliver_part};
 use crate::partial::Partial;
+use crate::seek::seek;
 use indexset_core::node::NodeLike;
 use indexset_events::change::ChangeEvent;
 use indexset_log::set::nodes::Nodes;
@@ -133,18 +134,17 @@ impl<T: Item> Copy<T> {
         (replica.into_nodes(), next)
     }
 
-    fn look_for(
+    /// Makes a call that reads the replica.
+    fn look(
         &self,
         source: &Source,
         name: &str,
         words: &mut SplitWhitespace<'_>,
         answer: &mut String,
     ) -> Result<(), Stop> {
-        let item = T::read_item(source, words)?;
-        if name == "copy_get" {
-            tell_option(answer, self.replica.get(&item))
-        } else {
-            tell(answer, self.replica.contains(&item))
+        match name.strip_prefix("copy_") {
+            Some(name) => seek(&self.replica, source, name, words, answer),
+            None => Err(Stop::NoCall),
         }
     }
 
@@ -162,7 +162,6 @@ impl<T: Item> Copy<T> {
             "copy" => tell_nodes(answer, self.replica.nodes()),
             "next" => tell(answer, self.replica.next()),
             "events" => tell(answer, self.told.len()),
-            "copy_get" | "copy_contains" => self.look_for(source, name, words, answer),
             "deliver" => {
                 let Copy {
                     replica,
@@ -172,7 +171,7 @@ impl<T: Item> Copy<T> {
                 } = self;
                 deliver(source.alloc, replica, told.as_slice(), partial, words)
             }
-            _ => Err(Stop::NoCall),
+            _ => self.look(source, name, words, answer),
         }
     }
 

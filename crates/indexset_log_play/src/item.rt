@@ -181,7 +181,10 @@ pub fn may_range<T: Item>(source: &Source, start: Bound<&T>, end: Bound<&T>) -> 
 }
 
 /// Reads a bound: `[3` or `3]` includes 3, `(3` or `3)` excludes it, and `..` is no bound.
-fn read_bound<T: Item>(source: &Source, words: &mut SplitWhitespace<'_>) -> Result<Bound<T>, Stop> {
+pub fn read_bound<T: Item>(
+    source: &Source,
+    words: &mut SplitWhitespace<'_>,
+) -> Result<Bound<T>, Stop> {
     let word = words.next().ok_or(Stop::Word)?;
     if word == ".." {
         return Ok(Bound::Unbounded);

@@ -20,6 +20,7 @@ pub mod plain_run;
 pub mod program;
 pub mod replica;
 pub mod run;
+pub mod seek;
 pub mod set;
 pub mod source;
 pub mod subjects;

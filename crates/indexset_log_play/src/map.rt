@@ -1,5 +1,7 @@
 //! Scripts of the logged map.
 
+mod positions;
+
 use crate::brief::Metering;
 use crate::command::tell_pair;
 use crate::copy::Copy;
@@ -236,6 +238,16 @@ impl<K: Item, V: Value, N: NodeLike<Pair<K, V>>, M: Maker<Pair<K, V>, N>> Maps<K
             "has_room_for" => tell_room(self.map.capacity(), words, answer),
             "items" | "items_back" => self.tell_items(name, answer),
             "range" | "range_back" => self.tell_range(name, words, answer),
+            "rank"
+            | "ranks"
+            | "index_of"
+            | "get_key_value"
+            | "get_key_value_by"
+            | "get_index"
+            | "range_idx"
+            | "range_idx_back"
+            | "count_before"
+            | "count_up_to" => { self.look_at(name, words, answer) }
             _ => self.copy.call(&self.source, name, words, answer),
         }
     }

@@ -1,5 +1,6 @@
 //! Scripts of the multimap.
 
+mod positions;
 mod reads;
 
 use crate::brief::Metering;
@@ -134,6 +135,8 @@ impl<K: Item, V: Value, N: NodeLike<MultiPair<K, V>>, M: Maker<MultiPair<K, V>, 
             "from_nodes" => self.make_of_nodes(words, answer),
             "attach" => self.attach(words, answer),
             "insert" | "insert_cdc" => self.put(name, words, answer),
+            "push" | "push_cdc" => self.push(name, words, answer),
+            "pop_index" | "pop_index_cdc" => self.pop_index(name, words, answer),
             "remove" | "remove_cdc" => self.remove(name, words, answer),
             "remove_some" | "pop_first" | "pop_last" => self.take(name, words, answer),
             "remove_some_cdc" | "pop_first_cdc" | "pop_last_cdc" => {
@@ -163,6 +166,25 @@ impl<K: Item, V: Value, N: NodeLike<MultiPair<K, V>>, M: Maker<MultiPair<K, V>, 
         let put = shown_pair(self.map.insert_cdc(key, value));
         let told = given_back(alloc, answer, given, put)?;
         self.copy.tell_cdc(answer, told)
+    }
+
+    /// Adds a pair as the last of its key.
+    fn push(
+        &mut self,
+        name: &str,
+        words: &mut SplitWhitespace<'_>,
+        answer: &mut String,
+    ) -> Result<(), Stop> {
+        let alloc = self.source.alloc;
+        let (key, value) = read_pair(&self.source, words)?;
+        let given = format!(in alloc; "{key}:{value}")?;
+        let given = given.as_str();
+        if name == "push" {
+            return given_back(alloc, answer, given, shown_pair(self.map.push(key, value)));
+        }
+        let pushed = shown_pair(self.map.push_cdc(key, value));
+        let events = given_back(alloc, answer, given, pushed)?;
+        self.copy.tell_cdc(answer, (Some("some"), events))
     }
 
     fn remove(

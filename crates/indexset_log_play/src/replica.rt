@@ -2,32 +2,36 @@
 
 use crate::brief::Metering;
 use crate::event::read_event;
-use crate::item::{Item, Source, read_range};
+use crate::item::{Item, Source};
 use crate::meter::Meter;
 use crate::node::{
     Whole, node_back, node_text, nodes_back, nodes_text, read_node, read_nodes, tell_nodes,
 };
 use crate::order::{deliver, deliver_part};
 use crate::partial::Partial;
+use crate::seek::{seek, seek_by};
 use crate::text::tell_text;
-use indexset_core::bounds::bounds_are_ordered;
 use indexset_events::change::ChangeEvent;
 use indexset_play::player::Swept;
 use indexset_play::script::{Stop, Subject, read, tell, tell_option};
 use indexset_replica::Replica;
+use indexset_replica::keys::KeyOf;
 use std::alloc::Global;
+use std::marker::PhantomData;
 use std::str::SplitWhitespace;
 
-/// A replica, and events that may be delivered to it out of turn.
+/// A replica, read by its items and by keys of theirs, and events that may be delivered to it out of
+/// turn.
 #[derive(Drop)]
-pub struct Replicas<T: Item> {
+pub struct Replicas<T: Item, Q: Item + KeyOf<T>> {
     source: Source,
     replica: Replica<T>,
     events: Vec<ChangeEvent<T>>,
     partial: Partial,
+    key: PhantomData<Q>,
 }
 
-impl<T: Item> Replicas<T> {
+impl<T: Item, Q: Item + KeyOf<T>> Replicas<T, Q> {
     fn attach(&mut self, words: &mut SplitWhitespace<'_>, answer: &mut String) -> Result<(), Stop> {
         let alloc = self.source.alloc;
         let node = read_node::<T, Vec<T>, Whole>(&self.source, words)?;
@@ -72,6 +76,7 @@ impl<T: Item> Replicas<T> {
             replica,
             events,
             partial,
+            ..
         } = self;
         deliver(source.alloc, replica, events.as_slice(), partial, words)
     }
@@ -90,26 +95,14 @@ impl<T: Item> Replicas<T> {
             "is_empty" => tell(answer, self.replica.is_empty()),
             "first" => tell_option(answer, self.replica.first()),
             "last" => tell_option(answer, self.replica.last()),
-            "get" | "contains" => self.look_for(name, words, answer),
             "expects" => self.tell_turn(words, answer),
             "items" => self.tell_items(answer),
             "walk" => self.walk(words, answer),
-            "range" | "range_back" => self.tell_range(name == "range_back", words, answer),
-            _ => Err(Stop::NoCall),
-        }
-    }
-
-    fn look_for(
-        &self,
-        name: &str,
-        words: &mut SplitWhitespace<'_>,
-        answer: &mut String,
-    ) -> Result<(), Stop> {
-        let item = T::read_item(&self.source, words)?;
-        if name == "get" {
-            tell_option(answer, self.replica.get(&item))
-        } else {
-            tell(answer, self.replica.contains(&item))
+            "by_key" => {
+                let name = words.next().ok_or(Stop::Word)?;
+                seek_by::<T, Q>(&self.replica, &self.source, name, words, answer)
+            }
+            _ => seek(&self.replica, &self.source, name, words, answer),
         }
     }
 
@@ -137,34 +130,9 @@ impl<T: Item> Replicas<T> {
         }
         Ok(())
     }
-
-    fn tell_range(
-        &self,
-        is_back: bool,
-        words: &mut SplitWhitespace<'_>,
-        answer: &mut String,
-    ) -> Result<(), Stop> {
-        let (start, end) = read_range::<T>(&self.source, words)?;
-        if !bounds_are_ordered(start.as_ref(), end.as_ref()) {
-            return Err(Stop::NoCall);
-        }
-        let mut items = self.replica.range((start.as_ref(), end.as_ref()));
-        for _ in 0..self.replica.len() {
-            let item = if is_back {
-                items.next_back()
-            } else {
-                items.next()
-            };
-            match item {
-                Some(item) => tell(answer, item)?,
-                None => break,
-            }
-        }
-        Ok(())
-    }
 }
 
-impl<T: Item> Subject for Replicas<T> {
+impl<T: Item, Q: Item + KeyOf<T>> Subject for Replicas<T, Q> {
     fn call(
         &mut self,
         name: &str,
@@ -183,13 +151,14 @@ impl<T: Item> Subject for Replicas<T> {
     }
 }
 
-impl<T: Item> Swept for Replicas<T> {
+impl<T: Item, Q: Item + KeyOf<T>> Swept for Replicas<T, Q> {
     fn make(alloc: Global, _size: usize) -> Result<Self, Stop> {
         Ok(Replicas {
             source: Source::new(alloc)?,
             replica: Replica::new(alloc, 0),
             events: Vec::new(alloc),
             partial: Partial::new(alloc),
+            key: PhantomData,
         })
     }
 
@@ -210,6 +179,7 @@ impl<T: Item> Swept for Replicas<T> {
             replica,
             events,
             partial,
+            ..
         } = self;
         match name {
             "follow" => deliver_part(source.alloc, replica, events.as_slice(), partial, words),
@@ -218,7 +188,7 @@ impl<T: Item> Swept for Replicas<T> {
     }
 }
 
-impl<T: Item> Metering for Replicas<T> {
+impl<T: Item, Q: Item + KeyOf<T>> Metering for Replicas<T, Q> {
     fn meter(&self) -> &Meter {
         &self.source.meter
     }

@@ -1,5 +1,6 @@
 //! Scripts of the logged set.
 
+mod positions;
 mod reads;
 
 use crate::brief::Metering;

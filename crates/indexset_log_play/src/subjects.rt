@@ -54,11 +54,12 @@ fn play_in_vectors(script: &Script, name: &str) -> Option<Result<bool, Fault>> {
         "tagged_logged_set" => play_on::<VecSets<Tagged>>(script),
         "owned_logged_set" => play_on::<VecSets<Owned>>(script),
         "metered_logged_set" => play_on::<VecSets<Metered>>(script),
-        "replica" => play_on::<Replicas<u64>>(script),
-        "tagged_replica" => play_on::<Replicas<Tagged>>(script),
-        "owned_replica" => play_on::<Replicas<Owned>>(script),
-        "metered_replica" => play_on::<Replicas<Metered>>(script),
-        "letter_replica" => play_on::<Replicas<Letter>>(script),
+        "replica" => play_on::<Replicas<u64, u64>>(script),
+        "tagged_replica" => play_on::<Replicas<Tagged, Tagged>>(script),
+        "owned_replica" => play_on::<Replicas<Owned, Owned>>(script),
+        "metered_replica" => play_on::<Replicas<Metered, Metered>>(script),
+        "letter_replica" => play_on::<Replicas<Letter, u64>>(script),
+        "numbered_replica" => play_on::<Replicas<Numbered, u64>>(script),
         _ => play_pairs(script, name),
     }
 }

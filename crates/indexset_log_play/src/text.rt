@@ -24,3 +24,11 @@ pub fn tell_room(
     let count: usize = read(words)?;
     tell(answer, count <= capacity)
 }
+
+/// Writes the position where a search ended: behind `gap`, where it found nothing.
+pub fn tell_position(answer: &mut String, position: Result<usize, usize>) -> Result<(), Stop> {
+    match position {
+        Ok(position) => Ok(write!(answer, " {position}")?),
+        Err(position) => Ok(write!(answer, " gap {position}")?),
+    }
+}

@@ -1,11 +1,15 @@
-//! Where an item of a logged set stands.
+//! Where items stand in a logged set, a logged map and a replica.
 ghost use Rattle.std.specs.Prelude.{◌<◌, length, IfOk};
 ghost use Rattle.indexset_core.specs.Nodes.{node_at};
 ghost use Rattle.indexset_core.specs.Places.{IsPlace};
 
 use indexset_core::node::NodeLike;
-use indexset_core::probe::ByItem;
+use indexset_core::pair::Pair;
+use indexset_core::probe::{ByItem, ByKey};
+use indexset_log::map::BTreeMap;
 use indexset_log::set::BTreeSet;
+use indexset_replica::Replica;
+use std::ops::Bound;
 use std::ops::Bound::Included;
 
 /// The place before the first item that is not below this one.
@@ -33,4 +37,70 @@ pub fn place_of<T: Ord + Clone + Drop, Node: NodeLike<T>>(
         return Err((0, 0));
     }
     tree.locate_by(&mut ByItem::new(value))
+}
+
+/// The position of an item, or where it is absent, how many are below it.
+pub fn position_of<T: Ord + Clone + Drop, Node: NodeLike<T>>(
+    tree: &BTreeSet<T, Node>,
+    value: &T,
+) -> Result<usize, usize> {
+    let _nodes = tree.node_count();
+    tree.position_by(&mut ByItem::new(value))
+}
+
+/// How many items stand before a start.
+pub fn items_before<T: Ord + Clone + Drop, Node: NodeLike<T>>(
+    tree: &BTreeSet<T, Node>,
+    start: Bound<&T>,
+) -> usize {
+    let _nodes = tree.node_count();
+    tree.count_before(start.map(ByItem::new))
+}
+
+/// How many items are not past an end.
+pub fn items_up_to<T: Ord + Clone + Drop, Node: NodeLike<T>>(
+    tree: &BTreeSet<T, Node>,
+    end: Bound<&T>,
+) -> usize {
+    let _nodes = tree.node_count();
+    tree.count_up_to(end.map(ByItem::new))
+}
+
+/// The pair of a key, which a comparator finds.
+pub fn pair_of<'a, K: Ord + Clone + Drop, V: Clone + Drop, Node: NodeLike<Pair<K, V>>>(
+    map: &'a BTreeMap<K, V, Node>,
+    key: &K,
+) -> Option<(&'a K, &'a V)> {
+    let _nodes = map.node_count();
+    map.get_key_value_by(&mut ByKey::new(key))
+}
+
+/// How many pairs stand before a start.
+pub fn pairs_before<K: Ord + Clone + Drop, V: Clone + Drop, Node: NodeLike<Pair<K, V>>>(
+    map: &BTreeMap<K, V, Node>,
+    start: Bound<&K>,
+) -> usize {
+    let _nodes = map.node_count();
+    map.count_before(start.map(ByKey::new))
+}
+
+/// How many pairs are not past an end.
+pub fn pairs_up_to<K: Ord + Clone + Drop, V: Clone + Drop, Node: NodeLike<Pair<K, V>>>(
+    map: &BTreeMap<K, V, Node>,
+    end: Bound<&K>,
+) -> usize {
+    let _nodes = map.node_count();
+    map.count_up_to(end.map(ByKey::new))
+}
+
+/// How many items of a replica stand before a start.
+pub fn copies_before<T: Ord + Clone + Drop>(replica: &Replica<T>, start: Bound<&T>) -> usize {
+    let _nodes = replica.nodes();
+    replica.count_before(start.map(ByItem::new))
+}
+
+/// How many items of a replica are not past an end.
+pub fn copies_up_to<T: Ord + Clone + Drop>(replica: &Replica<T>, end: Bound<&T>) -> usize {
+    let _nodes = replica.nodes();
+    replica.count_up_to(end.map(ByItem::new))
 }

@@ -11,7 +11,7 @@ ghost use Rattle.indexset_spine.specs.Lengths.{place_of};
 use super::BTreeMap;
 use super::iter::IterMap;
 use indexset_core::probe::ByKey;
-use indexset_set::{Bounds, inner};
+use indexset_set::{Bounds, Positions, inner};
 use indexset_spine::spot::Spot;
 use std::ops::Bound;
 
@@ -45,11 +45,11 @@ impl<K: Ord, V> BTreeMap<K, V> {
     ///
     /// ```
     /// let map = BTreeMap::from_iter(alloc, [(5, 'a'), (10, 'b'), (15, 'c')])?;
-    /// let page = map.range_idx((Bound::Included(1), Bound::Unbounded));
+    /// let page = map.range_idx(1..);
     /// assert!(rt; page.eq([(&10, &'b'), (&15, &'c')]));
     /// ```
-    pub fn range_idx(&self, range: (Bound<usize>, Bound<usize>)) -> RangeMap<'_, K, V>
-        ensures rest { result ≡ in_positions self.now.pairs range.0 range.1 }
+    pub fn range_idx<R: Positions + Drop>(&self, range: R) -> RangeMap<'_, K, V>
+        ensures rest { result ≡ in_positions self.now.pairs (R.start range) (R.end range) }
         ensures ascending { IsAscending (by_key K.cmp) result }
         ensures runs { ShowsInOrder (pair_shown {K = K} {V = V}) }
         ensures runs_back { ShowsInReverse (pair_shown {K = K} {V = V}) }

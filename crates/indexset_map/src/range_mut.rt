@@ -7,7 +7,7 @@ ghost use Rattle.indexset_core.specs.Pairs.{pairs_within};
 use super::BTreeMap;
 use super::iter_mut::IterMut;
 use indexset_core::positions::{end_position, first_position};
-use indexset_set::Bounds;
+use indexset_set::{Bounds, Positions};
 use std::ops::Bound;
 
 /// The remaining pairs of a part of a map, with mutable references to the values, from both ends.
@@ -71,23 +71,23 @@ impl<K: Ord, V> BTreeMap<K, V> {
     ///
     /// ```
     /// let mut map = BTreeMap::from_iter(alloc, [(5, 1), (10, 1), (15, 1)])?;
-    /// let mut last = map.range_mut_idx((Bound::Included(2), Bound::Unbounded));
+    /// let mut last = map.range_mut_idx(2..);
     /// if let Some((_, value)) = last.next() {
     ///     *value += 1;
     /// }
     /// assert!(rt; map.values().copied().eq([1, 1, 2]));
     /// ```
-    pub fn range_mut_idx(&mut self, range: (Bound<usize>, Bound<usize>)) -> RangeMut<'_, K, V>
+    pub fn range_mut_idx<R: Positions + Drop>(&mut self, range: R) -> RangeMut<'_, K, V>
         ensures same_map { (walk_map result).ghost_name ≡ self.entry.ghost_name }
         ensures unchanged { (walk_map result).now ≡ self.old }
-        ensures rest { walk_rest result ≡ in_positions self.old.pairs range.0 range.1 }
-        ensures front { walk_front result ≡ min (start_index range.0) (walk_back result) }
-        ensures back { walk_back result ≡ min (end_index range.1 (length self.old.pairs))
+        ensures rest { walk_rest result ≡ in_positions self.old.pairs (R.start range) (R.end range) }
+        ensures front { walk_front result ≡ min (start_index (R.start range)) (walk_back result) }
+        ensures back { walk_back result ≡ min (end_index (R.end range) (length self.old.pairs))
             (length self.old.pairs) }
     {
         let len = self.len();
-        let back = end_position(range.1, len);
-        let front = first_position(range.0, len).min(back);
+        let back = end_position(range.end_bound(), len);
+        let front = first_position(range.start_bound(), len).min(back);
         IterMut {
             map: self,
             front,

@@ -31,7 +31,7 @@ impl<K: Ord + Drop, V: Drop> BTreeMap<K, V> {
         match joined {
             Ok(None) => Ok(()),
             Ok(Some(Pair { key, value })) => {
-                self.insert(key, value).map_err(|refused| refused.cause)?;
+                self.insert(key, value)?;
                 let _len = self.len();
                 Ok(())
             }

@@ -119,6 +119,9 @@ fn expand(statements: &mut String, number: usize, line: &str) -> Result<(), Stop
 // The words, with the numbers of a range in its place.
 fn spell_all(text: &mut String, words: &str) -> Result<(), AllocError> {
     text.clear();
+    if !words.contains('.') {
+        return text.push_str(words);
+    }
     for word in words.split_whitespace() {
         spell(text, word)?;
     }
@@ -161,6 +164,9 @@ impl Texts {
     }
 
     fn is_expected(&self) -> bool {
+        if self.answer.as_str() == self.expected.as_str() {
+            return true;
+        }
         let answer = self.answer.split_whitespace();
         answer.eq(self.expected.split_whitespace())
     }

@@ -11,6 +11,7 @@ pub mod SetCursorLemmas
 pub mod SetDrainLemmas
 pub mod SetEndLemmas
 pub mod SetNodeLemmas
+pub mod SetOfLemmas
 pub mod SetPairLemmas
 pub mod SetProbeLemmas
 pub mod SetRangeLemmas

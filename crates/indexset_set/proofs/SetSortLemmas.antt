@@ -1,8 +1,8 @@
 -- Values that are sorted, and of which equal ones but the first are dropped, are those that are inserted one by one.
-use Rattle.std.proofs.Common.{◌≡◌, Option, None, Some, Bool, true, false, not, cond, ◌&&◌, ◌||◌, if◌then◌else◌, find, is_some, List, [], ◌∷◌, ◌++◌, take, drop, filter, Ordering, Result, Ok, Err, IfOk, refl, ap, sym, ◌∙◌, subst, arith}
+use Rattle.std.proofs.Common.{◌≡◌, Option, None, Some, Bool, true, false, not, cond, ◌&&◌, if◌then◌else◌, find, is_some, List, [], ◌∷◌, ◌++◌, take, drop, filter, Ordering, Result, Ok, Err, IfOk, refl, ap, sym, ◌∙◌, subst, arith}
 use Rattle.std.specs.declared.cmp.Ordering.TheVariants.{Less, Equal, Greater}
 use Rattle.std.specs.Cmp.{IsTotalOrder}
-use Rattle.std.specs.List.{dedup, dedup_from, fold, insert, list_any}
+use Rattle.std.specs.List.{dedup, dedup_from, fold}
 use Rattle.std.specs.List.Sorted.{IsSorted, IsStable, IsStrictlySortedBy, ties}
 use Rattle.std.specs.Option.{option_or}
 use Rattle.std.specs.Ordering.{is_eq, is_lt, ordering_reverse}
@@ -94,9 +94,9 @@ module _ {T : Type 0} (cmp : T → T → Ordering) (o : IsTotalOrder cmp) where
   same_elements (x ∷ xs) (y ∷ ys) h k same = elim (cmp x y) as (λ a. cmp x y ≡ a → x ∷ xs ≡ y ∷ ys) [
     | Less ↦ λ e. some_other x (sym (none_below x y ys e k.0) ∙ (sym (same x) ∙ found_first x xs))
     | Equal ↦ λ e.
-      let first : x ≡ y = the_same x y (sym (found_first x xs) ∙ (same x ∙ rw (o.antisymm y x ∙ ap ordering_reverse e) refl)) in
-      let rest : xs ≡ ys = same_elements xs ys h.1 k.1 (tails x xs ys h.0 (subst (λ z. IsUnder cmp z ys) (sym first) k.0) (λ v. same v ∙ ap (λ z. equal_element cmp (z ∷ ys) v) (sym first))) in
-      λ i. first i ∷ rest i
+        let first : x ≡ y = the_same x y (sym (found_first x xs) ∙ (same x ∙ rw (o.antisymm y x ∙ ap ordering_reverse e) refl)) in
+        let rest : xs ≡ ys = same_elements xs ys h.1 k.1 (tails x xs ys h.0 (subst (λ z. IsUnder cmp z ys) (sym first) k.0) (λ v. same v ∙ ap (λ z. equal_element cmp (z ∷ ys) v) (sym first))) in
+        λ i. first i ∷ rest i
     | Greater ↦ λ e. some_other y (sym (none_below y x xs (o.antisymm y x ∙ ap ordering_reverse e) h.0) ∙ (same y ∙ found_first y ys))
   ] refl
 

@@ -1,5 +1,5 @@
 -- A copy of a set: clones of its elements, in the order in which they compare.
-use Rattle.std.specs.Prelude.{◌≡◌, List, [], ◌∷◌}
+use Rattle.std.specs.Prelude.{◌≡◌, ℕ, List, [], ◌∷◌}
 use Rattle.std.specs.List.{AllZip, fold}
 use Rattle.std.specs.declared.cmp.Ordering.{Ordering}
 use Rattle.std.specs.declared.cmp.Ordering.TheVariants.{Equal}
@@ -22,3 +22,12 @@ pub record IsSetClone {T : Type 0} (cmp : T → T → Ordering) (C : T → T →
   pub copied : IsSetCopy cmp C s copy
   pub cloned : ((x y : T) → C x y → cmp x y ≡ Equal) → AllZip (AllZip C) s.nodes copy.nodes
   pub ok : ((x y : T) → C x y → y ≡ x) → copy ≡ s
+
+-- a set of clones of xs, inserted in order unless an equal one is present: of xs themselves, where clones are identical to their sources
+pub record IsSetOf {T : Type 0} (cmp : T → T → Ordering) (C : T → T → Type 0) (xs : List T) (node_size : ℕ) (s : Cut T) : Type 0 where
+  pub clones : List T
+  pub cloned : AllZip C xs clones
+  pub elements : items s ≡ fold (keep cmp) [] clones
+  pub nodes : s.nodes ≡ nodes_kept_all cmp (cut ([] ∷ []) node_size) clones
+  pub same : ((x y : T) → C x y → y ≡ x) → items s ≡ xs
+  pub size : s.size ≡ node_size

@@ -10,6 +10,7 @@ ghost use Rattle.indexset_set.specs.SetAlgebra.{difference, intersection, symmet
 mod difference_walk;
 mod intersection_walk;
 mod merge;
+mod operators;
 mod symmetric_walk;
 mod traits;
 mod union_walk;

@@ -1,5 +1,6 @@
-//! What a range of a set or a map is given by: two bounds, or one of Rust's ranges.
-ghost use Rattle.std.specs.Prelude.{◌≡◌};
+//! What a range of a set or a map is given by: two bounds, or one of Rust's ranges, of values or of
+//! positions.
+ghost use Rattle.std.specs.Prelude.{◌≡◌, ℕ};
 ghost use Rattle.std.specs.Range.{range_inclusive_end, range_inclusive_start};
 ghost use Rattle.std.specs.Range.Bound.{bound_map};
 ghost use Rattle.std.specs.declared.ops.Bound.{Bound};
@@ -191,6 +192,120 @@ impl<'a, T> Bounds<T> for RangeToInclusive<&'a T> {
     }
 
     fn end_bound(&self) -> Bound<&T> {
+        Bound::Included(self.end)
+    }
+}
+
+/// A start and an end, as `range_idx` takes them: `(Bound<usize>, Bound<usize>)`, or `i..j`,
+/// `i..=j`, `i..`, `..j`, `..=j` and `..`.
+pub trait Positions {
+    /// The bound at the start.
+    ghost start: { Self → Bound ℕ };
+
+    /// The bound at the end.
+    ghost end: { Self → Bound ℕ };
+
+    fn start_bound(&self) -> Bound<usize>
+        ensures { result ≡ start self.now };
+
+    fn end_bound(&self) -> Bound<usize>
+        ensures { result ≡ end self.now };
+}
+
+impl Positions for (Bound<usize>, Bound<usize>) {
+    ghost start = { λ s. s.0 };
+
+    ghost end = { λ s. s.1 };
+
+    fn start_bound(&self) -> Bound<usize> {
+        self.0
+    }
+
+    fn end_bound(&self) -> Bound<usize> {
+        self.1
+    }
+}
+
+impl Positions for RangeFull {
+    ghost start = { λ _. Unbounded };
+
+    ghost end = { λ _. Unbounded };
+
+    fn start_bound(&self) -> Bound<usize> {
+        Bound::Unbounded
+    }
+
+    fn end_bound(&self) -> Bound<usize> {
+        Bound::Unbounded
+    }
+}
+
+impl Positions for Range<usize> {
+    ghost start = { λ s. Included s.start };
+
+    ghost end = { λ s. Excluded s.end };
+
+    fn start_bound(&self) -> Bound<usize> {
+        Bound::Included(self.start)
+    }
+
+    fn end_bound(&self) -> Bound<usize> {
+        Bound::Excluded(self.end)
+    }
+}
+
+impl Positions for RangeInclusive<usize> {
+    ghost start = { λ s. Included (range_inclusive_start s) };
+
+    ghost end = { λ s. Included (range_inclusive_end s) };
+
+    fn start_bound(&self) -> Bound<usize> {
+        Bound::Included(*self.start())
+    }
+
+    fn end_bound(&self) -> Bound<usize> {
+        Bound::Included(*self.end())
+    }
+}
+
+impl Positions for RangeFrom<usize> {
+    ghost start = { λ s. Included s.start };
+
+    ghost end = { λ _. Unbounded };
+
+    fn start_bound(&self) -> Bound<usize> {
+        Bound::Included(self.start)
+    }
+
+    fn end_bound(&self) -> Bound<usize> {
+        Bound::Unbounded
+    }
+}
+
+impl Positions for RangeTo<usize> {
+    ghost start = { λ _. Unbounded };
+
+    ghost end = { λ s. Excluded s.end };
+
+    fn start_bound(&self) -> Bound<usize> {
+        Bound::Unbounded
+    }
+
+    fn end_bound(&self) -> Bound<usize> {
+        Bound::Excluded(self.end)
+    }
+}
+
+impl Positions for RangeToInclusive<usize> {
+    ghost start = { λ _. Unbounded };
+
+    ghost end = { λ s. Included s.end };
+
+    fn start_bound(&self) -> Bound<usize> {
+        Bound::Unbounded
+    }
+
+    fn end_bound(&self) -> Bound<usize> {
         Bound::Included(self.end)
     }
 }

@@ -11,6 +11,7 @@ ghost use Rattle.indexset_set.specs.SetNodes.{nodes_kept_all};
 
 use super::BTreeSet;
 use super::inner::take_run;
+use super::listed::Listed;
 use indexset_core::constants::DEFAULT_INNER_SIZE;
 use indexset_core::refusal::{Refusal, Refused};
 use indexset_spine::spine::Spine;
@@ -112,17 +113,30 @@ impl<T: Ord + Drop> BTreeSet<T> {
     /// Returns the set of the values, as `from_iter` makes it.
     ///
     /// ```
-    /// let set = BTreeSet::from(alloc, vec![in alloc; 30, 10, 20]?)?;
-    /// assert_eq!(rt; set.first(), Some(&10));
+    /// let set = BTreeSet::from(alloc, [30, 10, 20])?;
+    /// let same = BTreeSet::from(alloc, vec![in alloc; 10, 20, 30]?)?;
+    /// assert!(rt; set.first() == Some(&10) && set == same);
     /// ```
-    pub fn from(alloc: Global, values: Vec<T>) -> Result<Self, Refusal>
-        ensures kept { IfOk result (λ s. items s ≡ fold (keep T.cmp) [] values.items) }
+    pub fn from<L: Listed<Item = T>>(alloc: Global, values: L) -> Result<Self, Refusal>
+        ensures kept { IfOk result (λ s. items s ≡ fold (keep T.cmp) [] (L.values values)) }
         ensures nodes { IfOk result (λ s. s.nodes
-            ≡ nodes_kept_all T.cmp (cut ([] ∷ []) DEFAULT_INNER_SIZE) values.items) }
+            ≡ nodes_kept_all T.cmp (cut ([] ∷ []) DEFAULT_INNER_SIZE) (L.values values)) }
         ensures size { IfOk result (λ s. s.size ≡ DEFAULT_INNER_SIZE) }
         ensures refusal { IfErr result (λ e. e ≡ Refusal.Memory) }
     {
+        let values = values.into_vec(alloc)?;
         Self::from_iter(alloc, values)
+    }
+
+    // Returns the set of the values, of this set's node size.
+    pub(crate) fn made_like(&self, values: Vec<T>) -> Result<Self, Refusal>
+        ensures kept { IfOk result (λ s. items s ≡ fold (keep T.cmp) [] values.items) }
+        ensures nodes { IfOk result (λ s. s.nodes
+            ≡ nodes_kept_all T.cmp (cut ([] ∷ []) self.now.size) values.items) }
+        ensures size { IfOk result (λ s. s.size ≡ self.now.size) }
+        ensures refusal { IfErr result (λ e. e ≡ Refusal.Memory) }
+    {
+        Self::kept_in(*self.spine.allocator(), self.maximum_node_size(), values)
     }
 
     /// Returns the set of values that ascend strictly, in the nodes that `from` makes of them, by

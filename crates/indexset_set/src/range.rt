@@ -9,7 +9,7 @@ ghost use Rattle.indexset_spine.specs.Cut.{items};
 ghost use Rattle.indexset_set.specs.SetProbes.{FindsInOrder};
 
 use super::BTreeSet;
-use super::bounds::Bounds;
+use super::bounds::{Bounds, Positions};
 use super::iter::Iter;
 use indexset_core::positions::{end_position, first_position};
 use indexset_core::probe::{ByItem, Probe};
@@ -60,18 +60,18 @@ impl<T: Ord> BTreeSet<T> {
     /// ```
     /// // The second page of two elements each.
     /// let set = BTreeSet::from_iter(alloc, [5, 10, 15, 20, 25])?;
-    /// let page = set.range_idx((Bound::Included(2), Bound::Excluded(4)));
+    /// let page = set.range_idx(2..4);
     /// assert!(rt; page.copied().eq([15, 20]));
     /// ```
-    pub fn range_idx(&self, range: (Bound<usize>, Bound<usize>)) -> Range<'_, T>
-        ensures rest { result ≡ in_positions (items self.now) range.0 range.1 }
+    pub fn range_idx<R: Positions + Drop>(&self, range: R) -> Range<'_, T>
+        ensures rest { result ≡ in_positions (items self.now) (R.start range) (R.end range) }
         ensures ascending { IsAscending T.cmp result }
         ensures runs { ShowsInOrder (deref {X = T}) }
         ensures runs_back { ShowsInReverse (deref {X = T}) }
     {
         let len = self.len();
-        let to = end_position(range.1, len);
-        let from = first_position(range.0, len).min(to);
+        let to = end_position(range.end_bound(), len);
+        let from = first_position(range.start_bound(), len).min(to);
         Iter::of(self.spine.iter_between(from, to))
     }
 

@@ -27,7 +27,7 @@ impl<T: Ord + Drop> BTreeSet<T> {
         match join_run(self, run, value) {
             Ok(None) => Ok(()),
             Ok(Some(value)) => {
-                self.insert(value).map_err(|refused| refused.cause)?;
+                self.insert(value)?;
                 let _len = self.len();
                 Ok(())
             }

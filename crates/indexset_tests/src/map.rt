@@ -21,7 +21,7 @@ fn put<K: Ord + Drop, V: Drop>(
     key: K,
     value: V,
 ) -> Result<Option<V>, Refusal> {
-    map.insert(key, value).map_err(|refused| refused.cause)
+    Ok(map.insert(key, value)?)
 }
 
 // Five pairs whose keys lie apart.

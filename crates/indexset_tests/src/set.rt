@@ -14,7 +14,7 @@ mod traits;
 
 // Adds a value, and lets it go where memory is refused.
 fn add<T: Ord + Drop>(set: &mut BTreeSet<T>, value: T) -> Result<bool, Refusal> {
-    set.insert(value).map_err(|refused| refused.cause)
+    Ok(set.insert(value)?)
 }
 
 // The pairs of these keys, each with the value 0, in nodes of two.

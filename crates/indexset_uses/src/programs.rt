@@ -1,5 +1,5 @@
 //! What the programs in small return: a time window, an order book, a leaderboard, a secondary
-//! index, a map and its copy.
+//! index, a map and its copy, standings read from a copy.
 
 ghost use Rattle.std.specs.Prelude.{◌<◌};
 
@@ -7,6 +7,7 @@ use crate::follower::{self, Primary};
 use crate::leaderboard::{self, Board, Entry};
 use crate::order_book::{self, Book};
 use crate::secondary_index::{self, Index};
+use crate::standings::{self, Ranking, Scores};
 use crate::window::{self, Window};
 use anyhow::Result;
 use bytes::ByteStr;
@@ -21,7 +22,8 @@ pub fn show(rt: &HostRuntime) -> Result<()> {
     show_order_book(rt)?;
     show_leaderboard(rt)?;
     show_index(rt)?;
-    show_follower(rt)
+    show_follower(rt)?;
+    show_standings(rt)
 }
 
 fn show_window(rt: &HostRuntime) -> Result<()> {
@@ -161,6 +163,41 @@ fn show_follower(rt: &HostRuntime) -> Result<()> {
     println!(rt; "the copy awaits {}, and has got all: {all}", copy.next())?;
     for Pair { key, value } in copy.iter() {
         println!(rt; "account {key} has {value}")?;
+    }
+    Ok(())
+}
+
+fn show_standings(rt: &HostRuntime) -> Result<()> {
+    let mut scores = Scores::with_maximum_node_size(rt.alloc(), 4);
+    let mut events = Vec::new(rt.alloc());
+    standings::enter(&mut scores, &mut events, Reverse(300), 1)?;
+    standings::enter(&mut scores, &mut events, Reverse(100), 2)?;
+    standings::enter(&mut scores, &mut events, Reverse(500), 3)?;
+    standings::enter(&mut scores, &mut events, Reverse(300), 4)?;
+    standings::enter(&mut scores, &mut events, Reverse(200), 5)?;
+    if events.len() < 6 {
+        return Ok(());
+    }
+    let mut ranking = Ranking::new(rt.alloc(), 0);
+    let order = [1, 0, 0, 5, 1, 2, 1];
+    standings::deliver(&scores, events.as_slice(), &mut ranking, &order)?;
+    show_ranks(rt, &ranking)?;
+    let order = [2, 4, 3, 4, 5];
+    standings::deliver(&scores, events.as_slice(), &mut ranking, &order)?;
+    show_ranks(rt, &ranking)
+}
+
+fn show_ranks(rt: &HostRuntime, ranking: &Ranking) -> Result<()> {
+    println!(rt; "players ranked: {}", ranking.len())?;
+    for score in [500, 300, 200] {
+        let rank = standings::rank(ranking, Reverse(score));
+        let tied = standings::count(ranking, Reverse(score));
+        println!(rt; "better than {score}: {rank}, with it: {tied}")?;
+    }
+    let second = standings::entry_at(ranking, 1).map(|entry| entry.value);
+    println!(rt; "second: {second:?}")?;
+    for entry in standings::page(ranking, 0, 2) {
+        println!(rt; "  {} by player {}", entry.key.0, entry.value)?;
     }
     Ok(())
 }

@@ -41,6 +41,13 @@ impl<K: Item, V: Value, N: NodeLike<MultiPair<K, V>>, M: Maker<MultiPair<K, V>, 
             "items" | "items_back" => self.tell_items(name, answer),
             "get" | "raw_get" | "raw_get_back" => self.tell_values(name, words, answer),
             "range" | "range_back" => self.tell_range(name, words, answer),
+            "rank"
+            | "ranks"
+            | "count_of"
+            | "index_of"
+            | "get_index"
+            | "range_idx"
+            | "range_idx_back" => { self.look_at(name, words, answer) }
             _ => self.copy.call(&self.source, name, words, answer),
         }
     }

@@ -53,6 +53,15 @@ impl<T: Item, N: NodeLike<T>, M: Maker<T, N>> Sets<T, N, M> {
             "walk" => self.walk(words, answer),
             "walk_nodes" => self.walk_nodes(words, answer),
             "range" | "range_back" | "range_hint" => self.range(name, words, answer),
+            "rank"
+            | "ranks"
+            | "index_of"
+            | "position_by"
+            | "get_index"
+            | "range_idx"
+            | "range_idx_back"
+            | "count_before"
+            | "count_up_to" => self.look_at(name, words, answer),
             _ => self.copy.call(&self.source, name, words, answer),
         }
     }
@@ -174,7 +183,7 @@ impl<T: Item, N: NodeLike<T>, M: Maker<T, N>> Sets<T, N, M> {
 }
 
 /// Writes the items of a range, from the first on.
-fn tell_forwards<T: Item, N: NodeLike<T>>(
+pub(super) fn tell_forwards<T: Item, N: NodeLike<T>>(
     answer: &mut String,
     items: Range<'_, T, N>,
 ) -> Result<(), Stop> {
@@ -185,7 +194,7 @@ fn tell_forwards<T: Item, N: NodeLike<T>>(
 }
 
 /// Writes the items of a range, from the last on.
-fn tell_backwards<T: Item, N: NodeLike<T>>(
+pub(super) fn tell_backwards<T: Item, N: NodeLike<T>>(
     answer: &mut String,
     items: Range<'_, T, N>,
 ) -> Result<(), Stop> {

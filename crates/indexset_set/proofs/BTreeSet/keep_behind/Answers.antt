@@ -23,21 +23,21 @@ returns-in-Ok-None-clause-nodes g c =
     (rw c.in-Ok-None.is at c.join_run.ensures.nodes) c.in-Ok-None.field-0-is
     ∙ run_nodes g.T.Ord.cmp c.args.self.now.size c.args.self.now.nodes c.args.run.now.items c.args.value c.node_count-count.ensures.cut (subst (IsAscending g.T.Ord.cmp) joined (rw c.in-Ok-None.is at c.join_run.ensures.order))
 
-pub returns-in_ok-map_err-in-Ok-Some-clause-order : goal.returns-in_ok-map_err-in-Ok-Some-clause-order
-returns-in_ok-map_err-in-Ok-Some-clause-order g c =
+pub returns-in_ok-insert-in-Ok-Some-clause-order : goal.returns-in_ok-insert-in-Ok-Some-clause-order
+returns-in_ok-insert-in-Ok-Some-clause-order g c =
     let emptied = rw c.in-Ok-Some.field-0-is at (rw c.in-Ok-Some.is at c.join_run.ensures.emptied) in
     rw (emptied, append-nil) c.len-len.ensures.ascending
 
-pub returns-in_ok-map_err-in-Ok-Some-clause-kept : goal.returns-in_ok-map_err-in-Ok-Some-clause-kept
-returns-in_ok-map_err-in-Ok-Some-clause-kept g c =
+pub returns-in_ok-insert-in-Ok-Some-clause-kept : goal.returns-in_ok-insert-in-Ok-Some-clause-kept
+returns-in_ok-insert-in-Ok-Some-clause-kept g c =
     let kept : items c.insert.new.self ≡ keep g.T.Ord.cmp (items c.join_run.new.set) c.in-Ok-Some.value = search rules in
     let emptied = rw c.in-Ok-Some.field-0-is at (rw c.in-Ok-Some.is at c.join_run.ensures.emptied) in
     let moved = rw c.in-Ok-Some.field-0-is at (rw c.in-Ok-Some.is at c.join_run.ensures.moved) in
     let same = rw c.in-Ok-Some.field-0-is at (rw c.in-Ok-Some.is at c.join_run.ensures.back) in
     run_then_kept g.T.Ord.cmp c.args.self.now.size c.args.self.now.nodes c.join_run.new.set.nodes c.args.run.now.items c.join_run.new.run.items c.args.value c.in-Ok-Some.value emptied moved same _ c.node_count-count.ensures.cut kept
 
-pub returns-in_ok-map_err-in-Ok-Some-clause-nodes : goal.returns-in_ok-map_err-in-Ok-Some-clause-nodes
-returns-in_ok-map_err-in-Ok-Some-clause-nodes g c =
+pub returns-in_ok-insert-in-Ok-Some-clause-nodes : goal.returns-in_ok-insert-in-Ok-Some-clause-nodes
+returns-in_ok-insert-in-Ok-Some-clause-nodes g c =
     let kept : c.insert.new.self.nodes ≡ nodes_kept g.T.Ord.cmp c.join_run.new.set c.in-Ok-Some.value = search rules in
     let emptied = rw c.in-Ok-Some.field-0-is at (rw c.in-Ok-Some.is at c.join_run.ensures.emptied) in
     let moved = rw c.in-Ok-Some.field-0-is at (rw c.in-Ok-Some.is at c.join_run.ensures.moved) in

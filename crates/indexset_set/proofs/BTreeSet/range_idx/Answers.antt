@@ -10,6 +10,6 @@ returns-clause-ascending g c = rw (c.of.ensures, c.iter_between.ensures.rest) (b
 
 pub returns-clause-rest : goal.returns-clause-rest
 returns-clause-rest g c =
-    let to = rw c.len-len.ensures.value at c.end_position-to.ensures in
-    let from = c.min-from.ensures ∙ ap (λ n. min n c.end_position-to.result) (rw c.len-len.ensures.value at c.first_position.ensures) in
-    rw (← c.self.view_is) (c.of.ensures ∙ c.iter_between.ensures.rest ∙ clipped _ (start_index c.args.range.0) (end_index c.args.range.1 (length (items c.self.inside.spine))) _ _ (rw (← c.self.view_is) at to) (rw (← c.self.view_is) at from))
+    let to = rw (c.len-len.ensures.value, c.end_bound.ensures) at c.end_position-to.ensures in
+    let from = c.min-from.ensures ∙ ap (λ n. min n c.end_position-to.result) (rw (c.len-len.ensures.value, c.start_bound.ensures) at c.first_position.ensures) in
+    rw (← c.self.view_is) (c.of.ensures ∙ c.iter_between.ensures.rest ∙ clipped _ (start_index (g.R.Positions.start c.args.range)) (end_index (g.R.Positions.end c.args.range) (length (items c.self.inside.spine))) _ _ (rw (← c.self.view_is) at to) (rw (← c.self.view_is) at from))

@@ -1,0 +1,141 @@
+//! Calls that change a logged map from byte strings, and that read the changes.
+ghost use Rattle.std.specs.Prelude.{◌≡◌, ◌≢◌, ◌≤◌, ◌↔◌, [], length, IfSome, None, Some, true, false, slice_get};
+ghost use Rattle.std.specs.Cmp.Lexicographic.{slice_cmp};
+ghost use Rattle.std.specs.Option.{option_map, option_map_or};
+ghost use Rattle.std.specs.Ordering.{nat_cmp};
+ghost use Rattle.indexset_core.specs.Pairs.{by_key, pair, value_of};
+ghost use Rattle.indexset_core.specs.declared.refusal.Refusal.TheVariants.{Numbers};
+ghost use Rattle.indexset_log.specs.Changed.{Changed, key_removal, put_change, refusal_of};
+ghost use Rattle.indexset_handle.specs.Text.{written_over};
+ghost use Rattle.indexset_handle.specs.TextLogs.{after, logged_texts, node_key, pair_key, record_of, told_changes};
+
+use indexset_handle::status::{HELD, MEMORY, NO, NONE, NUMBERS, YES, of_refusal};
+use indexset_handle::text_event::{TextEvent, write_change};
+use indexset_handle::text_log_handle::TextLogHandle;
+use indexset_handle::write::write;
+use std::alloc::Global;
+
+/// Makes a value that of a key, keeps the changes and writes how many they are. Where the key is
+/// there, the value before is written. The bytes of the key are copied.
+#[unsafe(no_mangle)]
+pub extern "C" fn indexset_text_log_insert(
+    alloc: Global,
+    log: &mut TextLogHandle,
+    key: &[u8],
+    value: u64,
+    before: &mut u64,
+    told: &mut usize,
+) -> u32
+    ensures before { (result ≡ YES
+        → value_of (slice_cmp nat_cmp) (logged_texts log.old.slot.value) key.now ≡ None)
+        × (result ≡ NO → value_of (slice_cmp nat_cmp) (logged_texts log.old.slot.value) key.now
+        ≡ Some before.new) }
+    ensures ok { result ≤ YES → IfSome log.old.slot.value (λ t. log.new.slot.value
+        ≡ Some (after t.tree
+        (put_change (by_key (slice_cmp nat_cmp)) t.tree (pair key.now value)))) }
+    ensures changed { result ≤ YES → IfSome log.old.slot.value (λ t. IfSome log.new.slot.value
+        (λ u. Changed (by_key (slice_cmp nat_cmp)) t.tree u.tree
+        (put_change (by_key (slice_cmp nat_cmp)) t.tree (pair key.now value)))) }
+    ensures told { result ≤ YES → told.new ≡ length (told_changes log.new.slot.value) }
+    ensures few { told.new ≤ 3 }
+    ensures unwritten { result ≢ NO → before.new ≡ before.old }
+    ensures same { MEMORY ≤ result
+        → (told.new ≡ 0) × (log.new.slot.value ≡ log.old.slot.value) }
+    ensures cause { result ≡ NUMBERS → IfSome log.old.slot.value (λ t. refusal_of t.tree
+        (put_change (by_key (slice_cmp nat_cmp)) t.tree (pair key.now value)) ≡ Numbers) }
+    ensures status { (result ≡ NONE ↔ (log.old.slot.value ≡ None))
+        × (result ≤ NUMBERS) × (result ≢ HELD) }
+{
+    *told = 0;
+    let Some(mut held) = log.take(alloc) else {
+        return NONE;
+    };
+    let status = match held.insert(alloc, key, value) {
+        Ok(old) => {
+            *told = held.told();
+            if write(old, before) { NO } else { YES }
+        }
+        Err(cause) => of_refusal(cause),
+    };
+    log.put(held);
+    status
+}
+
+/// Removes a key and writes its value, keeps the changes and writes how many they are. Where the
+/// key is not there, the changes that were kept stay.
+#[unsafe(no_mangle)]
+pub extern "C" fn indexset_text_log_remove(
+    alloc: Global,
+    log: &mut TextLogHandle,
+    key: &[u8],
+    out: &mut u64,
+    told: &mut usize,
+) -> u32
+    ensures found { (result ≡ YES
+        → value_of (slice_cmp nat_cmp) (logged_texts log.old.slot.value) key.now ≡ Some out.new)
+        × (result ≡ NO ↔ (value_of (slice_cmp nat_cmp) (logged_texts log.old.slot.value) key.now
+        ≡ None)) }
+    ensures ok { result ≡ YES → IfSome log.old.slot.value (λ t. log.new.slot.value
+        ≡ Some (after t.tree (key_removal (slice_cmp nat_cmp) t.tree key.now))) }
+    ensures changed { result ≡ YES → IfSome log.old.slot.value (λ t. IfSome log.new.slot.value
+        (λ u. Changed (by_key (slice_cmp nat_cmp)) t.tree u.tree
+        (key_removal (slice_cmp nat_cmp) t.tree key.now))) }
+    ensures told { result ≡ YES → told.new ≡ length (told_changes log.new.slot.value) }
+    ensures few { told.new ≤ 3 }
+    ensures same { result ≢ YES → (out.new ≡ out.old) × (told.new ≡ 0)
+        × (log.new.slot.value ≡ log.old.slot.value) }
+    ensures cause { result ≡ NUMBERS → IfSome log.old.slot.value (λ t. refusal_of t.tree
+        (key_removal (slice_cmp nat_cmp) t.tree key.now) ≡ Numbers) }
+    ensures status { (result ≤ NUMBERS) × (result ≢ NONE) × (result ≢ HELD) }
+{
+    *told = 0;
+    let Some(mut held) = log.take(alloc) else {
+        return NO;
+    };
+    let status = match held.remove(alloc, key) {
+        Ok(Some(value)) => {
+            *told = held.told();
+            *out = value;
+            YES
+        }
+        Ok(None) => NO,
+        Err(cause) => of_refusal(cause),
+    };
+    log.put(held);
+    status
+}
+
+/// Writes one of the changes that are kept, counted from 0, where there is one: its record, and as
+/// many bytes of the keys that name its node and its pair as there is room for.
+#[unsafe(no_mangle)]
+pub extern "C" fn indexset_text_log_change(
+    alloc: Global,
+    log: &mut TextLogHandle,
+    i: usize,
+    event: &mut TextEvent,
+    node: &mut [u8],
+    key: &mut [u8],
+) -> bool
+    ensures found { result ≡ true
+        → option_map record_of (slice_get (told_changes log.old.slot.value) i) ≡ Some event.new }
+    ensures absent { result ≡ false → slice_get (told_changes log.old.slot.value) i ≡ None }
+    ensures node { node.new ≡ written_over
+        (option_map_or node_key (slice_get (told_changes log.old.slot.value) i) []) node.old }
+    ensures key { key.new ≡ written_over
+        (option_map_or pair_key (slice_get (told_changes log.old.slot.value) i) []) key.old }
+    ensures unwritten { result ≡ false → event.new ≡ event.old }
+    ensures same { log.new.slot.value ≡ log.old.slot.value }
+{
+    let Some(held) = log.take(alloc) else {
+        return false;
+    };
+    let found = match held.change(i) {
+        Some(change) => {
+            write_change(change, event, node, key);
+            true
+        }
+        None => false,
+    };
+    log.put(held);
+    found
+}

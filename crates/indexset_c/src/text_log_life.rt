@@ -1,0 +1,154 @@
+//! Calls that make and free a logged map from byte strings, and tell its size.
+ghost use Rattle.std.specs.Prelude.{◌≡◌, ◌≢◌, ◌<◌, ◌↔◌, [], Some, None, false, true, length, is_some, option_map};
+ghost use Rattle.std.specs.Option.{option_map_or};
+ghost use Rattle.indexset_handle.specs.TextLogs.{logged_texts, untold};
+
+use indexset_handle::status::{HELD, MEMORY, UNFIT, YES};
+use indexset_handle::text_log::TextLog;
+use indexset_handle::text_log_handle::TextLogHandle;
+use indexset_handle::text_log_owner::TextLogOwner;
+use std::alloc::Global;
+use std::mem::swap;
+
+/// Makes an empty map, whose nodes hold at most `size` pairs and whose first change has the number
+/// `next`. A handle that leads to a map is refused, and a size below 2.
+#[unsafe(no_mangle)]
+pub extern "C" fn indexset_text_log_new(
+    alloc: Global,
+    log: &mut TextLogHandle,
+    size: usize,
+    next: u64,
+) -> u32
+    ensures made { result ≡ YES → log.new.slot.value
+        ≡ Some (untold size next) }
+    ensures refused { result ≢ YES → log.new.slot.value ≡ log.old.slot.value }
+    ensures held { result ≡ HELD ↔ (is_some log.old.slot.value ≡ true) }
+    ensures unfit { is_some log.old.slot.value ≡ false → (result ≡ UNFIT ↔ (size < 2)) }
+    ensures status { result ≢ YES → result ≢ HELD → result ≢ UNFIT → result ≡ MEMORY }
+{
+    if let Some(held) = log.take(alloc) {
+        log.put(held);
+        return HELD;
+    }
+    if size < 2 {
+        return UNFIT;
+    }
+    match Box::new(alloc, TextLog::starting_at(alloc, size, next)) {
+        Ok(made) => {
+            log.put(made);
+            YES
+        }
+        Err(_) => MEMORY,
+    }
+}
+
+/// Frees a map, and leaves its handle with none.
+#[unsafe(no_mangle)]
+pub extern "C" fn indexset_text_log_free(alloc: Global, log: &mut TextLogHandle)
+    ensures { log.new.slot.value ≡ None }
+{
+    drop(log.take(alloc));
+}
+
+/// Makes an empty map, as `indexset_text_log_new` does, under a handle on the heap.
+#[unsafe(no_mangle)]
+pub extern "C" fn indexset_text_log_create(
+    alloc: Global,
+    log: &mut TextLogOwner,
+    size: usize,
+    next: u64,
+) -> u32
+    ensures made { result ≡ YES → option_map (λ h. h.slot.value) log.new.value
+        ≡ Some (Some (untold size next)) }
+    ensures refused { result ≢ YES → log.new.value ≡ log.old.value }
+    ensures unfit { result ≡ UNFIT ↔ (size < 2) }
+    ensures status { result ≢ YES → result ≢ UNFIT → result ≡ MEMORY }
+{
+    if size < 2 {
+        return UNFIT;
+    }
+    let Ok(mut handle) = Box::new(alloc, TextLogHandle::none(alloc)) else {
+        return MEMORY;
+    };
+    let status = indexset_text_log_new(alloc, &mut *handle, size, next);
+    if status == YES {
+        log.put(handle);
+    }
+    status
+}
+
+/// Frees a handle on the heap, and what it leads to.
+#[unsafe(no_mangle)]
+pub extern "C" fn indexset_text_log_destroy(alloc: Global, log: &mut TextLogOwner)
+    requires { is_some log.old.value ≡ true }
+    ensures { log.new.value ≡ None }
+{
+    let mut handle = log.take(alloc);
+    indexset_text_log_free(alloc, &mut *handle);
+}
+
+/// Moves a logged map from byte strings to the handle `to`, whose own is freed, and leaves the handle `from` with
+/// none.
+#[unsafe(no_mangle)]
+pub extern "C" fn indexset_text_log_move(
+    alloc: Global,
+    to: &mut TextLogHandle,
+    from: &mut TextLogHandle,
+)
+    ensures moved { to.new.slot.value ≡ from.old.slot.value }
+    ensures left { from.new.slot.value ≡ None }
+{
+    drop(to.take(alloc));
+    swap(to, from);
+}
+
+/// Swaps what two handles lead to.
+#[unsafe(no_mangle)]
+pub extern "C" fn indexset_text_log_swap(one: &mut TextLogHandle, other: &mut TextLogHandle)
+    ensures one { one.new.slot.value ≡ other.old.slot.value }
+    ensures other { other.new.slot.value ≡ one.old.slot.value }
+{
+    swap(one, other);
+}
+
+/// Returns how many pairs there are.
+#[unsafe(no_mangle)]
+pub extern "C" fn indexset_text_log_len(alloc: Global, log: &mut TextLogHandle) -> usize
+    ensures value { result ≡ length (logged_texts log.old.slot.value) }
+    ensures same { log.new.slot.value ≡ log.old.slot.value }
+{
+    let Some(held) = log.take(alloc) else {
+        return 0;
+    };
+    let len = held.len();
+    log.put(held);
+    len
+}
+
+/// Returns the number of the next change.
+#[unsafe(no_mangle)]
+pub extern "C" fn indexset_text_log_next(alloc: Global, log: &mut TextLogHandle) -> u64
+    ensures value { result ≡ option_map_or (λ t. t.tree.next) log.old.slot.value 0 }
+    ensures same { log.new.slot.value ≡ log.old.slot.value }
+{
+    let Some(held) = log.take(alloc) else {
+        return 0;
+    };
+    let next = held.next();
+    log.put(held);
+    next
+}
+
+/// Returns how many nodes there are.
+#[unsafe(no_mangle)]
+pub extern "C" fn indexset_text_log_node_count(alloc: Global, log: &mut TextLogHandle) -> usize
+    ensures value { result ≡ option_map_or (λ t. length t.tree.nodes) log.old.slot.value 0 }
+    ensures same { log.new.slot.value ≡ log.old.slot.value }
+{
+    let Some(held) = log.take(alloc) else {
+        return 0;
+    };
+    let count = held.node_count();
+    log.put(held);
+    count
+}

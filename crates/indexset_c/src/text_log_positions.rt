@@ -1,0 +1,102 @@
+//! Calls of a logged map from byte strings that go by a position.
+ghost use Rattle.std.specs.Prelude.{◌≡◌, Some, None, true, false, drop, length, min, take};
+ghost use Rattle.indexset_core.specs.Nodes.{joined};
+ghost use Rattle.indexset_core.specs.Pairs.{pair_keys, pair_values};
+ghost use Rattle.indexset_handle.specs.Elements.{written};
+ghost use Rattle.indexset_handle.specs.Text.{key_at, key_lengths, value_at, written_over};
+ghost use Rattle.indexset_handle.specs.TextLogs.{logged_texts};
+
+use indexset_handle::text_log_calls::{write_keys, write_values};
+use indexset_handle::text_log_handle::TextLogHandle;
+use indexset_handle::write::write_bytes;
+use std::alloc::Global;
+
+/// Writes the pair at a position, counted from 0, where there is one: as many bytes of its key as
+/// there is room for, how many the key has, and its value.
+#[unsafe(no_mangle)]
+pub extern "C" fn indexset_text_log_at(
+    alloc: Global,
+    log: &mut TextLogHandle,
+    position: usize,
+    key: &mut [u8],
+    len: &mut usize,
+    value: &mut u64,
+) -> bool
+    ensures found { result ≡ true → value_at (logged_texts log.old.slot.value) position
+        ≡ Some value.new }
+    ensures long { result ≡ true → len.new
+        ≡ length (key_at (logged_texts log.old.slot.value) position) }
+    ensures bytes { key.new ≡ written_over (key_at (logged_texts log.old.slot.value) position)
+        key.old }
+    ensures absent { result ≡ false → value_at (logged_texts log.old.slot.value) position ≡ None }
+    ensures no_len { result ≡ false → len.new ≡ len.old }
+    ensures no_value { result ≡ false → value.new ≡ value.old }
+    ensures same { log.new.slot.value ≡ log.old.slot.value }
+{
+    let Some(held) = log.take(alloc) else {
+        return false;
+    };
+    let found = match held.get_index(position) {
+        Some((stored, number)) => {
+            write_bytes(stored.as_slice(), key);
+            *len = stored.len();
+            *value = *number;
+            true
+        }
+        None => false,
+    };
+    log.put(held);
+    found
+}
+
+/// Writes the values of the pairs from a position on, in order and as far as there is room. Returns
+/// how many it wrote.
+#[unsafe(no_mangle)]
+pub extern "C" fn indexset_text_log_range_by_position(
+    alloc: Global,
+    log: &mut TextLogHandle,
+    from: usize,
+    values: &mut [u64],
+) -> usize
+    ensures count { result ≡ min (length (drop from (logged_texts log.old.slot.value)))
+        (length values.old) }
+    ensures values { values.new ≡ written result
+        (pair_values (drop from (logged_texts log.old.slot.value))) values.old }
+    ensures same { log.new.slot.value ≡ log.old.slot.value }
+{
+    let Some(held) = log.take(alloc) else {
+        return 0;
+    };
+    let walk = held.range_from(from);
+    let count = write_values(walk, values);
+    log.put(held);
+    count
+}
+
+/// Writes the lengths of the keys from a position on, in order and as far as there is room, and the
+/// bytes of these keys, one key behind another and as far as there is room. Returns how many
+/// lengths it wrote.
+#[unsafe(no_mangle)]
+pub extern "C" fn indexset_text_log_keys_by_position(
+    alloc: Global,
+    log: &mut TextLogHandle,
+    from: usize,
+    bytes: &mut [u8],
+    lengths: &mut [usize],
+) -> usize
+    ensures count { result ≡ min (length (drop from (logged_texts log.old.slot.value)))
+        (length lengths.old) }
+    ensures lengths { lengths.new ≡ written result
+        (key_lengths (drop from (logged_texts log.old.slot.value))) lengths.old }
+    ensures bytes { bytes.new ≡ written_over
+        (joined (take result (pair_keys (drop from (logged_texts log.old.slot.value))))) bytes.old }
+    ensures same { log.new.slot.value ≡ log.old.slot.value }
+{
+    let Some(held) = log.take(alloc) else {
+        return 0;
+    };
+    let walk = held.range_from(from);
+    let count = write_keys(walk, bytes, lengths);
+    log.put(held);
+    count
+}

@@ -1,0 +1,37 @@
+//! The follower that a leader becomes.
+
+ghost use Rattle.std.specs.Prelude.{◌≡◌, IfErr, IfOk};
+ghost use Rattle.indexset_follow.specs.Copy.{copy};
+
+use crate::write::Nodes;
+use indexset_bench::RunFault;
+use indexset_bench::pairs::Pairs;
+use indexset_core::pair::Pair;
+use std::alloc::Global;
+
+/// Returns a follower of copies of the nodes, which awaits the event of the next number.
+pub fn follower_of(alloc: Global, pairs: &Pairs) -> Result<Nodes, RunFault>
+    ensures follower { IfOk result (λ nodes. nodes ≡ copy pairs.now.nodes pairs.now.next) }
+    ensures fault { IfErr result (λ fault. fault ≡ RunFault.Memory) }
+{
+    let mut nodes = Vec::new(alloc);
+    for node in pairs.iter_nodes() {
+        let copy = copied(alloc, node)?;
+        nodes.push(copy).map_err(|_| RunFault::Memory)?;
+    }
+    Nodes::from_nodes(nodes, pairs.events_issued()).map_err(|_| RunFault::Memory)
+}
+
+/// Returns a copy of a node.
+fn copied(alloc: Global, node: &[Pair<u64, u64>]) -> Result<Vec<Pair<u64, u64>>, RunFault>
+    ensures copy { IfOk result (λ copy. copy.items ≡ node.now) }
+    ensures fault { IfErr result (λ fault. fault ≡ RunFault.Memory) }
+{
+    let mut copy = Vec::with_capacity(alloc, node.len()).map_err(|_| RunFault::Memory)?;
+    for pair in node {
+        let (key, value) = (pair.key, pair.value);
+        copy.push(Pair { key, value })
+            .map_err(|_| RunFault::Memory)?;
+    }
+    Ok(copy)
+}

@@ -1,0 +1,201 @@
+//! A logged map from byte strings, which keeps the changes that its last call told.
+//!
+//! The changes stay beside the map, since C can't own the byte strings that they name: it reads a
+//! change at a time, into bytes of its own.
+ghost use Rattle.std.specs.Prelude.{◌≡◌, ◌≢◌, ◌≤◌, Some, None, IfOk, OnOk, IfErr, OnErr, IsOk, drop, length, slice_get};
+ghost use Rattle.std.specs.Cmp.Lexicographic.{slice_cmp};
+ghost use Rattle.std.specs.Option.{option_copied, option_map};
+ghost use Rattle.std.specs.Ordering.{nat_cmp};
+ghost use Rattle.indexset_core.specs.Nodes.{joined};
+ghost use Rattle.indexset_core.specs.Pairs.{by_key, entry_of, key_rank, pair, value_of};
+ghost use Rattle.indexset_core.specs.Parted.{IsParted};
+ghost use Rattle.indexset_log.specs.Changed.{Changed, key_removal, put_change, refusal_of};
+ghost use Rattle.indexset_handle.specs.Elements.{key_count_up_to};
+ghost use Rattle.indexset_handle.specs.TextLogs.{after, untold};
+
+use crate::text_probe::ByBytes;
+use bytes::Bytes;
+use indexset_core::pair::Pair;
+use indexset_core::refusal::Refusal;
+use indexset_events::change::ChangeEvent;
+use indexset_log::map::BTreeMap;
+use indexset_log::map::range::Range;
+use std::alloc::Global;
+use std::marker::Model;
+use std::ops::Bound;
+
+/// A change of such a map.
+pub type TextChange = ChangeEvent<Pair<Bytes, u64>>;
+
+/// The pairs of a part of it.
+pub type TextLogRange<'a> = Range<'a, Bytes, u64, Vec<Pair<Bytes, u64>>>;
+
+/// A logged map from byte strings to numbers, and what its last change was.
+#[derive(Drop)]
+pub struct TextLog {
+    tree: BTreeMap<Bytes, u64, Vec<Pair<Bytes, u64>>>,
+    told: Vec<TextChange>,
+}
+
+impl Model for TextLog {
+    ghost use Rattle.indexset_handle.specs.TextLogs.{ToldTree};
+
+    ghost Value = { ToldTree };
+
+    ghost view = { λ log. record { tree = log.tree; told = log.told.items } };
+}
+
+impl TextLog {
+    /// Returns an empty map, whose nodes hold at most `size` pairs and whose first change has the
+    /// number `next`.
+    pub fn starting_at(alloc: Global, size: usize, next: u64) -> TextLog
+        requires { 2 ≤ size }
+        ensures { result ≡ untold size next }
+    {
+        TextLog {
+            tree: BTreeMap::starting_at(alloc, size, next),
+            told: Vec::new(alloc),
+        }
+    }
+
+    /// Returns how many pairs there are.
+    pub fn len(&self) -> usize
+        ensures { result ≡ length (joined self.now.tree.nodes) }
+    {
+        self.tree.len()
+    }
+
+    /// Returns how many nodes there are.
+    pub fn node_count(&self) -> usize
+        ensures { result ≡ length self.now.tree.nodes }
+    {
+        self.tree.node_count()
+    }
+
+    /// Returns the number of the next change.
+    pub fn next(&self) -> u64
+        ensures { result ≡ self.now.tree.next }
+    {
+        self.tree.events_issued()
+    }
+
+    /// Returns the value of a key, or `None` where it is not there.
+    pub fn get(&self, key: &[u8]) -> Option<u64>
+        ensures { result ≡ value_of (slice_cmp nat_cmp) (joined self.now.tree.nodes) key.now }
+    {
+        Some(self.tree.get_by(&mut self.by_bytes(key))?.value)
+    }
+
+    /// Returns how many keys are below a key.
+    pub fn rank(&self, key: &[u8]) -> usize
+        ensures { result ≡ key_rank (slice_cmp nat_cmp) (joined self.now.tree.nodes) key.now }
+    {
+        self.tree.count_before(Bound::Included(self.by_bytes(key)))
+    }
+
+    /// Returns how many keys are not above a key.
+    pub fn count_up_to(&self, key: &[u8]) -> usize
+        ensures { result
+            ≡ key_count_up_to (slice_cmp nat_cmp) (joined self.now.tree.nodes) key.now }
+    {
+        self.tree.count_up_to(Bound::Included(self.by_bytes(key)))
+    }
+
+    /// Returns the pair at a position, counted from 0, or `None` past the end.
+    pub fn get_index(&self, i: usize) -> Option<(&Bytes, &u64)>
+        ensures { option_map (λ p. (p.0.now, p.1.now)) result
+            ≡ option_map entry_of (slice_get (joined self.now.tree.nodes) i) }
+    {
+        self.tree.get_index(i)
+    }
+
+    /// Returns the pairs from a position on, in order.
+    pub fn range_from(&self, from: usize) -> TextLogRange<'_>
+        ensures { result ≡ drop from (joined self.now.tree.nodes) }
+    {
+        self.tree
+            .range_idx((Bound::Included(from), Bound::Unbounded))
+    }
+
+    /// Inserts a pair, or replaces that of an equal key and returns its value. The bytes of the key
+    /// are copied. A failed call changes nothing, the changes told before included.
+    pub fn insert(&mut self, alloc: Global, key: &[u8], value: u64) -> Result<Option<u64>, Refusal>
+        ensures before { IfOk result (λ r. r
+            ≡ value_of (slice_cmp nat_cmp) (joined self.old.tree.nodes) key.now) }
+        ensures ok { OnOk result (self.new ≡ after self.old.tree
+            (put_change (by_key (slice_cmp nat_cmp)) self.old.tree (pair key.now value))) }
+        ensures changed { OnOk result (Changed (by_key (slice_cmp nat_cmp)) self.old.tree
+            self.new.tree
+            (put_change (by_key (slice_cmp nat_cmp)) self.old.tree (pair key.now value))) }
+        ensures refusal { IfErr result (λ e. e ≢ Refusal.Memory → e ≡ refusal_of self.old.tree
+            (put_change (by_key (slice_cmp nat_cmp)) self.old.tree (pair key.now value))) }
+        ensures unchanged { OnErr result (self.new ≡ self.old) }
+    {
+        let Ok(copied) = Bytes::copy_from_slice(alloc, key) else {
+            return Err(Refusal::Memory);
+        };
+        match self.tree.insert_cdc(copied, value) {
+            Ok((before, told)) => {
+                self.told = told;
+                Ok(before)
+            }
+            Err(refused) => Err(refused.cause),
+        }
+    }
+
+    /// Removes a key and returns its value, or `None` where it is not there; then nothing changes,
+    /// the changes told before included, nor does it where the call fails.
+    pub fn remove(&mut self, alloc: Global, key: &[u8]) -> Result<Option<u64>, Refusal>
+        ensures found { IfOk result (λ r. r
+            ≡ value_of (slice_cmp nat_cmp) (joined self.old.tree.nodes) key.now) }
+        ensures absent { IfOk result (λ r. r ≡ None → self.new ≡ self.old) }
+        ensures ok { IfOk result (λ r. r ≢ None → self.new ≡ after self.old.tree
+            (key_removal (slice_cmp nat_cmp) self.old.tree key.now)) }
+        ensures changed { IfOk result (λ r. r ≢ None → Changed (by_key (slice_cmp nat_cmp))
+            self.old.tree self.new.tree
+            (key_removal (slice_cmp nat_cmp) self.old.tree key.now)) }
+        ensures refusal { IfErr result (λ e. e ≢ Refusal.Memory → e ≡ refusal_of self.old.tree
+            (key_removal (slice_cmp nat_cmp) self.old.tree key.now)) }
+        ensures no_event { value_of (slice_cmp nat_cmp) (joined self.old.tree.nodes) key.now ≡ None
+            → IsOk result }
+        ensures unchanged { OnErr result (self.new ≡ self.old) }
+    {
+        if self.get(key).is_none() {
+            return Ok(None);
+        }
+        let Ok(copied) = Bytes::copy_from_slice(alloc, key) else {
+            return Err(Refusal::Memory);
+        };
+        let (found, told) = self.tree.remove_cdc(&copied)?;
+        self.told = told;
+        match found {
+            Some((_, value)) => Ok(Some(value)),
+            None => Ok(None),
+        }
+    }
+
+    /// Returns how many changes the last call told that told any.
+    pub fn told(&self) -> usize
+        ensures { result ≡ length self.now.told }
+    {
+        self.told.len()
+    }
+
+    /// Returns one of these changes, counted from 0, or `None` past their end.
+    pub fn change(&self, i: usize) -> Option<&TextChange>
+        ensures { option_copied result ≡ slice_get self.now.told i }
+    {
+        self.told.get(i)
+    }
+
+    // Returns a comparator for bytes, which finds the pairs in order.
+    fn by_bytes<'a>(&self, key: &'a [u8]) -> ByBytes<'a>
+        ensures probe { result ≡ (key.now, 0) }
+        ensures parted { IsParted (λ p. slice_cmp nat_cmp p.key key.now)
+            (joined self.now.tree.nodes) }
+    {
+        // The contract of `node_count` says that the pairs ascend.
+        let _nodes = self.tree.node_count();
+        ByBytes::new(key)
+    }
+}

@@ -1,0 +1,109 @@
+//! Calls that seek an item of a replica: by an item, by a key, or by a position.
+
+use crate::item::{Item, Source, read_bound, read_range};
+use crate::trees::{copies_before, copies_up_to};
+use indexset_core::bounds::bounds_are_ordered;
+use indexset_play::script::{self, Stop, read, tell, tell_option};
+use indexset_replica::Replica;
+use indexset_replica::iter::Iter;
+use indexset_replica::keys::KeyOf;
+use std::str::SplitWhitespace;
+
+/// Makes a call that seeks by an item or by a position.
+pub fn seek<T: Item>(
+    replica: &Replica<T>,
+    source: &Source,
+    name: &str,
+    words: &mut SplitWhitespace<'_>,
+    answer: &mut String,
+) -> Result<(), Stop> {
+    match name {
+        "get_index" => tell_option(answer, replica.get_index(read(words)?)),
+        "range_idx" | "range_idx_back" => {
+            let range = (script::read_bound(words)?, script::read_bound(words)?);
+            tell_items(name == "range_idx_back", answer, replica.range_idx(range))
+        }
+        "count_before" => {
+            let start = read_bound::<T>(source, words)?;
+            tell(answer, copies_before(replica, start.as_ref()))
+        }
+        "count_up_to" => {
+            let end = read_bound::<T>(source, words)?;
+            tell(answer, copies_up_to(replica, end.as_ref()))
+        }
+        _ => seek_by::<T, T>(replica, source, name, words, answer),
+    }
+}
+
+/// Makes a call that seeks by a key.
+pub fn seek_by<T: Item, Q: Item + KeyOf<T>>(
+    replica: &Replica<T>,
+    source: &Source,
+    name: &str,
+    words: &mut SplitWhitespace<'_>,
+    answer: &mut String,
+) -> Result<(), Stop> {
+    match name {
+        "ranks" => tell_ranks::<T, Q>(replica, answer),
+        "range" | "range_back" => tell_range::<T, Q>(replica, source, name, words, answer),
+        _ => tell_of::<T, Q>(replica, name, &Q::read_item(source, words)?, answer),
+    }
+}
+
+/// Writes what the replica has of a key.
+fn tell_of<T: Item, Q: Item + KeyOf<T>>(
+    replica: &Replica<T>,
+    name: &str,
+    key: &Q,
+    answer: &mut String,
+) -> Result<(), Stop> {
+    match name {
+        "get" => tell_option(answer, replica.get(key)),
+        "contains" => tell(answer, replica.contains(key)),
+        "rank" => tell(answer, replica.rank(key)),
+        "index_of" => tell_option(answer, replica.index_of(key)),
+        "count_of" => tell(answer, replica.count(key)),
+        _ => Err(Stop::NoCall),
+    }
+}
+
+/// Writes the rank of the key of each item.
+fn tell_ranks<T: Item, Q: Item + KeyOf<T>>(
+    replica: &Replica<T>,
+    answer: &mut String,
+) -> Result<(), Stop> {
+    for item in replica {
+        let key: &Q = Q::key_of(item);
+        tell(answer, replica.rank(key))?;
+    }
+    Ok(())
+}
+
+fn tell_range<T: Item, Q: Item + KeyOf<T>>(
+    replica: &Replica<T>,
+    source: &Source,
+    name: &str,
+    words: &mut SplitWhitespace<'_>,
+    answer: &mut String,
+) -> Result<(), Stop> {
+    let (start, end) = read_range::<Q>(source, words)?;
+    if !bounds_are_ordered(start.as_ref(), end.as_ref()) {
+        return Err(Stop::NoCall);
+    }
+    let items = replica.range((start.as_ref(), end.as_ref()));
+    tell_items(name == "range_back", answer, items)
+}
+
+/// Writes items, from the first on or from the last.
+fn tell_items<T: Item>(is_back: bool, answer: &mut String, items: Iter<'_, T>) -> Result<(), Stop> {
+    if is_back {
+        for item in items.rev() {
+            tell(answer, item)?;
+        }
+    } else {
+        for item in items {
+            tell(answer, item)?;
+        }
+    }
+    Ok(())
+}

@@ -1,0 +1,21 @@
+use Rattle.std.proofs.Common.{◌∙◌, subst}
+use Rattle.std.specs.List.{AllZip}
+use Rattle.indexset_core.specs.Order.{IsAscending}
+use Rattle.indexset_core.specs.declared.refusal.Refusal.TheVariants.{Memory}
+use Rattle.indexset_spine.specs.Cut.{items}
+use Rattle.indexset_set.specs.SetAlgebra.{difference}
+use Rattle.indexset_set.proofs.SetAlgebraLaws.{difference_ascending}
+use Rattle.indexset_set.proofs.SetOfLemmas.{made_set, shown}
+use Rattle.indexset_set.proofs.algebra.operators.RefBTreeSetSub.sub.Goals as goal
+
+pub returns : goal.returns
+returns g c =
+    let cmp = g.T.Ord.cmp in
+    let xs = difference cmp (items c.args.self.now) (items c.args.other.now) in
+    let came = c.in_ok-clones.ensures in
+    let clones = c.in_ok-clones.clones.items in
+    let cloned : AllZip g.T.Clone.is_clone xs clones = subst (λ l. AllZip g.T.Clone.is_clone l clones) (shown c.difference.result came.0 came.1 ∙ c.difference.ensures.rest) came.2 in
+    let first : IsAscending cmp (items c.args.self.now) = rw (← c.self.view_is) c.self.invariant in
+    let up : IsAscending cmp xs = difference_ascending cmp (items c.args.self.now) (items c.args.other.now) first in
+    let made = c.made_like.ensures in
+    made_set cmp g.T.Clone.is_clone xs up clones cloned Memory c.args.self.now.size c.made_like.result made.kept made.nodes made.size made.refusal

@@ -1,0 +1,36 @@
+//! What `from` makes a collection of.
+ghost use Rattle.std.specs.Prelude.{◌≡◌, List, IfOk};
+
+use std::alloc::{AllocError, Global};
+
+/// Values in a row: a `Vec` or an array.
+pub trait Listed {
+    type Item;
+
+    /// The values, in order.
+    ghost values: { Self → List Self.Item };
+
+    /// Returns the values as a `Vec`. It allocates for an array alone.
+    fn into_vec(self, alloc: Global) -> Result<Vec<Self::Item>, AllocError>
+        ensures { IfOk result (λ all. all.items ≡ values self) };
+}
+
+impl<T> Listed for Vec<T> {
+    type Item = T;
+
+    ghost values = { λ all. all.items };
+
+    fn into_vec(self, _alloc: Global) -> Result<Vec<T>, AllocError> {
+        Ok(self)
+    }
+}
+
+impl<T: Drop, const N: usize> Listed for [T; N] {
+    type Item = T;
+
+    ghost values = { λ all. all };
+
+    fn into_vec(self, alloc: Global) -> Result<Vec<T>, AllocError> {
+        Ok(Vec::from_array(alloc, self)?)
+    }
+}
