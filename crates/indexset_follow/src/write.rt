@@ -29,16 +29,21 @@ pub fn write_reply<W: Write>(writer: &mut W, reply: Reply) -> Result<(), RunFaul
     writer.writeln(reply).map_err(|_| RunFault::Write)
 }
 
-/// Writes the nodes, one a line, and then the expected number.
-pub fn write_nodes<W: Write>(writer: &mut W, nodes: &Nodes) -> Result<(), RunFault>
+/// Writes the nodes, one a line, and then the next number.
+pub fn write_nodes<'a, N: WalkNodes<'a> + Drop, W: Write>(
+    writer: &mut W,
+    next: u64,
+    nodes: N,
+) -> Result<(), RunFault>
     ensures told { OnOk result (Appends (W.contents writer.old) (W.contents writer.new)
-        (nodes_text nodes.now.nodes nodes.now.next)) }
+        (nodes_text (N.rest nodes) next)) }
     ensures fault { IfErr result (λ fault. fault ≡ RunFault.Write) }
 {
-    for node in nodes.nodes() {
+    let mut walk = nodes;
+    while let Some(node) = walk.next_node() {
         write_node(writer, node)?;
     }
-    write_reply(writer, Reply::Next(nodes.next()))
+    write_reply(writer, Reply::Next(next))
 }
 
 /// Writes the beginning or the end of a snapshot as a line.

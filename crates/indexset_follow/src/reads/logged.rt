@@ -3,12 +3,10 @@
 use super::Reads;
 use super::nodes::WalkNodes;
 use super::row::{Walk, write_row};
-use crate::reply::Reply;
 use crate::sum::sum;
-use crate::write::{write_body, write_reply};
+use crate::write::{write_body, write_nodes};
 use indexset_bench::RunFault;
 use indexset_bench::pairs::Pairs;
-use indexset_bench::write::write_nodes;
 use indexset_core::pair::Pair;
 use indexset_log::map::iter::Iter;
 use indexset_log::set::nodes::Nodes;
@@ -75,8 +73,7 @@ impl Reads for Pairs {
     }
 
     fn write_all<W: Write>(&self, writer: &mut W) -> Result<(), RunFault> {
-        write_nodes(writer, self)?;
-        write_reply(writer, Reply::Next(self.events_issued()))
+        write_nodes(writer, self.events_issued(), self.iter_nodes())
     }
 }
 

@@ -72,7 +72,7 @@ impl Reads for Nodes {
     }
 
     fn write_all<W: Write>(&self, writer: &mut W) -> Result<(), RunFault> {
-        write_nodes(writer, self)
+        write_nodes(writer, self.next(), self.nodes().iter())
     }
 }
 

@@ -27,7 +27,7 @@ loop-node-preserved g c =
     let told = on_ok_given _ c.write_node_line.result _ c.write_node_line.ensures.told (search rules) in
     let text : c.as_slice-in-Some.result.now ≡ ended (node_line node) = c.as_slice-in-Some.ensures.value ∙ appended_alone _ _ _ told c.clear.ensures.items in
     let next : g.N.WalkNodes.rest c.loop-node.walk ≡ node ∷ g.N.WalkNodes.rest c.next_node.new.self = search rules in
-    let more = ap (λ t. (front ++ lines_for node_line before.0) ++ t) text ∙ line_push front before.0 node in
+    let more = ap (λ t. (front ++ lines_for node_line before.0) ++ t) text ∙ line_push node_line front before.0 node in
     (before.0 ++ node ∷ [], walked_on before.0 node _ _ _ before.1 next, subst (Holds256 c.update-in-Some.new.self) more (c.update-in-Some.ensures (front ++ lines_for node_line before.0) before.2))
 
 pub returns-clause-sum : goal.returns-clause-sum

@@ -19,7 +19,7 @@ loop-node-preserved g c =
     let node = c.in-Some.node.now in
     let told = on_ok_given _ c.write_node_line.result _ c.write_node_line.ensures.told (search rules) in
     let next : g.N.WalkNodes.rest c.loop-node.walk ≡ node ∷ g.N.WalkNodes.rest c.next_node.new.self = search rules in
-    (before.0 ++ node ∷ [], walked_on before.0 node _ _ _ before.1 next, line_behind (ended (mark_line (Start c.args.next))) before.0 node _ _ _ before.2 told)
+    (before.0 ++ node ∷ [], walked_on before.0 node _ _ _ before.1 next, line_behind node_line (ended (mark_line (Start c.args.next))) before.0 node _ _ _ before.2 told)
 
 pub returns-clause-told : goal.returns-clause-told
 returns-clause-told g c =
