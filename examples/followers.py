@@ -67,8 +67,13 @@ class Lines:
 
     def snapshot(self) -> list[bytes]:
         """The lines that make another follower the same."""
-        self.send([b"snapshot", b"len"])
-        return self.until(bytes.isdigit)[:-1]
+        self.send([b"snapshot"])
+        return self.until(lambda line: line.startswith(b"end "))
+
+    def sum(self) -> bytes:
+        """The line by which two followers are compared."""
+        self.send([b"sum"])
+        return self.line()
 
     def kill(self) -> None:
         """Ends the program at once."""
@@ -123,7 +128,7 @@ def first_missing(answers: list[bytes], counts: Counts) -> int | None:
     """The number from which on events are to be sent again, after these answers, or None. It counts the answers."""
     missing: int | None = None
     for answer in answers:
-        word, awaited = answer.split(b" ")
+        word, awaited, *_ = answer.split(b" ")
         counts[word] += 1
         if word == b"gap":
             missing = int(awaited)
@@ -206,7 +211,8 @@ def restarted(follower: Lines, giver: Lines, results: Results) -> Lines:
     if results.counts[FOLLOWER_KILLED] == 2:
         snapshot = giver.snapshot()
         answers = started.each(snapshot)
-        results.check(f"a snapshot of {len(snapshot) - 1} nodes is held", set(answers[1:]) == {b"held"})
+        results.check(f"a snapshot of {len(snapshot) - 2} nodes is held", set(answers[:-1]) == {b"held"})
+        results.check("its taker has the sum of its giver", started.sum() == giver.sum())
     return started
 
 

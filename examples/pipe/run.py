@@ -56,9 +56,10 @@ def deliver(follower: Lines, lines: list[bytes], events: list[bytes], counts: Co
 def taken_over(giver: Lines, taker: Lines, half: int, run: Run) -> None:
     """Hands the nodes of a follower to another by a snapshot."""
     snapshot = giver.snapshot()
-    is_held = taker.each(snapshot) == [b"next %d" % half] + [b"held"] * (len(snapshot) - 1)
-    run.results.check(f"a snapshot of {len(snapshot) - 1} nodes at event {half} is held", is_held)
-    run.results.check("its taker has the nodes of its giver", taker.nodes() == giver.nodes())
+    answers = taker.each(snapshot)
+    is_held = answers == [b"held"] * (len(snapshot) - 1) + [b"next %d" % half]
+    run.results.check(f"a snapshot of {len(snapshot) - 2} nodes at event {half} is held", is_held)
+    run.results.check("its taker has the nodes of its giver", taker.nodes() == giver.nodes() and taker.sum() == giver.sum())
 
 
 def followed(events: list[bytes], nodes: list[bytes], run: Run) -> None:

@@ -51,7 +51,7 @@ def waits(sweep: Sweep, follower: pathlib.Path) -> None:
     """Each reply is out while the follower waits for more of a line, and for the next line."""
     with subprocess.Popen([follower], stdin=subprocess.PIPE, stdout=subprocess.PIPE) as running:
         assert running.stdin and running.stdout
-        for given, reply in ((b"start 7\nle", b"next 7\n"), (b"n\n", b"0\n"), (b"fir", b""), (b"st\nget 1", b"none\n")):
+        for given, reply in ((b"start 7\nle", b"held\n"), (b"n\n", b"0\n"), (b"fir", b""), (b"st\nget 1", b"none\n")):
             running.stdin.write(given)
             running.stdin.flush()
             sweep.expect(read_in_time(running.stdout.fileno(), len(reply)) == reply, f"no {reply!r} after {given!r}")
@@ -79,7 +79,7 @@ def main() -> int:
     given, replies = (HERE / "follower_lines").read_bytes(), replies_to_first("follower_replies")
     with sweeping(arguments.linked) as sweep:
         sweep.each_request(follower, given, replies)
-        last_flush(sweep, follower, given.splitlines()[0], replies[1])
+        last_flush(sweep, follower, b"len", b"0\n")
         first_fault(sweep, follower, given, replies)
         waits(sweep, follower)
         return sweep.end()

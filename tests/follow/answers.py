@@ -3,6 +3,7 @@
 from __future__ import annotations
 
 import dataclasses
+import hashlib
 import re
 from collections.abc import Sequence
 
@@ -15,6 +16,8 @@ EVENT = re.compile(
     ).replace(b"NUM", NUMBER)
 )
 NODE = re.compile(rb"node (PAIR(?: PAIR)*)".replace(b"PAIR", PAIR))
+START = re.compile(rb"start " + NUMBER)
+END = re.compile(rb"end " + NUMBER + rb" " + NUMBER)
 
 Pair = tuple[int, int]
 Node = list[Pair]
@@ -68,69 +71,120 @@ def is_lawful(nodes: list[Node]) -> bool:
     return all(nodes) and all(a < b for a, b in zip(keys, keys[1:]))
 
 
+def snapshot(nodes: list[Node], awaited: int) -> list[bytes]:
+    """The lines that make a follower hold these nodes."""
+    lines = [b"start %d" % awaited] + [b"node " + shown(node) for node in nodes]
+    return [*lines, b"end %d %d" % (len(nodes), told_sum(lines))]
+
+
+def told_sum(lines: list[bytes]) -> int:
+    """The first 64 bits of the SHA-256 of some lines."""
+    return int.from_bytes(hashlib.sha256(b"".join(line + b"\n" for line in lines)).digest()[:8], "big")
+
+
+def with_node(nodes: list[Node], node: Node, key: int) -> list[Node]:
+    """The nodes with another one before the first that ends above or at a key."""
+    place = sum(it[-1][0] < key for it in nodes)
+    return [*nodes[:place], node, *nodes[place:]]
+
+
 class Model:
     """What a follower should hold and answer."""
 
     def __init__(self) -> None:
         self.nodes: list[Node] = []
         self.next = 0
+        self.coming: list[Node] | None = None
+        self.coming_next = 0
 
     def named(self, name: Pair) -> int | None:
         """The place of the node whose last key is that of the name, or None."""
         return next((at for at, node in enumerate(self.nodes) if node[-1][0] == name[0]), None)
 
-    def with_node(self, node: Node, key: int) -> list[Node]:
-        """The nodes with another one before the first that ends above or at a key."""
-        place = sum(it[-1][0] < key for it in self.nodes)
-        return [*self.nodes[:place], node, *self.nodes[place:]]
-
-    def changed(self, at: int, event: Event) -> list[Node] | None:
-        """What comes in place of a node, and of the next one where these merge; None where the event is no step."""
+    def changed(self, at: int, event: Event) -> list[Node] | str:
+        """What comes in place of a node, and of the next one where these merge; or why the event is no step."""
         node, item, index = self.nodes[at], event.item, event.index
         match event.word:
             case b"drop":
                 return []
             case b"split":
-                return [node[:index], node[index:]] if 0 < index < len(node) else None
+                return [node[:index], node[index:]] if 0 < index < len(node) else "split"
             case b"merge":
-                is_next = at + 1 < len(self.nodes) and self.named(item) == at + 1
-                return [node + self.nodes[at + 1]] if is_next else None
+                place = self.named(item)
+                return "node" if place is None else [node + self.nodes[place]] if place == at + 1 else "neighbours"
             case b"insert":
-                return [[*node[:index], item, *node[index:]]] if index <= len(node) else None
+                return [[*node[:index], item, *node[index:]]] if index <= len(node) else "place"
             case _:
-                is_there = 1 < len(node) > index and node[index][0] == item[0]
-                return [[*node[:index], *node[index + 1 :]]] if is_there else None
+                if index >= len(node):
+                    return "place"
+                if node[index][0] != item[0]:
+                    return "item"
+                return [[*node[:index], *node[index + 1 :]]] if len(node) > 1 else "empty"
 
-    def step(self, event: Event) -> list[Node] | None:
-        """The nodes after an event, or None where it is no step."""
+    def step(self, event: Event) -> list[Node] | str:
+        """The nodes after an event, or why it is no step."""
+        if event.at == MOST:
+            return "number"
         if event.word == b"create":
-            nodes = self.with_node([event.name], event.name[0])
+            nodes = with_node(self.nodes, [event.name], event.name[0])
         else:
             at = self.named(event.name)
-            changed = None if at is None else self.changed(at, event)
-            if at is None or changed is None:
-                return None
+            if at is None:
+                return "node"
+            changed = self.changed(at, event)
+            if isinstance(changed, str):
+                return changed
             end = at + 2 if event.word == b"merge" else at + 1
             nodes = [*self.nodes[:at], *changed, *self.nodes[end:]]
-        return nodes if is_lawful(nodes) else None
+        return nodes if is_lawful(nodes) else "order"
+
+    def unfit(self, reason: str) -> bytes:
+        return b"unfit %d %b" % (self.next, reason.encode())
 
     def event(self, event: Event) -> bytes:
         if event.at < self.next:
             return b"had %d" % self.next
         if event.at > self.next:
             return b"gap %d" % self.next
-        nodes = None if event.at == MOST else self.step(event)
-        if nodes is None:
-            return b"unfit %d" % self.next
+        nodes = self.step(event)
+        if isinstance(nodes, str):
+            return self.unfit(nodes)
         self.nodes, self.next = nodes, self.next + 1
         return b"next %d" % self.next
 
     def node(self, items: Node) -> bytes:
-        nodes = self.with_node(items, items[0][0])
+        if self.coming is None:
+            return self.unfit("start")
+        if not is_lawful([items]):
+            return self.unfit("order")
+        nodes = with_node(self.coming, items, items[0][0])
         if not is_lawful(nodes):
-            return b"unfit %d" % self.next
-        self.nodes = nodes
+            return self.unfit("overlap")
+        self.coming = nodes
         return b"held"
+
+    def start(self, at: int) -> bytes:
+        self.coming, self.coming_next = [], at
+        return b"held"
+
+    def end(self, count: int, told: int) -> bytes:
+        if self.coming is None:
+            return self.unfit("start")
+        came, self.coming = self.coming, None
+        if len(came) != count:
+            return self.unfit("count")
+        if told_sum(snapshot(came, self.coming_next)[:-1]) != told:
+            return self.unfit("sum")
+        self.nodes, self.next = came, self.coming_next
+        return b"next %d" % self.next
+
+    def cut(self, line: bytes) -> bytes:
+        """The answer to a last line that lacks its end: it changes nothing, whatever it is."""
+        try:
+            told = self.read(line)
+            return b"bad" if told is None else told
+        except OverflowError:
+            return b"bad"
 
     def read(self, line: bytes) -> bytes | None:
         """The answer to a read, or None where the line is none."""
@@ -140,6 +194,11 @@ class Model:
                 return b"\n".join([shown(node) for node in self.nodes] + [b"next %d" % self.next])
             case [b"next"]:
                 return b"next %d" % self.next
+            case [b"snapshot"]:
+                return b"\n".join(snapshot(self.nodes, self.next))
+            case [b"sum"]:
+                told = told_sum(snapshot(self.nodes, self.next)[:-1])
+                return b"sum %d %d %d" % (self.next, len(self.nodes), told)
             case [b"len"]:
                 return b"%d" % len(items)
             case [b"first"]:
@@ -163,24 +222,17 @@ class Model:
                 return shown(items[at : at + many]) or b"none"
         return None
 
-    def request(self, line: bytes) -> bytes:
-        """The answer to a request, or to a line that is none."""
-        if (told := self.read(line)) is not None:
-            return told
-        match line.split(b" "):
-            case [b"snapshot"]:
-                return b"\n".join([b"start %d" % self.next] + [b"node " + shown(node) for node in self.nodes])
-            case [b"start", start] if is_number(start):
-                self.nodes, self.next = [], number(start)
-                return b"next %d" % self.next
-        return b"bad"
-
     def answer(self, line: bytes) -> bytes:
+        """The answer to a line with its end."""
         try:
-            if told := EVENT.fullmatch(line):
-                return self.event(event_of(told))
-            if told := NODE.fullmatch(line):
-                return self.node([pair(part) for part in told[1].split(b" ")])
-            return self.request(line)
+            if event := EVENT.fullmatch(line):
+                return self.event(event_of(event))
+            if node := NODE.fullmatch(line):
+                return self.node([pair(part) for part in node[1].split(b" ")])
+            if start := START.fullmatch(line):
+                return self.start(number(start[1]))
+            if end := END.fullmatch(line):
+                return self.end(number(end[1]), number(end[2]))
         except OverflowError:
             return b"bad"
+        return self.cut(line)

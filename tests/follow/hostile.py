@@ -3,8 +3,9 @@
 
 The lines are events in turn and out of turn, events with a number, a name, an item, an index or a word
 altered, whole nodes that do not fit, snapshots cut short, requests, and bytes of any kind. The model is
-written from docs/FOLLOWING.md, and shares nothing with the program. Lines of megabytes follow, each in a
-run of its own whose memory is bounded.
+written from docs/FOLLOWING.md, and shares nothing with the program. Some lines are then cut at every byte:
+what a last line without its end would be is not done. Lines of megabytes follow, each in a run of its own
+whose memory is bounded.
 
 Run it once the program is built. With `--sanitized` the sanitizer in the program bounds the memory, which needs
 address space for its own. The last line is 'N passed, M failed'.
@@ -22,9 +23,10 @@ import subprocess
 import sys
 from collections.abc import Callable
 
+HERE = pathlib.Path(__file__).resolve().parent
 sys.dont_write_bytecode = True
-sys.path.insert(0, str(pathlib.Path(__file__).resolve().parent.parent.parent / "tools"))
-from answers import MOST, Model, shown  # noqa: E402
+sys.path.insert(0, str(HERE.parent.parent / "tools"))
+from answers import MOST, Model, shown, snapshot  # noqa: E402
 from programs import built  # noqa: E402
 
 LINES = 100_000
@@ -108,9 +110,14 @@ class Hostile:
             keys = sorted(set(keys))
         return b"node " + shown([(key, self.random.randrange(5)) for key in keys])
 
+    def end(self) -> bytes:
+        """The end of a snapshot, most often the right one."""
+        came = snapshot(self.model.coming or [], self.model.coming_next)[-1]
+        return came if self.random.random() < 0.7 else self.altered(came)
+
     def read(self) -> bytes:
         number = self.some_number
-        words = [b"nodes", b"len", b"first", b"last", b"next"]
+        words = [b"nodes", b"len", b"first", b"last", b"next", b"sum"]
         asked = [b"get %d" % number(), b"rank %d" % number(), b"at %d" % number()]
         return self.random.choice(words + asked * 2 + [b"range %d %d" % (number(), number()), b"page %d %d" % (number(), number())] * 3)
 
@@ -134,8 +141,10 @@ class Hostile:
             return self.whole_node()
         if kind < 0.82:
             return self.altered(self.whole_node())
-        if kind < 0.825:
+        if kind < 0.83:
             return b"start %d" % random.choice([0] * 9 + [5, MOST - 3, MOST])
+        if kind < 0.84:
+            return self.end()
         if kind < 0.92:
             return self.request()
         if kind < 0.95:
@@ -207,17 +216,33 @@ def long_lines(program: pathlib.Path, run: Run) -> Counts:
         "NULs": (b"\0" * size, b"bad"),
         "no UTF-8": (b"\xff" * size, b"bad"),
         "digits": (b"9" * size, b"bad"),
-        "a node of one key": (b"node" + b" 1:1" * (size // 4), b"unfit 0"),
+        "a node of one key": (b"node" + b" 1:1" * (size // 4), b"unfit 0 start"),
         "a node with a bad end": (b"node" + b" 1:1" * (size // 4) + b" ", b"bad"),
         "an event with a long index": (b"0 insert 1:1 1:1 " + b"1" * size, b"bad"),
     }
     failed = 0
     for name, (line, answer) in cases.items():
         done = run(program, line + b"\nlen\n" + line, 160_000_000)
-        if (done.returncode, done.stdout) != (0, answer + b"\n0\n" + answer + b"\n"):
+        if (done.returncode, done.stdout) != (0, answer + b"\n0\nbad\n"):
             print(f"{name}: status {done.returncode}, {done.stdout[:80]!r} {done.stderr[:80]!r}")
             failed += 1
     return Counts(len(cases) - failed, failed)
+
+
+def cuts(program: pathlib.Path, given: bytes, words: list[str], first: Callable[[], Model]) -> Counts:
+    """The same for inputs that end at each byte of some lines: what is cut off is answered, and changes nothing."""
+    failed = 0
+    for end in range(len(given) + 1):
+        model = first()
+        *whole, rest = given[:end].split(b"\n")
+        answers = [model.answer(line) for line in whole]
+        if rest:
+            answers.append(model.cut(rest))
+        done = subprocess.run([program, *words], input=given[:end], capture_output=True, timeout=SECONDS)
+        if (done.returncode, done.stdout, done.stderr) != (0, joined(answers), b""):
+            print(f"cut at {end}, {rest!r}: {done.stdout[-80:]!r}, not {answers[-1:]}")
+            failed += 1
+    return Counts(len(given) + 1 - failed, failed)
 
 
 def main() -> int:
@@ -226,7 +251,8 @@ def main() -> int:
     ask.add_argument("--sanitized", action="store_true", help="the program is one that the sanitizer checks")
     given = ask.parse_args()
     program = built("indexset_store")
-    counts = [compare(program, given.seed), long_lines(program, sanitized if given.sanitized else limited)]
+    lines = (HERE.parent / "faults" / "follower_lines").read_bytes()
+    counts = [compare(program, given.seed), cuts(program, lines, [], Model), long_lines(program, sanitized if given.sanitized else limited)]
     passed, failed = sum(it.passed for it in counts), sum(it.failed for it in counts)
     print(f"{passed} passed, {failed} failed")
     return 1 if failed else 0

@@ -4,7 +4,8 @@
 The lines to a leader are commands, reads, commands and reads with a word or a byte altered, snapshots that it
 begins with while it has no node, `follow` and then events, and bytes of any kind. A follower reads the events of a
 leader up to some line, and then `lead` and the commands behind that line: what it answers must be, byte for byte,
-what the leader answered to these.
+what the leader answered to these. Another begins from the snapshot that the leader gives at that line. Some lines
+to a leader are cut at every byte.
 
 Run it once the program is built. The last line is 'N passed, M failed'.
 """
@@ -14,15 +15,14 @@ from __future__ import annotations
 import argparse
 import pathlib
 import random
-import re
 import subprocess
 import sys
 
 sys.dont_write_bytecode = True
 HERE = pathlib.Path(__file__).resolve().parent
 sys.path[:0] = [str(HERE.parent.parent / "tools"), str(HERE.parent / "model")]
-from answers import EVENT, MOST, NUMBER, Model, is_number, number  # noqa: E402
-from hostile import Counts, Hostile, agreed, joined  # noqa: E402
+from answers import EVENT, MOST, START, Model, is_number, number, snapshot  # noqa: E402
+from hostile import Counts, Hostile, agreed, cuts, joined  # noqa: E402
 from items import PAIRS, Item  # noqa: E402
 from logged import Tree, texts  # noqa: E402
 from programs import built  # noqa: E402
@@ -30,7 +30,6 @@ from programs import built  # noqa: E402
 LINES = 20_000
 TURNS = 12
 SECONDS = 1200  # for one run, on a busy machine
-START = re.compile(rb"start " + NUMBER)
 
 
 class Store(Model):
@@ -46,7 +45,7 @@ class Store(Model):
             if any(len(node) > self.tree.size for node in self.nodes):
                 return b"unfit %d size" % self.next
             self.tree.nodes = [[Item(key, 0, str(value)) for key, value in node] for node in self.nodes]
-            self.tree.next, self.leads = self.next, True
+            self.tree.next, self.leads, self.coming = self.next, True, None
         return b"next %d" % self.next
 
     def command(self, line: bytes) -> bytes | None:
@@ -71,6 +70,7 @@ class Store(Model):
         return b"bad" if told is None else told
 
     def answer(self, line: bytes) -> bytes:
+        """The answer to a line with its end, in the role that it has."""
         if line == b"lead":
             return self.lead()
         if line == b"follow":
@@ -111,7 +111,8 @@ class Commands(Hostile):
         if kind < 0.96:
             return self.altered(random.choice([self.command(), self.read()]))
         if kind < 0.98:
-            return random.choice([b"lead", b"lead", b"follow", b"snapshot", b"start %d" % random.choice([0, 3, 60, MOST + 1]), self.whole_node(), b"0 create 1:1"])
+            given = [b"start %d" % random.choice([0, 3, 60, MOST + 1]), self.end(), self.whole_node(), b"0 create 1:1"]
+            return random.choice([b"lead", b"lead", b"follow", b"snapshot", *given])
         return bytes(random.choices(range(256), k=random.randrange(40))).replace(b"\n", b"")
 
 
@@ -154,10 +155,36 @@ def take_over(program: pathlib.Path, size: int, seed: int) -> Counts:
     return Counts(len(goes_on), 0)
 
 
+def begins_late(program: pathlib.Path, size: int, seed: int) -> Counts:
+    """Counts of followers that hold what a leader gives, and lead as it goes on, and of others."""
+    leader = Store(size)
+    author = Commands(leader, seed, 60)
+    lines = [author.command() for _ in range(300)]
+    for line in lines:
+        leader.answer(line)
+    given = snapshot(leader.nodes, leader.next)
+    whole = run(program, ["--lead", "--node-size", str(size)], [*lines, b"snapshot"])
+    more = [b"start 9", b"sum", b"lead", b"end 0 0", b"sum", *(author.command() for _ in range(300))]
+    answers = [*[b"held"] * (len(given) - 1), b"next %d" % leader.next, b"held", *(leader.answer(line) for line in more[1:])]
+    done = run(program, ["--node-size", str(size)], [*given, *more])
+    passed = whole.stdout.endswith(b"\n" + joined(given)) and done.stdout == joined(answers)
+    if not passed:
+        print(f"seed {seed}, size {size}: a follower does not begin from the leader's snapshot")
+    return Counts(int(passed), int(not passed))
+
+
+def cut_lines(program: pathlib.Path) -> Counts:
+    """The counts for commands, reads and `lead` to a leader and a follower that end at each byte."""
+    lines = [b"put 3 30", b"put 12 120", b"lead", b"cut 3", b"range 1 20", b"sum", b"start 5", b"lead", b"put 4 40", b"follow", b"next"]
+    leading = cuts(program, joined(lines), ["--lead"], lambda: Store(256))
+    following = cuts(program, joined(lines), [], lambda: Store(256, leads=False))
+    return Counts(leading.passed + following.passed, leading.failed + following.failed)
+
+
 def too_large(program: pathlib.Path) -> Counts:
     """A follower whose node is too large for a leader stays one."""
-    lines = [b"start 7", b"node 1:1 2:2 3:3", b"lead", b"put 1 1", b"7 split 3:3 1", b"lead", b"8 create 9:9", b"put 9 9", b"nodes"]
-    wanted = [b"next 7", b"held", b"unfit 7 size", b"bad", b"next 8", b"next 8", b"bad"]
+    lines = [*snapshot([[(1, 1), (2, 2), (3, 3)]], 7), b"lead", b"put 1 1", b"7 split 3:3 1", b"lead", b"8 create 9:9", b"put 9 9", b"nodes"]
+    wanted = [b"held", b"held", b"next 7", b"unfit 7 size", b"bad", b"next 8", b"next 8", b"bad"]
     wanted += [b"new", b"8 split 3:3 1", b"9 insert 3:3 9:9 1", b"1:1", b"2:2", b"3:3 9:9", b"next 10"]
     done = run(program, ["--node-size", "2"], lines)
     passed = done.stdout == joined(wanted)
@@ -168,8 +195,8 @@ def too_large(program: pathlib.Path) -> Counts:
 
 def no_number(program: pathlib.Path) -> Counts:
     """A leader that has no number left for an event ends with a fault, and the answers before it are told."""
-    done = run(program, [], [b"start %d" % MOST, b"lead", b"cut 1", b"put 1 1", b"len"])
-    passed = (done.returncode, done.stdout, done.stderr) == (2, b"next %d\nnext %d\nnone\n" % (MOST, MOST), b"numbers\n")
+    done = run(program, [], [*snapshot([], MOST), b"lead", b"cut 1", b"put 1 1", b"len"])
+    passed = (done.returncode, done.stdout, done.stderr) == (2, b"held\nnext %d\nnext %d\nnone\n" % (MOST, MOST), b"numbers\n")
     if not passed:
         print(f"no number left: status {done.returncode}, {done.stdout!r} {done.stderr!r}")
     return Counts(int(passed), int(not passed))
@@ -195,7 +222,8 @@ def main() -> int:
     program = built("indexset_store")
     counts = [compare(program, size, keys, given.seed + size) for size, keys in ((2, 3), (3, 12), (4, 60), (9, 60))]
     counts += [take_over(program, random.Random(given.seed + turn).randrange(2, 9), given.seed + turn) for turn in range(TURNS)]
-    counts += [too_large(program), no_number(program), arguments(program)]
+    counts += [begins_late(program, random.Random(turn).randrange(2, 9), given.seed + turn) for turn in range(TURNS)]
+    counts += [cut_lines(program), too_large(program), no_number(program), arguments(program)]
     passed, failed = sum(it.passed for it in counts), sum(it.failed for it in counts)
     print(f"{passed} passed, {failed} failed")
     return 1 if failed else 0

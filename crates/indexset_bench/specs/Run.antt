@@ -2,7 +2,7 @@
 use Rattle.std.specs.Prelude.{Option, ℕ, ◌<◌, List}
 use Rattle.std.below.core.specs.declared.int.u64.TheConstants.{MAX}
 use Rattle.indexset_lines.specs.Run as lines
-use Rattle.indexset_bench.specs.Text.{Stores, no_stores, reply_line, stores_after}
+use Rattle.indexset_bench.specs.Text.{Stores, no_stores, reply_line, stores_after, text_of}
 
 -- more events were told than there are numbers
 abbrev pub lacks : Stores → Type 0
@@ -10,7 +10,7 @@ lacks s = MAX < s.pairs.next
 
 -- the reader gave an input, to its end, and the writer got its text
 abbrev pub AnswersAll : (reader reader' writer writer' : Option (List ℕ)) → Type 0
-AnswersAll = lines.AnswersAll reply_line stores_after no_stores
+AnswersAll = lines.AnswersAll text_of
 
 -- the reader gave whole lines and such a rest, and the writer got the text of the whole lines
 abbrev pub AnswersWholeLines : (List ℕ → Type 0) → (reader reader' writer writer' : Option (List ℕ)) → Type 0

@@ -83,12 +83,18 @@ impl Answers for Holding {
 
     ghost reply = { λ _. reply_line };
 
+    ghost cut_reply = { λ _. reply_line };
+
     ghost after = { stores_after };
 
     ghost lacks_numbers = { lacks };
 
     fn answer<W: Write>(&mut self, writer: &mut W, line: &[u8]) -> Result<(), RunFault> {
         answer_line(writer, &mut self.set, &mut self.pairs, line)
+    }
+
+    fn answer_cut<W: Write>(&mut self, writer: &mut W, line: &[u8]) -> Result<(), RunFault> {
+        self.answer(writer, line)
     }
 }
 

@@ -4,13 +4,14 @@ use lib.Chars.{codes}
 use Rattle.indexset_bench.specs.Pairs.{PairTree}
 use Rattle.indexset_follow.specs.EventLine.{event_of}
 use Rattle.indexset_follow.specs.Follow.{State}
+use Rattle.indexset_follow.specs.Mark.{mark_of}
 use Rattle.indexset_follow.specs.NodeLine.{node_of}
 use Rattle.indexset_follow.specs.Query.{QueryFits, query_line}
 use Rattle.indexset_follow.specs.Reads.{query_text}
 use Rattle.indexset_follow.specs.Store.{after_held, held, held_reply, is_follow, is_lead}
 use Rattle.indexset_follow.specs.declared.others.Others.{Others}
 use Rattle.indexset_follow.specs.declared.reads.query.Query.{Query}
-use Rattle.indexset_follow.specs.declared.reads.query.Query.TheVariants.{Get, Len, First, Last, Range, Rank, At, Page, Nodes, Next}
+use Rattle.indexset_follow.specs.declared.reads.query.Query.TheVariants.{Get, Len, First, Last, Range, Rank, At, Page, Nodes, Next, Snapshot, Sum}
 use Rattle.indexset_follow.specs.declared.role.Role.{Role}
 use Rattle.indexset_follow.specs.declared.role.Role.TheVariants.{Following, Leading}
 use Rattle.indexset_follow.proofs.QueryLines.{query_cut, query_told}
@@ -28,6 +29,8 @@ no_event (At i) = rw (query_cut (At i), no_number 97 (codes "t") (omega arith)) 
 no_event (Page i n) = rw (query_cut (Page i n), no_number 112 (codes "age") (omega arith)) refl
 no_event Nodes = refl
 no_event Next = refl
+no_event Snapshot = refl
+no_event Sum = refl
 
 -- nor is it a node
 no_node : (q : Query) → node_of (query_line q) ≡ None
@@ -41,6 +44,23 @@ no_node (At i) = rw (query_cut (At i)) refl
 no_node (Page i n) = rw (query_cut (Page i n)) refl
 no_node Nodes = refl
 no_node Next = refl
+no_node Snapshot = refl
+no_node Sum = refl
+
+-- nor does it begin or end a snapshot
+no_mark : (q : Query) → mark_of (query_line q) ≡ None
+no_mark (Get k) = rw (query_cut (Get k)) refl
+no_mark Len = refl
+no_mark First = refl
+no_mark Last = refl
+no_mark (Range a b) = rw (query_cut (Range a b)) refl
+no_mark (Rank k) = rw (query_cut (Rank k)) refl
+no_mark (At i) = rw (query_cut (At i)) refl
+no_mark (Page i n) = rw (query_cut (Page i n)) refl
+no_mark Nodes = refl
+no_mark Next = refl
+no_mark Snapshot = refl
+no_mark Sum = refl
 
 -- nor does it make a follower lead
 no_lead : (q : Query) → is_lead (query_line q) ≡ false
@@ -54,6 +74,8 @@ no_lead (At i) = refl
 no_lead (Page i n) = refl
 no_lead Nodes = refl
 no_lead Next = refl
+no_lead Snapshot = refl
+no_lead Sum = refl
 
 -- nor a leader follow
 no_follow : (q : Query) → is_follow (query_line q) ≡ false
@@ -67,14 +89,16 @@ no_follow (At i) = refl
 no_follow (Page i n) = refl
 no_follow Nodes = refl
 no_follow Next = refl
+no_follow Snapshot = refl
+no_follow Sum = refl
 
 module _ (q : Query) (fit : QueryFits q) where
-  pub follower_answers : (o : Others) (size : ℕ) (s : State) → held_reply o (held size (Following s)) (query_line q) ≡ query_text s.nodes s.next q
-  follower_answers o size s = rw (no_lead q, no_follow q, no_event q, no_node q, query_told q fit) refl
+  pub follower_answers : (o : Others) (size : ℕ) (s : State) → held_reply o (held size (Following s)) (query_line q) ≡ query_text s.held.nodes s.held.next q
+  follower_answers o size s = rw (no_lead q, no_follow q, no_event q, no_node q, no_mark q, query_told q fit) refl
 
   pub leader_answers : (o : Others) (size : ℕ) (t : PairTree) → held_reply o (held size (Leading t)) (query_line q) ≡ query_text t.nodes t.next q
-  leader_answers o size t = rw (no_lead q, no_follow q, query_told q fit) (rw (query_told q fit) refl)
+  leader_answers o size t = rw (no_lead q, no_follow q, no_mark q) (rw (query_told q fit) refl)
 
   pub nothing_changed : (size : ℕ) (r : Role) → after_held (held size r) (query_line q) ≡ held size r
-  nothing_changed size (Following s) = rw (no_lead q, no_follow q, no_event q, no_node q, query_told q fit) refl
-  nothing_changed size (Leading t) = rw (no_lead q, no_follow q, query_told q fit) (rw (query_told q fit) refl)
+  nothing_changed size (Following s) = rw (no_lead q, no_follow q, no_event q, no_node q, no_mark q) refl
+  nothing_changed size (Leading t) = rw (no_lead q, no_follow q, no_mark q) (rw (query_told q fit) refl)

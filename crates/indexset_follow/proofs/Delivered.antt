@@ -10,7 +10,8 @@ use Rattle.indexset_events.proofs.CallerLemmas.{Each, all_each, each_all}
 use Rattle.indexset_replica.specs.Delivery.{IsSubsequence}
 use Rattle.indexset_follow.specs.Drawn.{HoldsFirst, IsDrawn}
 use Rattle.indexset_follow.specs.EventLine.{Event, event_of}
-use Rattle.indexset_follow.specs.Follow.{State, after_line, start_state, state, state_after}
+use Rattle.indexset_follow.specs.Copy.{copy}
+use Rattle.indexset_follow.specs.Follow.{State, after_line, start_state, state_after}
 use Rattle.indexset_follow.specs.Told.{IsAmong, event_lines, events_of_lines, output_lines}
 use Rattle.indexset_follow.proofs.EventLines.{event_sound}
 use Rattle.indexset_follow.proofs.Output.{Known, events_in, output_known, output_tells}
@@ -98,11 +99,11 @@ module _ (lines : List (List ℕ)) (many : length lines < 2 ^ 64) (less : (store
         let held = follower_begins lines less (event_lines delivered) drawn in
         (held.0, subst (HoldsFirst 0 [] (events_of_lines lines) held.0) (sym told_alone) held.1)
 
-    pub delivered_same : (n : ℕ) → (state_after start_state delivered).next ≡ (stores_of no_stores (take n lines)).pairs.next → (state_after start_state delivered).nodes ≡ (stores_of no_stores (take n lines)).pairs.nodes
-    delivered_same n same = ap (λ r. r.nodes) told_alone ∙ same_nodes lines less (event_lines delivered) drawn n (sym (ap (λ r. r.next) told_alone) ∙ same)
+    pub delivered_same : (n : ℕ) → (state_after start_state delivered).held.next ≡ (stores_of no_stores (take n lines)).pairs.next → (state_after start_state delivered).held.nodes ≡ (stores_of no_stores (take n lines)).pairs.nodes
+    delivered_same n same = ap (λ r. r.held.nodes) told_alone ∙ same_nodes lines less (event_lines delivered) drawn n (sym (ap (λ r. r.held.next) told_alone) ∙ same)
 
-    pub delivered_whole : IsSubsequence (event_lines (output_lines lines)) (event_lines delivered) → state_after start_state delivered ≡ state (stores_of no_stores lines).pairs.nodes (stores_of no_stores lines).pairs.next
-    delivered_whole came = told_alone ∙ follower_ends lines less (event_lines delivered) drawn (subst (λ ls. IsSubsequence ls (event_lines delivered)) output_texts came)
+    pub delivered_whole : IsSubsequence (event_lines (output_lines lines)) (event_lines delivered) → (state_after start_state delivered).held ≡ copy (stores_of no_stores lines).pairs.nodes (stores_of no_stores lines).pairs.next
+    delivered_whole came = ap (λ r. r.held) told_alone ∙ follower_ends lines less (event_lines delivered) drawn (subst (λ ls. IsSubsequence ls (event_lines delivered)) output_texts came)
 
-  pub delivered_piped : state_after start_state (output_lines lines) ≡ state (stores_of no_stores lines).pairs.nodes (stores_of no_stores lines).pairs.next
+  pub delivered_piped : (state_after start_state (output_lines lines)).held ≡ copy (stores_of no_stores lines).pairs.nodes (stores_of no_stores lines).pairs.next
   delivered_piped = delivered_whole (output_lines lines) (all_among (output_lines lines)) (all_came (event_lines (output_lines lines)))

@@ -15,10 +15,11 @@ use Rattle.indexset_core.specs.declared.pair.Pair.{Pair}
 use Rattle.indexset_core.proofs.CallerLemmas.{some_held}
 use Rattle.indexset_events.specs.Replay.{event_number, replay, step}
 use Rattle.indexset_events.proofs.CallerLemmas.{replay-append}
-use Rattle.indexset_replica.specs.Delivery.{IsSubsequence, delivered}
+use Rattle.indexset_replica.specs.Delivery.{IsAt, IsSubsequence, delivered}
 use Rattle.indexset_follow.specs.Drawn.{HoldsFirst, IsDrawn, IsFeedOfPairs}
 use Rattle.indexset_follow.specs.EventLine.{Event, EventFits, event_of}
-use Rattle.indexset_follow.specs.Follow.{State, after_event, after_line, state, state_after}
+use Rattle.indexset_follow.specs.Copy.{Copy, copy}
+use Rattle.indexset_follow.specs.Follow.{State, after_event, after_line, copy_after, state_after}
 use Rattle.indexset_follow.proofs.EventLines.{event_told}
 use Rattle.indexset_events.specs.Spelling.Laws.{none_some, some_inj, then_some}
 
@@ -62,7 +63,10 @@ got (x ∷ xs) (suc i) d lt = got xs i d (omega (arith, lt))
 -- ---- one event
 
 module _ (s : ℕ) (ns : List (List (Pair ℕ ℕ))) (es : List Event) (feed : IsFeedOfPairs s ns es) where
-  step_at : (j : ℕ) (r : State) (e : Event) → HoldsFirst s ns es j r → slice_get es j ≡ Some e → replay (by_key nat_cmp) ns (take (j + 1) es) ≡ step (by_key nat_cmp) r.nodes e
+  abbrev At : ℕ → Copy → Type 0
+  At j c = IsAt (by_key nat_cmp) s ns es j c
+
+  step_at : (j : ℕ) (r : Copy) (e : Event) → At j r → slice_get es j ≡ Some e → replay (by_key nat_cmp) ns (take (j + 1) es) ≡ step (by_key nat_cmp) r.nodes e
   step_at j r e at told =
       let read = read_at es j e told in
       ap (replay (by_key nat_cmp) ns) (take_more es j e read.0 ∙ ap (λ x. take j es ++ x ∷ []) read.1)
@@ -70,7 +74,7 @@ module _ (s : ℕ) (ns : List (List (Pair ℕ ℕ))) (es : List Event) (feed : I
       ∙ rw at.nodes (and_then_some (step (by_key nat_cmp) r.nodes e))
 
   -- the awaited event makes a step
-  step_made : (j : ℕ) (r : State) (e : Event) → HoldsFirst s ns es j r → slice_get es j ≡ Some e → (after : List (List (Pair ℕ ℕ))) × (step (by_key nat_cmp) r.nodes e ≡ Some after)
+  step_made : (j : ℕ) (r : Copy) (e : Event) → At j r → slice_get es j ≡ Some e → (after : List (List (Pair ℕ ℕ))) × (step (by_key nat_cmp) r.nodes e ≡ Some after)
   step_made j r e at told =
       let all = some_held (replay (by_key nat_cmp) ns es) feed.defined in
       let parts = ap (replay (by_key nat_cmp) ns) (take-append-drop (j + 1) es) ∙ all.1 in
@@ -82,26 +86,26 @@ module _ (s : ℕ) (ns : List (List (Pair ℕ ℕ))) (es : List Event) (feed : I
       let read = read_at es p e told in
       ap event_number (sym read.1) ∙ feed.numbered p read.0 e
 
-  taken : (j : ℕ) (r : State) (e : Event) → HoldsFirst s ns es j r → slice_get es j ≡ Some e → HoldsFirst s ns es (j + 1) (after_event r e)
+  taken : (j : ℕ) (r : Copy) (e : Event) → At j r → slice_get es j ≡ Some e → At (j + 1) (copy_after r e)
   unfolding delivered
   taken j r e at told =
       let read = read_at es j e told in
       let made = step_made j r e at told in
       let number : event_number e ≡ r.next = omega (arith, number_at j e told, at.next) in
       let more : r.next < MAX = omega (arith, at.next, feed.fits, read.0) in
-      let after : after_event r e ≡ state made.0 (r.next + 1) = rw (eq-eqb (event_number e) r.next number, ne_eqb r.next MAX (λ last. omega (arith, last, more)), made.1) refl in
-      subst (HoldsFirst s ns es (j + 1)) (sym after) (record {
+      let after : copy_after r e ≡ copy made.0 (r.next + 1) = rw (eq-eqb (event_number e) r.next number, ne_eqb r.next MAX (λ last. omega (arith, last, more)), made.1) refl in
+      subst (At (j + 1)) (sym after) (record {
         within = omega (arith, read.0);
         nodes = step_at j r e at told ∙ made.1;
         next = omega (arith, at.next);
       })
 
-  passed : (j p : ℕ) (r : State) (e : Event) → p ≢ j → HoldsFirst s ns es j r → slice_get es p ≡ Some e → HoldsFirst s ns es j (after_event r e)
+  passed : (j p : ℕ) (r : Copy) (e : Event) → p ≢ j → At j r → slice_get es p ≡ Some e → At j (copy_after r e)
   unfolding delivered
   passed j p r e other at told =
       let number : event_number e ≢ r.next = λ same. other (omega (arith, number_at p e told, same, at.next)) in
-      let after : after_event r e ≡ r = rw (ne_eqb (event_number e) r.next number) refl in
-      subst (HoldsFirst s ns es j) (sym after) at
+      let after : copy_after r e ≡ r = rw (ne_eqb (event_number e) r.next number) refl in
+      subst (At j) (sym after) at
 
   -- ---- lines
 
@@ -118,8 +122,8 @@ module _ (s : ℕ) (ns : List (List (Pair ℕ ℕ))) (es : List Event) (feed : I
     one j r line d at = subst (HoldsFirst s ns es (if d.place == j then j + 1 else j)) (sym (line_is r line d)) (by (d.place == j) refl)
       where
         by : (b : Bool) → (d.place == j) ≡ b → HoldsFirst s ns es (if b then j + 1 else j) (after_event r d.event)
-        by true here = taken j r d.event at (subst (λ i. slice_get es i ≡ Some d.event) (eqb-true d.place j here) d.at)
-        by false here = passed j d.place r d.event (eqb-false d.place j here) at d.at
+        by true here = taken j r.held d.event at (subst (λ i. slice_get es i ≡ Some d.event) (eqb-true d.place j here) d.at)
+        by false here = passed j d.place r.held d.event (eqb-false d.place j here) at d.at
 
     pub beginning : (j : ℕ) (r : State) (ls : List (List ℕ)) → HoldsFirst s ns es j r → All (IsDrawn es) ls → (k : ℕ) × HoldsFirst s ns es k (state_after r ls)
     unfolding left_by

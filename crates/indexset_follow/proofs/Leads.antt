@@ -19,9 +19,10 @@ use Rattle.indexset_events.specs.Replay.{replay}
 use Rattle.indexset_events.specs.Spelling.Laws.{some_inj}
 use Rattle.indexset_events.proofs.CallerLemmas.{lawful_taken, none_lawful}
 use Rattle.indexset_log.specs.Tree.{fresh}
+use Rattle.indexset_follow.specs.Copy.{copy}
 use Rattle.indexset_follow.specs.Drawn.{HoldsFirst}
 use Rattle.indexset_follow.specs.EventLine.{Event}
-use Rattle.indexset_follow.specs.Follow.{State, state}
+use Rattle.indexset_follow.specs.Follow.{State, holding}
 use Rattle.indexset_follow.specs.Leading.{after_leading, events_led, leading_events, tree_of}
 use Rattle.indexset_follow.specs.Query.{query_of}
 use Rattle.indexset_follow.specs.Reply.{reply_ended}
@@ -86,7 +87,7 @@ leader_line : (size : ℕ) (t : PairTree) (line : List ℕ) → stays line → a
 leader_line size t line stay = at (is_lead line) (starts line) (is_follow line) (not (is_filled t.nodes)) refl stay
   where
     at : (b c d e : Bool) → is_lead line ≡ b → (c || d) ≡ false
-        → held size (cond b (role.Leading t) (cond d (role.Following (state t.nodes t.next)) (after_in_role (cond (c && e) (role.Following (state [] t.next)) (role.Leading t)) line))) ≡ held size (role.Leading (after_leading t line))
+        → held size (cond b (role.Leading t) (cond d (role.Following (holding (copy t.nodes t.next))) (after_in_role (cond (c && e) (role.Following (holding (copy [] t.next))) (role.Leading t)) line))) ≡ held size (role.Leading (after_leading t line))
     at true c d e is none = ap (λ r. held size (role.Leading r)) (word_still t line ((bytes_eq-Decides line (codes "lead")).0 is))
     at false false false e is none = refl
     at false true d e is none = absurd (cc)
@@ -99,16 +100,30 @@ leader_lines size t (line ∷ lines) none =
     ap (λ h. held_after h lines) (leader_line size t line (All-head stays line lines none)) ∙ leader_lines size (after_leading t line) lines (All-tail stays line lines none)
 
 -- a follower becomes the leader of its nodes
-module _ (size : ℕ) (s : State) (fits : nodes_refusal (by_key nat_cmp) size s.nodes ≡ None) where
-  pub takes_over : after_held (held size (role.Following s)) (codes "lead") ≡ held size (role.Leading (promoted size s))
+module _ (size : ℕ) (s : State) (fits : nodes_refusal (by_key nat_cmp) size s.held.nodes ≡ None) where
+  pub takes_over : after_held (held size (role.Following s)) (codes "lead") ≡ held size (role.Leading (promoted size s.held))
   takes_over = rw fits refl
 
-  pub told_so : lead_reply size (role.Following s) ≡ reply_ended (reply.Next s.next)
+  pub told_so : lead_reply size (role.Following s) ≡ reply_ended (reply.Next s.held.next)
   told_so = rw fits refl
 
-  pub answers_on : (o : Others) (lines : List (List ℕ)) → held_replies o (held size (role.Following s)) (codes "lead" ∷ lines) ≡ reply_ended (reply.Next s.next) ++ held_replies o (held size (role.Leading (promoted size s))) lines
+  pub answers_on : (o : Others) (lines : List (List ℕ)) → held_replies o (held size (role.Following s)) (codes "lead" ∷ lines) ≡ reply_ended (reply.Next s.held.next) ++ held_replies o (held size (role.Leading (promoted size s.held))) lines
   unfolding replies_to
   answers_on o lines = λ i. told_so i ++ held_replies o (takes_over i) lines
+
+-- and so the leader of which it holds the nodes
+module _ (t : PairTree) (s : State) (holds : s.held ≡ copy t.nodes t.next) (fits : nodes_refusal (by_key nat_cmp) t.size t.nodes ≡ None) where
+  fit_held : nodes_refusal (by_key nat_cmp) t.size s.held.nodes ≡ None
+  fit_held = subst (λ c. nodes_refusal (by_key nat_cmp) t.size c.nodes ≡ None) (sym holds) fits
+
+  same_leader : promoted t.size s.held ≡ t
+  same_leader = ap (promoted t.size) holds
+
+  pub leads_as : after_held (held t.size (role.Following s)) (codes "lead") ≡ held t.size (role.Leading t)
+  leads_as = takes_over t.size s fit_held ∙ ap (λ t'. held t.size (role.Leading t')) same_leader
+
+  pub answers_as : (o : Others) (lines : List (List ℕ)) → held_replies o (held t.size (role.Following s)) (codes "lead" ∷ lines) ≡ reply_ended (reply.Next t.next) ++ held_replies o (held t.size (role.Leading t)) lines
+  answers_as o lines = answers_on t.size s fit_held o lines ∙ (λ i. reply_ended (reply.Next (holds i).next) ++ held_replies o (held t.size (role.Leading (same_leader i))) lines)
 
 -- a follower that holds what all events of a leader lead to
 module _ (size : ℕ) (two : 2 ≤ size) (few : size < 2 ^ 64) (lines : List (List ℕ)) (s : State) (holds : HoldsFirst 0 [] (events_led (fresh size) lines) (length (events_led (fresh size) lines)) s) where
@@ -121,23 +136,23 @@ module _ (size : ℕ) (two : 2 ≤ size) (few : size < 2 ^ 64) (lines : List (Li
   ward : Onward (fresh size) tree events
   ward = led size two few lines
 
-  same_nodes : s.nodes ≡ tree.nodes
+  same_nodes : s.held.nodes ≡ tree.nodes
   same_nodes = some_inj _ _ (sym holds.nodes ∙ ap (replay order []) (take_all (length events) events (omega arith)) ∙ ward.replayed)
 
-  same_next : s.next ≡ tree.next
+  same_next : s.held.next ≡ tree.next
   same_next = omega (arith, holds.next, ward.next)
 
   same_size : tree.size ≡ size
   same_size = sizes_kept (fresh size) lines
 
-  can : nodes_refusal (by_key nat_cmp) size s.nodes ≡ None
+  can : nodes_refusal (by_key nat_cmp) size s.held.nodes ≡ None
   can = subst (λ ns. nodes_refusal (by_key nat_cmp) size ns ≡ None) (sym same_nodes) (subst (λ n. nodes_refusal (by_key nat_cmp) n tree.nodes ≡ None) same_size (lawful_taken order tree.size tree.nodes ward.good.lawful))
 
-  same_tree : promoted size s ≡ tree
+  same_tree : promoted size s.held ≡ tree
   same_tree = λ i. record { nodes = same_nodes i; size = sym same_size i; next = same_next i }
 
   pub goes_on : after_held (held size (role.Following s)) (codes "lead") ≡ held size (role.Leading tree)
   goes_on = takes_over size s can ∙ ap (λ t. held size (role.Leading t)) same_tree
 
-  pub goes_on_answering : (o : Others) (more : List (List ℕ)) → held_replies o (held size (role.Following s)) (codes "lead" ∷ more) ≡ reply_ended (reply.Next s.next) ++ held_replies o (held size (role.Leading tree)) more
-  goes_on_answering o more = answers_on size s can o more ∙ ap (λ t. reply_ended (reply.Next s.next) ++ held_replies o (held size (role.Leading t)) more) same_tree
+  pub goes_on_answering : (o : Others) (more : List (List ℕ)) → held_replies o (held size (role.Following s)) (codes "lead" ∷ more) ≡ reply_ended (reply.Next s.held.next) ++ held_replies o (held size (role.Leading tree)) more
+  goes_on_answering o more = answers_on size s can o more ∙ ap (λ t. reply_ended (reply.Next s.held.next) ++ held_replies o (held size (role.Leading t)) more) same_tree

@@ -1,9 +1,11 @@
 pub mod Asked
+pub mod Cut
 pub mod Delivered
 pub mod Drawing
 pub mod EventLines
 pub mod Fits
 pub mod Leads
+pub mod MarkLines
 pub mod NodeLines
 pub mod Output
 pub mod Pages
@@ -11,7 +13,7 @@ pub mod Passing
 pub mod Programs
 pub mod QueryLines
 pub mod Readings
-pub mod RequestLines
 pub mod Rows
 pub mod Snapshots
+pub mod Sums
 pub mod Taking

@@ -19,17 +19,18 @@ use Rattle.indexset_bench.specs.declared.reply.Reply.TheVariants.{New, Old, OldV
 use Rattle.indexset_core.specs.declared.pair.Pair.{Pair}
 use Rattle.indexset_events.proofs.CallerLemmas.{Each}
 use Rattle.indexset_follow.specs.EventLine.{event_of}
+use Rattle.indexset_follow.specs.Mark.{mark_of}
 use Rattle.indexset_follow.specs.NodeLine.{node_of}
 use Rattle.indexset_events.specs.Spelling.{cut_at, number_of}
 use Rattle.indexset_follow.specs.Numbers.{PairFits}
 use Rattle.indexset_follow.specs.Passed.{IsPassedOver, ReplyFits}
-use Rattle.indexset_follow.specs.Request.{request_of}
+use Rattle.indexset_follow.specs.Query.{query_of}
 use Rattle.indexset_events.specs.Spelling.Laws.{Lacks, cut_told, lacks_tested, number_lacks, number_sound}
 use Rattle.indexset_follow.proofs.Readings.{IsApart, no_number, pair_lacks, space_apart}
 
 -- what says nothing is passed over
-says_nothing : (line : List ℕ) → event_of line ≡ None → node_of line ≡ None → request_of line ≡ None → IsPassedOver line
-says_nothing line event node request s = (rw (event, node, request) refl, rw (event, node, request) refl)
+says_nothing : (line : List ℕ) → event_of line ≡ None → node_of line ≡ None → mark_of line ≡ None → query_of line ≡ None → IsPassedOver line
+says_nothing line event node mark query s = (rw (event, node, mark) refl, rw (event, node, mark, query) refl)
 
 -- a text without the byte is not cut
 pub uncut : (c : ℕ) (text : List ℕ) → Lacks c text → cut_at c text ≡ None
@@ -57,25 +58,26 @@ number_passed n small =
     let one = uncut 32 (decimal n) (number_lacks 32 (omega arith) n small) in
     let nodes : bytes_eq (decimal n) (codes "nodes") ≡ false = no_word n small 110 (codes "odes") (omega arith) in
     let snapshot : bytes_eq (decimal n) (codes "snapshot") ≡ false = no_word n small 115 (codes "napshot") (omega arith) in
+    let sum : bytes_eq (decimal n) (codes "sum") ≡ false = no_word n small 115 (codes "um") (omega arith) in
     let len : bytes_eq (decimal n) (codes "len") ≡ false = no_word n small 108 (codes "en") (omega arith) in
     let first : bytes_eq (decimal n) (codes "first") ≡ false = no_word n small 102 (codes "irst") (omega arith) in
     let last : bytes_eq (decimal n) (codes "last") ≡ false = no_word n small 108 (codes "ast") (omega arith) in
     let next : bytes_eq (decimal n) (codes "next") ≡ false = no_word n small 110 (codes "ext") (omega arith) in
-    says_nothing (decimal n) (rw one refl) (rw one refl) (rw (one, len, first, last, nodes, next, snapshot) refl)
+    says_nothing (decimal n) (rw one refl) (rw one refl) (rw one refl) (rw (one, len, first, last, nodes, next, snapshot, sum) refl)
 
 old_passed : (v : ℕ) → IsPassedOver (codes "old " ++ decimal v)
 old_passed v =
     let cut : cut_at 32 (codes "old " ++ decimal v) ≡ Some (codes "old", decimal v) = cut_told 32 (codes "old") (decimal v) (lacks_tested 32 (codes "old") refl) in
-    says_nothing (codes "old " ++ decimal v) (rw (cut, no_number 111 (codes "ld") (omega arith)) refl) (rw cut refl) (rw cut refl)
+    says_nothing (codes "old " ++ decimal v) (rw (cut, no_number 111 (codes "ld") (omega arith)) refl) (rw cut refl) (rw cut refl) (rw cut refl)
 
 gone_passed : (v : ℕ) → IsPassedOver (codes "gone " ++ decimal v)
 gone_passed v =
     let cut : cut_at 32 (codes "gone " ++ decimal v) ≡ Some (codes "gone", decimal v) = cut_told 32 (codes "gone") (decimal v) (lacks_tested 32 (codes "gone") refl) in
-    says_nothing (codes "gone " ++ decimal v) (rw (cut, no_number 103 (codes "one") (omega arith)) refl) (rw cut refl) (rw cut refl)
+    says_nothing (codes "gone " ++ decimal v) (rw (cut, no_number 103 (codes "one") (omega arith)) refl) (rw cut refl) (rw cut refl) (rw cut refl)
 
--- a reply of one word that is none of the requests
-word_passed : (word : List ℕ) → Lacks 32 word → request_of word ≡ None → IsPassedOver word
-word_passed word lacks none = let one = uncut 32 word lacks in says_nothing word (rw one refl) (rw one refl) none
+-- a reply of one word that is none of the reads
+word_passed : (word : List ℕ) → Lacks 32 word → query_of word ≡ None → IsPassedOver word
+word_passed word lacks none = let one = uncut 32 word lacks in says_nothing word (rw one refl) (rw one refl) (rw one refl) none
 
 pub reply_passed : (r : Reply) → ReplyFits r → IsPassedOver (reply_text r)
 reply_passed New fit = word_passed (codes "new") (lacks_tested 32 (codes "new") refl) refl
@@ -123,23 +125,25 @@ pair_no_word p fit c word apart = at (bytes_eq (pair_text p) (c ∷ word)) refl
     at false e = refl
 
 pub node_passed : (n : List (Pair ℕ ℕ)) → Each PairFits n → IsPassedOver (node_text n)
-node_passed [] fit = says_nothing [] refl refl refl
+node_passed [] fit = says_nothing [] refl refl refl refl
 node_passed (p ∷ []) fit =
     let one = uncut 32 (pair_text p) (pair_lacks 32 space_apart p fit.0) in
     let nodes : bytes_eq (pair_text p) (codes "nodes") ≡ false = pair_no_word p fit.0 110 (codes "odes") (omega arith, omega arith) in
     let snapshot : bytes_eq (pair_text p) (codes "snapshot") ≡ false = pair_no_word p fit.0 115 (codes "napshot") (omega arith, omega arith) in
+    let sum : bytes_eq (pair_text p) (codes "sum") ≡ false = pair_no_word p fit.0 115 (codes "um") (omega arith, omega arith) in
     let len : bytes_eq (pair_text p) (codes "len") ≡ false = pair_no_word p fit.0 108 (codes "en") (omega arith, omega arith) in
     let first : bytes_eq (pair_text p) (codes "first") ≡ false = pair_no_word p fit.0 102 (codes "irst") (omega arith, omega arith) in
     let last : bytes_eq (pair_text p) (codes "last") ≡ false = pair_no_word p fit.0 108 (codes "ast") (omega arith, omega arith) in
     let next : bytes_eq (pair_text p) (codes "next") ≡ false = pair_no_word p fit.0 110 (codes "ext") (omega arith, omega arith) in
-    says_nothing (pair_text p) (rw one refl) (rw one refl) (rw (one, len, first, last, nodes, next, snapshot) refl)
+    says_nothing (pair_text p) (rw one refl) (rw one refl) (rw one refl) (rw (one, len, first, last, nodes, next, snapshot, sum) refl)
 node_passed (p ∷ q ∷ ps) fit =
     let cut : cut_at 32 (node_text (p ∷ q ∷ ps)) ≡ Some (pair_text p, node_text (q ∷ ps)) = cut_told 32 (pair_text p) (node_text (q ∷ ps)) (pair_lacks 32 space_apart p fit.0) in
     let node : bytes_eq (pair_text p) (codes "node") ≡ false = pair_no_word p fit.0 110 (codes "ode") (omega arith, omega arith) in
     let start : bytes_eq (pair_text p) (codes "start") ≡ false = pair_no_word p fit.0 115 (codes "tart") (omega arith, omega arith) in
+    let end : bytes_eq (pair_text p) (codes "end") ≡ false = pair_no_word p fit.0 101 (codes "nd") (omega arith, omega arith) in
     let get : bytes_eq (pair_text p) (codes "get") ≡ false = pair_no_word p fit.0 103 (codes "et") (omega arith, omega arith) in
     let rank : bytes_eq (pair_text p) (codes "rank") ≡ false = pair_no_word p fit.0 114 (codes "ank") (omega arith, omega arith) in
     let at : bytes_eq (pair_text p) (codes "at") ≡ false = pair_no_word p fit.0 97 (codes "t") (omega arith, omega arith) in
     let range : bytes_eq (pair_text p) (codes "range") ≡ false = pair_no_word p fit.0 114 (codes "ange") (omega arith, omega arith) in
     let page : bytes_eq (pair_text p) (codes "page") ≡ false = pair_no_word p fit.0 112 (codes "age") (omega arith, omega arith) in
-    says_nothing (node_text (p ∷ q ∷ ps)) (node_alone (p ∷ q ∷ ps) fit) (rw (cut, node) refl) (rw (cut, get, rank, at, range, page, start) refl)
+    says_nothing (node_text (p ∷ q ∷ ps)) (node_alone (p ∷ q ∷ ps) fit) (rw (cut, node) refl) (rw (cut, start, end) refl) (rw (cut, get, rank, at, range, page) refl)

@@ -31,7 +31,8 @@ use Rattle.indexset_replica.specs.Delivery.{IsSubsequence}
 use Rattle.indexset_follow.specs.Drawn.{HoldsFirst, IsDrawn, IsFeedOfPairs}
 use Rattle.indexset_follow.specs.EventLine.{Event, EventFits}
 use Rattle.indexset_follow.specs.Numbers.{PairFits}
-use Rattle.indexset_follow.specs.Follow.{start_state, state, state_after}
+use Rattle.indexset_follow.specs.Copy.{copy}
+use Rattle.indexset_follow.specs.Follow.{start_state, state_after}
 use Rattle.indexset_follow.specs.Told.{events_from, events_of_lines, line_events}
 use Rattle.indexset_follow.proofs.Drawing.{beginning, whole}
 use Rattle.indexset_events.specs.Spelling.Laws.{some_inj}
@@ -172,7 +173,7 @@ module _ (lines : List (List ℕ)) where
       follower_begins = beginning 0 [] (events_of_lines lines) told_feed told_fit 0 start_state delivered start drawn
 
       -- a follower that holds what k events lead to, and the program after lines that told as many
-      pub same_nodes : (n : ℕ) → (state_after start_state delivered).next ≡ (stores_of no_stores (take n lines)).pairs.next → (state_after start_state delivered).nodes ≡ (stores_of no_stores (take n lines)).pairs.nodes
+      pub same_nodes : (n : ℕ) → (state_after start_state delivered).held.next ≡ (stores_of no_stores (take n lines)).pairs.next → (state_after start_state delivered).held.nodes ≡ (stores_of no_stores (take n lines)).pairs.nodes
       same_nodes n same =
           let at = follower_begins in
           let front = lines_onward no_stores no_good (take n lines) in
@@ -180,9 +181,9 @@ module _ (lines : List (List ℕ)) where
           let first : take at.0 (events_of_lines lines) ≡ events_of_lines (take n lines) = ap (λ k. take k (events_of_lines lines)) count ∙ told_first n in
           some_inj _ _ (sym at.1.nodes ∙ ap (replay order []) first ∙ front.replayed)
 
-      pub follower_ends : IsSubsequence (map event_text (events_of_lines lines)) delivered → state_after start_state delivered ≡ state (stores_of no_stores lines).pairs.nodes (stores_of no_stores lines).pairs.next
+      pub follower_ends : IsSubsequence (map event_text (events_of_lines lines)) delivered → (state_after start_state delivered).held ≡ copy (stores_of no_stores lines).pairs.nodes (stores_of no_stores lines).pairs.next
       follower_ends came =
           let at = whole 0 [] (events_of_lines lines) told_feed told_fit 0 start_state delivered start drawn came in
-          let nodes : (state_after start_state delivered).nodes ≡ (stores_of no_stores lines).pairs.nodes = some_inj _ _ (sym at.nodes ∙ ap (replay order []) (take_all (length (events_of_lines lines)) (events_of_lines lines) (omega arith)) ∙ told.replayed) in
-          let next : (state_after start_state delivered).next ≡ (stores_of no_stores lines).pairs.next = omega (arith, at.next, told_count) in
-          λ i. state (nodes i) (next i)
+          let nodes : (state_after start_state delivered).held.nodes ≡ (stores_of no_stores lines).pairs.nodes = some_inj _ _ (sym at.nodes ∙ ap (replay order []) (take_all (length (events_of_lines lines)) (events_of_lines lines) (omega arith)) ∙ told.replayed) in
+          let next : (state_after start_state delivered).held.next ≡ (stores_of no_stores lines).pairs.next = omega (arith, at.next, told_count) in
+          λ i. copy (nodes i) (next i)

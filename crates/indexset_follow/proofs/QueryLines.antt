@@ -8,7 +8,7 @@ use Rattle.std.specs.Str.{bytes_eq}
 use Rattle.indexset_events.specs.Spelling.{cut_at, number_of}
 use Rattle.indexset_follow.specs.Query.{QueryFits, numbered_query, query_line, query_of, two_numbers, word_query}
 use Rattle.indexset_follow.specs.declared.reads.query.Query.{Query}
-use Rattle.indexset_follow.specs.declared.reads.query.Query.TheVariants.{Get, Len, First, Last, Range, Rank, At, Page, Nodes, Next}
+use Rattle.indexset_follow.specs.declared.reads.query.Query.TheVariants.{Get, Len, First, Last, Range, Rank, At, Page, Nodes, Next, Snapshot, Sum}
 use Rattle.indexset_events.specs.Spelling.Laws.{cut_sound, cut_told, lacks_tested, map_some, none_some, number_lacks, number_sound, number_told, some_inj, then_some}
 
 -- ---- what is spelled is read
@@ -30,6 +30,8 @@ parts_of (At i) = Some (codes "at", decimal i)
 parts_of (Page i n) = Some (codes "page", decimal i ++ 32 ∷ decimal n)
 parts_of Nodes = None
 parts_of Next = None
+parts_of Snapshot = None
+parts_of Sum = None
 
 pub query_cut : (q : Query) → cut_at 32 (query_line q) ≡ parts_of q
 query_cut (Get k) = cut_told 32 (codes "get") (decimal k) (lacks_tested 32 (codes "get") refl)
@@ -42,6 +44,8 @@ query_cut (At i) = cut_told 32 (codes "at") (decimal i) (lacks_tested 32 (codes 
 query_cut (Page i n) = cut_told 32 (codes "page") (decimal i ++ 32 ∷ decimal n) (lacks_tested 32 (codes "page") refl)
 query_cut Nodes = refl
 query_cut Next = refl
+query_cut Snapshot = refl
+query_cut Sum = refl
 
 pub query_told : (q : Query) → QueryFits q → query_of (query_line q) ≡ Some q
 query_told (Get k) fit = rw (query_cut (Get k)) (ap (option_map Get) (number_told k fit))
@@ -54,6 +58,8 @@ query_told (At i) fit = rw (query_cut (At i)) (ap (option_map At) (number_told i
 query_told (Page i n) fit = rw (query_cut (Page i n)) (ap (option_map (λ p. Page p.0 p.1)) (two_told i n fit.0 fit.1))
 query_told Nodes fit = refl
 query_told Next fit = refl
+query_told Snapshot fit = refl
+query_told Sum fit = refl
 
 -- ---- what is read is spelled
 
@@ -61,24 +67,26 @@ query_told Next fit = refl
 abbrev Spells : List ℕ → Query → Type 0
 Spells text q = (text ≡ query_line q) × QueryFits q
 
-same : (word text : List ℕ) → bytes_eq word text ≡ true → word ≡ text
+pub same : (word text : List ℕ) → bytes_eq word text ≡ true → word ≡ text
 same word text e = (bytes_eq-Decides word text).0 e
 
 word_sound : (word : List ℕ) (q : Query) → word_query word ≡ Some q → Spells word q
-word_sound word q h = at (bytes_eq word (codes "len")) (bytes_eq word (codes "first")) (bytes_eq word (codes "last")) (bytes_eq word (codes "nodes")) (bytes_eq word (codes "next")) refl refl refl refl refl h
+word_sound word q h = at (bytes_eq word (codes "len")) (bytes_eq word (codes "first")) (bytes_eq word (codes "last")) (bytes_eq word (codes "nodes")) (bytes_eq word (codes "next")) (bytes_eq word (codes "snapshot")) (bytes_eq word (codes "sum")) refl refl refl refl refl refl refl h
   where
     -- the word is that of this read
     is_word : (s : Query) → QueryFits s → word ≡ query_line s → Some s ≡ Some q → Spells word q
     is_word s fit text e = subst (Spells word) (some_inj s q e) (text, fit)
 
-    at : (a b c d e : Bool) → bytes_eq word (codes "len") ≡ a → bytes_eq word (codes "first") ≡ b → bytes_eq word (codes "last") ≡ c → bytes_eq word (codes "nodes") ≡ d → bytes_eq word (codes "next") ≡ e
-        → cond a (Some Len) (cond b (Some First) (cond c (Some Last) (cond d (Some Nodes) (cond e (Some Next) None)))) ≡ Some q → Spells word q
-    at true b c d e is _ _ _ _ h = is_word Len tt (same word (codes "len") is) h
-    at false true c d e _ is _ _ _ h = is_word First tt (same word (codes "first") is) h
-    at false false true d e _ _ is _ _ h = is_word Last tt (same word (codes "last") is) h
-    at false false false true e _ _ _ is _ h = is_word Nodes tt (same word (codes "nodes") is) h
-    at false false false false true _ _ _ _ is h = is_word Next tt (same word (codes "next") is) h
-    at false false false false false _ _ _ _ _ h = none_some q h
+    at : (a b c d e f g : Bool) → bytes_eq word (codes "len") ≡ a → bytes_eq word (codes "first") ≡ b → bytes_eq word (codes "last") ≡ c → bytes_eq word (codes "nodes") ≡ d → bytes_eq word (codes "next") ≡ e → bytes_eq word (codes "snapshot") ≡ f → bytes_eq word (codes "sum") ≡ g
+        → cond a (Some Len) (cond b (Some First) (cond c (Some Last) (cond d (Some Nodes) (cond e (Some Next) (cond f (Some Snapshot) (cond g (Some Sum) None)))))) ≡ Some q → Spells word q
+    at true b c d e f g is _ _ _ _ _ _ h = is_word Len tt (same word (codes "len") is) h
+    at false true c d e f g _ is _ _ _ _ _ h = is_word First tt (same word (codes "first") is) h
+    at false false true d e f g _ _ is _ _ _ _ h = is_word Last tt (same word (codes "last") is) h
+    at false false false true e f g _ _ _ is _ _ _ h = is_word Nodes tt (same word (codes "nodes") is) h
+    at false false false false true f g _ _ _ _ is _ _ h = is_word Next tt (same word (codes "next") is) h
+    at false false false false false true g _ _ _ _ _ is _ h = is_word Snapshot tt (same word (codes "snapshot") is) h
+    at false false false false false false true _ _ _ _ _ _ is h = is_word Sum tt (same word (codes "sum") is) h
+    at false false false false false false false _ _ _ _ _ _ _ h = none_some q h
 
 two_sound : (text : List ℕ) (p : ℕ × ℕ) → two_numbers text ≡ Some p → (text ≡ decimal p.0 ++ 32 ∷ decimal p.1) × (p.0 < 2 ^ 64) × (p.1 < 2 ^ 64)
 two_sound text p h =

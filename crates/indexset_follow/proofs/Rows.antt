@@ -8,13 +8,16 @@ use Rattle.indexset_bench.specs.PairText.{ended, lines_for, node_text}
 use Rattle.indexset_core.specs.declared.pair.Pair.{Pair}
 use Rattle.indexset_bench.proofs.CallerLemmas.{lead_after}
 use Rattle.std.specs.List.{join_with_byte}
-use Rattle.indexset_follow.specs.Reads.{row_text}
+use Rattle.indexset_follow.specs.Reads.{PairNodes, row_text}
 use Rattle.indexset_follow.specs.NodeLine.{node_line}
+
+lines_more : {X : Type 0} (text : X → List ℕ) (xs : List X) (x : X) → lines_for text (xs ++ x ∷ []) ≡ lines_for text xs ++ ended (text x)
+lines_more text [] x = append-nil (ended (text x))
+lines_more text (y ∷ xs) x = ap (λ l. ended (text y) ++ l) (lines_more text xs x) ∙ sym (append_assoc (ended (text y)) (lines_for text xs) (ended (text x)))
 
 module _ {R X : Type 0} (text : X → List ℕ) (read : R → X) where
   lines_push : (xs : List R) (x : R) → lines_for text (map read (xs ++ x ∷ [])) ≡ lines_for text (map read xs) ++ ended (text (read x))
-  lines_push [] x = append-nil (ended (text (read x)))
-  lines_push (y ∷ xs) x = ap (λ l. ended (text (read y)) ++ l) (lines_push xs x) ∙ sym (append_assoc (ended (text (read y))) (lines_for text (map read xs)) (ended (text (read x))))
+  lines_push xs x = ap (lines_for text) (map_push read xs x) ∙ lines_more text (map read xs) (read x)
 
   -- one more line was written
   pub one_more : (front : List ℕ) (xs : List R) (i : ℕ) (d : R) → i < length xs → (w w1 w2 : Option (List ℕ)) → Appends w w1 (front ++ lines_for text (map read (take i xs))) → Appends w1 w2 (ended (text (read (get_or xs i d))))
@@ -58,3 +61,16 @@ row_full (p ∷ ps) w w1 w2 some far told = Appends-trans w w1 w2 (node_text (p 
 -- the word of a node's line, and then the node
 pub node_written : (n : List (Pair ℕ ℕ)) (w w1 w2 : Option (List ℕ)) → Appends w w1 (codes "node ") → Appends w1 w2 (ended (node_text n)) → Appends w w2 (ended (node_line n))
 node_written n w w1 w2 word told = subst (Appends w w2) (sym (append_assoc (codes "node ") (node_text n) (10 ∷ []))) (Appends-trans w w1 w2 (codes "node ") (ended (node_text n)) word told)
+
+-- ---- nodes that are walked over
+
+pub walked_on : (done : PairNodes) (n : List (Pair ℕ ℕ)) (left rest all : PairNodes) → done ++ left ≡ all → left ≡ n ∷ rest → (done ++ n ∷ []) ++ rest ≡ all
+walked_on done n left rest all walked next = append_assoc done (n ∷ []) rest ∙ ap (λ l. done ++ l) (sym next) ∙ walked
+
+-- one more line
+pub line_push : (front : List ℕ) (done : PairNodes) (n : List (Pair ℕ ℕ)) → (front ++ lines_for node_line done) ++ ended (node_line n) ≡ front ++ lines_for node_line (done ++ n ∷ [])
+line_push front done n = append_assoc front (lines_for node_line done) (ended (node_line n)) ∙ ap (λ l. front ++ l) (sym (lines_more node_line done n))
+
+-- one more line was written
+pub line_behind : (front : List ℕ) (done : PairNodes) (n : List (Pair ℕ ℕ)) (w w1 w2 : Option (List ℕ)) → Appends w w1 (front ++ lines_for node_line done) → Appends w1 w2 (ended (node_line n)) → Appends w w2 (front ++ lines_for node_line (done ++ n ∷ []))
+line_behind front done n w w1 w2 far told = subst (Appends w w2) (line_push front done n) (Appends-trans w w1 w2 (front ++ lines_for node_line done) (ended (node_line n)) far told)

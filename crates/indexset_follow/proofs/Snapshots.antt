@@ -1,5 +1,6 @@
 -- A snapshot makes another follower the same.
-use Rattle.std.proofs.Common.{◌≡◌, ◌≢◌, None, Some, ℕ, ◌<◌, ◌^◌, true, if◌then◌else◌, List, [], ◌∷◌, ◌++◌, length, map, insert, Ordering, refl, sym, ap, subst, ◌∙◌, arith, append_assoc}
+use Rattle.std.specs.Option.{option_map_or}
+use Rattle.std.proofs.Common.{◌≡◌, ◌≢◌, ◌⊎◌, ◌==◌, inl, inr, Option, Bool, false, None, Some, ℕ, ◌<◌, ◌^◌, true, if◌then◌else◌, List, [], ◌∷◌, ◌++◌, length, map, insert, Ordering, refl, sym, ap, subst, ◌∙◌, arith, append_assoc, append-nil}
 use lib.Chars.{codes}
 use Rattle.std.specs.declared.cmp.Ordering.TheVariants.{Less}
 use Rattle.std.proofs.lemmas.List.Edits.{insert_end}
@@ -9,7 +10,8 @@ use Rattle.std.specs.Fmt.{decimal}
 use Rattle.std.specs.List.{All, list_all}
 use Rattle.std.specs.Ordering.{is_lt, nat_cmp}
 use Rattle.indexset_lines.specs.Run.{left_by}
-use Rattle.indexset_lines.proofs.CallerLemmas.{lines_of-line}
+use Rattle.indexset_lines.proofs.CallerLemmas.{left_by-append, lines_of-line}
+use Rattle.std.proofs.lemmas.Bool.{eq-eqb, eqb-true}
 use Rattle.indexset_lines.specs.Lines.{HasNoEnd, lines_of}
 use Rattle.indexset_bench.specs.PairText.{ended, lines_for, node_text, pair_text}
 use Rattle.indexset_core.proofs.CallerLemmas.{joined-append}
@@ -19,15 +21,19 @@ use Rattle.indexset_core.specs.declared.pair.Pair.{Pair}
 use Rattle.indexset_events.proofs.CallerLemmas.{Each, Ruled, Up, each-left, each-right, nodes_ruled, not_refused, up-between, up-left, up-right, up_true}
 use Rattle.indexset_events.specs.Attach.{attach_index, attach_refusal, attached, lies_apart, lies_below}
 use Rattle.indexset_events.specs.Nodes.{is_filled}
-use Rattle.indexset_follow.specs.EventLine.{event_of}
-use Rattle.indexset_follow.specs.Follow.{State, after_line, after_node, snapshot_text, state, state_after}
+use Rattle.indexset_follow.specs.EventLine.{Event, event_of}
+use Rattle.indexset_follow.specs.Copy.{Copy, copy, end_line, snapshot_text, sum_of}
+use Rattle.indexset_follow.specs.Follow.{State, after_event, after_line, after_mark, after_node, holding, put_in_place, state_after}
 use Rattle.indexset_follow.specs.NodeLine.{NodeFits, node_line, node_of}
 use Rattle.indexset_events.specs.Spelling.{cut_at}
 use Rattle.indexset_follow.specs.Numbers.{PairFits}
-use Rattle.indexset_follow.specs.Request.{request_of}
-use Rattle.indexset_follow.specs.declared.request.Request.TheVariants.{Start}
+use Rattle.indexset_follow.specs.Mark.{LacksEnd, MarkFits, mark_line, mark_of}
+use Rattle.indexset_follow.specs.declared.mark.Mark.TheVariants.{Start, End}
+use Rattle.indexset_follow.specs.declared.mark.Mark.{Mark}
+use Rattle.indexset_follow.proofs.MarkLines.{mark_told}
 use Rattle.indexset_follow.proofs.NodeLines.{node_told}
-use Rattle.indexset_events.specs.Spelling.Laws.{Lacks, cut_told, lacks_tested, number_lacks, number_told}
+use Rattle.indexset_follow.proofs.Sums.{sum_small}
+use Rattle.indexset_events.specs.Spelling.Laws.{Lacks, cut_told, lacks_tested, number_lacks}
 use Rattle.indexset_follow.proofs.Readings.{end_apart, no_number, pair_lacks}
 
 -- ---- nodes one after the other
@@ -78,18 +84,28 @@ module _ {T : Type 0} (cmp : T → T → Ordering) where
 
 -- ---- lines
 
--- the line that begins a snapshot
-abbrev start_line : ℕ → List ℕ
-start_line n = codes "start " ++ decimal n
+-- a snapshot is coming
+abbrev coming : Copy → Copy → State
+coming c came = record { held = c; coming = Some came }
 
-start_told : (s : State) (n : ℕ) → n < 2 ^ 64 → after_line s (start_line n) ≡ state [] n
+mark_line_told : (s : State) (m : Mark) → MarkFits m → event_of (mark_line m) ≡ None → node_of (mark_line m) ≡ None → after_line s (mark_line m) ≡ after_mark s m
+mark_line_told s m fit event node = rw (event, node, mark_told m fit) refl
+
+start_told : (s : State) (n : ℕ) → n < 2 ^ 64 → after_line s (mark_line (Start n)) ≡ coming s.held (copy [] n)
 start_told s n small =
-    let cut : cut_at 32 (start_line n) ≡ Some (codes "start", decimal n) = cut_told 32 (codes "start") (decimal n) (lacks_tested 32 (codes "start") refl) in
+    let cut : cut_at 32 (mark_line (Start n)) ≡ Some (codes "start", decimal n) = cut_told 32 (codes "start") (decimal n) (lacks_tested 32 (codes "start") refl) in
     let word = no_number 115 (codes "tart") (omega arith) in
-    let event : event_of (start_line n) ≡ None = rw (cut, word) refl in
-    let node : node_of (start_line n) ≡ None = rw cut refl in
-    let request : request_of (start_line n) ≡ Some (Start n) = rw (cut, number_told n small) refl in
-    rw (event, node, request) refl
+    mark_line_told s (Start n) small (rw (cut, word) refl) (rw cut refl)
+
+end_told : (s : State) (count sum : ℕ) → count < 2 ^ 64 → sum < 2 ^ 64 → after_line s (mark_line (End count sum)) ≡ after_mark s (End count sum)
+end_told s count sum few small =
+    let cut : cut_at 32 (mark_line (End count sum)) ≡ Some (codes "end", decimal count ++ 32 ∷ decimal sum) = cut_told 32 (codes "end") (decimal count ++ 32 ∷ decimal sum) (lacks_tested 32 (codes "end") refl) in
+    let word = no_number 101 (codes "nd") (omega arith) in
+    mark_line_told s (End count sum) (few, small) (rw (cut, word) refl) (rw cut refl)
+
+-- what came whole takes the place of what is held
+whole_put : (c came : Copy) → after_mark (coming c came) (End (length came.nodes) (sum_of came)) ≡ holding came
+whole_put c came = rw (eq-eqb (length came.nodes) (length came.nodes) refl, eq-eqb (sum_of came) (sum_of came) refl) refl
 
 node_line_told : (s : State) (n : List (Pair ℕ ℕ)) → NodeFits n → after_line s (node_line n) ≡ after_node s n
 node_line_told s n fit =
@@ -99,20 +115,16 @@ node_line_told s n fit =
     rw (event, node_told n fit) refl
 
 -- the nodes, one line after the other
-filled_up : (next : ℕ) (done rest : List (List (Pair ℕ ℕ))) → Ruled (by_key nat_cmp) (done ++ rest) → All NodeFits rest → state_after (state done next) (map node_line rest) ≡ state (done ++ rest) next
+filled_up : (c : Copy) (next : ℕ) (done rest : List (List (Pair ℕ ℕ))) → Ruled (by_key nat_cmp) (done ++ rest) → All NodeFits rest → state_after (coming c (copy done next)) (map node_line rest) ≡ coming c (copy (done ++ rest) next)
 unfolding left_by
-filled_up next done [] rule fit = ap (λ ns. state ns next) (sym (append_none done))
-  where
-    append_none : (xs : List (List (Pair ℕ ℕ))) → xs ++ [] ≡ xs
-    append_none [] = refl
-    append_none (x ∷ xs) = ap (λ l. x ∷ l) (append_none xs)
-filled_up next done (n ∷ rest) rule fit =
-    let one = node_line_told (state done next) n (All-head NodeFits n rest fit) in
-    let held : after_node (state done next) n ≡ state (done ++ n ∷ []) next = rw (fits_behind (by_key nat_cmp) done rest n rule, goes_behind (by_key nat_cmp) done rest n rule) refl in
+filled_up c next done [] rule fit = ap (λ ns. coming c (copy ns next)) (sym (append-nil done))
+filled_up c next done (n ∷ rest) rule fit =
+    let one = node_line_told (coming c (copy done next)) n (All-head NodeFits n rest fit) in
+    let held : after_node (coming c (copy done next)) n ≡ coming c (copy (done ++ n ∷ []) next) = rw (fits_behind (by_key nat_cmp) done rest n rule, goes_behind (by_key nat_cmp) done rest n rule) refl in
     let more : (done ++ n ∷ []) ++ rest ≡ done ++ n ∷ rest = append_assoc done (n ∷ []) rest in
     ap (λ s. state_after s (map node_line rest)) (one ∙ held)
-    ∙ filled_up next (done ++ n ∷ []) rest (subst (Ruled (by_key nat_cmp)) (sym more) rule) (All-tail NodeFits n rest fit)
-    ∙ ap (λ ns. state ns next) more
+    ∙ filled_up c next (done ++ n ∷ []) rest (subst (Ruled (by_key nat_cmp)) (sym more) rule) (All-tail NodeFits n rest fit)
+    ∙ ap (λ ns. coming c (copy ns next)) more
 
 -- ---- the text of a snapshot is cut into its lines
 
@@ -129,18 +141,65 @@ node_line_lacks n fit = All-append (λ x. x ≢ 10) (codes "node ") (node_text n
 pub first_line : (line rest : List ℕ) → HasNoEnd line → lines_of (ended line ++ rest) ≡ line ∷ lines_of rest
 first_line line rest none = ap lines_of (append_assoc line (10 ∷ []) rest) ∙ lines_of-line line rest none
 
-node_lines : (ns : List (List (Pair ℕ ℕ))) → All NodeFits ns → lines_of (lines_for node_line ns) ≡ map node_line ns
-unfolding lines_of
-node_lines [] fit = refl
-node_lines (n ∷ ns) fit = first_line (node_line n) (lines_for node_line ns) (node_line_lacks n (All-head NodeFits n ns fit)) ∙ ap (λ ls. node_line n ∷ ls) (node_lines ns (All-tail NodeFits n ns fit))
+node_lines : (ns : List (List (Pair ℕ ℕ))) (rest : List ℕ) → All NodeFits ns → lines_of (lines_for node_line ns ++ rest) ≡ map node_line ns ++ lines_of rest
+node_lines [] rest fit = refl
+node_lines (n ∷ ns) rest fit =
+    ap lines_of (append_assoc (ended (node_line n)) (lines_for node_line ns) rest)
+    ∙ first_line (node_line n) (lines_for node_line ns ++ rest) (node_line_lacks n (All-head NodeFits n ns fit))
+    ∙ ap (λ ls. node_line n ∷ ls) (node_lines ns rest (All-tail NodeFits n ns fit))
 
-pub snapshot_lines : (s : State) → s.next < 2 ^ 64 → All NodeFits s.nodes → lines_of (snapshot_text s) ≡ start_line s.next ∷ map node_line s.nodes
-snapshot_lines s small fit =
-    let none = All-append (λ x. x ≢ 10) (codes "start ") (decimal s.next) (lacks_tested 10 (codes "start ") refl) (number_lacks 10 (omega arith) s.next small) in
-    first_line (start_line s.next) (lines_for node_line s.nodes) none ∙ ap (λ ls. start_line s.next ∷ ls) (node_lines s.nodes fit)
+mark_lacks : (m : Mark) → MarkFits m → HasNoEnd (mark_line m)
+mark_lacks (Start n) fit = All-append (λ x. x ≢ 10) (codes "start ") (decimal n) (lacks_tested 10 (codes "start ") refl) (number_lacks 10 (omega arith) n fit)
+mark_lacks (End count sum) fit =
+    All-append (λ x. x ≢ 10) (codes "end ") (decimal count ++ 32 ∷ decimal sum) (lacks_tested 10 (codes "end ") refl)
+    (All-append (λ x. x ≢ 10) (decimal count) (32 ∷ decimal sum) (number_lacks 10 (omega arith) count fit.0)
+    (All-cons (λ x. x ≢ 10) 32 (decimal sum) (omega arith) (number_lacks 10 (omega arith) sum fit.1)))
 
-pub snapshot_taken : (s t : State) → IsNodeList (by_key nat_cmp) s.nodes → s.next < 2 ^ 64 → All NodeFits s.nodes → state_after t (lines_of (snapshot_text s)) ≡ s
+module _ (c : Copy) (small : c.next < 2 ^ 64) (few : length c.nodes < 2 ^ 64) (fit : All NodeFits c.nodes) where
+  snapshot_lines : lines_of (snapshot_text c) ≡ mark_line (Start c.next) ∷ (map node_line c.nodes ++ end_line c ∷ [])
+  unfolding lines_of
+  snapshot_lines =
+      ap lines_of (append_assoc (ended (mark_line (Start c.next))) (lines_for node_line c.nodes) (ended (end_line c)))
+      ∙ first_line (mark_line (Start c.next)) (lines_for node_line c.nodes ++ ended (end_line c)) (mark_lacks (Start c.next) small)
+      ∙ ap (λ ls. mark_line (Start c.next) ∷ ls)
+      (node_lines c.nodes (ended (end_line c)) fit ∙ ap (λ ls. map node_line c.nodes ++ ls) (lines_of-line (end_line c) [] (mark_lacks (End (length c.nodes) (sum_of c)) (few, sum_small c))))
+
+  pub snapshot_taken : (t : State) → IsNodeList (by_key nat_cmp) c.nodes → state_after t (lines_of (snapshot_text c)) ≡ holding c
+  unfolding left_by
+  snapshot_taken t lawful =
+      ap (state_after t) snapshot_lines
+      ∙ ap (λ r. state_after r (map node_line c.nodes ++ end_line c ∷ [])) (start_told t c.next small)
+      ∙ left_by-append after_line (coming t.held (copy [] c.next)) (map node_line c.nodes) (end_line c ∷ [])
+      ∙ ap (λ r. after_line r (end_line c)) (filled_up t.held c.next [] c.nodes (nodes_ruled (by_key nat_cmp) c.nodes lawful) fit)
+      ∙ end_told (coming t.held c) (length c.nodes) (sum_of c) few (sum_small c)
+      ∙ whole_put t.held c
+
+-- ---- until the end
+
+held_still : (s : State) (line : List ℕ) → LacksEnd line → (after_line s line).held ≡ s.held
+held_still s line lacks = at (event_of line) lacks.0 (node_of line) (mark_of line) lacks.1
+  where
+    at : (e : Option Event) → e ≡ None → (n : Option (List (Pair ℕ ℕ))) (m : Option Mark) → ((count sum : ℕ) → m ≢ Some (End count sum))
+        → (option_map_or {U = State} (after_event s) e (option_map_or (after_node s) n (option_map_or (after_mark s) m s))).held ≡ s.held
+    at (Some e) none n m no_end = absurd (cc)
+    at None none (Some n) m no_end = refl
+    at None none None None no_end = refl
+    at None none None (Some (Start n)) no_end = refl
+    at None none None (Some (End count sum)) no_end = absurd (no_end count sum refl)
+
+pub held_before : (s : State) (lines : List (List ℕ)) → All LacksEnd lines → (state_after s lines).held ≡ s.held
 unfolding left_by
-snapshot_taken s t lawful small fit =
-    ap (state_after t) (snapshot_lines s small fit) ∙ ap (λ r. state_after r (map node_line s.nodes)) (start_told t s.next small)
-    ∙ filled_up s.next [] s.nodes (nodes_ruled (by_key nat_cmp) s.nodes lawful) fit
+held_before s [] lack = refl
+held_before s (line ∷ lines) lack = held_before (after_line s line) lines (All-tail LacksEnd line lines lack) ∙ held_still s line (All-head LacksEnd line lines lack)
+
+pub wrong_end : (s : State) (came : Copy) (count sum : ℕ) → s.coming ≡ Some came → (length came.nodes ≢ count) ⊎ (sum_of came ≢ sum) → after_mark s (End count sum) ≡ holding s.held
+wrong_end s came count sum is other = rw is (at (length came.nodes == count) refl (sum_of came == sum) refl)
+  where
+    at : (a : Bool) → (length came.nodes == count) ≡ a → (b : Bool) → (sum_of came == sum) ≡ b → put_in_place count sum s came ≡ holding s.held
+    at false few b same = rw few refl
+    at true few false same = rw (few, same) refl
+    at true few true same =
+        elim other [
+          | inl many ↦ absurd (many (eqb-true (length came.nodes) count few))
+          | inr apart ↦ absurd (apart (eqb-true (sum_of came) sum same))
+        ]

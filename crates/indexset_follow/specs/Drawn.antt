@@ -21,4 +21,4 @@ IsFeedOfPairs s ns es = IsFeed (by_key nat_cmp) s ns es
 
 -- the nodes are those that the first k events lead to, and the event after these is awaited
 abbrev pub HoldsFirst : ℕ → List (List (Pair ℕ ℕ)) → List Event → ℕ → State → Type 0
-HoldsFirst s ns es k r = IsAt (by_key nat_cmp) s ns es k r
+HoldsFirst s ns es k r = IsAt (by_key nat_cmp) s ns es k r.held

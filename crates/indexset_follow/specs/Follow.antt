@@ -1,94 +1,105 @@
 -- What a line does to a follower, and the text that answers it.
-use Rattle.std.specs.Prelude.{ℕ, ◌==◌, is_none, if◌then◌else◌, nat_lt, List, [], ◌++◌, length, unwrap_or}
-use Rattle.std.specs.Option.{option_map_or}
+use Rattle.std.specs.Prelude.{ℕ, ◌+◌, ◌==◌, is_none, not, if◌then◌else◌, nat_lt, List, [], length, unwrap_or, Option, Some, None}
+use Rattle.std.specs.Option.{option_map, option_map_or}
 use Rattle.std.specs.Ordering.{nat_cmp}
-use Rattle.indexset_lines.specs.Lines.{lines_of}
-use Rattle.indexset_lines.specs.Run.{left_by, replies_to}
-use Rattle.indexset_bench.specs.PairText.{lines_for}
+use Rattle.indexset_lines.specs.Run.{left_by}
 use Rattle.indexset_core.specs.Pairs.{by_key}
 use Rattle.indexset_core.specs.declared.pair.Pair.{Pair}
 use Rattle.indexset_events.specs.Attach.{attach_refusal, attached}
 use Rattle.indexset_events.specs.Replay.{event_number}
 use Rattle.indexset_replica.specs.Delivery.{delivered}
-use Rattle.indexset_replica.specs.Replica.{ReplicaState}
+use Rattle.indexset_replica.specs.Replica.{apply_refusal}
+use Rattle.indexset_follow.specs.Copy.{Copy, copy, sum_of}
 use Rattle.indexset_follow.specs.EventLine.{Event, event_of}
-use Rattle.indexset_follow.specs.NodeLine.{node_line, node_of}
-use Rattle.indexset_follow.specs.Reads.{query_text}
+use Rattle.indexset_follow.specs.Mark.{mark_of}
+use Rattle.indexset_follow.specs.NodeLine.{node_of}
+use Rattle.indexset_follow.specs.Reads.{read_reply}
 use Rattle.indexset_follow.specs.Reply.{reply_ended}
-use Rattle.indexset_follow.specs.Request.{request_of}
+use Rattle.indexset_core.specs.declared.refusal.Refusal.{Refusal}
+use Rattle.indexset_follow.specs.declared.follower.Follower.{Follower}
+use Rattle.indexset_follow.specs.declared.mark.Mark.{Mark}
+use Rattle.indexset_follow.specs.declared.mark.Mark.TheVariants.{Start, End}
 use Rattle.indexset_follow.specs.declared.others.Others.{Others}
-use Rattle.indexset_follow.specs.declared.others.Others.TheVariants as others
+use Rattle.indexset_follow.specs.declared.reason.Reason.{Reason}
+use Rattle.indexset_follow.specs.declared.reason.Reason.TheVariants.{Refused, NotBegun, Count, Sum}
 use Rattle.indexset_follow.specs.declared.reply.Reply.{Reply}
 use Rattle.indexset_follow.specs.declared.reply.Reply.TheVariants as reply
-use Rattle.indexset_follow.specs.declared.request.Request.{Request}
-use Rattle.indexset_follow.specs.declared.request.Request.TheVariants.{Start, Snapshot, Read}
 
--- the nodes, and the number of the event that is awaited
+-- what is held, and the snapshot that has begun and not ended
 abbrev pub State : Type 0
-State = ReplicaState (Pair ℕ ℕ)
+State = Follower
 
-abbrev pub state : List (List (Pair ℕ ℕ)) → ℕ → State
-state ns n = record { nodes = ns; next = n }
+-- a copy is held, and no snapshot has begun
+abbrev pub holding : Copy → State
+holding c = record { held = c; coming = None }
 
 -- ---- an event
 
 -- the awaited event makes its step where it is one; any other event changes nothing
+abbrev pub copy_after : Copy → Event → Copy
+copy_after c e = unwrap_or (delivered (by_key nat_cmp) c e) c
+
 abbrev pub after_event : State → Event → State
-after_event s e = unwrap_or (delivered (by_key nat_cmp) s e) s
+after_event s e = record { held = copy_after s.held e; coming = s.coming }
 
 -- the reply to the awaited event
-abbrev pub taken_reply : State → Event → Reply
-taken_reply s e = option_map_or (λ r. reply.Next r.next) (delivered (by_key nat_cmp) s e) (reply.Unfit s.next)
+abbrev pub taken_reply : Copy → Event → Reply
+taken_reply c e = option_map_or (λ cause. reply.Unfit c.next (Refused cause)) (apply_refusal (by_key nat_cmp) c.nodes c.next e) (reply.Next (c.next + 1))
 
-abbrev pub event_reply : State → Event → Reply
-event_reply s e =
-    if event_number e == s.next then taken_reply s e
-    else if nat_lt (event_number e) s.next then reply.Had s.next
-    else reply.Gap s.next
+abbrev pub event_reply : Copy → Event → Reply
+event_reply c e =
+    if event_number e == c.next then taken_reply c e
+    else if nat_lt (event_number e) c.next then reply.Had c.next
+    else reply.Gap c.next
 
 -- ---- a whole node
 
+-- why the node does not fit the nodes of the snapshot
+abbrev pub node_refusal : Copy → List (Pair ℕ ℕ) → Option Refusal
+node_refusal c n = attach_refusal (by_key nat_cmp) (length n) c.nodes n
+
+-- the node in its place, where it fits
+abbrev pub with_node : List (Pair ℕ ℕ) → Copy → Copy
+with_node n c = if is_none (node_refusal c n) then copy (attached (by_key nat_cmp) c.nodes n) c.next else c
+
 abbrev pub after_node : State → List (Pair ℕ ℕ) → State
-after_node s n = if is_none (attach_refusal (by_key nat_cmp) (length n) s.nodes n) then state (attached (by_key nat_cmp) s.nodes n) s.next else s
+after_node s n = record { held = s.held; coming = option_map (with_node n) s.coming }
 
 abbrev pub node_reply : State → List (Pair ℕ ℕ) → Reply
-node_reply s n = if is_none (attach_refusal (by_key nat_cmp) (length n) s.nodes n) then reply.Held else reply.Unfit s.next
+node_reply s n = option_map_or (λ c. option_map_or (λ cause. reply.Unfit s.held.next (Refused cause)) (node_refusal c n) reply.Held) s.coming (reply.Unfit s.held.next NotBegun)
 
--- ---- a request
+-- ---- the beginning and the end of a snapshot
 
-abbrev pub after_request : State → Request → State
-after_request s (Start n) = state [] n
-after_request s Snapshot = s
-after_request s (Read q) = s
+-- why the numbers at the end of a snapshot are not those of what came
+abbrev pub end_reason : ℕ → ℕ → Copy → Option Reason
+end_reason count sum c =
+    if not (length c.nodes == count) then Some Count
+    else if not (sum_of c == sum) then Some Sum
+    else None
 
--- the lines that make another follower the same
-abbrev pub snapshot_text : State → List ℕ
-snapshot_text s = reply_ended (reply.Start s.next) ++ lines_for node_line s.nodes
+-- the snapshot takes the place of what is held, where it is whole
+abbrev pub put_in_place : ℕ → ℕ → State → Copy → State
+put_in_place count sum s c = if is_none (end_reason count sum c) then holding c else holding s.held
 
-abbrev pub request_text : State → Request → List ℕ
-request_text s (Start n) = reply_ended (reply.Next n)
-request_text s Snapshot = snapshot_text s
-request_text s (Read q) = query_text s.nodes s.next q
+abbrev pub after_mark : State → Mark → State
+after_mark s (Start n) = record { held = s.held; coming = Some (copy [] n) }
+after_mark s (End count sum) = option_map_or (put_in_place count sum s) s.coming s
+
+abbrev pub mark_reply : State → Mark → Reply
+mark_reply s (Start n) = reply.Held
+mark_reply s (End count sum) =
+    option_map_or (λ c. option_map_or (reply.Unfit s.held.next) (end_reason count sum c) (reply.Next c.next)) s.coming (reply.Unfit s.held.next NotBegun)
 
 -- ---- a line
 
--- the answer to any other line
-abbrev pub others_text : Others → List ℕ
-others_text others.Tell = reply_ended reply.Bad
-others_text others.Pass = []
-
 abbrev pub after_line : State → List ℕ → State
-after_line s line = option_map_or (after_event s) (event_of line) (option_map_or (after_node s) (node_of line) (option_map_or (after_request s) (request_of line) s))
+after_line s line = option_map_or (after_event s) (event_of line) (option_map_or (after_node s) (node_of line) (option_map_or (after_mark s) (mark_of line) s))
 
 abbrev pub reply_line : Others → State → List ℕ → List ℕ
 reply_line o s line =
-    option_map_or (λ e. reply_ended (event_reply s e)) (event_of line)
+    option_map_or (λ e. reply_ended (event_reply s.held e)) (event_of line)
     (option_map_or (λ n. reply_ended (node_reply s n)) (node_of line)
-    (option_map_or (request_text s) (request_of line) (others_text o)))
-
--- the answers to the lines, joined
-abbrev pub replies_of : Others → State → List (List ℕ) → List ℕ
-replies_of o = replies_to (reply_line o) after_line
+    (option_map_or (λ m. reply_ended (mark_reply s m)) (mark_of line) (read_reply o s.held.nodes s.held.next line)))
 
 -- the state after the lines
 abbrev pub state_after : State → List (List ℕ) → State
@@ -96,8 +107,4 @@ state_after = left_by after_line
 
 -- at first: no nodes, and event 0 is awaited
 abbrev pub start_state : State
-start_state = state [] 0
-
--- the answers to the lines of the input, from nothing on
-abbrev pub text_of : Others → List ℕ → List ℕ
-text_of o input = replies_of o start_state (lines_of input)
+start_state = holding (copy [] 0)

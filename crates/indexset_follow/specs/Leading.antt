@@ -6,9 +6,9 @@ use Rattle.indexset_bench.specs.PairCommand.{pair_meaning}
 use Rattle.indexset_bench.specs.Pairs.{PairTree, pair_reply, pairs_after, told_events}
 use Rattle.indexset_lines.specs.Run.{left_by}
 use Rattle.indexset_follow.specs.EventLine.{Event}
-use Rattle.indexset_follow.specs.Follow.{others_text}
 use Rattle.indexset_follow.specs.Query.{query_of}
 use Rattle.indexset_follow.specs.Reads.{query_text}
+use Rattle.indexset_follow.specs.Reply.{others_text}
 use Rattle.indexset_follow.specs.declared.others.Others.{Others}
 
 -- the tree after a line that is no read: that of its command

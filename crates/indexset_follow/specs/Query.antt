@@ -5,7 +5,7 @@ use Rattle.std.specs.Option.{option_map, option_and_then, option_map_or}
 use Rattle.std.specs.Str.{bytes_eq}
 use Rattle.indexset_events.specs.Spelling.{cut_at, number_of}
 use Rattle.indexset_follow.specs.declared.reads.query.Query.{Query}
-use Rattle.indexset_follow.specs.declared.reads.query.Query.TheVariants.{Get, Len, First, Last, Range, Rank, At, Page, Nodes, Next}
+use Rattle.indexset_follow.specs.declared.reads.query.Query.TheVariants.{Get, Len, First, Last, Range, Rank, At, Page, Nodes, Next, Snapshot, Sum}
 
 -- the line of a read
 abbrev pub query_line : Query → List ℕ
@@ -19,6 +19,8 @@ query_line (At i) = codes "at " ++ decimal i
 query_line (Page i n) = codes "page " ++ decimal i ++ 32 ∷ decimal n
 query_line Nodes = codes "nodes"
 query_line Next = codes "next"
+query_line Snapshot = codes "snapshot"
+query_line Sum = codes "sum"
 
 -- the numbers of a read are of 64 bits
 abbrev pub QueryFits : Query → Type 0
@@ -32,6 +34,8 @@ QueryFits (At i) = i < 2 ^ 64
 QueryFits (Page i n) = (i < 2 ^ 64) × (n < 2 ^ 64)
 QueryFits Nodes = Unit {0}
 QueryFits Next = Unit {0}
+QueryFits Snapshot = Unit {0}
+QueryFits Sum = Unit {0}
 
 -- the read of one word
 abbrev pub word_query : List ℕ → Option Query
@@ -41,6 +45,8 @@ word_query word =
     else if bytes_eq word (codes "last") then Some Last
     else if bytes_eq word (codes "nodes") then Some Nodes
     else if bytes_eq word (codes "next") then Some Next
+    else if bytes_eq word (codes "snapshot") then Some Snapshot
+    else if bytes_eq word (codes "sum") then Some Sum
     else None
 
 -- two numbers with a space between them

@@ -9,9 +9,12 @@ use Rattle.indexset_core.specs.Pairs.{entry_of, key_rank, pair_of, pairs_within}
 use Rattle.indexset_core.specs.declared.pair.Pair.{Pair}
 use Rattle.indexset_events.specs.Nodes.{is_filled}
 use Rattle.indexset_replica.specs.Replica.{first_item, last_item}
-use Rattle.indexset_follow.specs.Reply.{reply_ended}
+use Rattle.indexset_follow.specs.Copy.{copy, snapshot_text, sum_of}
+use Rattle.indexset_follow.specs.Query.{query_of}
+use Rattle.indexset_follow.specs.Reply.{others_text, reply_ended}
+use Rattle.indexset_follow.specs.declared.others.Others.{Others}
 use Rattle.indexset_follow.specs.declared.reads.query.Query.{Query}
-use Rattle.indexset_follow.specs.declared.reads.query.Query.TheVariants.{Get, Len, First, Last, Range, Rank, At, Page, Nodes, Next}
+use Rattle.indexset_follow.specs.declared.reads.query.Query.TheVariants.{Get, Len, First, Last, Range, Rank, At, Page, Nodes, Next, Snapshot, Sum}
 use Rattle.indexset_follow.specs.declared.reply.Reply.{Reply}
 use Rattle.indexset_follow.specs.declared.reply.Reply.TheVariants as reply
 
@@ -55,3 +58,9 @@ query_text ns next (At i) = reply_ended (item_reply (slice_get (joined ns) i))
 query_text ns next (Page i n) = row_text (page (joined ns) i n)
 query_text ns next Nodes = nodes_text ns next
 query_text ns next Next = reply_ended (reply.Next next)
+query_text ns next Snapshot = snapshot_text (copy ns next)
+query_text ns next Sum = reply_ended (reply.Sum next (length ns) (sum_of (copy ns next)))
+
+-- the answer to a line that may ask for a read, and is nothing else
+abbrev pub read_reply : Others → PairNodes → ℕ → List ℕ → List ℕ
+read_reply o ns next line = option_map_or (query_text ns next) (query_of line) (others_text o)

@@ -1,17 +1,20 @@
 -- How a reply is written.
-use Rattle.std.specs.Prelude.{ℕ, List, ◌++◌, codes}
+use Rattle.std.specs.Prelude.{ℕ, List, [], ◌++◌, codes}
 use Rattle.std.specs.Fmt.{decimal}
 use Rattle.indexset_bench.specs.PairText.{ended}
+use Rattle.indexset_follow.specs.Reason.{word_of}
+use Rattle.indexset_follow.specs.declared.others.Others.{Others}
+use Rattle.indexset_follow.specs.declared.others.Others.TheVariants.{Tell, Pass}
 use Rattle.indexset_follow.specs.declared.reply.Reply.{Reply}
-use Rattle.indexset_follow.specs.declared.reply.Reply.TheVariants.{Next, Had, Gap, Unfit, Start, Held, Item, Count, Nothing, Bad}
+use Rattle.indexset_follow.specs.declared.reply.Reply.TheVariants.{Next, Had, Gap, Unfit, Held, Sum, Item, Count, Nothing, Bad}
 
 abbrev pub reply_text : Reply → List ℕ
 reply_text (Next n) = codes "next " ++ decimal n
 reply_text (Had n) = codes "had " ++ decimal n
 reply_text (Gap n) = codes "gap " ++ decimal n
-reply_text (Unfit n) = codes "unfit " ++ decimal n
-reply_text (Start n) = codes "start " ++ decimal n
+reply_text (Unfit n reason) = codes "unfit " ++ decimal n ++ codes " " ++ word_of reason
 reply_text Held = codes "held"
+reply_text (Sum n count sum) = codes "sum " ++ decimal n ++ codes " " ++ decimal count ++ codes " " ++ decimal sum
 reply_text (Item k v) = decimal k ++ codes ":" ++ decimal v
 reply_text (Count n) = decimal n
 reply_text Nothing = codes "none"
@@ -20,3 +23,8 @@ reply_text Bad = codes "bad"
 -- a reply as a line
 abbrev pub reply_ended : Reply → List ℕ
 reply_ended reply = ended (reply_text reply)
+
+-- the answer to a line that says nothing
+abbrev pub others_text : Others → List ℕ
+others_text Tell = reply_ended Bad
+others_text Pass = []

@@ -1,22 +1,24 @@
 -- What a line does to a map that follows or leads, and the text that answers it.
-use Rattle.std.specs.Prelude.{ℕ, ◌&&◌, is_none, not, if◌then◌else◌, Bool, true, false, List, [], ◌++◌, codes, Option, None, Some}
-use Rattle.std.specs.Fmt.{decimal}
+use Rattle.std.specs.Prelude.{ℕ, ◌&&◌, is_none, not, if◌then◌else◌, Bool, true, false, List, [], codes, Option, None, Some}
 use Rattle.std.specs.Ordering.{nat_cmp}
 use Rattle.std.specs.Str.{bytes_eq}
-use Rattle.indexset_bench.specs.PairText.{ended}
 use Rattle.indexset_bench.specs.Pairs.{PairTree}
 use Rattle.indexset_core.specs.Pairs.{by_key}
 use Rattle.indexset_events.specs.Attach.{nodes_refusal}
 use Rattle.indexset_events.specs.Nodes.{is_filled}
 use Rattle.indexset_lines.specs.Run.{left_by, replies_to}
-use Rattle.indexset_follow.specs.Follow.{State, after_line, reply_line, state}
+use Rattle.indexset_core.specs.declared.refusal.Refusal.TheVariants.{TooLarge}
+use Rattle.indexset_follow.specs.Copy.{Copy, copy}
+use Rattle.indexset_follow.specs.Follow.{after_line, holding, reply_line}
 use Rattle.indexset_follow.specs.Leading.{after_leading, lacks, leading_reply}
+use Rattle.indexset_follow.specs.Mark.{mark_of}
+use Rattle.indexset_follow.specs.Reads.{read_reply}
 use Rattle.indexset_follow.specs.Reply.{reply_ended}
-use Rattle.indexset_follow.specs.Request.{request_of}
+use Rattle.indexset_follow.specs.declared.mark.Mark.{Mark}
+use Rattle.indexset_follow.specs.declared.mark.Mark.TheVariants.{Start, End}
 use Rattle.indexset_follow.specs.declared.others.Others.{Others}
+use Rattle.indexset_follow.specs.declared.reason.Reason.TheVariants.{Refused}
 use Rattle.indexset_follow.specs.declared.reply.Reply.TheVariants as reply
-use Rattle.indexset_follow.specs.declared.request.Request.{Request}
-use Rattle.indexset_follow.specs.declared.request.Request.TheVariants.{Start, Snapshot, Read}
 use Rattle.indexset_follow.specs.declared.role.Role.{Role}
 use Rattle.indexset_follow.specs.declared.role.Role.TheVariants.{Following, Leading}
 
@@ -30,24 +32,20 @@ held size role = record { size = size; role = role }
 
 -- ---- a follower leads
 
--- a leader of the follower's nodes, which goes on with the number that was awaited
-abbrev pub promoted : ℕ → State → PairTree
-promoted size s = record { nodes = s.nodes; size = size; next = s.next }
+-- a leader of the nodes that are held, which goes on with the number that was awaited
+abbrev pub promoted : ℕ → Copy → PairTree
+promoted size c = record { nodes = c.nodes; size = size; next = c.next }
 
 -- no node has more pairs than one of a leader
-abbrev pub can_lead : ℕ → State → Bool
-can_lead size s = is_none (nodes_refusal (by_key nat_cmp) size s.nodes)
+abbrev pub can_lead : ℕ → Copy → Bool
+can_lead size c = is_none (nodes_refusal (by_key nat_cmp) size c.nodes)
 
 abbrev pub after_lead : ℕ → Role → Role
-after_lead size (Following s) = if can_lead size s then Leading (promoted size s) else Following s
+after_lead size (Following s) = if can_lead size s.held then Leading (promoted size s.held) else Following s
 after_lead size (Leading t) = Leading t
 
--- a node has more pairs than one of a leader
-abbrev pub size_text : ℕ → List ℕ
-size_text next = ended (codes "unfit " ++ decimal next ++ codes " size")
-
 abbrev pub lead_reply : ℕ → Role → List ℕ
-lead_reply size (Following s) = if can_lead size s then reply_ended (reply.Next s.next) else size_text s.next
+lead_reply size (Following s) = reply_ended (if can_lead size s.held then reply.Next s.held.next else reply.Unfit s.held.next (Refused TooLarge))
 lead_reply size (Leading t) = reply_ended (reply.Next t.next)
 
 -- ---- a leader follows
@@ -55,28 +53,27 @@ lead_reply size (Leading t) = reply_ended (reply.Next t.next)
 -- a follower of the leader's nodes, which awaits the number that it would have given next
 abbrev pub after_follow : Role → Role
 after_follow (Following s) = Following s
-after_follow (Leading t) = Following (state t.nodes t.next)
+after_follow (Leading t) = Following (holding (copy t.nodes t.next))
 
 abbrev pub follow_reply : Role → List ℕ
-follow_reply (Following s) = reply_ended (reply.Next s.next)
+follow_reply (Following s) = reply_ended (reply.Next s.held.next)
 follow_reply (Leading t) = reply_ended (reply.Next t.next)
 
 -- ---- a snapshot begins a leader without nodes
 
-abbrev pub is_start : Option Request → Bool
+abbrev pub is_start : Option Mark → Bool
 is_start None = false
 is_start (Some (Start n)) = true
-is_start (Some Snapshot) = false
-is_start (Some (Read q)) = false
+is_start (Some (End count sum)) = false
 
 -- the line begins a snapshot
 abbrev pub starts : List ℕ → Bool
-starts line = is_start (request_of line)
+starts line = is_start (mark_of line)
 
 -- it finds a leader without nodes, which then follows
 abbrev pub begun : Role → List ℕ → Role
 begun (Following s) line = Following s
-begun (Leading t) line = if starts line && not (is_filled t.nodes) then Following (state [] t.next) else Leading t
+begun (Leading t) line = if starts line && not (is_filled t.nodes) then Following (holding (copy [] t.next)) else Leading t
 
 -- ---- a line, by the role
 
@@ -109,6 +106,14 @@ held_reply o h line =
     else if is_follow line then follow_reply h.role
     else reply_in_role o (begun h.role line) line
 
+-- a last line that lacks its end is answered where it asks for a read, and changes nothing
+abbrev pub cut_in_role : Others → Role → List ℕ → List ℕ
+cut_in_role o (Following s) line = read_reply o s.held.nodes s.held.next line
+cut_in_role o (Leading t) line = read_reply o t.nodes t.next line
+
+abbrev pub held_cut : Others → Held → List ℕ → List ℕ
+held_cut o h line = cut_in_role o h.role line
+
 -- the role tells events, and more of them than there are numbers
 abbrev pub role_lacks : Role → Type 0
 role_lacks (Following s) = ⊥
@@ -129,4 +134,4 @@ held_after = left_by after_held
 
 -- at first: no nodes, and event 0 is awaited, or to be told
 abbrev pub first_held : ℕ → Bool → Held
-first_held size leads = held size (if leads then Leading (record { nodes = []; size = size; next = 0 }) else Following (record { nodes = []; next = 0 }))
+first_held size leads = held size (if leads then Leading (record { nodes = []; size = size; next = 0 }) else Following (holding (copy [] 0)))

@@ -1,17 +1,19 @@
-//! What a line changes, and the reply that is written to it.
+//! What a line changes in a follower, and the reply that is written to it.
 
 ghost use Rattle.std.specs.Prelude.{◌≡◌, ◌≢◌, IfOk, OnOk, IfErr, Err};
 ghost use Rattle.std.specs.Io.KnownBytes.{Appends, Keeps};
-ghost use Rattle.indexset_follow.specs.Follow.{after_event, after_line, after_node, after_request, event_reply, node_reply, others_text, reply_line, request_text};
-ghost use Rattle.indexset_follow.specs.Reply.{reply_ended};
+ghost use Rattle.indexset_follow.specs.Follow.{after_line, copy_after, event_reply, reply_line};
 
 use crate::event::{Event, read_event};
-use crate::node::{Node, read_node};
+use crate::follower::Follower;
+use crate::mark::read_mark;
+use crate::node::read_node;
 use crate::others::Others;
-use crate::reads::answer_query;
+use crate::reads::answer_read;
+use crate::reason::Reason;
 use crate::reply::Reply;
-use crate::request::{Request, read_request};
-use crate::write::{Nodes, write_reply, write_snapshot};
+use crate::snapshot::{take_mark, take_node};
+use crate::write::{Nodes, write_reply};
 use indexset_bench::RunFault;
 use indexset_core::refusal::Refusal;
 use indexset_replica::lookup::Turn;
@@ -23,34 +25,37 @@ pub fn answer_line<W: Write>(
     alloc: Global,
     others: Others,
     writer: &mut W,
-    nodes: &mut Nodes,
+    follower: &mut Follower,
     line: &[u8],
 ) -> Result<(), RunFault>
-    ensures held { OnOk result (nodes.new ≡ after_line nodes.old line.now) }
+    ensures held { OnOk result (follower.new ≡ after_line follower.old line.now) }
     ensures told { OnOk result (Appends (W.contents writer.old) (W.contents writer.new)
-        (reply_line others nodes.old line.now)) }
+        (reply_line others follower.old line.now)) }
     ensures memory_refused { result ≡ Err RunFault.Memory
         → Keeps (W.contents writer.old) (W.contents writer.new) }
     ensures no_read { result ≢ Err RunFault.Read }
     ensures no_numbers { result ≢ Err RunFault.Numbers }
 {
     if let Some(event) = read_event(line) {
-        let reply = take_event(nodes, &event)?;
+        let reply = take_event(&mut follower.held, &event)?;
         return write_reply(writer, reply);
     }
     if let Some(node) = read_node(alloc, line)? {
-        let reply = take_node(nodes, node)?;
+        let reply = take_node(follower, node)?;
         return write_reply(writer, reply);
     }
-    match read_request(line) {
-        Some(request) => answer_request(alloc, writer, nodes, request),
-        None => answer_other(others, writer),
+    match read_mark(line) {
+        Some(mark) => {
+            let reply = take_mark(alloc, follower, mark)?;
+            write_reply(writer, reply)
+        }
+        None => answer_read(alloc, others, writer, &follower.held, line),
     }
 }
 
-/// Makes the step of the expected event, and returns the reply to any event.
+/// Makes the step of the awaited event, and returns the reply to any event.
 fn take_event(nodes: &mut Nodes, event: &Event) -> Result<Reply, RunFault>
-    ensures held { OnOk result (nodes.new ≡ after_event nodes.old event.now) }
+    ensures held { OnOk result (nodes.new ≡ copy_after nodes.old event.now) }
     ensures reply { IfOk result (λ reply. reply ≡ event_reply nodes.old event.now) }
     ensures fault { IfErr result (λ fault. fault ≡ RunFault.Memory) }
 {
@@ -65,61 +70,14 @@ fn take_event(nodes: &mut Nodes, event: &Event) -> Result<Reply, RunFault>
     }
 }
 
-/// Inserts a whole node in its place, and returns the reply.
-fn take_node(nodes: &mut Nodes, node: Node) -> Result<Reply, RunFault>
-    ensures held { OnOk result (nodes.new ≡ after_node nodes.old node.items) }
-    ensures reply { IfOk result (λ reply. reply ≡ node_reply nodes.old node.items) }
-    ensures fault { IfErr result (λ fault. fault ≡ RunFault.Memory) }
-{
-    let next = nodes.next();
-    match nodes.attach(node) {
-        Ok(()) => Ok(Reply::Held),
-        Err(refused) => reply_unless_memory(refused.cause, next),
-    }
-}
-
 /// Returns the reply to what does not apply. A lack of memory is a fault.
-fn reply_unless_memory(refusal: Refusal, next: u64) -> Result<Reply, RunFault>
+pub fn reply_unless_memory(refusal: Refusal, next: u64) -> Result<Reply, RunFault>
     ensures unfit { OnOk result (refusal ≢ Refusal.Memory) }
-    ensures reply { IfOk result (λ reply. reply ≡ Reply.Unfit next) }
+    ensures reply { IfOk result (λ reply. reply ≡ Reply.Unfit next (Reason.Refused refusal)) }
     ensures fault { IfErr result (λ fault. fault ≡ RunFault.Memory) }
 {
     match refusal {
         Refusal::Memory => Err(RunFault::Memory),
-        _ => Ok(Reply::Unfit(next)),
-    }
-}
-
-/// Writes the reply to a request.
-fn answer_request<W: Write>(
-    alloc: Global,
-    writer: &mut W,
-    nodes: &mut Nodes,
-    request: Request,
-) -> Result<(), RunFault>
-    ensures held { nodes.new ≡ after_request nodes.old request }
-    ensures told { OnOk result (Appends (W.contents writer.old) (W.contents writer.new)
-        (request_text nodes.old request)) }
-    ensures fault { IfErr result (λ fault. fault ≡ RunFault.Write) }
-{
-    match request {
-        Request::Start(next) => {
-            *nodes = Nodes::new(alloc, next);
-            write_reply(writer, Reply::Next(next))
-        }
-        Request::Snapshot => write_snapshot(writer, nodes),
-        Request::Read(query) => answer_query(writer, nodes, query),
-    }
-}
-
-/// Writes the reply to a line that is no event, no node and no request.
-pub fn answer_other<W: Write>(others: Others, writer: &mut W) -> Result<(), RunFault>
-    ensures told { OnOk result (Appends (W.contents writer.old) (W.contents writer.new)
-        (others_text others)) }
-    ensures fault { IfErr result (λ fault. fault ≡ RunFault.Write) }
-{
-    match others {
-        Others::Tell => write_reply(writer, Reply::Bad),
-        Others::Pass => Ok(()),
+        _ => Ok(Reply::Unfit(next, Reason::Refused(refusal))),
     }
 }

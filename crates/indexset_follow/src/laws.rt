@@ -1,6 +1,6 @@
 //! Laws of the definitions of lines and replies, whatever the code.
 
-ghost use Rattle.std.specs.Prelude.{◌≡◌, ◌↔◌, ◌<◌, ◌≤◌, ◌^◌, ℕ, List, [], length, map, drop, take, Some};
+ghost use Rattle.std.specs.Prelude.{◌≡◌, ◌≢◌, ◌⊎◌, ◌↔◌, ◌<◌, ◌^◌, ℕ, List, [], length, map, drop, take, Some};
 ghost use Rattle.std.specs.List.{All};
 ghost use Rattle.std.specs.Ordering.{nat_cmp};
 ghost use Rattle.indexset_lines.specs.Lines.{lines_of};
@@ -13,12 +13,15 @@ ghost use Rattle.indexset_core.specs.Pairs.{by_key};
 ghost use Rattle.indexset_core.specs.declared.pair.Pair.{Pair};
 ghost use Rattle.indexset_follow.specs.Drawn.{HoldsFirst, IsDrawn, IsFeedOfPairs};
 ghost use Rattle.indexset_follow.specs.EventLine.{Event, EventFits, event_of};
-ghost use Rattle.indexset_follow.specs.Follow.{State, snapshot_text, start_state, state, state_after};
+ghost use Rattle.indexset_follow.specs.Copy.{Copy, copy, snapshot_text, sum_of};
+ghost use Rattle.indexset_follow.specs.Follow.{State, after_mark, holding, start_state, state_after};
+ghost use Rattle.indexset_follow.specs.Mark.{LacksEnd, MarkFits, mark_line, mark_of};
 ghost use Rattle.indexset_follow.specs.NodeLine.{NodeFits, node_line, node_of};
 ghost use Rattle.indexset_follow.specs.Passed.{IsPassedOver, ReplyFits};
-ghost use Rattle.indexset_follow.specs.Request.{RequestFits, request_line, request_of};
+ghost use Rattle.indexset_follow.specs.Query.{QueryFits, query_line, query_of};
 ghost use Rattle.indexset_follow.specs.Told.{IsAmong, event_lines, events_of_lines, output_lines};
-ghost use Rattle.indexset_follow.specs.declared.request.Request.{Request};
+ghost use Rattle.indexset_follow.specs.declared.mark.Mark.{Mark};
+ghost use Rattle.indexset_follow.specs.declared.reads.query.Query.{Query};
 ghost use Rattle.indexset_events.specs.Replay.{replay, IsNumberedFrom};
 ghost use Rattle.indexset_replica.specs.Delivery.{IsSubsequence};
 
@@ -36,11 +39,18 @@ pub fn node_meaning_is_spelling()
     ensures fits { (line : List ℕ) (n : List (Pair ℕ ℕ)) → node_of line ≡ Some n → NodeFits n }
 {}
 
-/// The same of the line of a request.
-pub fn request_meaning_is_spelling()
-    ensures spelled { (line : List ℕ) (r : Request) → RequestFits r
-        → (request_of line ≡ Some r) ↔ (line ≡ request_line r) }
-    ensures fits { (line : List ℕ) (r : Request) → request_of line ≡ Some r → RequestFits r }
+/// The same of the line of a read.
+pub fn query_meaning_is_spelling()
+    ensures spelled { (line : List ℕ) (q : Query) → QueryFits q
+        → (query_of line ≡ Some q) ↔ (line ≡ query_line q) }
+    ensures fits { (line : List ℕ) (q : Query) → query_of line ≡ Some q → QueryFits q }
+{}
+
+/// The same of the line that begins a snapshot or ends it.
+pub fn mark_meaning_is_spelling()
+    ensures spelled { (line : List ℕ) (m : Mark) → MarkFits m
+        → (mark_of line ≡ Some m) ↔ (line ≡ mark_line m) }
+    ensures fits { (line : List ℕ) (m : Mark) → mark_of line ≡ Some m → MarkFits m }
 {}
 
 /// Let the events be numbered without a gap and lead from some nodes on, and let a follower hold
@@ -58,15 +68,26 @@ pub fn deliveries_lead_to_a_beginning()
         → IsSubsequence (map event_text (drop j es)) lines
         → HoldsFirst s ns es (length es) (state_after r lines) }
     ensures none { (s : ℕ) (ns : List (List (Pair ℕ ℕ))) (es : List Event)
-        → HoldsFirst s ns es 0 (state ns s) }
+        → HoldsFirst s ns es 0 (holding (copy ns s)) }
 {}
 
 /// The lines of a snapshot, sent to any follower, make it what its source is: the nodes, and the
 /// expected number. Where the source holds what the first k events lead to, the other does.
 pub fn snapshot_gives_the_follower()
-    ensures { (giver taker : State) → IsNodeList (by_key nat_cmp) giver.nodes
-        → giver.next < 2 ^ 64 → All NodeFits giver.nodes
-        → state_after taker (lines_of (snapshot_text giver)) ≡ giver }
+    ensures { (giver : Copy) (taker : State) → IsNodeList (by_key nat_cmp) giver.nodes
+        → giver.next < 2 ^ 64 → length giver.nodes < 2 ^ 64 → All NodeFits giver.nodes
+        → state_after taker (lines_of (snapshot_text giver)) ≡ holding giver }
+{}
+
+/// Nothing of a snapshot is held before its end: lines that are neither events nor such an end
+/// change nothing that is held. An end that tells another number of nodes than came, or another
+/// sum, leaves what was held and ends the snapshot.
+pub fn snapshots_are_held_whole()
+    ensures before { (s : State) (lines : List (List ℕ)) → All LacksEnd lines
+        → (state_after s lines).held ≡ s.held }
+    ensures wrong { (s : State) (came : Copy) (count sum : ℕ) → s.coming ≡ Some came
+        → ((length came.nodes ≢ count) ⊎ (sum_of came ≢ sum))
+        → after_mark s (Mark.End count sum) ≡ holding s.held }
 {}
 
 /// A follower that passes over other lines writes nothing for a reply of the first program, and no
@@ -116,18 +137,18 @@ pub fn programs_agree()
     ensures same { (lines delivered : List (List ℕ)) → length lines < 2 ^ 64
         → (stores_of no_stores lines).pairs.next < 2 ^ 64
         → All (IsAmong (output_lines lines)) delivered
-        → (n : ℕ) → (state_after start_state delivered).next
+        → (n : ℕ) → (state_after start_state delivered).held.next
         ≡ (stores_of no_stores (take n lines)).pairs.next
-        → (state_after start_state delivered).nodes
+        → (state_after start_state delivered).held.nodes
         ≡ (stores_of no_stores (take n lines)).pairs.nodes }
     ensures whole { (lines delivered : List (List ℕ)) → length lines < 2 ^ 64
         → (stores_of no_stores lines).pairs.next < 2 ^ 64
         → All (IsAmong (output_lines lines)) delivered
         → IsSubsequence (event_lines (output_lines lines)) (event_lines delivered)
-        → state_after start_state delivered
-        ≡ state (stores_of no_stores lines).pairs.nodes (stores_of no_stores lines).pairs.next }
+        → (state_after start_state delivered).held
+        ≡ copy (stores_of no_stores lines).pairs.nodes (stores_of no_stores lines).pairs.next }
     ensures piped { (lines : List (List ℕ)) → length lines < 2 ^ 64
         → (stores_of no_stores lines).pairs.next < 2 ^ 64
-        → state_after start_state (output_lines lines)
-        ≡ state (stores_of no_stores lines).pairs.nodes (stores_of no_stores lines).pairs.next }
+        → (state_after start_state (output_lines lines)).held
+        ≡ copy (stores_of no_stores lines).pairs.nodes (stores_of no_stores lines).pairs.next }
 {}

@@ -4,18 +4,19 @@ ghost use Rattle.std.specs.Prelude.{◌≡◌, ◌≢◌, Err, OnOk};
 ghost use Rattle.std.specs.Io.KnownBytes.{Appends, Keeps};
 ghost use Rattle.indexset_follow.specs.Leading.{after_leading, lacks, leading_reply};
 
-use crate::answer::answer_other;
 use crate::others::Others;
-use crate::reads::answer_query;
 use crate::reads::query::read_query;
+use crate::reads::{answer_other, answer_query};
 use indexset_bench::RunFault;
 use indexset_bench::pair_command::parse_pairs;
 use indexset_bench::pairs::{Pairs, answer_pairs};
+use std::alloc::Global;
 use std::io::Write;
 
 /// Writes the answer to one line: to a read, or to a command and the events of its change. Where it
 /// fails for memory or for numbers, nothing is written.
 pub fn answer_leading<W: Write>(
+    alloc: Global,
     others: Others,
     writer: &mut W,
     pairs: &mut Pairs,
@@ -33,7 +34,7 @@ pub fn answer_leading<W: Write>(
     ensures no_read { result ≢ Err RunFault.Read }
 {
     if let Some(query) = read_query(line) {
-        return answer_query(writer, pairs, query);
+        return answer_query(alloc, writer, pairs, query);
     }
     match parse_pairs(line) {
         Some(command) => answer_pairs(writer, pairs, command),

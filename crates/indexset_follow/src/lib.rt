@@ -1,32 +1,32 @@
-//! A program over lines that follows a map of numbers by its events, and one that follows or leads.
+//! A program over lines that holds a map of numbers, which follows another by its events or leads.
 //!
-//! [`run`] reads lines of a reader and writes the reply to each. A line is an event, as
-//! `indexset_bench` writes it, a whole node of a snapshot, or a request. `numbers`, `event`, `node`
-//! and `request` read a line, `answer` changes the replica, `write` writes. The text that it writes
-//! is defined in `specs/Follow.antt`, and [`laws`] says what the definitions mean.
-//!
-//! [`serve`] does so for a map in one of two roles, `store`: it follows, or it leads, and `leading`
-//! answers commands and tells their events. [`reads`] are answered alike in both. The text is
-//! defined in `specs/Store.antt`, and [`takeover`] has the laws.
+//! [`serve`] reads lines of a reader and writes the answer to each. A line is an event, as
+//! `indexset_bench` writes it, one of a snapshot, a read, or a command to a map that leads.
+//! `numbers`, `event`, `node`, `mark` and [`reads`] read a line, `answer` and `snapshot` change what
+//! a `follower` holds, `leading` changes what leads, `step_down` makes a follower of it, `sum` and
+//! `write` tell it, and `store` has both roles. The text that it writes is defined in
+//! `specs/Store.antt`, and [`laws`] and [`takeover`] say what the definitions mean.
 #![tactic(auto)]
 
 mod answer;
 mod event;
+mod follower;
 pub mod laws;
 mod leading;
+mod mark;
 mod node;
 mod numbers;
 pub mod others;
-mod program;
 pub mod reads;
+mod reason;
 mod reply;
-mod request;
 mod role;
 mod serving;
+mod snapshot;
 mod step_down;
 mod store;
+mod sum;
 pub mod takeover;
 mod write;
 
-pub use program::run;
 pub use serving::serve;

@@ -1,27 +1,33 @@
 //! Reads of a map of numbers, whether it follows or leads.
 //!
 //! [`Reads`] is what a read needs, [`replica`] and [`logged`] have it, and [`answer_query`] answers
-//! each read by it. [`query`] says what a line asks to read, and [`row`] writes pairs in a line.
+//! each read by it. [`query`] says what a line asks to read, [`row`] writes pairs in a line, and
+//! [`nodes`] walks over the nodes of a snapshot.
 
-ghost use Rattle.std.specs.Prelude.{◌≡◌, ◌≤◌, ℕ, OnOk, IfErr, length, slice_get};
-ghost use Rattle.std.specs.Io.KnownBytes.{Appends};
+ghost use Rattle.std.specs.Prelude.{◌≡◌, ◌≢◌, ◌≤◌, ℕ, Err, OnOk, IfOk, IfErr, length, slice_get};
+ghost use Rattle.std.specs.Io.KnownBytes.{Appends, Keeps};
 ghost use Rattle.std.specs.List.{between};
 ghost use Rattle.std.specs.Option.{option_map};
 ghost use Rattle.std.specs.Ordering.{nat_cmp};
 ghost use Rattle.indexset_core.specs.Nodes.{joined};
 ghost use Rattle.indexset_core.specs.Pairs.{entry_of, key_rank, pair_of};
-ghost use Rattle.indexset_follow.specs.Reads.{PairNodes, entry_reply, keys_from, nodes_text, page, query_text, row_text};
-ghost use Rattle.indexset_follow.specs.Reply.{reply_ended};
+ghost use Rattle.indexset_follow.specs.Copy.{body_text, copy, snapshot_text, sum_of};
+ghost use Rattle.indexset_follow.specs.Reads.{PairNodes, entry_reply, keys_from, nodes_text, page, query_text, read_reply, row_text};
+ghost use Rattle.indexset_follow.specs.Reply.{others_text, reply_ended};
 
 mod logged;
+pub mod nodes;
 pub mod query;
 mod replica;
 mod row;
 
+use crate::mark::Mark;
+use crate::others::Others;
 use crate::reply::Reply;
-use crate::write::write_reply;
+use crate::write::{write_mark, write_reply};
 use indexset_bench::RunFault;
-use query::Query;
+use query::{Query, read_query};
+use std::alloc::Global;
 use std::io::Write;
 
 /// A map of numbers that can be read: its nodes, and the number of the next event.
@@ -50,6 +56,21 @@ pub trait Reads {
     fn next_number(&self) -> u64
         ensures { result ≡ next self.now };
 
+    /// Returns how many nodes there are.
+    fn node_total(&self) -> usize
+        ensures { result ≡ length (nodes self.now) };
+
+    /// Returns the sum of the nodes and the next number.
+    fn sum_of_nodes(&self, alloc: Global) -> Result<u64, RunFault>
+        ensures sum { IfOk result (λ sum. sum ≡ sum_of (copy (nodes self.now) (next self.now))) }
+        ensures fault { IfErr result (λ fault. fault ≡ RunFault.Memory) };
+
+    /// Writes the lines of a snapshot before its last.
+    fn write_snapshot_body<W: Write>(&self, writer: &mut W) -> Result<(), RunFault>
+        ensures told { OnOk result (Appends (W.contents writer.old) (W.contents writer.new)
+            (body_text (copy (nodes self.now) (next self.now)))) }
+        ensures fault { IfErr result (λ fault. fault ≡ RunFault.Write) };
+
     /// Writes the pairs from one key to another, both included, in one line.
     fn write_keys<W: Write>(&self, writer: &mut W, low: u64, high: u64) -> Result<(), RunFault>
         requires { low ≤ high }
@@ -75,15 +96,53 @@ pub trait Reads {
         ensures fault { IfErr result (λ fault. fault ≡ RunFault.Write) };
 }
 
-/// Writes the answer to a read.
+/// Writes the answer to a line that may ask for a read. Any other line is as one that says nothing.
+/// Where memory runs out, nothing is written.
+pub fn answer_read<R: Reads, W: Write>(
+    alloc: Global,
+    others: Others,
+    writer: &mut W,
+    map: &R,
+    line: &[u8],
+) -> Result<(), RunFault>
+    ensures told { OnOk result (Appends (W.contents writer.old) (W.contents writer.new)
+        (read_reply others (R.nodes map.now) (R.next map.now) line.now)) }
+    ensures memory_refused { result ≡ Err RunFault.Memory
+        → Keeps (W.contents writer.old) (W.contents writer.new) }
+    ensures no_read { result ≢ Err RunFault.Read }
+    ensures no_numbers { result ≢ Err RunFault.Numbers }
+{
+    match read_query(line) {
+        Some(query) => answer_query(alloc, writer, map, query),
+        None => answer_other(others, writer),
+    }
+}
+
+/// Writes the reply to a line that says nothing.
+pub fn answer_other<W: Write>(others: Others, writer: &mut W) -> Result<(), RunFault>
+    ensures told { OnOk result (Appends (W.contents writer.old) (W.contents writer.new)
+        (others_text others)) }
+    ensures fault { IfErr result (λ fault. fault ≡ RunFault.Write) }
+{
+    match others {
+        Others::Tell => write_reply(writer, Reply::Bad),
+        Others::Pass => Ok(()),
+    }
+}
+
+/// Writes the answer to a read. Where memory runs out, nothing is written.
 pub fn answer_query<R: Reads, W: Write>(
+    alloc: Global,
     writer: &mut W,
     map: &R,
     query: Query,
 ) -> Result<(), RunFault>
     ensures told { OnOk result (Appends (W.contents writer.old) (W.contents writer.new)
         (query_text (R.nodes map.now) (R.next map.now) query)) }
-    ensures fault { IfErr result (λ fault. fault ≡ RunFault.Write) }
+    ensures memory_refused { result ≡ Err RunFault.Memory
+        → Keeps (W.contents writer.old) (W.contents writer.new) }
+    ensures no_read { result ≢ Err RunFault.Read }
+    ensures no_numbers { result ≢ Err RunFault.Numbers }
 {
     match query {
         Query::Get(key) => write_entry(writer, map.entry(key)),
@@ -96,6 +155,8 @@ pub fn answer_query<R: Reads, W: Write>(
         Query::Page(position, count) => write_page(writer, map, position as usize, count as usize),
         Query::Nodes => map.write_all(writer),
         Query::Next => write_reply(writer, Reply::Next(map.next_number())),
+        Query::Snapshot => write_snapshot(alloc, writer, map),
+        Query::Sum => write_sum(alloc, writer, map),
     }
 }
 
@@ -143,4 +204,38 @@ fn write_page<R: Reads, W: Write>(
 {
     let end = position.saturating_add(count).min(map.count());
     map.write_positions(writer, position, end)
+}
+
+/// Writes the next number, how many nodes there are, and the sum of both.
+fn write_sum<R: Reads, W: Write>(alloc: Global, writer: &mut W, map: &R) -> Result<(), RunFault>
+    ensures told { OnOk result (Appends (W.contents writer.old) (W.contents writer.new)
+        (query_text (R.nodes map.now) (R.next map.now) Query.Sum)) }
+    ensures memory_refused { result ≡ Err RunFault.Memory
+        → Keeps (W.contents writer.old) (W.contents writer.new) }
+    ensures no_read { result ≢ Err RunFault.Read }
+    ensures no_numbers { result ≢ Err RunFault.Numbers }
+{
+    let sum = map.sum_of_nodes(alloc)?;
+    write_reply(
+        writer,
+        Reply::Sum(map.next_number(), map.node_total() as u64, sum),
+    )
+}
+
+/// Writes the lines that make another map the same.
+fn write_snapshot<R: Reads, W: Write>(
+    alloc: Global,
+    writer: &mut W,
+    map: &R,
+) -> Result<(), RunFault>
+    ensures told { OnOk result (Appends (W.contents writer.old) (W.contents writer.new)
+        (snapshot_text (copy (R.nodes map.now) (R.next map.now)))) }
+    ensures memory_refused { result ≡ Err RunFault.Memory
+        → Keeps (W.contents writer.old) (W.contents writer.new) }
+    ensures no_read { result ≢ Err RunFault.Read }
+    ensures no_numbers { result ≢ Err RunFault.Numbers }
+{
+    let sum = map.sum_of_nodes(alloc)?;
+    map.write_snapshot_body(writer)?;
+    write_mark(writer, Mark::End(map.node_total() as u64, sum))
 }

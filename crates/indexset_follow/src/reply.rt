@@ -3,6 +3,7 @@
 ghost use Rattle.std.specs.Prelude.{Some};
 ghost use Rattle.indexset_follow.specs.Reply.{reply_text};
 
+use crate::reason::Reason;
 use std::fmt;
 
 /// A reply of one line.
@@ -14,12 +15,12 @@ pub enum Reply {
     Had(u64),
     /// Events are missing, from this number on.
     Gap(u64),
-    /// The event or the node does not fit; this number is awaited.
-    Unfit(u64),
-    /// A snapshot begins, before the event of this number.
-    Start(u64),
-    /// The node is held.
+    /// The event or the line of a snapshot does not fit; this number is awaited.
+    Unfit(u64, Reason),
+    /// The line of a snapshot is held.
     Held,
+    /// The awaited number, how many nodes there are, and the sum of both.
+    Sum(u64, u64, u64),
     /// A key and its value.
     Item(u64, u64),
     /// How many there are.
@@ -38,9 +39,9 @@ impl fmt::Display for Reply {
             Reply::Next(number) => write!(f, "next {number}"),
             Reply::Had(number) => write!(f, "had {number}"),
             Reply::Gap(number) => write!(f, "gap {number}"),
-            Reply::Unfit(number) => write!(f, "unfit {number}"),
-            Reply::Start(number) => write!(f, "start {number}"),
+            Reply::Unfit(number, reason) => write!(f, "unfit {number} {reason}"),
             Reply::Held => f.write_str("held"),
+            Reply::Sum(next, count, sum) => write!(f, "sum {next} {count} {sum}"),
             Reply::Item(key, value) => write!(f, "{key}:{value}"),
             Reply::Count(count) => fmt::Display::fmt(count, f),
             Reply::Nothing => f.write_str("none"),

@@ -17,8 +17,9 @@ use std::io::{BufRead, Write};
 /// leads or follows from event 0 on. A node holds at most `size` pairs while it leads. The writer
 /// is flushed where the reader's buffer is empty, so that each answer is out before the next read.
 ///
-/// A fault ends the run at once, and the first fault is returned. A line past the first 2^64 - 1 is
-/// a fault of the reader. After a failed write nothing is said of what was written.
+/// A last line that lacks its end changes nothing. A fault ends the run at once, and the first fault
+/// is returned. A line past the first 2^64 - 1 is a fault of the reader. After a failed write
+/// nothing is said of what was written.
 pub fn serve<R: BufRead, W: Write>(
     alloc: Global,
     others: Others,

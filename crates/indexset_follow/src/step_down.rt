@@ -1,7 +1,7 @@
 //! The follower that a leader becomes.
 
 ghost use Rattle.std.specs.Prelude.{◌≡◌, IfErr, IfOk};
-ghost use Rattle.indexset_follow.specs.Follow.{state};
+ghost use Rattle.indexset_follow.specs.Copy.{copy};
 
 use crate::write::Nodes;
 use indexset_bench::RunFault;
@@ -11,7 +11,7 @@ use std::alloc::Global;
 
 /// Returns a follower of copies of the nodes, which awaits the event of the next number.
 pub fn follower_of(alloc: Global, pairs: &Pairs) -> Result<Nodes, RunFault>
-    ensures follower { IfOk result (λ nodes. nodes ≡ state pairs.now.nodes pairs.now.next) }
+    ensures follower { IfOk result (λ nodes. nodes ≡ copy pairs.now.nodes pairs.now.next) }
     ensures fault { IfErr result (λ fault. fault ≡ RunFault.Memory) }
 {
     let mut nodes = Vec::new(alloc);

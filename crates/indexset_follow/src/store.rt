@@ -1,19 +1,24 @@
 //! A map of numbers that follows another or leads.
 
-ghost use Rattle.std.specs.Prelude.{◌≡◌, ◌≢◌, ◌≤◌, if◌then◌else◌, Bool, Err, IfOk, IfErr, None, OnOk, Some, codes, ℕ};
+ghost use Rattle.std.specs.Prelude.{◌≡◌, ◌≢◌, ◌≤◌, if◌then◌else◌, Err, IfOk, IfErr, None, OnOk, Some};
 ghost use Rattle.std.specs.Io.KnownBytes.{Appends, Keeps};
-ghost use Rattle.indexset_follow.specs.Store.{after_follow, after_in_role, after_lead, begun, can_lead, first_held, follow_reply, held, lead_reply, promoted, reply_in_role, role_lacks, size_text, starts};
+ghost use Rattle.indexset_follow.specs.Follow.{holding};
+ghost use Rattle.indexset_follow.specs.Store.{after_follow, after_in_role, after_lead, begun, can_lead, cut_in_role, first_held, follow_reply, held, lead_reply, promoted, reply_in_role, role_lacks, starts};
 
 use crate::answer::answer_line;
+use crate::follower::Follower;
 use crate::leading::answer_leading;
+use crate::mark::{Mark, read_mark};
 use crate::others::Others;
+use crate::reads::answer_read;
+use crate::reason::Reason;
 use crate::reply::Reply;
-use crate::request::{Request, read_request};
 use crate::role::Role;
 use crate::step_down::follower_of;
 use crate::write::{Nodes, write_reply};
 use indexset_bench::RunFault;
 use indexset_bench::pairs::Pairs;
+use indexset_core::refusal::Refusal;
 use indexset_events::nodes::test_nodes;
 use indexset_lines::run::Answers;
 use std::alloc::Global;
@@ -41,7 +46,7 @@ impl Store {
         let role = if leads {
             Role::Leading(Pairs::with_maximum_node_size(alloc, size))
         } else {
-            Role::Following(Nodes::new(alloc, 0))
+            Role::Following(holding(Nodes::new(alloc, 0)))
         };
         Store {
             alloc,
@@ -52,7 +57,8 @@ impl Store {
     }
 
     /// Makes a follower a leader of the same nodes, which goes on with the next number, and writes
-    /// the reply. It stays a follower where a node is larger than one of a leader.
+    /// the reply. A snapshot that has not ended is dropped. It stays a follower where a node is
+    /// larger than one of a leader.
     fn lead<W: Write>(&mut self, writer: &mut W) -> Result<(), RunFault>
         ensures role { OnOk result (self.new.role ≡ after_lead self.old.size self.old.role) }
         ensures size { self.new.size ≡ self.old.size }
@@ -65,14 +71,17 @@ impl Store {
         ensures no_read { result ≢ Err RunFault.Read }
     {
         match &mut self.role {
-            Role::Following(nodes) => {
-                let next = nodes.next();
-                match promote(self.alloc, nodes, self.size)? {
+            Role::Following(follower) => {
+                let next = follower.held.next();
+                match promote(self.alloc, &mut follower.held, self.size)? {
                     Some(pairs) => {
                         self.role = Role::Leading(pairs);
                         write_reply(writer, Reply::Next(next))
                     }
-                    None => write_too_large(writer, next),
+                    None => {
+                        let reason = Reason::Refused(Refusal::TooLarge);
+                        write_reply(writer, Reply::Unfit(next, reason))
+                    }
                 }
             }
             Role::Leading(pairs) => write_reply(writer, Reply::Next(pairs.events_issued())),
@@ -93,11 +102,11 @@ impl Store {
         ensures no_read { result ≢ Err RunFault.Read }
     {
         match &self.role {
-            Role::Following(nodes) => write_reply(writer, Reply::Next(nodes.next())),
+            Role::Following(follower) => write_reply(writer, Reply::Next(follower.held.next())),
             Role::Leading(pairs) => {
                 let nodes = follower_of(self.alloc, pairs)?;
                 let next = nodes.next();
-                self.role = Role::Following(nodes);
+                self.role = Role::Following(holding(nodes));
                 write_reply(writer, Reply::Next(next))
             }
         }
@@ -112,7 +121,7 @@ impl Store {
         if let Role::Leading(pairs) = &self.role {
             if starts(line) && pairs.node_count() == 0 {
                 let next = pairs.events_issued();
-                self.role = Role::Following(Nodes::new(self.alloc, next));
+                self.role = Role::Following(holding(Nodes::new(self.alloc, next)));
             }
         }
     }
@@ -133,18 +142,45 @@ impl Store {
         ensures no_read { result ≢ Err RunFault.Read }
     {
         match &mut self.role {
-            Role::Following(nodes) => answer_line(self.alloc, self.others, writer, nodes, line),
-            Role::Leading(pairs) => answer_leading(self.others, writer, pairs, line),
+            Role::Following(follower) => {
+                answer_line(self.alloc, self.others, writer, follower, line)
+            }
+            Role::Leading(pairs) => answer_leading(self.alloc, self.others, writer, pairs, line),
         }
     }
+
+    /// Writes the answer to a last line that lacks its end: to a read. Any other line is as one that
+    /// says nothing: it may be the beginning of another line.
+    fn answer_rest<W: Write>(&self, writer: &mut W, line: &[u8]) -> Result<(), RunFault>
+        ensures told { OnOk result (Appends (W.contents writer.old) (W.contents writer.new)
+            (cut_in_role self.now.others self.now.role line.now)) }
+        ensures memory_refused { result ≡ Err RunFault.Memory
+            → Keeps (W.contents writer.old) (W.contents writer.new) }
+        ensures no_read { result ≢ Err RunFault.Read }
+        ensures no_numbers { result ≢ Err RunFault.Numbers }
+    {
+        match &self.role {
+            Role::Following(follower) => {
+                answer_read(self.alloc, self.others, writer, &follower.held, line)
+            }
+            Role::Leading(pairs) => answer_read(self.alloc, self.others, writer, pairs, line),
+        }
+    }
+}
+
+/// Returns a follower that holds these nodes, where no snapshot has begun.
+fn holding(held: Nodes) -> Follower
+    ensures { result ≡ holding held }
+{
+    Follower { held, coming: None }
 }
 
 /// Returns whether the line begins a snapshot.
 fn starts(line: &[u8]) -> bool
     ensures { result ≡ starts line.now }
 {
-    match read_request(line) {
-        Some(Request::Start(_)) => true,
+    match read_mark(line) {
+        Some(Mark::Start(_)) => true,
         _ => false,
     }
 }
@@ -169,23 +205,16 @@ fn promote(alloc: Global, nodes: &mut Nodes, size: usize) -> Result<Option<Pairs
     }
 }
 
-/// Writes that a node is larger than one of a leader.
-fn write_too_large<W: Write>(writer: &mut W, next: u64) -> Result<(), RunFault>
-    ensures told { OnOk result (Appends (W.contents writer.old) (W.contents writer.new)
-        (size_text next)) }
-    ensures fault { IfErr result (λ fault. fault ≡ RunFault.Write) }
-{
-    writeln!(writer, "unfit {next} size").map_err(|_| RunFault::Write)
-}
-
 impl Answers for Store {
-    ghost use Rattle.indexset_follow.specs.Store.{Held, after_held, held, held_lacks, held_reply};
+    ghost use Rattle.indexset_follow.specs.Store.{Held, after_held, held, held_cut, held_lacks, held_reply};
 
     ghost State = { Held };
 
     ghost state = { λ store. held store.size store.role };
 
     ghost reply = { λ store. held_reply store.others };
+
+    ghost cut_reply = { λ store. held_cut store.others };
 
     ghost after = { after_held };
 
@@ -200,5 +229,9 @@ impl Answers for Store {
         }
         self.begin(line);
         self.answer_in_role(writer, line)
+    }
+
+    fn answer_cut<W: Write>(&mut self, writer: &mut W, line: &[u8]) -> Result<(), RunFault> {
+        self.answer_rest(writer, line)
     }
 }

@@ -1,20 +1,24 @@
-//! Laws of a follower that takes over and of reads in both roles, whatever the code.
+//! Laws of a follower that takes over, of reads in both roles, and of a last line without its end,
+//! whatever the code.
 
-ghost use Rattle.std.specs.Prelude.{◌≡◌, ◌<◌, ◌≤◌, ◌^◌, ◌++◌, ◌∷◌, ◌||◌, ℕ, List, [], codes, false, length, None, Some};
+ghost use Rattle.std.specs.Prelude.{◌≡◌, ◌<◌, ◌≤◌, ◌^◌, ◌++◌, ◌∷◌, ◌||◌, Bool, ℕ, List, [], codes, false, length, None, Some};
 ghost use Rattle.std.specs.List.{All};
 ghost use Rattle.std.specs.Ordering.{nat_cmp};
+ghost use Rattle.indexset_lines.specs.Lines.{HasNoEnd, IsWhole, lines_of};
 ghost use Rattle.indexset_bench.specs.Pairs.{PairTree};
 ghost use Rattle.indexset_core.specs.Pairs.{by_key};
 ghost use Rattle.indexset_events.specs.Attach.{nodes_refusal};
 ghost use Rattle.indexset_events.specs.Replay.{IsNumberedFrom, replay};
 ghost use Rattle.indexset_log.specs.Tree.{fresh};
+ghost use Rattle.indexset_follow.specs.Copy.{copy};
 ghost use Rattle.indexset_follow.specs.Drawn.{HoldsFirst};
-ghost use Rattle.indexset_follow.specs.Follow.{State, state};
+ghost use Rattle.indexset_follow.specs.Follow.{State};
 ghost use Rattle.indexset_follow.specs.Leading.{events_led, tree_of};
-ghost use Rattle.indexset_follow.specs.Query.{QueryFits, query_line};
+ghost use Rattle.indexset_follow.specs.Query.{QueryFits, query_line, query_of};
 ghost use Rattle.indexset_follow.specs.Reads.{query_text};
 ghost use Rattle.indexset_follow.specs.Reply.{reply_ended};
-ghost use Rattle.indexset_follow.specs.Store.{after_held, held, held_after, held_replies, held_reply, is_follow, starts};
+ghost use Rattle.indexset_follow.specs.Store.{Held, after_held, first_held, held, held_after, held_cut, held_replies, held_reply, is_follow, starts};
+ghost use Rattle.indexset_follow.specs.StoreRun.{store_after, store_text};
 ghost use Rattle.indexset_follow.specs.declared.others.Others.{Others};
 ghost use Rattle.indexset_follow.specs.declared.reads.query.Query.{Query};
 ghost use Rattle.indexset_follow.specs.declared.reply.Reply.TheVariants as reply;
@@ -22,14 +26,15 @@ ghost use Rattle.indexset_follow.specs.declared.role.Role.{Role};
 ghost use Rattle.indexset_follow.specs.declared.role.Role.TheVariants as role;
 
 /// A follower that is told to lead is the leader of the same nodes that goes on with the same
-/// number. So it answers all further lines, and tells the events of them, as that leader does.
+/// number, whether a snapshot is coming or not. So it answers all further lines, and tells the
+/// events of them, as that leader does.
 pub fn follower_takes_over()
-    ensures held { (t : PairTree) → nodes_refusal (by_key nat_cmp) t.size t.nodes ≡ None
-        → after_held (held t.size (role.Following (state t.nodes t.next))) (codes "lead")
-        ≡ held t.size (role.Leading t) }
-    ensures answers { (o : Others) (t : PairTree) (lines : List (List ℕ))
+    ensures held { (t : PairTree) (s : State) → s.held ≡ copy t.nodes t.next
         → nodes_refusal (by_key nat_cmp) t.size t.nodes ≡ None
-        → held_replies o (held t.size (role.Following (state t.nodes t.next))) (codes "lead" ∷ lines)
+        → after_held (held t.size (role.Following s)) (codes "lead") ≡ held t.size (role.Leading t) }
+    ensures answers { (o : Others) (t : PairTree) (s : State) (lines : List (List ℕ))
+        → s.held ≡ copy t.nodes t.next → nodes_refusal (by_key nat_cmp) t.size t.nodes ≡ None
+        → held_replies o (held t.size (role.Following s)) (codes "lead" ∷ lines)
         ≡ reply_ended (reply.Next t.next) ++ held_replies o (held t.size (role.Leading t)) lines }
 {}
 
@@ -62,7 +67,7 @@ pub fn follower_goes_on_as_the_leader()
         → 2 ≤ size → size < 2 ^ 64
         → HoldsFirst 0 [] (events_led (fresh size) lines) (length (events_led (fresh size) lines)) s
         → held_replies o (held size (role.Following s)) (codes "lead" ∷ more)
-        ≡ reply_ended (reply.Next s.next)
+        ≡ reply_ended (reply.Next s.held.next)
         ++ held_replies o (held size (role.Leading (tree_of (fresh size) lines))) more }
 {}
 
@@ -70,9 +75,26 @@ pub fn follower_goes_on_as_the_leader()
 /// nothing.
 pub fn reads_agree()
     ensures follows { (o : Others) (size : ℕ) (s : State) (q : Query) → QueryFits q
-        → held_reply o (held size (role.Following s)) (query_line q) ≡ query_text s.nodes s.next q }
+        → held_reply o (held size (role.Following s)) (query_line q)
+        ≡ query_text s.held.nodes s.held.next q }
     ensures leads { (o : Others) (size : ℕ) (t : PairTree) (q : Query) → QueryFits q
         → held_reply o (held size (role.Leading t)) (query_line q) ≡ query_text t.nodes t.next q }
     ensures still { (size : ℕ) (r : Role) (q : Query) → QueryFits q
         → after_held (held size r) (query_line q) ≡ held size r }
+{}
+
+/// A last line that lacks its end changes nothing in either role, whatever it would be with its end:
+/// what is held after whole lines and a cut one is what is held after the whole lines. The answer to
+/// the cut line stands behind those to the whole ones. It is none where lines that say nothing are
+/// passed over and the cut one asks for no read.
+pub fn cut_lines_change_nothing()
+    ensures held { (size : ℕ) (leads : Bool) (whole rest : List ℕ) → IsWhole whole → HasNoEnd rest
+        → store_after size leads (whole ++ rest) ≡ store_after size leads whole }
+    ensures all_held { (size : ℕ) (leads : Bool) (whole : List ℕ) → IsWhole whole
+        → store_after size leads whole ≡ held_after (first_held size leads) (lines_of whole) }
+    ensures told { (o : Others) (size : ℕ) (leads : Bool) (whole rest : List ℕ) → IsWhole whole
+        → HasNoEnd rest → 0 < length rest → store_text o size leads (whole ++ rest)
+        ≡ store_text o size leads whole ++ held_cut o (store_after size leads whole) rest }
+    ensures silent { (h : Held) (rest : List ℕ) → query_of rest ≡ None
+        → held_cut Others.Pass h rest ≡ [] }
 {}

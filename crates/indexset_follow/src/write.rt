@@ -1,13 +1,16 @@
-//! What is written: lines of a reply, of nodes and of pairs.
+//! What is written: lines of a reply, of nodes and of a snapshot.
 
-ghost use Rattle.std.specs.Prelude.{◌≡◌, ◌++◌, [], codes, OnOk, IfErr};
+ghost use Rattle.std.specs.Prelude.{◌≡◌, OnOk, IfErr};
 ghost use Rattle.std.specs.Io.KnownBytes.{Appends};
-ghost use Rattle.indexset_bench.specs.PairText.{lines_for, node_text};
-ghost use Rattle.indexset_follow.specs.Follow.{snapshot_text};
+ghost use Rattle.indexset_bench.specs.PairText.{ended};
+ghost use Rattle.indexset_follow.specs.Copy.{body_text, copy};
+ghost use Rattle.indexset_follow.specs.Mark.{mark_line};
 ghost use Rattle.indexset_follow.specs.NodeLine.{node_line};
 ghost use Rattle.indexset_follow.specs.Reads.{nodes_text};
 ghost use Rattle.indexset_follow.specs.Reply.{reply_ended};
 
+use crate::mark::Mark;
+use crate::reads::nodes::WalkNodes;
 use crate::reply::Reply;
 use indexset_bench::write::write_node;
 use indexset_bench::{Replica, RunFault};
@@ -38,16 +41,39 @@ pub fn write_nodes<W: Write>(writer: &mut W, nodes: &Nodes) -> Result<(), RunFau
     write_reply(writer, Reply::Next(nodes.next()))
 }
 
-/// Writes the lines that make another follower the same.
-pub fn write_snapshot<W: Write>(writer: &mut W, nodes: &Nodes) -> Result<(), RunFault>
+/// Writes the beginning or the end of a snapshot as a line.
+pub fn write_mark<W: Write>(writer: &mut W, mark: Mark) -> Result<(), RunFault>
     ensures told { OnOk result (Appends (W.contents writer.old) (W.contents writer.new)
-        (snapshot_text nodes.now)) }
+        (ended (mark_line mark))) }
     ensures fault { IfErr result (λ fault. fault ≡ RunFault.Write) }
 {
-    write_reply(writer, Reply::Start(nodes.next()))?;
-    for node in nodes.nodes() {
-        write!(writer, "node ").map_err(|_| RunFault::Write)?;
-        write_node(writer, node)?;
+    writer.writeln(mark).map_err(|_| RunFault::Write)
+}
+
+/// Writes the line that gives a node.
+pub fn write_node_line<W: Write>(writer: &mut W, node: &[Pair<u64, u64>]) -> Result<(), RunFault>
+    ensures told { OnOk result (Appends (W.contents writer.old) (W.contents writer.new)
+        (ended (node_line node.now))) }
+    ensures fault { IfErr result (λ fault. fault ≡ RunFault.Write) }
+{
+    write!(writer, "node ").map_err(|_| RunFault::Write)?;
+    write_node(writer, node)
+}
+
+/// Writes the lines of a snapshot before its last.
+pub fn write_body<'a, N: WalkNodes<'a> + Drop, W: Write>(
+    writer: &mut W,
+    next: u64,
+    nodes: N,
+) -> Result<(), RunFault>
+    ensures told { OnOk result (Appends (W.contents writer.old) (W.contents writer.new)
+        (body_text (copy (N.rest nodes) next))) }
+    ensures fault { IfErr result (λ fault. fault ≡ RunFault.Write) }
+{
+    let mut walk = nodes;
+    write_mark(writer, Mark::Start(next))?;
+    while let Some(node) = walk.next_node() {
+        write_node_line(writer, node)?;
     }
     Ok(())
 }

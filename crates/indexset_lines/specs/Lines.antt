@@ -1,6 +1,7 @@
 -- The lines of an input.
-use Rattle.std.specs.Prelude.{◌≢◌, ℕ, ◌==◌, if◌then◌else◌, List, [], ◌∷◌, All}
+use Rattle.std.specs.Prelude.{◌≢◌, ℕ, Bool, ◌==◌, if◌then◌else◌, List, [], ◌∷◌, All}
 use Rattle.std.specs.Io.{StopsAt, IsEmptyOrEndsWith}
+use Rattle.std.specs.List.{list_any}
 
 -- no byte ends a line
 abbrev pub HasNoEnd : List ℕ → Type 0
@@ -14,7 +15,7 @@ IsLinePart xs = StopsAt xs 10
 unfoldable pub IsWhole : List ℕ → Type 0
 IsWhole xs = IsEmptyOrEndsWith xs 10
 
--- the byte goes before the first line
+-- the byte goes before the first line; where there is none, it is one
 abbrev pub onto_first : ℕ → List (List ℕ) → List (List ℕ)
 onto_first x [] = (x ∷ []) ∷ []
 onto_first x (line ∷ lines) = (x ∷ line) ∷ lines
@@ -23,3 +24,22 @@ onto_first x (line ∷ lines) = (x ∷ line) ∷ lines
 unfoldable pub lines_of : List ℕ → List (List ℕ)
 lines_of [] = []
 lines_of (x ∷ xs) = if x == 10 then [] ∷ lines_of xs else onto_first x (lines_of xs)
+
+-- the byte goes before the first line, where there is one
+abbrev pub before_first : ℕ → List (List ℕ) → List (List ℕ)
+before_first x [] = []
+before_first x (line ∷ lines) = (x ∷ line) ∷ lines
+
+-- the lines of the input that have their ends
+unfoldable pub whole_lines : List ℕ → List (List ℕ)
+whole_lines [] = []
+whole_lines (x ∷ xs) = if x == 10 then [] ∷ whole_lines xs else before_first x (whole_lines xs)
+
+-- a byte ends a line
+abbrev pub has_end : List ℕ → Bool
+has_end xs = list_any (λ x. x == 10) xs
+
+-- what stands behind the last line end
+unfoldable pub rest_of : List ℕ → List ℕ
+rest_of [] = []
+rest_of (x ∷ xs) = if has_end (x ∷ xs) then rest_of xs else x ∷ xs

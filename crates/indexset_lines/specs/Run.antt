@@ -1,7 +1,7 @@
 -- What a run does to the bytes that a reader has left and to those that a writer holds.
 use Rattle.std.specs.Prelude.{Option, ℕ, List, [], ◌∷◌, ◌++◌, OnSome}
 use Rattle.std.specs.Io.KnownBytes.{Appends, Consumes, IsAtEnd}
-use Rattle.indexset_lines.specs.Lines.{IsLinePart, IsWhole, lines_of}
+use Rattle.indexset_lines.specs.Lines.{IsLinePart, IsWhole, lines_of, rest_of, whole_lines}
 
 -- what is left after the lines
 module _ {S : Type 0} (after : S → List ℕ → S) where
@@ -9,32 +9,38 @@ module _ {S : Type 0} (after : S → List ℕ → S) where
   left_by s [] = s
   left_by s (line ∷ lines) = left_by (after s line) lines
 
+-- the reader gave an input, to its end, and the writer got the text for it
+pub record AnswersAll (text : List ℕ → List ℕ) (reader reader' writer writer' : Option (List ℕ)) : Type 0 where
+  pub input : List ℕ
+  pub read : Consumes reader reader' input
+  pub at_end : OnSome reader (IsAtEnd reader')
+  pub written : Appends writer writer' (text input)
+
 module _ {S : Type 0} (reply : S → List ℕ → List ℕ) (after : S → List ℕ → S) where
   -- the replies to the lines, joined
   unfoldable pub replies_to : S → List (List ℕ) → List ℕ
   replies_to s [] = []
   replies_to s (line ∷ lines) = reply s line ++ replies_to (after s line) lines
 
+  module _ (cut_reply : S → List ℕ → List ℕ) where
+    -- the reply to what stands behind the last line end, where anything does
+    abbrev pub rest_reply : S → List ℕ → List ℕ
+    rest_reply s [] = []
+    rest_reply s (x ∷ xs) = cut_reply s (x ∷ xs)
+
+    -- the replies to the whole lines of an input, and the one to the rest
+    abbrev pub text_of : S → List ℕ → List ℕ
+    text_of start input = replies_to start (whole_lines input) ++ rest_reply (left_by after start (whole_lines input)) (rest_of input)
+
   module _ (start : S) where
-    -- the replies to the lines of an input
-    abbrev pub text_of : List ℕ → List ℕ
-    text_of input = replies_to start (lines_of input)
-
-    -- the reader gave an input, to its end, and the writer got its text
-    pub record AnswersAll (reader reader' writer writer' : Option (List ℕ)) : Type 0 where
-      pub input : List ℕ
-      pub read : Consumes reader reader' input
-      pub at_end : OnSome reader (IsAtEnd reader')
-      pub written : Appends writer writer' (text_of input)
-
-    -- the reader gave whole lines and such a rest, and the writer got the text of the whole lines
+    -- the reader gave whole lines and such a rest, and the writer got the replies to the whole lines
     pub record AnswersWholeLines (IsRest : List ℕ → Type 0) (reader reader' writer writer' : Option (List ℕ)) : Type 0 where
       pub whole : List ℕ
       pub rest : List ℕ
       pub is_whole : IsWhole whole
       pub is_rest : IsRest rest
       pub read : Consumes reader reader' (whole ++ rest)
-      pub written : Appends writer writer' (text_of whole)
+      pub written : Appends writer writer' (replies_to start (lines_of whole))
 
     -- the same, where the rest is the line that numbers are lacking for
     abbrev pub LacksNumbers : (S → Type 0) → (reader reader' writer writer' : Option (List ℕ)) → Type 0

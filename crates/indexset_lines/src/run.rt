@@ -3,7 +3,7 @@
 ghost use Rattle.std.specs.Prelude.{◌≡◌, ◌≢◌, ℕ, List, Err, OnOk};
 ghost use Rattle.std.specs.Io.KnownBytes.{Appends, Keeps};
 ghost use Rattle.indexset_lines.specs.Lines.{HasNoEnd, IsLinePart};
-ghost use Rattle.indexset_lines.specs.Run.{AnswersAll, AnswersWholeLines, LacksNumbers};
+ghost use Rattle.indexset_lines.specs.Run.{AnswersAll, AnswersWholeLines, LacksNumbers, text_of};
 
 use crate::fault::RunFault;
 use crate::line::{Part, is_at_end, next_line};
@@ -20,6 +20,9 @@ pub trait Answers {
     /// The reply to a line.
     ghost reply: { Self → Self.State → List ℕ → List ℕ };
 
+    /// The reply to a last line that lacks its end.
+    ghost cut_reply: { Self → Self.State → List ℕ → List ℕ };
+
     /// The state after a line.
     ghost after: { Self.State → List ℕ → Self.State };
 
@@ -30,8 +33,22 @@ pub trait Answers {
     fn answer<W: Write>(&mut self, writer: &mut W, line: &[u8]) -> Result<(), RunFault>
         ensures held { OnOk result (state self.new ≡ after (state self.old) line.now) }
         ensures alike { OnOk result (reply self.new ≡ reply self.old) }
+        ensures cut_alike { OnOk result (cut_reply self.new ≡ cut_reply self.old) }
         ensures told { OnOk result (Appends (W.contents writer.old) (W.contents writer.new)
             (reply self.old (state self.old) line.now)) }
+        ensures memory_refused { result ≡ Err RunFault.Memory
+            → Keeps (W.contents writer.old) (W.contents writer.new) }
+        ensures numbers_refused { result ≡ Err RunFault.Numbers
+            → Keeps (W.contents writer.old) (W.contents writer.new) }
+        ensures no_numbers { result ≡ Err RunFault.Numbers
+            → lacks_numbers (after (state self.old) line.now) }
+        ensures no_read { result ≢ Err RunFault.Read };
+
+    /// Writes the reply to a last line that lacks its end. Where memory or numbers run out, nothing
+    /// is written.
+    fn answer_cut<W: Write>(&mut self, writer: &mut W, line: &[u8]) -> Result<(), RunFault>
+        ensures told { OnOk result (Appends (W.contents writer.old) (W.contents writer.new)
+            (cut_reply self.old (state self.old) line.now)) }
         ensures memory_refused { result ≡ Err RunFault.Memory
             → Keeps (W.contents writer.old) (W.contents writer.new) }
         ensures numbers_refused { result ≡ Err RunFault.Numbers
@@ -54,7 +71,7 @@ pub fn answer_lines<A: Answers, R: BufRead, W: Write>(
 ) -> Result<(), RunFault>
     // The bytes that the reader gave, to its end, have their replies.
     ensures given_answered { OnOk result (AnswersAll
-        (A.reply answers.old) A.after (A.state answers.old)
+        (text_of (A.reply answers.old) A.after (A.cut_reply answers.old) (A.state answers.old))
         (R.remaining reader.old) (R.remaining reader.new)
         (W.contents writer.old) (W.contents writer.new)) }
 
@@ -84,7 +101,7 @@ pub fn answer_lines<A: Answers, R: BufRead, W: Write>(
                     flush(writer)?;
                 }
             }
-            Part::Last => return answers.answer(writer, line),
+            Part::Last => return answers.answer_cut(writer, line),
             Part::End => return Ok(()),
         }
     }

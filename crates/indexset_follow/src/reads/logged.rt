@@ -1,14 +1,18 @@
 //! Reads of a map that leads.
 
 use super::Reads;
+use super::nodes::WalkNodes;
 use super::row::{Walk, write_row};
 use crate::reply::Reply;
-use crate::write::write_reply;
+use crate::sum::sum;
+use crate::write::{write_body, write_reply};
 use indexset_bench::RunFault;
 use indexset_bench::pairs::Pairs;
 use indexset_bench::write::write_nodes;
 use indexset_core::pair::Pair;
 use indexset_log::map::iter::Iter;
+use indexset_log::set::nodes::Nodes;
+use std::alloc::Global;
 use std::io::Write;
 use std::ops::Bound;
 
@@ -37,6 +41,18 @@ impl Reads for Pairs {
 
     fn next_number(&self) -> u64 {
         self.events_issued()
+    }
+
+    fn node_total(&self) -> usize {
+        self.node_count()
+    }
+
+    fn sum_of_nodes(&self, alloc: Global) -> Result<u64, RunFault> {
+        sum(alloc, self.events_issued(), self.iter_nodes())
+    }
+
+    fn write_snapshot_body<W: Write>(&self, writer: &mut W) -> Result<(), RunFault> {
+        write_body(writer, self.events_issued(), self.iter_nodes())
     }
 
     fn write_keys<W: Write>(&self, writer: &mut W, low: u64, high: u64) -> Result<(), RunFault> {
@@ -70,5 +86,16 @@ impl<'a> Walk for Iter<'a, u64, u64, Vec<Pair<u64, u64>>> {
     fn next_entry(&mut self) -> Option<(u64, u64)> {
         let (key, value) = self.next()?;
         Some((*key, *value))
+    }
+}
+
+impl<'a> WalkNodes<'a> for Nodes<'a, Vec<Pair<u64, u64>>> {
+    ghost use Rattle.indexset_core.specs.Nodes.{vec_items};
+
+    ghost rest = { λ nodes. vec_items nodes };
+
+    fn next_node(&mut self) -> Option<&'a [Pair<u64, u64>]> {
+        let node = self.next()?;
+        Some(node.as_slice())
     }
 }

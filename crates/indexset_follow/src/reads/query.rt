@@ -28,6 +28,10 @@ pub enum Query {
     Nodes,
     /// The next number.
     Next,
+    /// The lines that make another map the same.
+    Snapshot,
+    /// The next number, how many nodes there are, and the sum of both.
+    Sum,
 }
 
 /// Returns the read that the line asks for, if it asks for one.
@@ -54,6 +58,10 @@ fn read_word(word: &[u8]) -> Option<Query>
         Some(Query::Nodes)
     } else if word == b"next".as_slice() {
         Some(Query::Next)
+    } else if word == b"snapshot".as_slice() {
+        Some(Query::Snapshot)
+    } else if word == b"sum".as_slice() {
+        Some(Query::Sum)
     } else {
         None
     }

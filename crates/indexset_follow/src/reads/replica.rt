@@ -1,13 +1,17 @@
 //! Reads of nodes that follow.
 
 use super::Reads;
+use super::nodes::WalkNodes;
 use super::row::{Walk, write_row};
-use crate::write::{Nodes, write_nodes};
+use crate::sum::sum;
+use crate::write::{Nodes, write_body, write_nodes};
 use indexset_bench::RunFault;
 use indexset_core::pair::Pair;
 use indexset_replica::iter::Iter;
+use std::alloc::Global;
 use std::io::Write;
 use std::ops::Bound;
+use std::slice;
 
 impl Reads for Nodes {
     ghost nodes = { λ r. r.nodes };
@@ -34,6 +38,18 @@ impl Reads for Nodes {
 
     fn next_number(&self) -> u64 {
         self.next()
+    }
+
+    fn node_total(&self) -> usize {
+        self.nodes().len()
+    }
+
+    fn sum_of_nodes(&self, alloc: Global) -> Result<u64, RunFault> {
+        sum(alloc, self.next(), self.nodes().iter())
+    }
+
+    fn write_snapshot_body<W: Write>(&self, writer: &mut W) -> Result<(), RunFault> {
+        write_body(writer, self.next(), self.nodes().iter())
     }
 
     fn write_keys<W: Write>(&self, writer: &mut W, low: u64, high: u64) -> Result<(), RunFault> {
@@ -66,5 +82,17 @@ impl<'a> Walk for Iter<'a, Pair<u64, u64>> {
     fn next_entry(&mut self) -> Option<(u64, u64)> {
         let pair = self.next()?;
         Some((pair.key, pair.value))
+    }
+}
+
+impl<'a> WalkNodes<'a> for slice::Iter<'a, Vec<Pair<u64, u64>>> {
+    ghost use Rattle.std.specs.Slice.Iter.{iter_rest};
+    ghost use Rattle.indexset_core.specs.Nodes.{vec_items};
+
+    ghost rest = { λ nodes. vec_items (iter_rest nodes) };
+
+    fn next_node(&mut self) -> Option<&'a [Pair<u64, u64>]> {
+        let node = self.next()?;
+        Some(node.as_slice())
     }
 }

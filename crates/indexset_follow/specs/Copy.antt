@@ -1,0 +1,33 @@
+-- A copy of a map, the snapshot of it, and the sum by which two copies are compared.
+use Rattle.std.specs.Prelude.{ℕ, List, ◌++◌, length, take}
+use Rattle.std.specs.Int.{w64, from_be_bytes}
+use Rattle.sha2.specs.Sha256.{sha256}
+use Rattle.indexset_bench.specs.PairText.{ended, lines_for}
+use Rattle.indexset_core.specs.declared.pair.Pair.{Pair}
+use Rattle.indexset_replica.specs.Replica.{ReplicaState}
+use Rattle.indexset_follow.specs.Mark.{mark_line}
+use Rattle.indexset_follow.specs.NodeLine.{node_line}
+use Rattle.indexset_follow.specs.declared.mark.Mark.TheVariants.{Start, End}
+
+-- its nodes, and the number of the event that is awaited
+abbrev pub Copy : Type 0
+Copy = ReplicaState (Pair ℕ ℕ)
+
+abbrev pub copy : List (List (Pair ℕ ℕ)) → ℕ → Copy
+copy ns n = record { nodes = ns; next = n }
+
+-- the lines of a snapshot before its last
+abbrev pub body_text : Copy → List ℕ
+body_text c = ended (mark_line (Start c.next)) ++ lines_for node_line c.nodes
+
+-- the first 64 bits of the SHA-256 of these
+unfoldable pub sum_of : Copy → ℕ
+sum_of c = from_be_bytes w64 (take 8 (sha256 (body_text c)))
+
+-- the line that ends a snapshot: how many nodes it has, and its sum
+abbrev pub end_line : Copy → List ℕ
+end_line c = mark_line (End (length c.nodes) (sum_of c))
+
+-- the lines that make another follower the same
+abbrev pub snapshot_text : Copy → List ℕ
+snapshot_text c = body_text c ++ ended (end_line c)

@@ -1,0 +1,17 @@
+//! Nodes that are walked over.
+
+ghost use Rattle.std.specs.Prelude.{◌≡◌, [], ◌∷◌, MatchOption};
+ghost use Rattle.indexset_follow.specs.Reads.{PairNodes};
+
+use indexset_core::pair::Pair;
+
+/// Nodes that are walked over, one after another.
+pub trait WalkNodes<'a> {
+    /// The nodes that are left.
+    ghost rest: { Self → PairNodes };
+
+    /// Returns the next node.
+    fn next_node(&mut self) -> Option<&'a [Pair<u64, u64>]>
+        ensures { MatchOption result (rest self.old ≡ [])
+            (λ n. rest self.old ≡ n.now ∷ rest self.new) };
+}

@@ -1,0 +1,89 @@
+//! What the lines of a snapshot change, and the replies to them.
+
+ghost use Rattle.std.specs.Prelude.{◌≡◌, OnOk, OnErr, IfOk, IfErr};
+ghost use Rattle.indexset_follow.specs.Follow.{after_mark, after_node, end_reason, mark_reply, node_reply};
+
+use crate::answer::reply_unless_memory;
+use crate::follower::Follower;
+use crate::mark::Mark;
+use crate::node::Node;
+use crate::reads::Reads;
+use crate::reason::Reason;
+use crate::reply::Reply;
+use crate::write::Nodes;
+use indexset_bench::RunFault;
+use std::alloc::Global;
+
+/// Inserts a whole node into the snapshot that is coming, and returns the reply.
+pub fn take_node(follower: &mut Follower, node: Node) -> Result<Reply, RunFault>
+    ensures held { OnOk result (follower.new ≡ after_node follower.old node.items) }
+    ensures reply { IfOk result (λ reply. reply ≡ node_reply follower.old node.items) }
+    ensures fault { IfErr result (λ fault. fault ≡ RunFault.Memory) }
+{
+    let next = follower.held.next();
+    match &mut follower.coming {
+        Some(coming) => match coming.attach(node) {
+            Ok(()) => Ok(Reply::Held),
+            Err(refused) => reply_unless_memory(refused.cause, next),
+        },
+        None => Ok(Reply::Unfit(next, Reason::NotBegun)),
+    }
+}
+
+/// Begins a snapshot or ends it, and returns the reply.
+pub fn take_mark(alloc: Global, follower: &mut Follower, mark: Mark) -> Result<Reply, RunFault>
+    ensures held { OnOk result (follower.new ≡ after_mark follower.old mark) }
+    ensures reply { IfOk result (λ reply. reply ≡ mark_reply follower.old mark) }
+    ensures fault { IfErr result (λ fault. fault ≡ RunFault.Memory) }
+    ensures unchanged { OnErr result (follower.new ≡ follower.old) }
+{
+    match mark {
+        Mark::Start(next) => {
+            follower.coming = Some(Nodes::new(alloc, next));
+            Ok(Reply::Held)
+        }
+        Mark::End(count, sum) => take_end(alloc, follower, count, sum),
+    }
+}
+
+/// Puts the snapshot that came in place of what is held, where it is whole, and returns the reply.
+fn take_end(alloc: Global, follower: &mut Follower, count: u64, sum: u64) -> Result<Reply, RunFault>
+    ensures held { OnOk result (follower.new ≡ after_mark follower.old (Mark.End count sum)) }
+    ensures reply { IfOk result (λ reply. reply ≡ mark_reply follower.old (Mark.End count sum)) }
+    ensures fault { IfErr result (λ fault. fault ≡ RunFault.Memory) }
+    ensures unchanged { OnErr result (follower.new ≡ follower.old) }
+{
+    let next = follower.held.next();
+    let Some(coming) = &follower.coming else {
+        return Ok(Reply::Unfit(next, Reason::NotBegun));
+    };
+    if let Some(reason) = wrong_end(alloc, coming, count, sum)? {
+        follower.coming = None;
+        return Ok(Reply::Unfit(next, reason));
+    }
+    let next = coming.next();
+    if let Some(came) = follower.coming.take() {
+        follower.held = came;
+    }
+    Ok(Reply::Next(next))
+}
+
+/// Returns why the numbers at the end of a snapshot are not those of what came.
+fn wrong_end(
+    alloc: Global,
+    coming: &Nodes,
+    nodes: u64,
+    sum_told: u64,
+) -> Result<Option<Reason>, RunFault>
+    ensures reason { IfOk result (λ reason. reason ≡ end_reason nodes sum_told coming.now) }
+    ensures fault { IfErr result (λ fault. fault ≡ RunFault.Memory) }
+{
+    if coming.node_total() as u64 != nodes {
+        return Ok(Some(Reason::Count));
+    }
+    let sum_came = coming.sum_of_nodes(alloc)?;
+    if sum_came != sum_told {
+        return Ok(Some(Reason::Sum));
+    }
+    Ok(None)
+}
