@@ -163,7 +163,7 @@ impl<T: Word> Sets<T> {
             "from_iter" => BTreeSet::from_iter(self.alloc, numbers)?,
             "from" => BTreeSet::from(self.alloc, numbers)?,
             "from_reversed" => {
-                let reversed = numbers.into_iter().rev().collect(self.alloc)?;
+                let reversed: Vec<T> = numbers.into_iter().rev().collect(self.alloc)?;
                 BTreeSet::from(self.alloc, reversed)?
             }
             _ => return Err(Stop::NoCall),
