@@ -77,7 +77,7 @@ def paces(program: pathlib.Path, follower: pathlib.Path, text: bytes, events: by
 
 def of_lines(times: int) -> str | None:
     """None where the programs are not built: `rt run` in their folders builds them."""
-    program, follower = build.program("program"), build.program("follower")
+    program, follower = build.program("program"), build.program("store")
     if not program or not follower:
         return None
     rows = of_each(program, times)
