@@ -59,7 +59,8 @@ pub extern "C" fn indexset_text_log_rank(
     log: &mut TextLogHandle,
     key: &[u8],
 ) -> usize
-    ensures value { result ≡ key_rank (slice_cmp nat_cmp) (logged_texts log.old.slot.value) key.now }
+    ensures value { result
+        ≡ key_rank (slice_cmp nat_cmp) (logged_texts log.old.slot.value) key.now }
     ensures same { log.new.slot.value ≡ log.old.slot.value }
 {
     let Some(held) = log.take(alloc) else {

@@ -31,7 +31,8 @@ ghost use Rattle.indexset_follow.specs.declared.role.Role.TheVariants as role;
 pub fn follower_takes_over()
     ensures held { (t : PairTree) (s : State) → s.held ≡ copy t.nodes t.next
         → nodes_refusal (by_key nat_cmp) t.size t.nodes ≡ None
-        → after_held (held t.size (role.Following s)) (codes "lead") ≡ held t.size (role.Leading t) }
+        → after_held (held t.size (role.Following s)) (codes "lead")
+        ≡ held t.size (role.Leading t) }
     ensures answers { (o : Others) (t : PairTree) (s : State) (lines : List (List ℕ))
         → s.held ≡ copy t.nodes t.next → nodes_refusal (by_key nat_cmp) t.size t.nodes ≡ None
         → held_replies o (held t.size (role.Following s)) (codes "lead" ∷ lines)
@@ -52,7 +53,8 @@ pub fn led_events_lead_to_the_nodes()
         → (tree_of (fresh size) lines).next ≡ length (events_led (fresh size) lines) }
     ensures role { (size : ℕ) (t : PairTree) (lines : List (List ℕ))
         → All (λ line. (starts line || is_follow line) ≡ false) lines
-        → held_after (held size (role.Leading t)) lines ≡ held size (role.Leading (tree_of t lines)) }
+        → held_after (held size (role.Leading t)) lines
+        ≡ held size (role.Leading (tree_of t lines)) }
 {}
 
 /// Let a leader begin without nodes and read some lines, and let a follower hold what all events
