@@ -3,6 +3,7 @@
 
 docs/contracts has each public call of the library crates with its clauses, a page for each type of the crate
 `indexset` and for each inner crate, and an index, in which each call of a type has the first sentence of its docs.
+A call has its cost too (`costs.txt`).
 GLOSSARY.md has the terms and the words that the contracts of collections use (`glossary.py`).
 """
 
@@ -17,6 +18,7 @@ import textwrap
 from collections.abc import Callable, Iterable, Iterator
 
 sys.dont_write_bytecode = True
+import costs  # noqa: E402
 import glossary  # noqa: E402
 
 ROOT = pathlib.Path(__file__).resolve().parent.parent
@@ -36,6 +38,7 @@ PAGES = {
 }
 COLLECTIONS = ("set", "map", "logged_set", "logged_map", "multimap", "replica")
 FOR_C = {"c": ("Calls of the C library", "indexset_c", "")}
+USES = {"uses": ("Proved callers", "indexset_uses", "")}  # a program, of which each function is shown
 INNER = ("inner", "inner/")  # what a crate of a type has for the crates above it alone
 
 
@@ -211,9 +214,10 @@ class Link:
 class Page:
     """A page of contracts, with its calls by the type that has them."""
 
+    name: str
     title: str
-    lines: list[str]
-    calls: dict[str, list[Link]]
+    lines: list[str] = dataclasses.field(default_factory=list)
+    calls: dict[str, list[Link]] = dataclasses.field(default_factory=dict)
 
 
 def name_of(it: Call) -> str:
@@ -230,16 +234,16 @@ def anchor_of(heading: str, taken: dict[str, int]) -> str:
     return f"{plain}-{taken[plain]}" if taken[plain] else plain
 
 
-def shown(it: Call, page: Page, taken: dict[str, int]) -> None:
-    """Adds a call to a page, with a heading and an anchor."""
+def shown(it: Call, page: Page, taken: dict[str, int], group: str = "") -> None:
+    """Adds a call to a page, with a heading and an anchor; the index has it by its type, or by this group."""
     name = name_of(it)
     page.lines.extend([f"### `{name}`", ""])
     anchor = anchor_of(name, taken)
     owner, _, function = name.rpartition("::")
-    page.calls.setdefault(owner, []).append(Link(function, anchor, first_sentence(it.doc)))
-    said = [it.doc] if it.doc else []
+    page.calls.setdefault(group or owner, []).append(Link(function, anchor, first_sentence(it.doc)))
+    said = [part for text in (it.doc, costs.line(page.name, owner, function)) if text for part in (text, "")]
     head = [it.owner] if it.owner else []
-    page.lines.extend([*said, *[""] * len(said), "```text", *head, it.signature, *("    " + clause for clause in it.clauses), "```", ""])
+    page.lines.extend([*said, "```text", *head, it.signature, *("    " + clause for clause in it.clauses), "```", ""])
 
 
 def add_ghosts(it: Call, page: Page, last: str) -> None:
@@ -270,13 +274,12 @@ def files_apart(crate: str) -> Iterator[pathlib.Path]:
     return (file for file in source_files(crate) if file not in apart)
 
 
-def page_of(title: str, crate: str, files: Iterable[pathlib.Path], public: set[str]) -> Page:
-    """The page of some files of a crate."""
+def page_of(page: Page, crate: str, files: Iterable[pathlib.Path], public: set[str], *, shows_all: bool = False) -> Page:
+    """Fills the page of some files of a crate: of its public modules, or of all."""
     src = ROOT / "crates" / crate / "src"
-    page = Page(title, [], {})
     taken: dict[str, int] = {}
     for file in files:
-        seen, names = is_open(file, src), passed_on(file, src)
+        seen, names = shows_all or is_open(file, src), passed_on(file, src)
         found = list(calls_of(file.read_text(encoding="utf-8"), lambda name: seen or name in names, public))
         if found:
             heading = f"`{file.relative_to(ROOT / 'crates')}`"
@@ -285,7 +288,7 @@ def page_of(title: str, crate: str, files: Iterable[pathlib.Path], public: set[s
         last = ""
         for it in found:
             if it.signature:
-                shown(it, page, taken)
+                shown(it, page, taken, file.name if shows_all else "")
             else:
                 add_ghosts(it, page, last)
             last = it.owner
@@ -297,11 +300,13 @@ def pages_of_contracts() -> dict[str, Page]:
     crates = library_crates()
     public = public_names(crates)
     outer = [(name, it) for name, it in {**PAGES, **FOR_C}.items() if it[1] in crates]
-    found = {name: page_of(title, crate, files_of(crate, part), public) for name, (title, crate, part) in outer}
+    found = {name: page_of(Page(name, title), crate, files_of(crate, part), public) for name, (title, crate, part) in outer}
+    for name, (title, crate, part) in USES.items():
+        found[name] = page_of(Page(name, title), crate, files_of(crate, part), public, shows_all=True)
     for crate in crates:
         short = crate.removeprefix("indexset_")
         name = f"{short}_inner" if short in found else short
-        page = page_of(f"`{crate}`", crate, files_apart(crate), public)
+        page = page_of(Page(name, f"`{crate}`"), crate, files_apart(crate), public)
         if page.lines:
             found[name] = page
     return found
@@ -312,13 +317,15 @@ ABOUT = "A `requires` is a condition on the caller; an `ensures` is proved. Of a
 
 def text_of(page: Page) -> str:
     """The text of a page of contracts."""
-    return "\n".join([f"# {page.title}", "", f"Written by `docs/write.py` from the sources; [the index](README.md) has all pages. {ABOUT}", "", *page.lines])
+    head = [f"# {page.title}", "", f"Written by `docs/write.py` from the sources; [the index](README.md) has all pages. {ABOUT}", ""]
+    about_costs = [costs.ABOUT, ""] if costs.has(page.name) else []
+    return "\n".join([*head, *about_costs, *page.lines])
 
 
 def links(name: str, owner: str, calls: list[Link]) -> list[str]:
     """The lines of the index for the calls of a type: those of a user's type have a line each."""
     shown_owner = f"`{owner}`"
-    if name not in PAGES:
+    if name not in {**PAGES, **USES}:
         names = ", ".join(f"[`{it.name}`]({name}.md#{it.anchor})" for it in calls)
         return [f"- {shown_owner}: {names}" if owner else f"- {names}"]
     lines = [f"- [`{it.name}`]({name}.md#{it.anchor})" + (f": {it.says}" if it.says else "") for it in calls]
@@ -328,8 +335,9 @@ def links(name: str, owner: str, calls: list[Link]) -> list[str]:
 def index(pages: dict[str, Page]) -> str:
     """The text of the index: of each page the calls by type."""
     out = ["# Contracts", "", f"Each public call of the library crates with its clauses, written by `docs/write.py` from the sources. {ABOUT}", ""]
-    out += [", ".join(f"[{page.title}](#{anchor_of(page.title, {})})" for name, page in pages.items() if name in {**PAGES, **FOR_C}) + ".", ""]
-    heads = {next(iter(FOR_C)): "# For C", next(it for it in pages if it not in {**PAGES, **FOR_C}): "# Inner crates"}
+    out += [", ".join(f"[{page.title}](#{anchor_of(page.title, {})})" for name, page in pages.items() if name in {**PAGES, **FOR_C, **USES}) + ".", ""]
+    outer = {**PAGES, **FOR_C, **USES}
+    heads = {next(iter(FOR_C)): "# For C", next(iter(USES)): "# Callers", next(it for it in pages if it not in outer): "# Inner crates"}
     for name, page in pages.items():
         if name in heads:
             out += [heads[name], ""]
@@ -342,6 +350,9 @@ def index(pages: dict[str, Page]) -> str:
 def contracts() -> dict[str, str]:
     """The texts of docs/contracts, by the name of the file."""
     pages = pages_of_contracts()
+    named = {(name, owner, it.name) for name, page in pages.items() for owner, calls in page.calls.items() for it in calls}
+    if strange := costs.unknown(named):
+        sys.exit(f"docs/costs.txt: no such call: {', '.join(strange)}")
     return {"contracts/README.md": index(pages), **{f"contracts/{name}.md": text_of(page) for name, page in pages.items()}}
 
 

@@ -1,10 +1,10 @@
 #!/usr/bin/env python3
-"""Checks that docs/CALLING.md names each public function that a caller of `indexset` meets.
+"""Checks that the index of docs/contracts names each public function that a caller of `indexset` meets.
 
 The crate `indexset` passes on modules and types: a module's functions count, with those of the modules
 within it, and the public functions of a type's own `impl` blocks, and a trait's. Each is to stand in the
-code of the page, those of the plain set and the plain map in the section of their calls. Laws, and what is
-below the collections, stand in docs/contracts alone. The last line is 'N named, M missing'.
+code of the index, those of the plain set and the plain map in the section of their type. Laws, and what is
+below the collections, stand elsewhere. The last line is 'N named, M missing'.
 """
 
 from __future__ import annotations
@@ -18,7 +18,7 @@ from dataclasses import dataclass
 
 TOP = pathlib.Path(__file__).resolve().parent.parent
 # The page's heading under which the calls of a crate stand, for those that have one.
-SECTIONS = {"indexset_set": "## Every call of the set", "indexset_map": "## Every call of the map"}
+SECTIONS = {"indexset_set": "## [Set](set.md)", "indexset_map": "## [Map](map.md)"}
 BELOW = "indexset_core"
 
 
@@ -107,13 +107,13 @@ def section(page: str, call: Call) -> str:
     if heading is None or call.owner.islower():
         return page
     after = page.split(heading + "\n", 1)[1]
-    return re.split(r"^#+ ", after, maxsplit=1, flags=re.M)[0]
+    return re.split(r"^## ", after, maxsplit=1, flags=re.M)[0]
 
 
 def main() -> int:
-    """Prints each function that the page does not name."""
+    """Prints each function that the index does not name."""
     parser = argparse.ArgumentParser(description=__doc__, formatter_class=argparse.RawDescriptionHelpFormatter)
-    parser.add_argument("--page", type=pathlib.Path, default=TOP / "docs/CALLING.md", help="the page to read")
+    parser.add_argument("--page", type=pathlib.Path, default=TOP / "docs/contracts/README.md", help="the index to read")
     page = parser.parse_args().page.read_text(encoding="utf-8")
     found = calls()
     missing = sorted(call for call in found if call.name not in code_of(section(page, call)))
