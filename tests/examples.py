@@ -40,7 +40,7 @@ import lay  # noqa: E402
 
 CRATES = ["core", "spine", "set", "map", "events", "log", "multi", "replica"]
 PROVED = "indexset_uses"
-PAGES = ["*.md", "docs/*.md", "bindings/*.md", "examples/**/*.md"]
+PAGES = ["*.md", "docs/*.md", "bindings/*.md", "crates/*/README.md", "examples/**/*.md"]
 HEAD = "//! The examples of the documentation.\n#![tactic(auto)]\n"
 NAMES = """use indexset::base::multipair::MultiPair;
 use indexset::base::pair::Pair;
