@@ -1,4 +1,4 @@
-"""What the examples share: the two programs, the lines between them, and what is compared."""
+"""What the examples share: commands, a link that loses, doubles and swaps, kills by a seed, and the table in the end."""
 
 from __future__ import annotations
 
@@ -13,91 +13,36 @@ import socket
 import subprocess
 import sys
 import time
-from collections.abc import Callable, Iterator, Sequence
-from typing import NoReturn
+from collections.abc import Callable, Iterator
+from typing import NoReturn, Protocol
 
 from programs import built
+from store import Store
 
-WORDS = (b"create", b"drop", b"insert", b"remove", b"split", b"merge")
-FOLLOWER_KILLED, RELAY_KILLED, NO_FAULT = b"follower killed", b"relay killed", b"no fault"
+BATCH = 500  # commands
+KEYS = 20_000
+EVERY = 3  # kills of each part
+NAMES = ("sent", "lost", "doubled", "swapped", "asked for again", "sent again", "taken", "repeats", "early")
 
-Counts = collections.Counter[bytes]
-
-
-class Lines:
-    """A program that answers each line of its input by one line, and some by more."""
-
-    def __init__(self, program: pathlib.Path, *arguments: str) -> None:
-        self.program = program
-        self.process = subprocess.Popen([program, *arguments], stdin=subprocess.PIPE, stdout=subprocess.PIPE)
-
-    def send(self, lines: list[bytes]) -> None:
-        assert self.process.stdin
-        self.process.stdin.write(b"".join(line + b"\n" for line in lines))
-        self.process.stdin.flush()
-
-    def line(self) -> bytes:
-        assert self.process.stdout
-        line = self.process.stdout.readline()
-        if not line:
-            raise EOFError("the program ended")
-        return line.rstrip(b"\n")
-
-    def until(self, is_last: Callable[[bytes], bool]) -> list[bytes]:
-        """The lines up to the first that is the last."""
-        lines = [self.line()]
-        while not is_last(lines[-1]):
-            lines.append(self.line())
-        return lines
-
-    def each(self, lines: list[bytes]) -> list[bytes]:
-        """The answer of one line to each of the lines, which are sent in parts that pipes can hold."""
-        answers: list[bytes] = []
-        for at in range(0, len(lines), 1000):
-            part = lines[at : at + 1000]
-            self.send(part)
-            answers += [self.line() for _ in part]
-        return answers
-
-    def nodes(self) -> tuple[list[bytes], int]:
-        """The nodes of a follower, and the number that it awaits."""
-        self.send([b"nodes"])
-        *nodes, last = self.until(lambda line: line.startswith(b"next "))
-        return nodes, int(last[5:])
-
-    def snapshot(self) -> list[bytes]:
-        """The lines that make another follower the same."""
-        self.send([b"snapshot"])
-        return self.until(lambda line: line.startswith(b"end "))
-
-    def sum(self) -> bytes:
-        """The line by which two followers are compared."""
-        self.send([b"sum"])
-        return self.line()
-
-    def kill(self) -> None:
-        """Ends the program at once."""
-        self.process.kill()
-        self.process.communicate()
-
-    def end(self) -> None:
-        """Ends the program's input, and waits for its end."""
-        self.process.communicate()
+Counts = collections.Counter[str]
 
 
 def commands(count: int, chance: random.Random) -> list[bytes]:
     """Puts and cuts."""
     lines = []
     for _ in range(count):
-        key = chance.randrange(2000)
+        key = chance.randrange(KEYS)
         lines.append(b"put %d %d" % (key, chance.randrange(100)) if chance.random() < 0.6 else b"cut %d" % key)
     return lines
 
 
-def is_event(line: bytes) -> bool:
-    """Whether a line of the first program is an event."""
-    words = line.split(b" ", 2)
-    return len(words) == 3 and words[1] in WORDS
+def apply(pairs: dict[int, int], command: bytes) -> None:
+    """What a command does to a plain map."""
+    match command.split(b" "):
+        case [b"put", key, value]:
+            pairs[int(key)] = int(value)
+        case [_, key]:
+            pairs.pop(int(key), None)
 
 
 def number(event: bytes) -> int:
@@ -105,36 +50,203 @@ def number(event: bytes) -> int:
 
 
 def spoiled(events: list[bytes], chance: random.Random, counts: Counts) -> list[bytes]:
-    """The events with some lost, some doubled and some swapped, which are counted."""
-    lines: list[bytes] = []
-    for event in events:
+    """Events that come in pieces of 1 to 40, of which some are lost, some doubled and some swapped; these are counted."""
+    pieces: list[list[bytes]] = []
+    at = 0
+    while at < len(events):
+        piece = events[at : at + chance.randint(1, 40)]
         times = chance.choices([0, 1, 2], [2, 95, 3])[0]
-        lines += [event] * times
-        counts[b"lost"] += times == 0
-        counts[b"doubled"] += times == 2
-    for at in range(len(lines) - 1):
+        counts["lost" if times == 0 else "doubled"] += 0 if times == 1 else len(piece)
+        pieces += [piece] * times
+        at += len(piece)
+    for place in range(len(pieces) - 1):
         if chance.random() < 0.02:
-            lines[at], lines[at + 1] = lines[at + 1], lines[at]
-            counts[b"swapped"] += 1
-    return lines
+            pieces[place], pieces[place + 1] = pieces[place + 1], pieces[place]
+            counts["swapped"] += len(pieces[place]) + len(pieces[place + 1])
+    return [event for piece in pieces for event in piece]
 
 
-def faults(kinds: list[bytes], steps: Sequence[int], chance: random.Random) -> dict[int, bytes]:
-    """Steps at which faults come: two of each kind, no two at once."""
-    return dict(zip(chance.sample(steps, 2 * len(kinds)), 2 * kinds))
+class Link(Protocol):
+    """What brings events from a leader to a relay, and keeps them."""
+
+    def publish(self, events: list[bytes]) -> None:
+        """Sends and keeps events, at least one."""
+
+    def delivered(self) -> list[bytes]:
+        """The events that came since the last call, after which those of that call count as handed over."""
+
+    def kept(self, number: int) -> list[bytes]:
+        """Some of the events that are kept, from that number on."""
+
+    def reconnect(self) -> None:
+        """A relay comes in place of one that was killed with what it had in its hands."""
 
 
-def first_missing(answers: list[bytes], counts: Counts) -> int | None:
-    """The number from which on events are to be sent again, after these answers, or None. It counts the answers."""
-    missing: int | None = None
-    for answer in answers:
-        word, awaited, *_ = answer.split(b" ")
-        counts[word] += 1
-        if word == b"gap":
-            missing = int(awaited)
-        elif missing is not None and int(awaited) > missing:
-            missing = None
-    return missing
+@dataclasses.dataclass
+class Run:
+    """What an example runs with."""
+
+    program: pathlib.Path
+    chance: random.Random
+    commands: int
+    counts: Counts = dataclasses.field(default_factory=Counts)
+    passed: int = 0
+    failed: int = 0
+
+    def store(self, *arguments: str) -> Store:
+        return Store(self.program, *arguments)
+
+    def check(self, name: str, is_right: bool) -> None:
+        print(f"{'ok' if is_right else 'WRONG'}: {name}")
+        self.passed += is_right
+        self.failed += not is_right
+
+    def end(self) -> NoReturn:
+        print(f"{self.passed} passed, {self.failed} failed")
+        sys.exit(1 if self.failed else 0)
+
+
+def asked(what: str, count: int) -> Run:
+    """A run with the seed and the number of commands that are asked for, if not 1 and `count`."""
+    ask = argparse.ArgumentParser(description=what)
+    ask.add_argument("seed", type=int, nargs="?", default=1, metavar="SEED", help="default: %(default)s")
+    ask.add_argument("commands", type=int, nargs="?", default=count, metavar="COMMANDS", help="default: %(default)s")
+    given = ask.parse_args()
+    return Run(built("indexset_store"), random.Random(given.seed), given.commands)
+
+
+class Relay:
+    """It hands what comes over a link to a follower, and asks for what is missing. It remembers no event."""
+
+    def __init__(self, link: Link, follower: Store, run: Run) -> None:
+        self.link, self.follower, self.run = link, follower, run
+        self.awaited = follower.next()
+
+    def hand(self, events: list[bytes]) -> None:
+        """Each answer names the number that is awaited, the last one that after all of them."""
+        answers = self.follower.each(events)
+        counts, before = self.run.counts, self.awaited
+        for answer in answers:
+            counts[{b"had": "repeats", b"gap": "early", b"next": "in turn"}[answer.split(b" ", 1)[0]]] += 1
+        self.awaited = int(answers[-1].split(b" ")[1])
+        counts["taken"] += self.awaited - before
+
+    def catch_up(self, head: int) -> None:
+        """Asks for the events from the awaited one on, up to `head`."""
+        while self.awaited < head:
+            before, events = self.awaited, self.link.kept(self.awaited)
+            self.run.counts["asked for again"] += 1
+            self.run.counts["sent again"] += len(events)
+            self.hand(events)
+            if self.awaited == before:
+                sys.exit(f"event {before} is kept, and not taken")
+
+    def feed(self) -> None:
+        """Hands over what came. A lost last event is found with the next one."""
+        if came := spoiled(self.link.delivered(), self.run.chance, self.run.counts):
+            self.hand(came)
+            self.catch_up(max(map(number, came)) + 1)
+
+
+class Course:
+    """A leader, a link and a relay with a follower, and kills of each."""
+
+    def __init__(self, link: Link, run: Run) -> None:
+        self.link, self.run = link, run
+        self.leader = run.store("--lead")
+        self.relay = Relay(link, run.store(), run)
+        self.head = 0
+
+    def publish(self, events: list[bytes]) -> None:
+        if events:
+            self.link.publish(events)
+            self.head = number(events[-1]) + 1
+            self.run.counts["sent"] += len(events)
+
+    def follow_anew(self, from_snapshot: bool) -> None:
+        """A follower comes in place of one that is gone: from the leader's snapshot, or from the first event that is kept."""
+        follower = self.run.store()
+        if from_snapshot:
+            snapshot = self.leader.snapshot()
+            answers = follower.each(snapshot)
+            is_held = answers == [b"held"] * (len(snapshot) - 1) + [b"next %d" % self.head]
+            self.run.check(f"a snapshot of {len(snapshot) - 2} nodes before event {self.head} is held", is_held)
+        self.relay = Relay(self.link, follower, self.run)
+
+    def kill_leader(self, batch: list[bytes]) -> None:
+        """The leader is killed amid a batch, and some of its last events with it. The follower leads from there on."""
+        events = self.leader.events(batch[: self.run.chance.randrange(1, BATCH)])
+        self.leader.kill()
+        self.publish(events[: self.run.chance.randrange(len(events) + 1)])
+        self.relay.catch_up(self.head)
+        self.leader = self.relay.follower
+        self.run.check(f"a follower leads from event {self.head} on", self.leader.lead() == self.head)
+        self.run.counts["promotions"] += 1
+        self.follow_anew(from_snapshot=True)
+
+    def step(self, batch: list[bytes], killed: str) -> None:
+        """A batch of commands, and what it leads to. All of it comes again after a leader's end: no command does
+        harm that comes twice."""
+        self.run.counts[killed] += 1
+        if killed == "leader":
+            self.kill_leader(batch)
+        self.publish(self.leader.events(batch))
+        if killed == "relay":
+            self.run.counts["left by a relay"] += len(self.link.delivered())
+            self.link.reconnect()
+        elif killed == "follower":
+            self.relay.follower.kill()
+            self.follow_anew(from_snapshot=self.run.counts[killed] > 1)
+        self.relay.feed()
+
+
+def drive(link: Link, run: Run) -> None:
+    """The commands over a link; then all sides are compared."""
+    lines, pairs, course = commands(run.commands, run.chance), dict[int, int](), Course(link, run)
+    kinds, steps = EVERY * ["leader", "follower", "relay"], range(run.commands // BATCH)
+    kills = dict(zip(run.chance.sample(steps[5:], len(kinds)), kinds))
+    start = time.perf_counter()
+    for step in steps:
+        course.step(lines[step * BATCH : (step + 1) * BATCH], kills.get(step, ""))
+    course.relay.catch_up(course.leader.next())
+    took = time.perf_counter() - start
+    for line in lines:
+        apply(pairs, line)
+    late, seconds = followed_late(course)
+    show(run, {"a second": run.counts["sent"] / took, "a second, late": course.head / seconds})
+    compare(course, late, pairs)
+
+
+def followed_late(course: Course) -> tuple[Store, float]:
+    """A follower that takes all that is kept, from nothing and without a fault, and how long it takes."""
+    late, awaited, start = course.run.store(), 0, time.perf_counter()
+    while awaited < course.head:
+        events = course.link.kept(awaited)
+        late.each(events)
+        awaited += len(events)
+    return late, time.perf_counter() - start
+
+
+def compare(course: Course, late: Store, pairs: dict[int, int]) -> None:
+    """What stands in the end on all sides, which are compared by one line each."""
+    run, told = course.run, course.leader.sum()
+    print(f"leader   {told.decode()}\nfollower {course.relay.follower.sum().decode()}\nlate     {late.sum().decode()}")
+    run.check("leader, follower and late follower have the same sum", course.relay.follower.sum() == told == late.sum())
+    whole = course.leader.one(b"range 0 %d" % KEYS).split(b" ")
+    run.check("the leader has the pairs of a plain map", whole == [b"%d:%d" % pair for pair in sorted(pairs.items())])
+    for it in (course.leader, course.relay.follower, late):
+        it.end()
+
+
+def show(run: Run, rates: dict[str, float]) -> None:
+    """The table: events, but for how often they were asked for, the kills and the promotions."""
+    counts = run.counts
+    rows: dict[str, float] = {name: counts[name] for name in NAMES}
+    rows.update({f"kills: {name}": counts[name] for name in ("leader", "follower", "relay")})
+    rows["promotions"] = counts["promotions"]
+    rows.update({f"events {name}": rate for name, rate in rates.items()})
+    for name, value in rows.items():
+        print(f"{name:24}{value:12,.0f}")
 
 
 def installed(*programs: str) -> None:
@@ -151,81 +263,21 @@ def free_port() -> int:
         return int(found.getsockname()[1])
 
 
+def wait_for(answers: Callable[[], bool]) -> None:
+    """Waits until a server answers, some seconds at most."""
+    for _ in range(200):
+        if answers():
+            return
+        time.sleep(0.05)
+    sys.exit("the server does not answer")
+
+
 @contextlib.contextmanager
 def answering(server: subprocess.Popen[bytes], answers: Callable[[], bool]) -> Iterator[None]:
-    """Waits until a server answers, some seconds at most, and ends it after the block."""
+    """Waits until a server answers, and ends it after the block."""
     try:
-        for _ in range(100):
-            if answers():
-                break
-            time.sleep(0.05)
+        wait_for(answers)
         yield
     finally:
         server.terminate()
         server.wait()
-
-
-@dataclasses.dataclass
-class Results:
-    """What was compared, and what came on the way to it."""
-
-    passed: int = 0
-    failed: int = 0
-    counts: Counts = dataclasses.field(default_factory=Counts)
-
-    def show_counts(self) -> None:
-        print(", ".join(f"{word.decode()} {count}" for word, count in sorted(self.counts.items())))
-
-    def check(self, name: str, is_right: bool) -> None:
-        print(f"{'ok' if is_right else 'WRONG'}: {name}")
-        self.passed += is_right
-        self.failed += not is_right
-
-    def end(self) -> NoReturn:
-        print(f"{self.passed} passed, {self.failed} failed")
-        sys.exit(1 if self.failed else 0)
-
-
-@dataclasses.dataclass
-class Run:
-    """What an example runs with."""
-
-    program: pathlib.Path
-    follower: pathlib.Path
-    chance: random.Random
-    results: Results = dataclasses.field(default_factory=Results)
-
-
-def asked(what: str) -> Run:
-    """A run of the built programs with the seed that is asked for."""
-    ask = argparse.ArgumentParser(description=what)
-    ask.add_argument("seed", type=int, nargs="?", default=1, metavar="SEED", help="default: %(default)s")
-    chance = random.Random(ask.parse_args().seed)
-    return Run(built("indexset_program"), built("indexset_store"), chance)
-
-
-def restarted(follower: Lines, giver: Lines, results: Results) -> Lines:
-    """A follower in place of one that is killed: the first from nothing, the second from the giver's snapshot."""
-    follower.kill()
-    started = Lines(follower.program)
-    if results.counts[FOLLOWER_KILLED] == 2:
-        snapshot = giver.snapshot()
-        answers = started.each(snapshot)
-        results.check(f"a snapshot of {len(snapshot) - 2} nodes is held", set(answers[:-1]) == {b"held"})
-        results.check("its taker has the sum of its giver", started.sum() == giver.sum())
-    return started
-
-
-class Primary(Lines):
-    """The first program. Each batch ends by `len`, whose answer is 0, since nothing is put into the set."""
-
-    def batch(self, lines: list[bytes]) -> list[bytes]:
-        """The events that the lines tell."""
-        self.send(lines + [b"len"])
-        return [line for line in self.until(lambda line: line == b"0") if is_event(line)]
-
-    def map_nodes(self) -> list[bytes]:
-        """The nodes of the map."""
-        self.send([b"nodes", b"len"])
-        nodes = self.until(lambda line: line == b"0")[:-1]
-        return [] if nodes == [b"empty"] else nodes

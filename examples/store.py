@@ -1,0 +1,92 @@
+"""A run of `indexset_store`, which leads or follows, and the lines between it and a script."""
+
+from __future__ import annotations
+
+import os
+import pathlib
+import re
+import select
+import subprocess
+from collections.abc import Callable
+
+SECONDS = 120  # that a program has for its next answer, on a busy machine
+PART = 65_536  # what a pipe holds
+COUNT = re.compile(rb"(?:\A|\n)\d+\n\Z")  # a bare number, which no command is answered by
+END = re.compile(rb"(?:\A|\n)end \d+ \d+\n\Z")
+
+
+class Ended(Exception):
+    """The program is gone."""
+
+
+class Store:
+    """A program that answers each line of its input before it waits for the next."""
+
+    def __init__(self, program: pathlib.Path, *arguments: str) -> None:
+        self.program = program
+        self.process = subprocess.Popen([program, *arguments], stdin=subprocess.PIPE, stdout=subprocess.PIPE, bufsize=0)
+        assert self.process.stdin and self.process.stdout
+        self.given, self.told = self.process.stdin.fileno(), self.process.stdout.fileno()
+        os.set_blocking(self.given, False)
+
+    def answers(self, lines: list[bytes], is_whole: Callable[[bytearray], bool]) -> list[bytes]:
+        """The lines that come until they are whole, read while the others are written, so that neither side waits."""
+        left, found = memoryview(b"".join(line + b"\n" for line in lines)), bytearray()
+        while left or not is_whole(found):
+            readable, writable, _ = select.select([self.told], [self.given] if left else [], [], SECONDS)
+            if not readable and not writable:
+                raise TimeoutError(f"{self.program.name} does not answer")
+            if writable:
+                left = left[self.write(left[:PART]) :]
+            if readable:
+                part = os.read(self.told, 1 << 20)
+                if not part:
+                    raise Ended
+                found += part
+        return bytes(found).split(b"\n")[:-1]
+
+    def write(self, part: memoryview) -> int:
+        """Writes what the pipe has room for, and returns how much that was."""
+        try:
+            return os.write(self.given, part)
+        except BlockingIOError:
+            return 0
+        except BrokenPipeError as error:
+            raise Ended from error
+
+    def each(self, lines: list[bytes]) -> list[bytes]:
+        """The answers to lines of which each is answered by one."""
+        return self.answers(lines, lambda found: found.count(b"\n") >= len(lines))
+
+    def one(self, line: bytes) -> bytes:
+        return self.each([line])[0]
+
+    def events(self, commands: list[bytes]) -> list[bytes]:
+        """The events of commands to a leader. A last line, `len`, shows where the answers end."""
+        found = self.answers([*commands, b"len"], lambda found: COUNT.search(found[-32:]) is not None)
+        return [line for line in found[:-1] if line[:1].isdigit()]
+
+    def snapshot(self) -> list[bytes]:
+        """The lines that make another one the same."""
+        return self.answers([b"snapshot"], lambda found: END.search(found[-64:]) is not None)
+
+    def next(self) -> int:
+        """The number of the event that is awaited, or told next."""
+        return int(self.one(b"next").removeprefix(b"next "))
+
+    def sum(self) -> bytes:
+        """The line by which two are compared."""
+        return self.one(b"sum")
+
+    def lead(self) -> int:
+        """Makes a follower a leader; the number of the event that it tells next."""
+        return int(self.one(b"lead").removeprefix(b"next "))
+
+    def kill(self) -> None:
+        """Ends the program at once, and what it told and nobody read is lost."""
+        self.process.kill()
+        self.process.communicate()
+
+    def end(self) -> None:
+        """Ends the program's input, and waits for its end."""
+        self.process.communicate()
