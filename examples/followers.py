@@ -175,7 +175,7 @@ class Course:
 
     def kill_leader(self, batch: list[bytes]) -> None:
         """The leader is killed amid a batch, and some of its last events with it. The follower leads from there on."""
-        events = self.leader.events(batch[: self.run.chance.randrange(1, BATCH)])
+        (events,) = self.leader.events(batch[: self.run.chance.randrange(1, BATCH)])
         self.leader.kill()
         self.publish(events[: self.run.chance.randrange(len(events) + 1)])
         self.relay.catch_up(self.head)
@@ -190,7 +190,7 @@ class Course:
         self.run.counts[killed] += 1
         if killed == "leader":
             self.kill_leader(batch)
-        self.publish(self.leader.events(batch))
+        self.publish(*self.leader.events(batch))
         if killed == "relay":
             self.run.counts["left by a relay"] += len(self.link.delivered())
             self.link.reconnect()

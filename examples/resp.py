@@ -66,17 +66,13 @@ class Redis:
         if not line.endswith(b"\r\n"):
             raise ConnectionResetError("the server ended")
         kind, text = line[:1], line[1:-2]
-        match kind:
-            case b"+":
-                return text
-            case b"-":
-                return Refused(text.decode())
-            case b":":
-                return int(text)
-            case b"$":
-                return None if text == b"-1" else self.bulk(int(text))
-            case _:
-                return None if text == b"-1" else [self.reply() for _ in range(int(text))]
+        if kind == b"+":
+            return text
+        if kind == b"-":
+            return refusal(text.decode())
+        if kind == b":" or text == b"-1":
+            return int(text) if kind == b":" else None
+        return self.bulk(int(text)) if kind == b"$" else [self.reply() for _ in range(int(text))]
 
     def bulk(self, size: int) -> bytes:
         text = self.read.read(size + 2)
@@ -87,13 +83,20 @@ class Redis:
     def entries(self, *words: Word) -> list[Entry]:
         """The entries of a stream that XRANGE, XREVRANGE, or XREAD of one stream answers."""
         found = self.call(*words)
-        if isinstance(found, list) and str(words[0]).upper().startswith("XREAD"):
-            found = listed(listed(found[0])[1])
+        if found and str(words[0]).startswith("XREAD"):
+            found = listed(listed(found)[0])[1]
         return [as_entry(it) for it in listed(found)]
 
     def close(self) -> None:
         self.read.close()
         self.socket.close()
+
+
+def refusal(why: str) -> Refused:
+    """A refusal, but where the server is not ready yet."""
+    if why.startswith("LOADING"):
+        raise ConnectionResetError(why)
+    return Refused(why)
 
 
 def listed(reply: Reply) -> list[Reply]:

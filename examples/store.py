@@ -11,7 +11,7 @@ from collections.abc import Callable
 
 SECONDS = 120  # that a program has for its next answer, on a busy machine
 PART = 65_536  # what a pipe holds
-COUNT = re.compile(rb"(?:\A|\n)\d+\n\Z")  # a bare number, which no command is answered by
+COUNT = re.compile(rb"^\d+\n", re.MULTILINE)  # a bare number, which no command is answered by
 END = re.compile(rb"(?:\A|\n)end \d+ \d+\n\Z")
 
 
@@ -61,10 +61,16 @@ class Store:
     def one(self, line: bytes) -> bytes:
         return self.each([line])[0]
 
-    def events(self, commands: list[bytes]) -> list[bytes]:
-        """The events of commands to a leader. A last line, `len`, shows where the answers end."""
-        found = self.answers([*commands, b"len"], lambda found: COUNT.search(found[-32:]) is not None)
-        return [line for line in found[:-1] if line[:1].isdigit()]
+    def events(self, *batches: list[bytes]) -> list[list[bytes]]:
+        """The events of batches of commands to a leader. A line `len` after each shows where its answers end."""
+        lines = [line for batch in batches for line in (*batch, b"len")]
+        found: list[list[bytes]] = [[]]
+        for line in self.answers(lines, lambda told: len(COUNT.findall(told)) == len(batches)):
+            if line.isdigit():
+                found.append([])
+            elif line[:1].isdigit():
+                found[-1].append(line)
+        return found[:-1]
 
     def snapshot(self) -> list[bytes]:
         """The lines that make another one the same."""

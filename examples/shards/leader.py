@@ -1,0 +1,137 @@
+#!/usr/bin/env python3
+"""A shard's leader, or one that stands by. usage: leader.py PORT SHARD
+
+It follows the shard's events until the lease of the shard is its own. Then it leads: it takes the commands behind
+those that the events cover. So a start, a start after a kill and a promotion are one thing. Two that lead at once, as
+after a lease that ran out under a slow leader, tell the same events of the same commands under the same names, of
+which the engine takes each once.
+
+Now and then it keeps a snapshot, and trims both streams up to the one before.
+"""
+
+from __future__ import annotations
+
+import json
+import math
+import os
+import pathlib
+import socket
+import sys
+import time
+
+HERE = pathlib.Path(__file__).resolve().parent
+sys.dont_write_bytecode = True
+sys.path[:0] = [str(HERE.parent.parent / "tools"), str(HERE.parent)]
+from engine import Engine, entry, nodes_of, snapshot_of  # noqa: E402
+from follower import Follower  # noqa: E402
+from resp import Entry, Word, listed, text_of  # noqa: E402
+from store import Ended  # noqa: E402
+
+LEASE = 2000  # milliseconds
+COUNT = 20  # entries at a time
+WAIT = 100  # milliseconds for entries to come
+EVERY = int(os.environ.get("SNAPSHOT_EVERY", "1000000"))  # commands of all shards
+
+
+class Lease:
+    """The right to lead a shard, for a while."""
+
+    def __init__(self, engine: Engine, shard: str) -> None:
+        self.engine, self.name, self.held = engine, f"lease:{shard}", -math.inf
+        self.owner = f"{socket.gethostname()} {os.getpid()}"
+
+    def is_held(self) -> bool:
+        """Takes the lease, or keeps it, at most three times in its length."""
+        if time.monotonic() - self.held < LEASE / 3000:
+            return True
+        if self.engine.call("GET", self.name) == self.owner.encode():
+            self.engine.call("PEXPIRE", self.name, LEASE)
+        elif self.engine.call("SET", self.name, self.owner, "NX", "PX", LEASE) is None:
+            return False
+        self.held = time.monotonic()
+        return True
+
+
+class Leader:
+    """A shard from the commands on that its events do not cover."""
+
+    def __init__(self, engine: Engine, follower: Follower) -> None:
+        self.engine, self.shard, self.store, self.at = engine, follower.shard, follower.store, follower.at
+        self.snapshot_at = engine.last(f"snapshots:{self.shard}")
+        self.store.lead()
+
+    def take(self, entries: list[Entry]) -> bool:
+        """Takes entries of commands, and tells their events; whether the shard goes on."""
+        writes: list[list[Word]] = []
+        for it, events in zip(entries, self.store.events(*[it.lines() for it in entries])):
+            if b"give" in it.fields:
+                writes += self.gifts(json.loads(it.fields[b"give"]))
+            writes.append(entry(f"events:{self.shard}", it.number, lines=b"\n".join(events), after=self.at))
+            self.at = it.number
+        self.engine.together(writes)
+        return b"give" not in entries[-1].fields
+
+    def gifts(self, takers: list[tuple[str, int, int]]) -> list[list[Word]]:
+        """The nodes that others begin with, each with the pairs of some keys."""
+        texts = [b"\n".join(nodes_of(self.store.one(b"range %d %d" % (first, last)))) for _, first, last in takers]
+        return [["HSET", f"gifts:{shard}", f"{first:020}", text] for (shard, first, _), text in zip(takers, texts)]
+
+    def keep(self) -> None:
+        """Keeps a snapshot, and trims what the one before covers."""
+        name, text = self.shard, b"\n".join(self.store.snapshot())
+        self.engine.together([
+            ["XADD", f"snapshots:{name}", "MAXLEN", 2, f"{self.at}-1", "lines", text],
+            ["XTRIM", f"commands:{name}", "MINID", f"{self.at}-0"],
+            ["XTRIM", f"events:{name}", "MINID", f"{self.snapshot_at + 1}-0"],
+        ])  # fmt: skip
+        self.snapshot_at = self.at
+
+    def lead(self, lease: Lease) -> None:
+        """Goes on until the shard or the lease ends."""
+        while lease.is_held():
+            entries = self.engine.after(f"commands:{self.shard}", self.at, COUNT, WAIT)
+            if entries and not self.take(entries):
+                return
+            if self.at - self.snapshot_at >= EVERY:
+                self.keep()
+
+
+def is_founded(engine: Engine, shard: str) -> bool:
+    """Whether the shard has a snapshot. It is made of what all its givers gave, when they have."""
+    if engine.call("EXISTS", f"snapshots:{shard}") == 1:
+        return True
+    words = list(map(text_of, listed(engine.call("HGETALL", f"gifts:{shard}"))))
+    given = dict(zip(words[::2], words[1::2]))
+    at, givers = int(given.pop(b"at", b"0")), int(given.pop(b"givers", b"1"))
+    if len(given) < givers:
+        return False
+    nodes = [node for _, text in sorted(given.items()) for node in text.split(b"\n") if node]
+    founded: list[Word] = ["XADD", f"snapshots:{shard}", f"{at}-1", "lines", b"\n".join(snapshot_of(nodes))]
+    engine.together([founded, ["DEL", f"gifts:{shard}"]])
+    return True
+
+
+def has_ended(engine: Engine, shard: str) -> bool:
+    """Whether the events cover the shard's end."""
+    last = engine.entries("XREVRANGE", f"commands:{shard}", "+", "-", "COUNT", 1)
+    return bool(last) and b"give" in last[0].fields and engine.last(f"events:{shard}") == last[0].number
+
+
+def main() -> None:
+    engine, shard = Engine(int(sys.argv[1])), sys.argv[2]
+    while not is_founded(engine, shard):
+        time.sleep(0.02)
+    follower, lease = Follower(engine, shard), Lease(engine, shard)
+    while not has_ended(engine, shard):
+        follower.catch_up(wait=WAIT)
+        if lease.is_held():
+            follower.catch_up()
+            Leader(engine, follower).lead(lease)
+            sys.exit(0 if has_ended(engine, shard) else "its lease ran out")
+
+
+if __name__ == "__main__":
+    try:
+        main()
+    except Ended:
+        sys.exit("its program ended")
