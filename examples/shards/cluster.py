@@ -44,6 +44,7 @@ class Cluster:
     port: int = dataclasses.field(default_factory=free_port)
     next: int = 1
     leaders: dict[str, list[Process]] = dataclasses.field(default_factory=dict)
+    ended: set[str] = dataclasses.field(default_factory=set)
 
     def start(self) -> None:
         self.start_server()
@@ -65,14 +66,13 @@ class Cluster:
         return subprocess.Popen(words, env={**os.environ, "SNAPSHOT_EVERY": str(self.every)})
 
     def mend(self) -> None:
-        """Starts what has ended: leaders of each shard of the table, and of those that may still have to give."""
-        for _, shard in self.engine.table():
-            self.leaders.setdefault(shard, [])
-        for shard, parts in list(self.leaders.items()):
-            codes = [it.poll() for it in parts]
-            if 0 in codes:  # (a leader ends so at the end of its shard)
+        """Starts what has ended: the router, and leaders of each shard that has not given its pairs away."""
+        every = {shard for table in self.engine.tables().values() for _, shard in table}
+        for shard in every - self.ended:
+            parts = self.leaders.pop(shard, [])
+            if 0 in [it.poll() for it in parts]:  # (so a leader ends at the end of its shard)
                 end(parts)
-                del self.leaders[shard]
+                self.ended.add(shard)
                 continue
             left = [it for it in parts if it.poll() is None]
             self.leaders[shard] = left + [self.start_leader(shard) for _ in range(self.leaders_each - len(left))]

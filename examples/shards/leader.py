@@ -27,8 +27,8 @@ from follower import Follower  # noqa: E402
 from resp import Entry, Word, listed, text_of  # noqa: E402
 from store import Ended  # noqa: E402
 
-LEASE = 2000  # milliseconds
-COUNT = 20  # entries at a time
+LEASE = 3000  # milliseconds, more than it takes to take as many entries
+COUNT = 5  # entries at a time
 WAIT = 100  # milliseconds for entries to come
 EVERY = int(os.environ.get("SNAPSHOT_EVERY", "1000000"))  # commands of all shards
 
@@ -127,11 +127,11 @@ def main() -> None:
         if lease.is_held():
             follower.catch_up()
             Leader(engine, follower).lead(lease)
-            sys.exit(0 if has_ended(engine, shard) else "its lease ran out")
+            sys.exit(0 if has_ended(engine, shard) else 1)  # (1: the lease is gone)
 
 
 if __name__ == "__main__":
     try:
         main()
     except Ended:
-        sys.exit("its program ended")
+        sys.exit(1)  # (its program is gone)

@@ -9,6 +9,7 @@ from __future__ import annotations
 import argparse
 import pathlib
 import random
+import signal
 import sys
 import tempfile
 import time
@@ -62,6 +63,7 @@ def main() -> int:
     given = ask.parse_args()
     installed("redis-server")
     lines, lows = commands(given.commands, random.Random(1)), [KEYS * at // given.shards for at in range(given.shards)]
+    signal.signal(signal.SIGTERM, lambda *_: sys.exit(1))
     with tempfile.TemporaryDirectory() as folder:
         cluster = Cluster(folder, lows)
         try:

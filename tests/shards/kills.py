@@ -176,6 +176,7 @@ def main() -> int:
     given = ask.parse_args()
     installed("redis-server")
     chance, start = random.Random(given.seed), time.perf_counter()
+    signal.signal(signal.SIGTERM, lambda *_: sys.exit(1))
     with tempfile.TemporaryDirectory() as folder:
         cluster = Cluster(folder, [KEYS * at // SHARDS for at in range(SHARDS)], every=given.commands // 10)
         try:
