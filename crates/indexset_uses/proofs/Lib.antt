@@ -1,1 +1,2 @@
 mod Copied
+mod Sharded

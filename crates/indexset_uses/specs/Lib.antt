@@ -1,2 +1,3 @@
+pub mod Shards
 pub mod Standings
 pub mod Wire

@@ -18,6 +18,7 @@ mod programs;
 mod runs;
 mod scores;
 mod secondary_index;
+mod shards;
 mod standings;
 mod stock;
 mod strings;

@@ -1,0 +1,39 @@
+-- Lists that are cut by key into shards, and commands that are routed to these.
+use Rattle.std.specs.Prelude.{◌≡◌, ◌+◌, ◌<◌, ℕ, List, [], ◌∷◌, length, filter, take, drop, not}
+use Rattle.std.specs.List.{All, count_by, fold}
+use Rattle.std.specs.Ordering.{is_lt}
+use Rattle.std.specs.declared.cmp.Ordering.{Ordering}
+use Rattle.std.specs.declared.cmp.Ordering.TheVariants.{Less, Greater}
+use Rattle.indexset.specs.Words.{joined, put, without}
+use Rattle.indexset_uses.specs.declared.shards.Command.{Command}
+use Rattle.indexset_uses.specs.declared.shards.Command.TheVariants.{Put, Cut}
+
+-- the item that a command is about
+abbrev pub subject : {T : Type 0} → Command T → T
+subject (Put v) = v
+subject (Cut v) = v
+
+module _ {T : Type 0} (cmp : T → T → Ordering) where
+  -- the list after a command
+  abbrev pub after_command : List T → Command T → List T
+  after_command l (Put v) = put cmp l v
+  after_command l (Cut v) = without cmp l v
+
+  -- the list after commands, one after another
+  abbrev pub after_commands : List T → List (Command T) → List T
+  after_commands l commands = fold after_command l commands
+
+  -- what belongs to each shard, where a shard ends before each border: what is below the first border, and so on with the rest
+  abbrev pub parts : {X : Type 0} → (X → T) → List T → List X → List (List X)
+  parts key [] xs = xs ∷ []
+  parts key (b ∷ borders) xs = filter (λ x. is_lt (cmp (key x) b)) xs ∷ parts key borders (filter (λ x. not (is_lt (cmp (key x) b))) xs)
+
+  -- how many borders are not above v
+  abbrev pub not_above : List T → T → ℕ
+  not_above borders v = count_by (λ b. not (is_lt (cmp v b))) borders
+
+  -- all in the shards before the k-th is below v, and all in those behind it above
+  pub record IsOwner (shards : List (List T)) (k : ℕ) (v : T) : Type 0 where
+    pub inside : k < length shards
+    pub below : All (λ x. cmp x v ≡ Less) (joined (take k shards))
+    pub above : All (λ x. cmp x v ≡ Greater) (joined (drop (k + 1) shards))
