@@ -82,19 +82,12 @@ class Link(Protocol):
         """A relay comes in place of one that was killed with what it had in its hands."""
 
 
-@dataclasses.dataclass
-class Run:
-    """What an example runs with."""
+@dataclasses.dataclass(kw_only=True)
+class Results:
+    """What was compared."""
 
-    program: pathlib.Path
-    chance: random.Random
-    commands: int
-    counts: Counts = dataclasses.field(default_factory=Counts)
     passed: int = 0
     failed: int = 0
-
-    def store(self, *arguments: str) -> Store:
-        return Store(self.program, *arguments)
 
     def check(self, name: str, is_right: bool) -> None:
         print(f"{'ok' if is_right else 'WRONG'}: {name}")
@@ -104,6 +97,19 @@ class Run:
     def end(self) -> NoReturn:
         print(f"{self.passed} passed, {self.failed} failed")
         sys.exit(1 if self.failed else 0)
+
+
+@dataclasses.dataclass
+class Run(Results):
+    """What an example runs with."""
+
+    program: pathlib.Path
+    chance: random.Random
+    commands: int
+    counts: Counts = dataclasses.field(default_factory=Counts)
+
+    def store(self, *arguments: str) -> Store:
+        return Store(self.program, *arguments)
 
 
 def asked(what: str, count: int) -> Run:

@@ -61,6 +61,10 @@ class Store:
     def one(self, line: bytes) -> bytes:
         return self.each([line])[0]
 
+    def ask(self, line: bytes) -> list[bytes]:
+        """The lines of the answer to any line, which end at the `bad` to an empty line that is sent after it."""
+        return self.answers([line, b""], lambda found: found.endswith(b"\nbad\n"))[:-1]
+
     def events(self, *batches: list[bytes]) -> list[list[bytes]]:
         """The events of batches of commands to a leader. A line `len` after each shows where its answers end."""
         lines = [line for batch in batches for line in (*batch, b"len")]

@@ -1,0 +1,262 @@
+"""What the page shows: three stores, the channel to those that follow, and the file of the leader's events.
+
+All that is shown is what the stores reply. The relay stands here: what is sent again, and when.
+"""
+
+from __future__ import annotations
+
+import collections
+import dataclasses
+import json
+import queue
+import random
+import re
+import threading
+import time
+
+from channel import FLIGHT, Channel, Kept, Percent
+from followers import number
+from shown import Shown
+
+NAMES = ("A", "B", "C")
+EVENT = re.compile(rb"\d+ (create|drop|insert|remove|split|merge) ")
+LINES = 60  # of a reply are shown
+AGAIN = 8  # events are sent again for one `gap`
+QUIET = 0.4  # seconds with nothing on the way, until the last event is sent again
+BATCH = 200  # lines are handed over at once
+NEWS = 200  # lines at most are told to a page at once
+
+Facts = dict[str, object]
+
+
+class Watch:
+    """The stores, the file, and the pages that watch. Who calls it holds the lock."""
+
+    def __init__(self, kept: Kept, node_size: int, chance: random.Random) -> None:
+        self.kept, self.node_size, self.chance, self.percent = kept, node_size, chance, Percent()
+        self.lock = threading.Lock()
+        self.pages: list[queue.Queue[str]] = []
+        self.news: collections.deque[Facts] = collections.deque(maxlen=NEWS)
+        self.last: dict[str, Facts] = {}
+        self.changed: set[str] = set()
+        self.leader, self.key, self.sum, self.look_from = NAMES[0], 0, "", 0.0
+        self.stores = {name: self.started(name, leads=name == self.leader) for name in NAMES}
+        self.look()
+        if kept.events:
+            self.start(self.leader, "file")
+
+    def started(self, name: str, leads: bool = False) -> Shown:
+        return Shown(name, self.node_size, Channel(self.percent, self.chance), leads)
+
+    def has_leader(self) -> bool:
+        leader = self.stores.get(self.leader)
+        return leader is not None and leader.is_running() and leader.leads
+
+    def line(self, to: str, lines: list[str], is_shown: bool = True) -> list[list[str]]:
+        """The replies of a store to lines."""
+        if any("\n" in line for line in lines):
+            raise ValueError("a line has no line end")
+        store = self.stores[to]
+        told = [self.say(store, line.encode(), is_shown) for line in lines]
+        return [[each.decode() for each in reply[:LINES]] for reply in told]
+
+    def say(self, store: Shown, line: bytes, is_shown: bool = True) -> list[bytes]:
+        """The reply of a store to a line. The leader's events go into the file, and then on their way."""
+        told = store.say(line)
+        if is_shown:
+            store.is_stale = True
+            shown = [each.decode() for each in told[:LINES]]
+            self.tell("said", to=store.name, line=line.decode(), told=shown, more=len(told) - len(shown))
+        if line == b"lead" and store.leads:
+            is_whole = told == [b"next %d" % self.kept.head]
+            self.leader = store.name if is_whole else "" if store.name == self.leader else self.leader
+        events = [each for each in told if EVENT.match(each)] if store.name == self.leader else []
+        for event in events:
+            self.kept.append(event)
+            self.tell("event", line=event.decode())
+            for each in filter(Shown.follows, self.stores.values()):
+                self.send(each, event, "sent")
+        if events:
+            store.is_stale, self.key = True, int(line.split(b" ")[1])
+        return told
+
+    def set_percent(self, percent: dict[str, int]) -> None:
+        """Sets what the channel does from now on."""
+        for name in dataclasses.asdict(self.percent):
+            setattr(self.percent, name, int(percent[name]))
+        self.state("percent", percent=dataclasses.asdict(self.percent))
+
+    def show(self, key: str) -> None:
+        """Shows the nodes about a key."""
+        self.key = int(key)
+        self.tell_stores()
+
+    def kill(self, who: str) -> None:
+        """Ends a store by SIGKILL. The sum of a leader stays, to be compared with."""
+        if who == self.leader and self.has_leader():
+            self.sum = self.stores[who].sum_of_all()
+        self.stores[who].stop()
+
+    def start(self, who: str, source: str) -> None:
+        """Starts a store anew from nothing, the file or a snapshot, for which one that runs need not end. From the
+        file a leader leads again."""
+        giver = self.giver(who) if source == "snapshot" else None
+        store = self.stores[who]
+        if not (giver and store.is_running()):
+            store.stop()
+            self.stores[who] = self.started(who)
+            self.stores[who].replies, self.stores[who].channel.counts = store.replies, store.channel.counts
+            store = self.stores[who]
+        store.channel.clear()
+        store.is_unfit, store.asked_until = False, 0.0
+        lines = giver.say(b"snapshot") if giver else self.kept.read() if source == "file" else []
+        told = [reply.decode() for reply in store.take(lines)[-1:]]
+        self.tell("taken", who=who, source=giver.name if giver else source, lines=len(lines), told=told)
+        if source == "file" and who == self.leader:
+            self.say(store, b"lead")
+        self.look()
+
+    def giver(self, taker: str) -> Shown | None:
+        """Who gives a snapshot: the leader, or else the store that expects the highest number."""
+        others = [each for name, each in self.stores.items() if name != taker and each.is_running()]
+        others.sort(key=lambda each: (each.name == self.leader, each.next))
+        return others[-1] if others else None
+
+    def promote(self, who: str) -> None:
+        """Gives a follower the events that it lacks, from the file, and tells it to lead; a leader that runs follows
+        from then on."""
+        store = self.stores[who]
+        if store.follows():
+            if self.has_leader():
+                self.say(self.stores[self.leader], b"follow")
+            store.channel.clear()
+            store.look()
+            store.take(self.kept.events[store.next :])
+            self.say(store, b"lead")
+
+    def send(self, store: Shown, event: bytes, why: str) -> None:
+        """Puts an event on the way to a store."""
+        is_seen = len(store.channel.flight) < LINES
+        for sent in store.channel.send(event, why, time.monotonic()):
+            if is_seen:
+                self.tell("sent", to=store.name, n=number(event), **dataclasses.asdict(sent))
+
+    def send_again(self, store: Shown) -> None:
+        """Sends some events of the file from the one on that a store expects."""
+        for event in (events := self.kept.events[store.next : store.next + AGAIN]):
+            self.send(store, event, "again")
+        store.asked_to, store.asked_until = store.next + len(events), store.channel.free + FLIGHT
+
+    def deliver(self, store: Shown, now: float) -> None:
+        """Hands over what has arrived, and sends again what the replies ask for, unless that may still come."""
+        lines = store.channel.arrived(now, BATCH)
+        for reply in store.take(lines) if lines else []:
+            store.last_reply = reply.decode()
+            word, _, awaited = store.last_reply.partition(" ")
+            store.replies[word] += 1
+            if word in ("next", "gap"):
+                store.next = int(awaited)
+                is_quiet = not store.channel.flight
+                is_due = is_quiet or store.next >= store.asked_to or now >= store.asked_until
+                if is_due and (word == "gap" or is_quiet and store.next < self.kept.head):
+                    self.send_again(store)
+            store.is_unfit |= word == "unfit"
+        if lines:
+            self.tell("reply", who=store.name, reply=store.last_reply)
+
+    def ask_on(self, store: Shown, now: float) -> None:
+        """Sends the last event again where all is quiet and a store lacks some, so that it says from where on."""
+        is_quiet = not store.channel.flight and now >= max(store.channel.free + QUIET, store.asked_until)
+        if is_quiet and store.next < self.kept.head and not store.is_unfit:
+            self.send(store, self.kept.events[-1], "again")
+
+    def step(self) -> None:
+        """Hands over what is due, looks at the stores that changed, and tells the pages."""
+        now = time.monotonic()
+        for each in self.stores.values():
+            if each.nodes_held and not each.is_running():
+                each.stop()
+            if each.follows():
+                self.deliver(each, now)
+                self.ask_on(each, now)
+        if now >= self.look_from and any(each.is_stale for each in self.stores.values()):
+            self.look()
+            self.look_from = 2 * time.monotonic() - now
+        self.publish()
+
+    def look(self) -> None:
+        """Looks at the stores that changed, and at the sums of those that lack nothing."""
+        for each in self.stores.values():
+            each.look()
+        level = [each for each in self.stores.values() if each.follows() and each.next == self.kept.head]
+        if level and self.has_leader():
+            self.sum = self.stores[self.leader].sum_of_all()
+        for each in level:
+            each.sum_of_all()
+        self.tell_stores()
+
+    def standing(self, store: Shown) -> str:
+        """In a word how a store stands to the file and the leader's last sum."""
+        if not store.is_running():
+            return "ended"
+        if store.leads:
+            return "leads" if store.name == self.leader else "unheard"
+        if store.is_unfit:
+            return "unfit"
+        if store.next != self.kept.head:
+            return "behind" if store.next < self.kept.head else "ahead"
+        if not self.sum.startswith(f"sum {self.kept.head} "):
+            return "level"
+        return "same" if store.last_sum == self.sum else "other"
+
+    def tell_stores(self) -> None:
+        """Tells how the stores and the file stand."""
+        for name, each in self.stores.items():
+            first, nodes = each.nodes_about(self.key)
+            self.state(
+                "store",
+                name,
+                who=name,
+                pid=each.process.pid,
+                status=each.process.poll(),
+                standing=self.standing(each),
+                next=each.next,
+                sum=each.last_sum,
+                pairs=each.pairs,
+                total=len(each.nodes_held),
+                first=first,
+                nodes=nodes,
+                replies=dict(each.replies),
+                counts=dict(each.channel.counts),
+            )
+        last = self.kept.events[-1].decode() if self.kept.events else ""
+        self.state("file", path=str(self.kept.path), size=self.kept.size, head=self.kept.head, last=last)
+        self.state("leader", who=self.leader, is_there=self.has_leader(), key=str(self.key))
+
+    def state(self, kind: str, of: str = "", **facts: object) -> None:
+        """Tells how something stands, if it is new."""
+        told: Facts = {"kind": kind, **facts}
+        if self.last.get(kind + of) != told:
+            self.last[kind + of] = told
+            self.changed.add(kind + of)
+
+    def tell(self, kind: str, **facts: object) -> None:
+        """Tells what happens."""
+        self.news.append({"kind": kind, **facts})
+
+    def publish(self) -> None:
+        """Hands what is new to the pages; one that does not read is left."""
+        told = [*self.news, *(self.last[name] for name in sorted(self.changed))]
+        self.news.clear()
+        self.changed.clear()
+        self.pages = [page for page in self.pages if not page.full()]
+        for page in self.pages if told else []:
+            page.put(json.dumps(told))
+
+    def joined(self) -> queue.Queue[str]:
+        """A page that watches from now on."""
+        page: queue.Queue[str] = queue.Queue(1000)
+        events = [{"kind": "event", "line": event.decode()} for event in self.kept.events[-NEWS:]]
+        page.put(json.dumps([{"kind": "hello"}, *events, *self.last.values()]))
+        self.pages.append(page)
+        return page
