@@ -2,11 +2,12 @@
 """Has each request of the follower fail in turn, and compares what it does with what it should.
 
 `indexset_store` gets the lines of `follower_lines`, to which `follower_replies` has the replies, those to
-one line parted by ` / `. Where a request for memory, a read or a write fails, it must write the replies to
-the lines before, the fault's word and nothing else, end with the fault's status, and free all memory. Three
-more things are tried. The reply to a last line without an end is written by the last flush alone: where that
-fails, the run fails. Where memory runs out and the last flush then fails too, the first fault is told. And
-each reply must be out while the follower waits for the rest of a line.
+one line parted by ` / `; and as a leader those of `leader_lines`. Where a request for memory, a read or a
+write fails, it must write the replies to the lines before, the fault's word and nothing else, end with the
+fault's status, and free all memory. Three more things are tried. The reply to a last line without an end is
+written by the last flush alone: where that fails, the run fails. Where memory runs out and the last flush
+then fails too, the first fault is told. And each reply must be out while the follower waits for the rest of
+a line.
 
 Run it once the program is built; `--linked` says that refuse.c stands in it. The last line is 'N passed, M failed'.
 """
@@ -79,6 +80,8 @@ def main() -> int:
     given, replies = (HERE / "follower_lines").read_bytes(), replies_to_first("follower_replies")
     with sweeping(arguments.linked) as sweep:
         sweep.each_request(follower, given, replies)
+        led = (HERE / "leader_lines").read_bytes()
+        sweep.each_request(follower, led, replies_to_first("leader_replies"), "--lead", "--node-size", "2")
         last_flush(sweep, follower, b"len", b"0\n")
         first_fault(sweep, follower, given, replies)
         waits(sweep, follower)

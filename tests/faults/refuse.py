@@ -103,14 +103,14 @@ class Sweep:
             failed = run.failed
             yield n, run
 
-    def each_request(self, program: pathlib.Path, given: bytes, replies: list[bytes]) -> None:
-        """Each request for memory, each read and each write over the lines, to the first of which there are
-        these replies. After a failed read all whole lines that were read have their replies."""
-        print(f"| {program.name} | runs with a failed request |\n|---|---|")
+    def each_request(self, program: pathlib.Path, given: bytes, replies: list[bytes], *words: str) -> None:
+        """Each request for memory, each read and each write over the lines, to the first of which there are these
+        replies, with these arguments. After a failed read all whole lines that were read have their replies."""
+        print(f"| {' '.join((program.name, *words))} | runs with a failed request |\n|---|---|")
         for which in TOLD:
             for more in CONDITIONS:
                 count = 0
-                for n, run in self.runs([str(program)], given, which, **more):
+                for n, run in self.runs([str(program), *words], given, which, **more):
                     whole = given[: (n - 1) * more.get("SHORT_READ", len(given))].count(b"\n")
                     ends = [replies[whole]] if which == READ else replies
                     is_right = run.tells(which) and run.out in ends if run.failed else run.is_done(replies[-1])

@@ -61,7 +61,7 @@ class Store(Model):
                 return None
         self.nodes = [[(item.key, int(item.value)) for item in node] for node in self.tree.nodes]
         self.next = self.tree.next
-        return "\n".join([reply, *texts(events, PAIRS)]).encode()
+        return "\n".join([reply, *texts(events, PAIRS), f"next {self.next}"]).encode()
 
     def led(self, line: bytes) -> bytes:
         """The answer of a leader."""
@@ -185,7 +185,7 @@ def too_large(program: pathlib.Path) -> Counts:
     """A follower whose node is too large for a leader stays one."""
     lines = [*snapshot([[(1, 1), (2, 2), (3, 3)]], 7), b"lead", b"put 1 1", b"7 split 3:3 1", b"lead", b"8 create 9:9", b"put 9 9", b"nodes"]
     wanted = [b"held", b"held", b"next 7", b"unfit 7 size", b"bad", b"next 8", b"next 8", b"bad"]
-    wanted += [b"new", b"8 split 3:3 1", b"9 insert 3:3 9:9 1", b"1:1", b"2:2", b"3:3 9:9", b"next 10"]
+    wanted += [b"new", b"8 split 3:3 1", b"9 insert 3:3 9:9 1", b"next 10", b"1:1", b"2:2", b"3:3 9:9", b"next 10"]
     done = run(program, ["--node-size", "2"], lines)
     passed = done.stdout == joined(wanted)
     if not passed:
@@ -196,7 +196,7 @@ def too_large(program: pathlib.Path) -> Counts:
 def no_number(program: pathlib.Path) -> Counts:
     """A leader that has no number left for an event ends with a fault, and the answers before it are told."""
     done = run(program, [], [*snapshot([], MOST), b"lead", b"cut 1", b"put 1 1", b"len"])
-    passed = (done.returncode, done.stdout, done.stderr) == (2, b"held\nnext %d\nnext %d\nnone\n" % (MOST, MOST), b"numbers\n")
+    passed = (done.returncode, done.stdout, done.stderr) == (2, b"held\nnext %d\nnext %d\nnone\nnext %d\n" % (MOST, MOST, MOST), b"numbers\n")
     if not passed:
         print(f"no number left: status {done.returncode}, {done.stdout!r} {done.stderr!r}")
     return Counts(int(passed), int(not passed))

@@ -75,6 +75,12 @@ gone_passed v =
     let cut : cut_at 32 (codes "gone " ++ decimal v) ≡ Some (codes "gone", decimal v) = cut_told 32 (codes "gone") (decimal v) (lacks_tested 32 (codes "gone") refl) in
     says_nothing (codes "gone " ++ decimal v) (rw (cut, no_number 103 (codes "one") (omega arith)) refl) (rw cut refl) (rw cut refl) (rw cut refl)
 
+-- the line that ends the answer of a leader to a command
+pub next_passed : (n : ℕ) → IsPassedOver (codes "next " ++ decimal n)
+next_passed n =
+    let cut : cut_at 32 (codes "next " ++ decimal n) ≡ Some (codes "next", decimal n) = cut_told 32 (codes "next") (decimal n) (lacks_tested 32 (codes "next") refl) in
+    says_nothing (codes "next " ++ decimal n) (rw (cut, no_number 110 (codes "ext") (omega arith)) refl) (rw cut refl) (rw cut refl) (rw cut refl)
+
 -- a reply of one word that is none of the reads
 word_passed : (word : List ℕ) → Lacks 32 word → query_of word ≡ None → IsPassedOver word
 word_passed word lacks none = let one = uncut 32 word lacks in says_nothing word (rw one refl) (rw one refl) (rw one refl) none

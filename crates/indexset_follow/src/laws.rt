@@ -1,6 +1,7 @@
 //! Laws of the definitions of lines and replies, whatever the code.
 
-ghost use Rattle.std.specs.Prelude.{◌≡◌, ◌≢◌, ◌⊎◌, ◌↔◌, ◌<◌, ◌^◌, ℕ, List, [], length, map, drop, take, Some};
+ghost use Rattle.std.specs.Prelude.{◌≡◌, ◌≢◌, ◌⊎◌, ◌↔◌, ◌<◌, ◌^◌, ◌++◌, ℕ, List, [], codes, length, map, drop, take, Some};
+ghost use Rattle.std.specs.Fmt.{decimal};
 ghost use Rattle.std.specs.List.{All};
 ghost use Rattle.std.specs.Ordering.{nat_cmp};
 ghost use Rattle.indexset_lines.specs.Lines.{lines_of};
@@ -90,10 +91,11 @@ pub fn snapshots_are_held_whole()
         → after_mark s (Mark.End count sum) ≡ holding s.held }
 {}
 
-/// A follower that passes over other lines writes nothing for a reply of the first program, and no
-/// such reply changes it.
+/// A follower that passes over other lines writes nothing for a reply of the first program, nor for
+/// the line that ends the answer of a leader, and no such line changes it.
 pub fn replies_are_passed_over()
-    ensures { (reply : Reply) → ReplyFits reply → IsPassedOver (reply_text reply) }
+    ensures first { (reply : Reply) → ReplyFits reply → IsPassedOver (reply_text reply) }
+    ensures next { (n : ℕ) → IsPassedOver (codes "next " ++ decimal n) }
 {}
 
 /// The events that the first program writes, whatever lines it reads, are numbered from 0 without a
