@@ -194,6 +194,8 @@ class Model:
                 return b"\n".join([shown(node) for node in self.nodes] + [b"next %d" % self.next])
             case [b"next"]:
                 return b"next %d" % self.next
+            case [b"head", end] if is_number(end):
+                return b"%b %d" % (b"gap" if self.next < number(end) else b"next", self.next)
             case [b"snapshot"]:
                 return b"\n".join(snapshot(self.nodes, self.next))
             case [b"sum"]:

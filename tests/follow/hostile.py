@@ -118,8 +118,11 @@ class Hostile:
     def read(self) -> bytes:
         number = self.some_number
         words = [b"nodes", b"len", b"first", b"last", b"next", b"sum"]
-        asked = [b"get %d" % number(), b"rank %d" % number(), b"at %d" % number()]
+        asked = [b"get %d" % number(), b"rank %d" % number(), b"at %d" % number(), self.head()]
         return self.random.choice(words + asked * 2 + [b"range %d %d" % (number(), number()), b"page %d %d" % (number(), number())] * 3)
+
+    def head(self) -> bytes:
+        return b"head %d" % self.random.choice([self.some_number(), self.model.next, self.model.next + 1])
 
     def request(self) -> bytes:
         return b"snapshot" if self.random.random() < 0.05 else self.read()

@@ -11,7 +11,7 @@ use Rattle.indexset_follow.specs.Reads.{query_text}
 use Rattle.indexset_follow.specs.Store.{after_held, held, held_reply, is_follow, is_lead}
 use Rattle.indexset_follow.specs.declared.others.Others.{Others}
 use Rattle.indexset_follow.specs.declared.reads.query.Query.{Query}
-use Rattle.indexset_follow.specs.declared.reads.query.Query.TheVariants.{Get, Len, First, Last, Range, Rank, At, Page, Nodes, Next, Snapshot, Sum}
+use Rattle.indexset_follow.specs.declared.reads.query.Query.TheVariants.{Get, Len, First, Last, Range, Rank, At, Page, Nodes, Next, Head, Snapshot, Sum}
 use Rattle.indexset_follow.specs.declared.role.Role.{Role}
 use Rattle.indexset_follow.specs.declared.role.Role.TheVariants.{Following, Leading}
 use Rattle.indexset_follow.proofs.QueryLines.{query_cut, query_told}
@@ -29,6 +29,7 @@ no_event (At i) = rw (query_cut (At i), no_number 97 (codes "t") (omega arith)) 
 no_event (Page i n) = rw (query_cut (Page i n), no_number 112 (codes "age") (omega arith)) refl
 no_event Nodes = refl
 no_event Next = refl
+no_event (Head m) = rw (query_cut (Head m), no_number 104 (codes "ead") (omega arith)) refl
 no_event Snapshot = refl
 no_event Sum = refl
 
@@ -44,6 +45,7 @@ no_node (At i) = rw (query_cut (At i)) refl
 no_node (Page i n) = rw (query_cut (Page i n)) refl
 no_node Nodes = refl
 no_node Next = refl
+no_node (Head m) = rw (query_cut (Head m)) refl
 no_node Snapshot = refl
 no_node Sum = refl
 
@@ -59,6 +61,7 @@ no_mark (At i) = rw (query_cut (At i)) refl
 no_mark (Page i n) = rw (query_cut (Page i n)) refl
 no_mark Nodes = refl
 no_mark Next = refl
+no_mark (Head m) = rw (query_cut (Head m)) refl
 no_mark Snapshot = refl
 no_mark Sum = refl
 
@@ -74,6 +77,7 @@ no_lead (At i) = refl
 no_lead (Page i n) = refl
 no_lead Nodes = refl
 no_lead Next = refl
+no_lead (Head m) = refl
 no_lead Snapshot = refl
 no_lead Sum = refl
 
@@ -89,6 +93,7 @@ no_follow (At i) = refl
 no_follow (Page i n) = refl
 no_follow Nodes = refl
 no_follow Next = refl
+no_follow (Head m) = refl
 no_follow Snapshot = refl
 no_follow Sum = refl
 

@@ -150,6 +150,7 @@ node_passed (p ∷ q ∷ ps) fit =
     let get : bytes_eq (pair_text p) (codes "get") ≡ false = pair_no_word p fit.0 103 (codes "et") (omega arith, omega arith) in
     let rank : bytes_eq (pair_text p) (codes "rank") ≡ false = pair_no_word p fit.0 114 (codes "ank") (omega arith, omega arith) in
     let at : bytes_eq (pair_text p) (codes "at") ≡ false = pair_no_word p fit.0 97 (codes "t") (omega arith, omega arith) in
+    let head : bytes_eq (pair_text p) (codes "head") ≡ false = pair_no_word p fit.0 104 (codes "ead") (omega arith, omega arith) in
     let range : bytes_eq (pair_text p) (codes "range") ≡ false = pair_no_word p fit.0 114 (codes "ange") (omega arith, omega arith) in
     let page : bytes_eq (pair_text p) (codes "page") ≡ false = pair_no_word p fit.0 112 (codes "age") (omega arith, omega arith) in
-    says_nothing (node_text (p ∷ q ∷ ps)) (node_alone (p ∷ q ∷ ps) fit) (rw (cut, node) refl) (rw (cut, start, end) refl) (rw (cut, get, rank, at, range, page) refl)
+    says_nothing (node_text (p ∷ q ∷ ps)) (node_alone (p ∷ q ∷ ps) fit) (rw (cut, node) refl) (rw (cut, start, end) refl) (rw (cut, get, rank, at, head, range, page) refl)

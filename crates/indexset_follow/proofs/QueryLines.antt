@@ -8,7 +8,7 @@ use Rattle.std.specs.Str.{bytes_eq}
 use Rattle.indexset_events.specs.Spelling.{cut_at, number_of}
 use Rattle.indexset_follow.specs.Query.{QueryFits, numbered_query, query_line, query_of, two_numbers, word_query}
 use Rattle.indexset_follow.specs.declared.reads.query.Query.{Query}
-use Rattle.indexset_follow.specs.declared.reads.query.Query.TheVariants.{Get, Len, First, Last, Range, Rank, At, Page, Nodes, Next, Snapshot, Sum}
+use Rattle.indexset_follow.specs.declared.reads.query.Query.TheVariants.{Get, Len, First, Last, Range, Rank, At, Page, Nodes, Next, Head, Snapshot, Sum}
 use Rattle.indexset_events.specs.Spelling.Laws.{cut_sound, cut_told, lacks_tested, map_some, none_some, number_lacks, number_sound, number_told, some_inj, then_some}
 
 -- ---- what is spelled is read
@@ -30,6 +30,7 @@ parts_of (At i) = Some (codes "at", decimal i)
 parts_of (Page i n) = Some (codes "page", decimal i ++ 32 ∷ decimal n)
 parts_of Nodes = None
 parts_of Next = None
+parts_of (Head m) = Some (codes "head", decimal m)
 parts_of Snapshot = None
 parts_of Sum = None
 
@@ -44,6 +45,7 @@ query_cut (At i) = cut_told 32 (codes "at") (decimal i) (lacks_tested 32 (codes 
 query_cut (Page i n) = cut_told 32 (codes "page") (decimal i ++ 32 ∷ decimal n) (lacks_tested 32 (codes "page") refl)
 query_cut Nodes = refl
 query_cut Next = refl
+query_cut (Head m) = cut_told 32 (codes "head") (decimal m) (lacks_tested 32 (codes "head") refl)
 query_cut Snapshot = refl
 query_cut Sum = refl
 
@@ -58,6 +60,7 @@ query_told (At i) fit = rw (query_cut (At i)) (ap (option_map At) (number_told i
 query_told (Page i n) fit = rw (query_cut (Page i n)) (ap (option_map (λ p. Page p.0 p.1)) (two_told i n fit.0 fit.1))
 query_told Nodes fit = refl
 query_told Next fit = refl
+query_told (Head m) fit = rw (query_cut (Head m)) (ap (option_map Head) (number_told m fit))
 query_told Snapshot fit = refl
 query_told Sum fit = refl
 
@@ -99,7 +102,7 @@ two_sound text p h =
     subst (λ p. (text ≡ decimal p.0 ++ 32 ∷ decimal p.1) × (p.0 < 2 ^ 64) × (p.1 < 2 ^ 64)) second.2 (parts, a.1, b.1)
 
 numbered_sound : (word rest : List ℕ) (q : Query) → numbered_query word rest ≡ Some q → Spells (word ++ 32 ∷ rest) q
-numbered_sound word rest q h = at (bytes_eq word (codes "get")) (bytes_eq word (codes "rank")) (bytes_eq word (codes "at")) (bytes_eq word (codes "range")) (bytes_eq word (codes "page")) refl refl refl refl refl h
+numbered_sound word rest q h = at (bytes_eq word (codes "get")) (bytes_eq word (codes "rank")) (bytes_eq word (codes "at")) (bytes_eq word (codes "head")) (bytes_eq word (codes "range")) (bytes_eq word (codes "page")) refl refl refl refl refl refl h
   where
     -- a word and a number
     one : (text : List ℕ) (make : ℕ → Query) → ((n : ℕ) → query_line (make n) ≡ text ++ 32 ∷ decimal n) → ((n : ℕ) → n < 2 ^ 64 → QueryFits (make n)) → bytes_eq word text ≡ true → option_map make (number_of rest) ≡ Some q → Spells (word ++ 32 ∷ rest) q
@@ -115,14 +118,15 @@ numbered_sound word rest q h = at (bytes_eq word (codes "get")) (bytes_eq word (
         let read = two_sound rest made.0 made.1 in
         subst (Spells (word ++ 32 ∷ rest)) made.2 ((λ i. same word text is i ++ 32 ∷ read.0 i) ∙ sym (line made.0), fits made.0 read.1 read.2)
 
-    at : (a b c d e : Bool) → bytes_eq word (codes "get") ≡ a → bytes_eq word (codes "rank") ≡ b → bytes_eq word (codes "at") ≡ c → bytes_eq word (codes "range") ≡ d → bytes_eq word (codes "page") ≡ e
-        → cond a (option_map Get (number_of rest)) (cond b (option_map Rank (number_of rest)) (cond c (option_map At (number_of rest)) (cond d (option_map (λ p. Range p.0 p.1) (two_numbers rest)) (cond e (option_map (λ p. Page p.0 p.1) (two_numbers rest)) None)))) ≡ Some q → Spells (word ++ 32 ∷ rest) q
-    at true b c d e is _ _ _ _ h = one (codes "get") Get (λ n. refl) (λ n fit. fit) is h
-    at false true c d e _ is _ _ _ h = one (codes "rank") Rank (λ n. refl) (λ n fit. fit) is h
-    at false false true d e _ _ is _ _ h = one (codes "at") At (λ n. refl) (λ n fit. fit) is h
-    at false false false true e _ _ _ is _ h = two (codes "range") (λ p. Range p.0 p.1) (λ p. refl) (λ p first second. (first, second)) is h
-    at false false false false true _ _ _ _ is h = two (codes "page") (λ p. Page p.0 p.1) (λ p. refl) (λ p first second. (first, second)) is h
-    at false false false false false _ _ _ _ _ h = none_some q h
+    at : (a b c d e f : Bool) → bytes_eq word (codes "get") ≡ a → bytes_eq word (codes "rank") ≡ b → bytes_eq word (codes "at") ≡ c → bytes_eq word (codes "head") ≡ d → bytes_eq word (codes "range") ≡ e → bytes_eq word (codes "page") ≡ f
+        → cond a (option_map Get (number_of rest)) (cond b (option_map Rank (number_of rest)) (cond c (option_map At (number_of rest)) (cond d (option_map Head (number_of rest)) (cond e (option_map (λ p. Range p.0 p.1) (two_numbers rest)) (cond f (option_map (λ p. Page p.0 p.1) (two_numbers rest)) None))))) ≡ Some q → Spells (word ++ 32 ∷ rest) q
+    at true b c d e f is _ _ _ _ _ h = one (codes "get") Get (λ n. refl) (λ n fit. fit) is h
+    at false true c d e f _ is _ _ _ _ h = one (codes "rank") Rank (λ n. refl) (λ n fit. fit) is h
+    at false false true d e f _ _ is _ _ _ h = one (codes "at") At (λ n. refl) (λ n fit. fit) is h
+    at false false false true e f _ _ _ is _ _ h = one (codes "head") Head (λ n. refl) (λ n fit. fit) is h
+    at false false false false true f _ _ _ _ is _ h = two (codes "range") (λ p. Range p.0 p.1) (λ p. refl) (λ p first second. (first, second)) is h
+    at false false false false false true _ _ _ _ _ is h = two (codes "page") (λ p. Page p.0 p.1) (λ p. refl) (λ p first second. (first, second)) is h
+    at false false false false false false _ _ _ _ _ _ h = none_some q h
 
 pub query_sound : (line : List ℕ) (q : Query) → query_of line ≡ Some q → (line ≡ query_line q) × QueryFits q
 query_sound line q e = at (cut_at 32 line) refl e

@@ -5,7 +5,7 @@ use Rattle.std.specs.Option.{option_map, option_and_then, option_map_or}
 use Rattle.std.specs.Str.{bytes_eq}
 use Rattle.indexset_events.specs.Spelling.{cut_at, number_of}
 use Rattle.indexset_follow.specs.declared.reads.query.Query.{Query}
-use Rattle.indexset_follow.specs.declared.reads.query.Query.TheVariants.{Get, Len, First, Last, Range, Rank, At, Page, Nodes, Next, Snapshot, Sum}
+use Rattle.indexset_follow.specs.declared.reads.query.Query.TheVariants.{Get, Len, First, Last, Range, Rank, At, Page, Nodes, Next, Head, Snapshot, Sum}
 
 -- the line of a read
 abbrev pub query_line : Query → List ℕ
@@ -19,6 +19,7 @@ query_line (At i) = codes "at " ++ decimal i
 query_line (Page i n) = codes "page " ++ decimal i ++ 32 ∷ decimal n
 query_line Nodes = codes "nodes"
 query_line Next = codes "next"
+query_line (Head m) = codes "head " ++ decimal m
 query_line Snapshot = codes "snapshot"
 query_line Sum = codes "sum"
 
@@ -34,6 +35,7 @@ QueryFits (At i) = i < 2 ^ 64
 QueryFits (Page i n) = (i < 2 ^ 64) × (n < 2 ^ 64)
 QueryFits Nodes = Unit {0}
 QueryFits Next = Unit {0}
+QueryFits (Head m) = m < 2 ^ 64
 QueryFits Snapshot = Unit {0}
 QueryFits Sum = Unit {0}
 
@@ -59,6 +61,7 @@ numbered_query word rest =
     if bytes_eq word (codes "get") then option_map Get (number_of rest)
     else if bytes_eq word (codes "rank") then option_map Rank (number_of rest)
     else if bytes_eq word (codes "at") then option_map At (number_of rest)
+    else if bytes_eq word (codes "head") then option_map Head (number_of rest)
     else if bytes_eq word (codes "range") then option_map (λ p. Range p.0 p.1) (two_numbers rest)
     else if bytes_eq word (codes "page") then option_map (λ p. Page p.0 p.1) (two_numbers rest)
     else None

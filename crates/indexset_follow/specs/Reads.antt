@@ -1,5 +1,5 @@
 -- What is read of a map: of its nodes, and of the list that they make joined.
-use Rattle.std.specs.Prelude.{ℕ, if◌then◌else◌, List, ◌++◌, Option, drop, length, slice_get, take}
+use Rattle.std.specs.Prelude.{ℕ, nat_lt, if◌then◌else◌, List, ◌++◌, Option, drop, length, slice_get, take}
 use Rattle.std.specs.Option.{option_map, option_map_or}
 use Rattle.std.specs.Ordering.{nat_cmp}
 use Rattle.std.specs.declared.ops.Bound.TheVariants.{Included}
@@ -14,7 +14,7 @@ use Rattle.indexset_follow.specs.Query.{query_of}
 use Rattle.indexset_follow.specs.Reply.{others_text, reply_ended}
 use Rattle.indexset_follow.specs.declared.others.Others.{Others}
 use Rattle.indexset_follow.specs.declared.reads.query.Query.{Query}
-use Rattle.indexset_follow.specs.declared.reads.query.Query.TheVariants.{Get, Len, First, Last, Range, Rank, At, Page, Nodes, Next, Snapshot, Sum}
+use Rattle.indexset_follow.specs.declared.reads.query.Query.TheVariants.{Get, Len, First, Last, Range, Rank, At, Page, Nodes, Next, Head, Snapshot, Sum}
 use Rattle.indexset_follow.specs.declared.reply.Reply.{Reply}
 use Rattle.indexset_follow.specs.declared.reply.Reply.TheVariants as reply
 
@@ -46,6 +46,10 @@ row_text ps = if is_filled ps then ended (node_text ps) else reply_ended reply.N
 abbrev pub nodes_text : PairNodes → ℕ → List ℕ
 nodes_text ns next = lines_for node_text ns ++ reply_ended (reply.Next next)
 
+-- the reply where the events before number m were told: some are missing, or none is
+abbrev pub head_reply : ℕ → ℕ → Reply
+head_reply next m = if nat_lt next m then reply.Gap next else reply.Next next
+
 -- the answer to a read
 abbrev pub query_text : PairNodes → ℕ → Query → List ℕ
 query_text ns next (Get k) = reply_ended (item_reply (pair_of nat_cmp (joined ns) k))
@@ -58,6 +62,7 @@ query_text ns next (At i) = reply_ended (item_reply (slice_get (joined ns) i))
 query_text ns next (Page i n) = row_text (page (joined ns) i n)
 query_text ns next Nodes = nodes_text ns next
 query_text ns next Next = reply_ended (reply.Next next)
+query_text ns next (Head m) = reply_ended (head_reply next m)
 query_text ns next Snapshot = snapshot_text (copy ns next)
 query_text ns next Sum = reply_ended (reply.Sum next (length ns) (sum_of (copy ns next)))
 

@@ -12,7 +12,7 @@ ghost use Rattle.std.specs.Ordering.{nat_cmp};
 ghost use Rattle.indexset_core.specs.Nodes.{joined};
 ghost use Rattle.indexset_core.specs.Pairs.{entry_of, key_rank, pair_of};
 ghost use Rattle.indexset_follow.specs.Copy.{body_text, copy, snapshot_text, sum_of};
-ghost use Rattle.indexset_follow.specs.Reads.{PairNodes, entry_reply, keys_from, nodes_text, page, query_text, read_reply, row_text};
+ghost use Rattle.indexset_follow.specs.Reads.{PairNodes, entry_reply, head_reply, keys_from, nodes_text, page, query_text, read_reply, row_text};
 ghost use Rattle.indexset_follow.specs.Reply.{others_text, reply_ended};
 
 mod logged;
@@ -155,8 +155,20 @@ pub fn answer_query<R: Reads, W: Write>(
         Query::Page(position, count) => write_page(writer, map, position as usize, count as usize),
         Query::Nodes => map.write_all(writer),
         Query::Next => write_reply(writer, Reply::Next(map.next_number())),
+        Query::Head(end) => write_reply(writer, reply_to_head(map.next_number(), end)),
         Query::Snapshot => write_snapshot(alloc, writer, map),
         Query::Sum => write_sum(alloc, writer, map),
+    }
+}
+
+/// Returns the reply where the events before the number `end` were told.
+fn reply_to_head(next: u64, end: u64) -> Reply
+    ensures { result ≡ head_reply next end }
+{
+    if next < end {
+        Reply::Gap(next)
+    } else {
+        Reply::Next(next)
     }
 }
 

@@ -28,6 +28,8 @@ pub enum Query {
     Nodes,
     /// The next number.
     Next,
+    /// Whether events before this number are missing.
+    Head(u64),
     /// The lines that make another map the same.
     Snapshot,
     /// The next number, how many nodes there are, and the sum of both.
@@ -77,6 +79,8 @@ fn read_numbered(word: &[u8], rest: &[u8]) -> Option<Query>
         read_number(rest).map(Query::Rank)
     } else if word == b"at".as_slice() {
         read_number(rest).map(Query::At)
+    } else if word == b"head".as_slice() {
+        read_number(rest).map(Query::Head)
     } else if word == b"range".as_slice() {
         read_two(rest).map(|keys| Query::Range(keys.0, keys.1))
     } else if word == b"page".as_slice() {
