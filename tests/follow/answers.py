@@ -225,7 +225,11 @@ class Model:
         return None
 
     def answer(self, line: bytes) -> bytes:
-        """The answer to a line with its end."""
+        """The answer to a line with its end, to which one byte 13 before the byte 10 belongs."""
+        return self.told(line.removesuffix(b"\r"))
+
+    def told(self, line: bytes) -> bytes:
+        """The answer to a line without its end."""
         try:
             if event := EVENT.fullmatch(line):
                 return self.event(event_of(event))

@@ -127,6 +127,10 @@ class Hostile:
     def request(self) -> bytes:
         return b"snapshot" if self.random.random() < 0.05 else self.read()
 
+    def given(self) -> bytes:
+        """A line, now and then with a byte 13 before its end, or two."""
+        return self.line() + self.random.choice([b""] * 18 + [b"\r", b"\r\r"])
+
     def line(self) -> bytes:
         random = self.random
         kind = random.random()
@@ -201,7 +205,7 @@ def compare(program: pathlib.Path, seed: int) -> Counts:
     lines: list[bytes] = []
     answers: list[bytes] = []
     for _ in range(LINES):
-        lines.append(hostile.line())
+        lines.append(hostile.given())
         answers.append(model.answer(lines[-1]))
     done = subprocess.run([program], input=joined(lines), capture_output=True, timeout=SECONDS)
     kinds = collections.Counter(map(kind, answers))

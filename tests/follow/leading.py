@@ -69,8 +69,8 @@ class Store(Model):
         told = self.command(line) if told is None else told
         return b"bad" if told is None else told
 
-    def answer(self, line: bytes) -> bytes:
-        """The answer to a line with its end, in the role that it has."""
+    def told(self, line: bytes) -> bytes:
+        """The answer to a line without its end, in the role that it has."""
         if line == b"lead":
             return self.lead()
         if line == b"follow":
@@ -79,7 +79,7 @@ class Store(Model):
         try:
             if not self.nodes and (started := START.fullmatch(line)) and number(started[1]) >= 0:
                 self.leads = False
-            return self.led(line) if self.leads else super().answer(line)
+            return self.led(line) if self.leads else super().told(line)
         except OverflowError:
             return b"bad"
 
@@ -127,7 +127,7 @@ def compare(program: pathlib.Path, size: int, keys: int, seed: int) -> Counts:
     lines: list[bytes] = []
     answers: list[bytes] = []
     for _ in range(LINES):
-        lines.append(author.line())
+        lines.append(author.given())
         answers.append(leader.answer(lines[-1]))
     done = run(program, ["--lead", "--node-size", str(size)], lines)
     if (done.returncode, done.stdout, done.stderr) == (0, joined(answers), b""):
@@ -175,7 +175,7 @@ def begins_late(program: pathlib.Path, size: int, seed: int) -> Counts:
 
 def cut_lines(program: pathlib.Path) -> Counts:
     """The counts for commands, reads and `lead` to a leader and a follower that end at each byte."""
-    lines = [b"put 3 30", b"put 12 120", b"lead", b"cut 3", b"range 1 20", b"sum", b"start 5", b"lead", b"put 4 40", b"follow", b"next"]
+    lines = [b"put 3 30", b"put 12 120\r", b"lead\r", b"cut 3", b"range 1 20", b"sum\r", b"start 5", b"lead", b"put 4 40", b"follow", b"head 12"]
     leading = cuts(program, joined(lines), ["--lead"], lambda: Store(256))
     following = cuts(program, joined(lines), [], lambda: Store(256, leads=False))
     return Counts(leading.passed + following.passed, leading.failed + following.failed)

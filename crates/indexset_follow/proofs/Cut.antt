@@ -1,31 +1,46 @@
 -- A last line that lacks its end changes nothing.
-use Rattle.std.proofs.Common.{◌≡◌, ◌≢◌, ℕ, ◌<◌, Bool, List, [], ◌∷◌, ◌++◌, length, refl, sym, ap, ◌∙◌, arith, append-nil}
+use Rattle.std.proofs.Common.{◌≡◌, ◌≢◌, ℕ, ◌<◌, Bool, List, [], ◌∷◌, ◌++◌, length, map, refl, sym, ap, ◌∙◌, arith, append-nil}
 use Rattle.std.proofs.lemmas.List.Elements.{All-nil}
 use Rattle.indexset_lines.specs.Lines.{HasNoEnd, IsWhole, lines_of, rest_of, whole_lines}
-use Rattle.indexset_lines.specs.Run.{rest_reply}
+use Rattle.indexset_lines.specs.Run.{left_by, rest_reply, replies_to}
 use Rattle.indexset_lines.proofs.CallerLemmas.{rest_of-append, whole_lines-append}
-use Rattle.indexset_follow.specs.Store.{Held, after_held, first_held, held_after, held_cut, held_replies, held_reply}
+use Rattle.indexset_follow.specs.Store.{Held, after_held, after_input, first_held, held_after, held_cut, input_reply, without_return}
 use Rattle.indexset_follow.specs.StoreRun.{store_after, store_text}
 use Rattle.indexset_follow.specs.declared.others.Others.{Others}
+
+-- the lines of the input, one after another, are these lines without the bytes 13
+lines_held : (h : Held) (lines : List (List ℕ)) → left_by after_input h lines ≡ held_after h (map without_return lines)
+unfolding left_by
+lines_held h [] = refl
+lines_held h (line ∷ lines) = lines_held (after_input h line) lines
 
 module _ (size : ℕ) (leads : Bool) (whole : List ℕ) (is_whole : IsWhole whole) where
   abbrev first : Held
   first = first_held size leads
 
-  pub all_held : store_after size leads whole ≡ held_after first (lines_of whole)
-  all_held = ap (store_after size leads) (sym (append-nil whole)) ∙ ap (held_after first) (whole_lines-append [] (All-nil (λ x. x ≢ 10)) whole is_whole)
+  abbrev bare : List (List ℕ)
+  bare = map without_return (lines_of whole)
+
+  pub all_held : store_after size leads whole ≡ held_after first bare
+  all_held = ap (store_after size leads) (sym (append-nil whole)) ∙ ap (λ ls. held_after first (map without_return ls)) (whole_lines-append [] (All-nil (λ x. x ≢ 10)) whole is_whole)
 
   module _ (rest : List ℕ) (none : HasNoEnd rest) where
     pub held_whole : store_after size leads (whole ++ rest) ≡ store_after size leads whole
-    held_whole = ap (held_after first) (whole_lines-append rest none whole is_whole) ∙ sym all_held
+    held_whole = ap (λ ls. held_after first (map without_return ls)) (whole_lines-append rest none whole is_whole) ∙ sym all_held
 
   module _ (o : Others) where
-    answered : (rest : List ℕ) → HasNoEnd rest → store_text o size leads (whole ++ rest) ≡ held_replies o first (lines_of whole) ++ rest_reply (held_reply o) after_held (held_cut o) (held_after first (lines_of whole)) rest
+    abbrev replies : List ℕ
+    replies = replies_to (input_reply o) after_input first (lines_of whole)
+
+    answered : (rest : List ℕ) → HasNoEnd rest → store_text o size leads (whole ++ rest) ≡ replies ++ rest_reply (input_reply o) after_input (held_cut o) (left_by after_input first (lines_of whole)) rest
     answered rest none = rw (whole_lines-append rest none whole is_whole, rest_of-append rest none whole is_whole) refl
 
-    whole_answered : store_text o size leads whole ≡ held_replies o first (lines_of whole)
-    whole_answered = ap (store_text o size leads) (sym (append-nil whole)) ∙ answered [] (All-nil (λ x. x ≢ 10)) ∙ append-nil (held_replies o first (lines_of whole))
+    whole_answered : store_text o size leads whole ≡ replies
+    whole_answered = ap (store_text o size leads) (sym (append-nil whole)) ∙ answered [] (All-nil (λ x. x ≢ 10)) ∙ append-nil replies
+
+    is_held : store_after size leads whole ≡ left_by after_input first (lines_of whole)
+    is_held = all_held ∙ sym (lines_held first (lines_of whole))
 
     pub cut_answered : (rest : List ℕ) → HasNoEnd rest → 0 < length rest → store_text o size leads (whole ++ rest) ≡ store_text o size leads whole ++ held_cut o (store_after size leads whole) rest
     cut_answered [] none some = absurd (omega (arith, some))
-    cut_answered (x ∷ xs) none some = answered (x ∷ xs) none ∙ sym (λ i. whole_answered i ++ held_cut o (all_held i) (x ∷ xs))
+    cut_answered (x ∷ xs) none some = answered (x ∷ xs) none ∙ sym (λ i. whole_answered i ++ held_cut o (is_held i) (x ∷ xs))

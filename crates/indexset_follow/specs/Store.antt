@@ -1,5 +1,6 @@
 -- What a line does to a map that follows or leads, and the text that answers it.
 use Rattle.std.specs.Prelude.{ℕ, ◌&&◌, is_none, not, if◌then◌else◌, Bool, true, false, List, [], codes, Option, None, Some}
+use Rattle.std.specs.Io.BufRead.{strip_last}
 use Rattle.std.specs.Ordering.{nat_cmp}
 use Rattle.std.specs.Str.{bytes_eq}
 use Rattle.indexset_bench.specs.Pairs.{PairTree}
@@ -113,6 +114,18 @@ cut_in_role o (Leading t) line = read_reply o t.nodes t.next line
 
 abbrev pub held_cut : Others → Held → List ℕ → List ℕ
 held_cut o h line = cut_in_role o h.role line
+
+-- ---- a line of the input
+
+-- a byte 13 directly before the byte 10 belongs to the end of the line
+abbrev pub without_return : List ℕ → List ℕ
+without_return line = strip_last 13 line
+
+abbrev pub after_input : Held → List ℕ → Held
+after_input h line = after_held h (without_return line)
+
+abbrev pub input_reply : Others → Held → List ℕ → List ℕ
+input_reply o h line = held_reply o h (without_return line)
 
 -- the role tells events, and more of them than there are numbers
 abbrev pub role_lacks : Role → Type 0

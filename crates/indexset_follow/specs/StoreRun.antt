@@ -1,17 +1,21 @@
 -- What a run of a map that follows or leads does to the bytes that a reader has left and to those that a writer holds.
-use Rattle.std.specs.Prelude.{Bool, Option, ℕ, List}
+use Rattle.std.specs.Prelude.{Bool, Option, ℕ, List, map}
 use Rattle.indexset_lines.specs.Lines.{whole_lines}
 use Rattle.indexset_lines.specs.Run as lines
-use Rattle.indexset_follow.specs.Store.{Held, after_held, first_held, held_after, held_cut, held_lacks, held_reply}
+use Rattle.indexset_follow.specs.Store.{Held, after_input, first_held, held_after, held_cut, held_lacks, input_reply, without_return}
 use Rattle.indexset_follow.specs.declared.others.Others.{Others}
 
 -- the answers to the lines of the input, from nothing on
 abbrev pub store_text : Others → ℕ → Bool → List ℕ → List ℕ
-store_text o size leads = lines.text_of (held_reply o) after_held (held_cut o) (first_held size leads)
+store_text o size leads = lines.text_of (input_reply o) after_input (held_cut o) (first_held size leads)
+
+-- the lines that have their ends
+abbrev pub input_lines : List ℕ → List (List ℕ)
+input_lines input = map without_return (whole_lines input)
 
 -- what is held after an input: what stands behind its last line end changes nothing
 abbrev pub store_after : ℕ → Bool → List ℕ → Held
-store_after size leads input = held_after (first_held size leads) (whole_lines input)
+store_after size leads input = held_after (first_held size leads) (input_lines input)
 
 -- the reader gave an input, to its end, and the writer got the answers
 abbrev pub AnswersAll : Others → ℕ → Bool → (reader reader' writer writer' : Option (List ℕ)) → Type 0
@@ -19,8 +23,8 @@ AnswersAll o size leads = lines.AnswersAll (store_text o size leads)
 
 -- the reader gave whole lines and such a rest, and the writer got the answers to the whole lines
 abbrev pub AnswersWholeLines : Others → ℕ → Bool → (List ℕ → Type 0) → (reader reader' writer writer' : Option (List ℕ)) → Type 0
-AnswersWholeLines o size leads = lines.AnswersWholeLines (held_reply o) after_held (first_held size leads)
+AnswersWholeLines o size leads = lines.AnswersWholeLines (input_reply o) after_input (first_held size leads)
 
 -- the same, where the rest is the line whose events do not fit
 abbrev pub LacksNumbers : Others → ℕ → Bool → (reader reader' writer writer' : Option (List ℕ)) → Type 0
-LacksNumbers o size leads = lines.LacksNumbers (held_reply o) after_held (first_held size leads) held_lacks
+LacksNumbers o size leads = lines.LacksNumbers (input_reply o) after_input (first_held size leads) held_lacks

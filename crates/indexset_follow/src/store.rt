@@ -3,7 +3,7 @@
 ghost use Rattle.std.specs.Prelude.{◌≡◌, ◌≢◌, ◌≤◌, if◌then◌else◌, Err, IfOk, IfErr, None, OnOk, Some};
 ghost use Rattle.std.specs.Io.KnownBytes.{Appends, Keeps};
 ghost use Rattle.indexset_follow.specs.Follow.{holding};
-ghost use Rattle.indexset_follow.specs.Store.{after_follow, after_in_role, after_lead, begun, can_lead, cut_in_role, first_held, follow_reply, held, lead_reply, promoted, reply_in_role, role_lacks, starts};
+ghost use Rattle.indexset_follow.specs.Store.{after_follow, after_in_role, after_lead, begun, can_lead, cut_in_role, first_held, follow_reply, held, lead_reply, promoted, reply_in_role, role_lacks, starts, without_return};
 
 use crate::answer::answer_line;
 use crate::follower::Follower;
@@ -205,22 +205,33 @@ fn promote(alloc: Global, nodes: &mut Nodes, size: usize) -> Result<Option<Pairs
     }
 }
 
+/// Returns the line without a byte 13 at its end.
+fn without_return(line: &[u8]) -> &[u8]
+    ensures { result.now ≡ without_return line.now }
+{
+    match line.split_last() {
+        Some((&b'\r', bare)) => bare,
+        _ => line,
+    }
+}
+
 impl Answers for Store {
-    ghost use Rattle.indexset_follow.specs.Store.{Held, after_held, held, held_cut, held_lacks, held_reply};
+    ghost use Rattle.indexset_follow.specs.Store.{Held, after_input, held, held_cut, held_lacks, input_reply};
 
     ghost State = { Held };
 
     ghost state = { λ store. held store.size store.role };
 
-    ghost reply = { λ store. held_reply store.others };
+    ghost reply = { λ store. input_reply store.others };
 
     ghost cut_reply = { λ store. held_cut store.others };
 
-    ghost after = { after_held };
+    ghost after = { after_input };
 
     ghost lacks_numbers = { held_lacks };
 
     fn answer<W: Write>(&mut self, writer: &mut W, line: &[u8]) -> Result<(), RunFault> {
+        let line = without_return(line);
         if line == b"lead".as_slice() {
             return self.lead(writer);
         }

@@ -1,7 +1,8 @@
 //! Laws of a follower that takes over, of reads in both roles, and of a last line without its end,
 //! whatever the code.
 
-ghost use Rattle.std.specs.Prelude.{◌≡◌, ◌<◌, ◌≤◌, ◌^◌, ◌++◌, ◌∷◌, ◌||◌, Bool, ℕ, List, [], codes, false, length, None, Some};
+ghost use Rattle.std.specs.Prelude.{◌≡◌, ◌<◌, ◌≤◌, ◌^◌, ◌++◌, ◌∷◌, ◌||◌, Bool, ℕ, List, [], codes, false, length, map, None, Some};
+ghost use Rattle.std.specs.Io.BufRead.{ends_with_byte};
 ghost use Rattle.std.specs.List.{All};
 ghost use Rattle.std.specs.Ordering.{nat_cmp};
 ghost use Rattle.indexset_lines.specs.Lines.{HasNoEnd, IsWhole, lines_of};
@@ -17,7 +18,7 @@ ghost use Rattle.indexset_follow.specs.Leading.{events_led, tree_of};
 ghost use Rattle.indexset_follow.specs.Query.{QueryFits, query_line, query_of};
 ghost use Rattle.indexset_follow.specs.Reads.{query_text};
 ghost use Rattle.indexset_follow.specs.Reply.{reply_ended};
-ghost use Rattle.indexset_follow.specs.Store.{Held, after_held, first_held, held, held_after, held_cut, held_replies, held_reply, is_follow, starts};
+ghost use Rattle.indexset_follow.specs.Store.{Held, after_held, after_input, first_held, held, held_after, held_cut, held_replies, held_reply, input_reply, is_follow, starts, without_return};
 ghost use Rattle.indexset_follow.specs.StoreRun.{store_after, store_text};
 ghost use Rattle.indexset_follow.specs.declared.others.Others.{Others};
 ghost use Rattle.indexset_follow.specs.declared.reads.query.Query.{Query};
@@ -85,6 +86,16 @@ pub fn reads_agree()
         → after_held (held size r) (query_line q) ≡ held size r }
 {}
 
+/// A line with a byte 13 before its end is answered as the line without it, and any other as it is.
+pub fn returns_belong_to_line_ends()
+    ensures held { (h : Held) (line : List ℕ)
+        → after_input h (line ++ 13 ∷ []) ≡ after_held h line }
+    ensures told { (o : Others) (h : Held) (line : List ℕ)
+        → input_reply o h (line ++ 13 ∷ []) ≡ held_reply o h line }
+    ensures others { (line : List ℕ) → ends_with_byte 13 line ≡ false
+        → without_return line ≡ line }
+{}
+
 /// A last line that lacks its end changes nothing in either role, whatever it would be with its end:
 /// what is held after whole lines and a cut one is what is held after the whole lines. The answer to
 /// the cut line stands behind those to the whole ones. It is none where lines that say nothing are
@@ -93,7 +104,8 @@ pub fn cut_lines_change_nothing()
     ensures held { (size : ℕ) (leads : Bool) (whole rest : List ℕ) → IsWhole whole → HasNoEnd rest
         → store_after size leads (whole ++ rest) ≡ store_after size leads whole }
     ensures all_held { (size : ℕ) (leads : Bool) (whole : List ℕ) → IsWhole whole
-        → store_after size leads whole ≡ held_after (first_held size leads) (lines_of whole) }
+        → store_after size leads whole
+        ≡ held_after (first_held size leads) (map without_return (lines_of whole)) }
     ensures told { (o : Others) (size : ℕ) (leads : Bool) (whole rest : List ℕ) → IsWhole whole
         → HasNoEnd rest → 0 < length rest → store_text o size leads (whole ++ rest)
         ≡ store_text o size leads whole ++ held_cut o (store_after size leads whole) rest }
