@@ -89,9 +89,12 @@ def with_node(nodes: list[Node], node: Node, key: int) -> list[Node]:
 
 
 class Model:
-    """What a follower should hold and answer."""
+    """What a follower should hold and answer, and what it writes of that where it is quiet."""
 
-    def __init__(self) -> None:
+    leads = False
+
+    def __init__(self, is_quiet: bool = False) -> None:
+        self.is_quiet = is_quiet
         self.nodes: list[Node] = []
         self.next = 0
         self.coming: list[Node] | None = None
@@ -178,13 +181,32 @@ class Model:
         self.nodes, self.next = came, self.coming_next
         return b"next %d" % self.next
 
+    def asked(self, line: bytes) -> bytes | None:
+        """The answer to a read, or None where the line is none or has a number of more than 64 bits."""
+        try:
+            return self.read(line)
+        except OverflowError:
+            return None
+
     def cut(self, line: bytes) -> bytes:
         """The answer to a last line that lacks its end: it changes nothing, whatever it is."""
-        try:
-            told = self.read(line)
-            return b"bad" if told is None else told
-        except OverflowError:
-            return b"bad"
+        told = self.asked(line)
+        return b"bad" if told is None else told
+
+    def voiced(self, line: bytes, answer: bytes) -> list[bytes]:
+        """What is written of an answer: by a quiet follower what is missing or does not fit, and answers to requests."""
+        is_request = line in (b"lead", b"follow") or self.asked(line) is not None
+        is_told = not self.is_quiet or self.leads or is_request or answer.startswith((b"gap ", b"unfit "))
+        return [answer] if is_told else []
+
+    def written(self, line: bytes) -> list[bytes]:
+        """What is written to a line with its end."""
+        answer = self.answer(line)
+        return self.voiced(line.removesuffix(b"\r"), answer)
+
+    def written_cut(self, line: bytes) -> list[bytes]:
+        """What is written to a last line that lacks its end."""
+        return [self.cut(line)] if self.asked(line) is not None or self.leads or not self.is_quiet else []
 
     def read(self, line: bytes) -> bytes | None:
         """The answer to a read, or None where the line is none."""

@@ -242,9 +242,9 @@ def cuts(program: pathlib.Path, given: bytes, words: list[str], first: Callable[
     for end in range(len(given) + 1):
         model = first()
         *whole, rest = given[:end].split(b"\n")
-        answers = [model.answer(line) for line in whole]
+        answers = [it for line in whole for it in model.written(line)]
         if rest:
-            answers.append(model.cut(rest))
+            answers += model.written_cut(rest)
         done = subprocess.run([program, *words], input=given[:end], capture_output=True, timeout=SECONDS)
         if (done.returncode, done.stdout, done.stderr) != (0, joined(answers), b""):
             print(f"cut at {end}, {rest!r}: {done.stdout[-80:]!r}, not {answers[-1:]}")

@@ -2,7 +2,7 @@
 """Compares a map that leads with a model, line by line, and a follower that takes over with the leader that goes on.
 
 The lines to a leader are commands, reads, commands and reads with a word or a byte altered, snapshots that it
-begins with while it has no node, `follow` and then events, and bytes of any kind. A follower reads the events of a
+begins with while it has no node, `follow` and then events, and bytes of any kind; some lines go to a quiet program. A follower reads the events of a
 leader up to some line, and then `lead` and the commands behind that line: what it answers must be, byte for byte,
 what the leader answered to these. Another begins from the snapshot that the leader gives at that line. Some lines
 to a leader are cut at every byte.
@@ -35,8 +35,8 @@ SECONDS = 1200  # for one run, on a busy machine
 class Store(Model):
     """What a map that follows or leads should hold and answer."""
 
-    def __init__(self, size: int, leads: bool = True) -> None:
-        super().__init__()
+    def __init__(self, size: int, leads: bool = True, is_quiet: bool = False) -> None:
+        super().__init__(is_quiet)
         self.tree, self.leads = Tree(size), leads
 
     def lead(self) -> bytes:
@@ -135,6 +135,22 @@ def compare(program: pathlib.Path, size: int, keys: int, seed: int) -> Counts:
     return Counts(agreed(lines, answers, done.stdout.split(b"\n")), 1)
 
 
+def quiet(program: pathlib.Path, leads: bool, seed: int) -> Counts:
+    """The same of a program that is quiet, whose author writes to a leader or to a follower."""
+    model = Store(9, leads, is_quiet=True)
+    author = Commands(model, seed, 60) if leads else Hostile(model, seed)
+    lines: list[bytes] = []
+    answers: list[bytes] = []
+    for _ in range(LINES):
+        lines.append(author.given())
+        answers += model.written(lines[-1])
+    done = run(program, ["--quiet", "--node-size", "9", *(["--lead"] if leads else [])], lines)
+    passed = (done.returncode, done.stdout, done.stderr) == (0, joined(answers), b"")
+    if not passed:
+        print(f"quiet, seed {seed}: status {done.returncode}, {len(done.stdout)} bytes, not {len(joined(answers))}")
+    return Counts(LINES if passed else 0, int(not passed))
+
+
 def take_over(program: pathlib.Path, size: int, seed: int) -> Counts:
     """Counts of lines that a follower that takes over answers as the leader that goes on, and of others."""
     chance = random.Random(seed)
@@ -178,7 +194,9 @@ def cut_lines(program: pathlib.Path) -> Counts:
     lines = [b"put 3 30", b"put 12 120\r", b"lead\r", b"cut 3", b"range 1 20", b"sum\r", b"start 5", b"lead", b"put 4 40", b"follow", b"head 12"]
     leading = cuts(program, joined(lines), ["--lead"], lambda: Store(256))
     following = cuts(program, joined(lines), [], lambda: Store(256, leads=False))
-    return Counts(leading.passed + following.passed, leading.failed + following.failed)
+    silent = cuts(program, joined([b"start 0", b"node 1:1", b"0 create 1:1", *lines]), ["--quiet"], lambda: Store(256, leads=False, is_quiet=True))
+    parts = (leading, following, silent)
+    return Counts(sum(it.passed for it in parts), sum(it.failed for it in parts))
 
 
 def too_large(program: pathlib.Path) -> Counts:
@@ -223,6 +241,7 @@ def main() -> int:
     counts = [compare(program, size, keys, given.seed + size) for size, keys in ((2, 3), (3, 12), (4, 60), (9, 60))]
     counts += [take_over(program, random.Random(given.seed + turn).randrange(2, 9), given.seed + turn) for turn in range(TURNS)]
     counts += [begins_late(program, random.Random(turn).randrange(2, 9), given.seed + turn) for turn in range(TURNS)]
+    counts += [quiet(program, leads, given.seed) for leads in (True, False)]
     counts += [cut_lines(program), too_large(program), no_number(program), arguments(program)]
     passed, failed = sum(it.passed for it in counts), sum(it.failed for it in counts)
     print(f"{passed} passed, {failed} failed")

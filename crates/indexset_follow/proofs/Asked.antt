@@ -9,7 +9,7 @@ use Rattle.indexset_follow.specs.NodeLine.{node_of}
 use Rattle.indexset_follow.specs.Query.{QueryFits, query_line}
 use Rattle.indexset_follow.specs.Reads.{query_text}
 use Rattle.indexset_follow.specs.Store.{after_held, held, held_reply, is_follow, is_lead}
-use Rattle.indexset_follow.specs.declared.others.Others.{Others}
+use Rattle.indexset_follow.specs.declared.others.Voice.{Voice}
 use Rattle.indexset_follow.specs.declared.reads.query.Query.{Query}
 use Rattle.indexset_follow.specs.declared.reads.query.Query.TheVariants.{Get, Len, First, Last, Range, Rank, At, Page, Nodes, Next, Head, Snapshot, Sum}
 use Rattle.indexset_follow.specs.declared.role.Role.{Role}
@@ -98,11 +98,11 @@ no_follow Snapshot = refl
 no_follow Sum = refl
 
 module _ (q : Query) (fit : QueryFits q) where
-  pub follower_answers : (o : Others) (size : ℕ) (s : State) → held_reply o (held size (Following s)) (query_line q) ≡ query_text s.held.nodes s.held.next q
-  follower_answers o size s = rw (no_lead q, no_follow q, no_event q, no_node q, no_mark q, query_told q fit) refl
+  pub follower_answers : (v : Voice) (size : ℕ) (s : State) → held_reply v (held size (Following s)) (query_line q) ≡ query_text s.held.nodes s.held.next q
+  follower_answers v size s = rw (no_lead q, no_follow q, no_event q, no_node q, no_mark q, query_told q fit) refl
 
-  pub leader_answers : (o : Others) (size : ℕ) (t : PairTree) → held_reply o (held size (Leading t)) (query_line q) ≡ query_text t.nodes t.next q
-  leader_answers o size t = rw (no_lead q, no_follow q, no_mark q) (rw (query_told q fit) refl)
+  pub leader_answers : (v : Voice) (size : ℕ) (t : PairTree) → held_reply v (held size (Leading t)) (query_line q) ≡ query_text t.nodes t.next q
+  leader_answers v size t = rw (no_lead q, no_follow q, no_mark q) (rw (query_told q fit) refl)
 
   pub nothing_changed : (size : ℕ) (r : Role) → after_held (held size r) (query_line q) ≡ held size r
   nothing_changed size (Following s) = rw (no_lead q, no_follow q, no_event q, no_node q, no_mark q) refl

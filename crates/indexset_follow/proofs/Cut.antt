@@ -6,7 +6,7 @@ use Rattle.indexset_lines.specs.Run.{left_by, rest_reply, replies_to}
 use Rattle.indexset_lines.proofs.CallerLemmas.{rest_of-append, whole_lines-append}
 use Rattle.indexset_follow.specs.Store.{Held, after_held, after_input, first_held, held_after, held_cut, input_reply, without_return}
 use Rattle.indexset_follow.specs.StoreRun.{store_after, store_text}
-use Rattle.indexset_follow.specs.declared.others.Others.{Others}
+use Rattle.indexset_follow.specs.declared.others.Voice.{Voice}
 
 -- the lines of the input, one after another, are these lines without the bytes 13
 lines_held : (h : Held) (lines : List (List ℕ)) → left_by after_input h lines ≡ held_after h (map without_return lines)
@@ -28,19 +28,19 @@ module _ (size : ℕ) (leads : Bool) (whole : List ℕ) (is_whole : IsWhole whol
     pub held_whole : store_after size leads (whole ++ rest) ≡ store_after size leads whole
     held_whole = ap (λ ls. held_after first (map without_return ls)) (whole_lines-append rest none whole is_whole) ∙ sym all_held
 
-  module _ (o : Others) where
+  module _ (v : Voice) where
     abbrev replies : List ℕ
-    replies = replies_to (input_reply o) after_input first (lines_of whole)
+    replies = replies_to (input_reply v) after_input first (lines_of whole)
 
-    answered : (rest : List ℕ) → HasNoEnd rest → store_text o size leads (whole ++ rest) ≡ replies ++ rest_reply (input_reply o) after_input (held_cut o) (left_by after_input first (lines_of whole)) rest
+    answered : (rest : List ℕ) → HasNoEnd rest → store_text v size leads (whole ++ rest) ≡ replies ++ rest_reply (input_reply v) after_input (held_cut v) (left_by after_input first (lines_of whole)) rest
     answered rest none = rw (whole_lines-append rest none whole is_whole, rest_of-append rest none whole is_whole) refl
 
-    whole_answered : store_text o size leads whole ≡ replies
-    whole_answered = ap (store_text o size leads) (sym (append-nil whole)) ∙ answered [] (All-nil (λ x. x ≢ 10)) ∙ append-nil replies
+    whole_answered : store_text v size leads whole ≡ replies
+    whole_answered = ap (store_text v size leads) (sym (append-nil whole)) ∙ answered [] (All-nil (λ x. x ≢ 10)) ∙ append-nil replies
 
     is_held : store_after size leads whole ≡ left_by after_input first (lines_of whole)
     is_held = all_held ∙ sym (lines_held first (lines_of whole))
 
-    pub cut_answered : (rest : List ℕ) → HasNoEnd rest → 0 < length rest → store_text o size leads (whole ++ rest) ≡ store_text o size leads whole ++ held_cut o (store_after size leads whole) rest
+    pub cut_answered : (rest : List ℕ) → HasNoEnd rest → 0 < length rest → store_text v size leads (whole ++ rest) ≡ store_text v size leads whole ++ held_cut v (store_after size leads whole) rest
     cut_answered [] none some = absurd (omega (arith, some))
-    cut_answered (x ∷ xs) none some = answered (x ∷ xs) none ∙ sym (λ i. whole_answered i ++ held_cut o (is_held i) (x ∷ xs))
+    cut_answered (x ∷ xs) none some = answered (x ∷ xs) none ∙ sym (λ i. whole_answered i ++ held_cut v (is_held i) (x ∷ xs))

@@ -27,7 +27,7 @@ use Rattle.indexset_follow.specs.Leading.{after_leading, events_led, leading_eve
 use Rattle.indexset_follow.specs.Query.{query_of}
 use Rattle.indexset_follow.specs.Reply.{reply_ended}
 use Rattle.indexset_follow.specs.Store.{after_held, held, held_after, held_replies, after_in_role, is_follow, is_lead, lead_reply, promoted, starts}
-use Rattle.indexset_follow.specs.declared.others.Others.{Others}
+use Rattle.indexset_follow.specs.declared.others.Voice.{Voice}
 use Rattle.indexset_follow.specs.declared.reads.query.Query.{Query}
 use Rattle.indexset_follow.specs.declared.reply.Reply.TheVariants as reply
 use Rattle.indexset_follow.specs.declared.role.Role.TheVariants as role
@@ -107,9 +107,9 @@ module _ (size : ℕ) (s : State) (fits : nodes_refusal (by_key nat_cmp) size s.
   pub told_so : lead_reply size (role.Following s) ≡ reply_ended (reply.Next s.held.next)
   told_so = rw fits refl
 
-  pub answers_on : (o : Others) (lines : List (List ℕ)) → held_replies o (held size (role.Following s)) (codes "lead" ∷ lines) ≡ reply_ended (reply.Next s.held.next) ++ held_replies o (held size (role.Leading (promoted size s.held))) lines
+  pub answers_on : (v : Voice) (lines : List (List ℕ)) → held_replies v (held size (role.Following s)) (codes "lead" ∷ lines) ≡ reply_ended (reply.Next s.held.next) ++ held_replies v (held size (role.Leading (promoted size s.held))) lines
   unfolding replies_to
-  answers_on o lines = λ i. told_so i ++ held_replies o (takes_over i) lines
+  answers_on v lines = λ i. told_so i ++ held_replies v (takes_over i) lines
 
 -- and so the leader of which it holds the nodes
 module _ (t : PairTree) (s : State) (holds : s.held ≡ copy t.nodes t.next) (fits : nodes_refusal (by_key nat_cmp) t.size t.nodes ≡ None) where
@@ -122,8 +122,8 @@ module _ (t : PairTree) (s : State) (holds : s.held ≡ copy t.nodes t.next) (fi
   pub leads_as : after_held (held t.size (role.Following s)) (codes "lead") ≡ held t.size (role.Leading t)
   leads_as = takes_over t.size s fit_held ∙ ap (λ t'. held t.size (role.Leading t')) same_leader
 
-  pub answers_as : (o : Others) (lines : List (List ℕ)) → held_replies o (held t.size (role.Following s)) (codes "lead" ∷ lines) ≡ reply_ended (reply.Next t.next) ++ held_replies o (held t.size (role.Leading t)) lines
-  answers_as o lines = answers_on t.size s fit_held o lines ∙ (λ i. reply_ended (reply.Next (holds i).next) ++ held_replies o (held t.size (role.Leading (same_leader i))) lines)
+  pub answers_as : (v : Voice) (lines : List (List ℕ)) → held_replies v (held t.size (role.Following s)) (codes "lead" ∷ lines) ≡ reply_ended (reply.Next t.next) ++ held_replies v (held t.size (role.Leading t)) lines
+  answers_as v lines = answers_on t.size s fit_held v lines ∙ (λ i. reply_ended (reply.Next (holds i).next) ++ held_replies v (held t.size (role.Leading (same_leader i))) lines)
 
 -- a follower that holds what all events of a leader lead to
 module _ (size : ℕ) (two : 2 ≤ size) (few : size < 2 ^ 64) (lines : List (List ℕ)) (s : State) (holds : HoldsFirst 0 [] (events_led (fresh size) lines) (length (events_led (fresh size) lines)) s) where
@@ -154,5 +154,5 @@ module _ (size : ℕ) (two : 2 ≤ size) (few : size < 2 ^ 64) (lines : List (Li
   pub goes_on : after_held (held size (role.Following s)) (codes "lead") ≡ held size (role.Leading tree)
   goes_on = takes_over size s can ∙ ap (λ t. held size (role.Leading t)) same_tree
 
-  pub goes_on_answering : (o : Others) (more : List (List ℕ)) → held_replies o (held size (role.Following s)) (codes "lead" ∷ more) ≡ reply_ended (reply.Next s.held.next) ++ held_replies o (held size (role.Leading tree)) more
-  goes_on_answering o more = answers_on size s can o more ∙ ap (λ t. reply_ended (reply.Next s.held.next) ++ held_replies o (held size (role.Leading t)) more) same_tree
+  pub goes_on_answering : (v : Voice) (more : List (List ℕ)) → held_replies v (held size (role.Following s)) (codes "lead" ∷ more) ≡ reply_ended (reply.Next s.held.next) ++ held_replies v (held size (role.Leading tree)) more
+  goes_on_answering v more = answers_on size s can v more ∙ ap (λ t. reply_ended (reply.Next s.held.next) ++ held_replies v (held size (role.Leading t)) more) same_tree

@@ -19,18 +19,24 @@ use Rattle.indexset_bench.specs.declared.reply.Reply.TheVariants.{New, Old, OldV
 use Rattle.indexset_core.specs.declared.pair.Pair.{Pair}
 use Rattle.indexset_events.proofs.CallerLemmas.{Each}
 use Rattle.indexset_follow.specs.EventLine.{event_of}
+use Rattle.indexset_follow.specs.Follow.{reply_line}
 use Rattle.indexset_follow.specs.Mark.{mark_of}
 use Rattle.indexset_follow.specs.NodeLine.{node_of}
 use Rattle.indexset_events.specs.Spelling.{cut_at, number_of}
 use Rattle.indexset_follow.specs.Numbers.{PairFits}
 use Rattle.indexset_follow.specs.Passed.{IsPassedOver, ReplyFits}
 use Rattle.indexset_follow.specs.Query.{query_of}
+use Rattle.indexset_follow.specs.declared.others.Others.TheVariants.{Pass}
 use Rattle.indexset_events.specs.Spelling.Laws.{Lacks, cut_told, lacks_tested, number_lacks, number_sound}
 use Rattle.indexset_follow.proofs.Readings.{IsApart, no_number, pair_lacks, space_apart}
 
 -- what says nothing is passed over
 says_nothing : (line : List ℕ) → event_of line ≡ None → node_of line ≡ None → mark_of line ≡ None → query_of line ≡ None → IsPassedOver line
-says_nothing line event node mark query s = (rw (event, node, mark) refl, rw (event, node, mark, query) refl)
+says_nothing line event node mark query s = (rw (event, node, mark) refl, silent)
+  where
+    silent : (quiet : Bool) → reply_line (record { others = Pass; is_quiet = quiet }) s line ≡ []
+    silent true = rw (event, node, mark, query) refl
+    silent false = rw (event, node, mark, query) refl
 
 -- a text without the byte is not cut
 pub uncut : (c : ℕ) (text : List ℕ) → Lacks c text → cut_at c text ≡ None

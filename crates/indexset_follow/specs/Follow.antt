@@ -14,12 +14,12 @@ use Rattle.indexset_follow.specs.EventLine.{Event, event_of}
 use Rattle.indexset_follow.specs.Mark.{mark_of}
 use Rattle.indexset_follow.specs.NodeLine.{node_of}
 use Rattle.indexset_follow.specs.Reads.{read_reply}
-use Rattle.indexset_follow.specs.Reply.{reply_ended}
+use Rattle.indexset_follow.specs.Reply.{follower_others, voiced}
 use Rattle.indexset_core.specs.declared.refusal.Refusal.{Refusal}
 use Rattle.indexset_follow.specs.declared.follower.Follower.{Follower}
 use Rattle.indexset_follow.specs.declared.mark.Mark.{Mark}
 use Rattle.indexset_follow.specs.declared.mark.Mark.TheVariants.{Start, End}
-use Rattle.indexset_follow.specs.declared.others.Others.{Others}
+use Rattle.indexset_follow.specs.declared.others.Voice.{Voice}
 use Rattle.indexset_follow.specs.declared.reason.Reason.{Reason}
 use Rattle.indexset_follow.specs.declared.reason.Reason.TheVariants.{Refused, NotBegun, Count, Sum}
 use Rattle.indexset_follow.specs.declared.reply.Reply.{Reply}
@@ -95,11 +95,11 @@ mark_reply s (End count sum) =
 abbrev pub after_line : State → List ℕ → State
 after_line s line = option_map_or (after_event s) (event_of line) (option_map_or (after_node s) (node_of line) (option_map_or (after_mark s) (mark_of line) s))
 
-abbrev pub reply_line : Others → State → List ℕ → List ℕ
-reply_line o s line =
-    option_map_or (λ e. reply_ended (event_reply s.held e)) (event_of line)
-    (option_map_or (λ n. reply_ended (node_reply s n)) (node_of line)
-    (option_map_or (λ m. reply_ended (mark_reply s m)) (mark_of line) (read_reply o s.held.nodes s.held.next line)))
+abbrev pub reply_line : Voice → State → List ℕ → List ℕ
+reply_line v s line =
+    option_map_or (λ e. voiced v (event_reply s.held e)) (event_of line)
+    (option_map_or (λ n. voiced v (node_reply s n)) (node_of line)
+    (option_map_or (λ m. voiced v (mark_reply s m)) (mark_of line) (read_reply (follower_others v) s.held.nodes s.held.next line)))
 
 -- the state after the lines
 abbrev pub state_after : State → List (List ℕ) → State

@@ -1,5 +1,5 @@
 -- Lines of the first program that are no events.
-use Rattle.std.specs.Prelude.{◌≡◌, ℕ, ◌^◌, ◌<◌, List, []}
+use Rattle.std.specs.Prelude.{◌≡◌, Bool, ℕ, ◌^◌, ◌<◌, List, []}
 use Rattle.indexset_bench.specs.declared.reply.Reply.{Reply}
 use Rattle.indexset_bench.specs.declared.reply.Reply.TheVariants.{New, Old, OldValue, Gone, GoneValue, Yes, No, Count, Item, Nothing, Empty, Bad}
 use Rattle.indexset_follow.specs.Follow.{State, after_line, reply_line}
@@ -22,4 +22,4 @@ ReplyFits Bad = Unit {0}
 
 -- a follower that passes over other lines answers the line by nothing, and it changes nothing
 abbrev pub IsPassedOver : List ℕ → Type 0
-IsPassedOver line = (s : State) → (after_line s line ≡ s) × (reply_line Pass s line ≡ [])
+IsPassedOver line = (s : State) → (after_line s line ≡ s) × ((quiet : Bool) → reply_line (record { others = Pass; is_quiet = quiet }) s line ≡ [])

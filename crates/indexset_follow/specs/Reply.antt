@@ -1,10 +1,11 @@
 -- How a reply is written.
-use Rattle.std.specs.Prelude.{ℕ, List, [], ◌++◌, codes}
+use Rattle.std.specs.Prelude.{ℕ, Bool, true, false, ◌&&◌, not, if◌then◌else◌, List, [], ◌++◌, codes}
 use Rattle.std.specs.Fmt.{decimal}
 use Rattle.indexset_bench.specs.PairText.{ended}
 use Rattle.indexset_follow.specs.Reason.{word_of}
 use Rattle.indexset_follow.specs.declared.others.Others.{Others}
 use Rattle.indexset_follow.specs.declared.others.Others.TheVariants.{Tell, Pass}
+use Rattle.indexset_follow.specs.declared.others.Voice.{Voice}
 use Rattle.indexset_follow.specs.declared.reply.Reply.{Reply}
 use Rattle.indexset_follow.specs.declared.reply.Reply.TheVariants.{Next, Had, Gap, Unfit, Held, Sum, Item, Count, Nothing, Bad}
 
@@ -23,6 +24,22 @@ reply_text Bad = codes "bad"
 -- a reply as a line
 abbrev pub reply_ended : Reply → List ℕ
 reply_ended reply = ended (reply_text reply)
+
+-- ---- which replies are written
+
+-- something is missing, or does not fit
+abbrev pub is_urgent : Reply → Bool
+is_urgent (Gap n) = true
+is_urgent (Unfit n reason) = true
+is_urgent other = false
+
+-- what a follower tells of its reply to an event or a line of a snapshot
+abbrev pub voiced : Voice → Reply → List ℕ
+voiced v reply = if v.is_quiet && not (is_urgent reply) then [] else reply_ended reply
+
+-- a quiet follower passes over what says nothing
+abbrev pub follower_others : Voice → Others
+follower_others v = if v.is_quiet then Pass else v.others
 
 -- the answer to a line that says nothing
 abbrev pub others_text : Others → List ℕ

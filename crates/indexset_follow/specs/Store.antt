@@ -14,10 +14,10 @@ use Rattle.indexset_follow.specs.Follow.{after_line, holding, reply_line}
 use Rattle.indexset_follow.specs.Leading.{after_leading, lacks, leading_reply}
 use Rattle.indexset_follow.specs.Mark.{mark_of}
 use Rattle.indexset_follow.specs.Reads.{read_reply}
-use Rattle.indexset_follow.specs.Reply.{reply_ended}
+use Rattle.indexset_follow.specs.Reply.{follower_others, reply_ended}
 use Rattle.indexset_follow.specs.declared.mark.Mark.{Mark}
 use Rattle.indexset_follow.specs.declared.mark.Mark.TheVariants.{Start, End}
-use Rattle.indexset_follow.specs.declared.others.Others.{Others}
+use Rattle.indexset_follow.specs.declared.others.Voice.{Voice}
 use Rattle.indexset_follow.specs.declared.reason.Reason.TheVariants.{Refused}
 use Rattle.indexset_follow.specs.declared.reply.Reply.TheVariants as reply
 use Rattle.indexset_follow.specs.declared.role.Role.{Role}
@@ -88,9 +88,9 @@ abbrev pub after_in_role : Role → List ℕ → Role
 after_in_role (Following s) line = Following (after_line s line)
 after_in_role (Leading t) line = Leading (after_leading t line)
 
-abbrev pub reply_in_role : Others → Role → List ℕ → List ℕ
-reply_in_role o (Following s) line = reply_line o s line
-reply_in_role o (Leading t) line = leading_reply o t line
+abbrev pub reply_in_role : Voice → Role → List ℕ → List ℕ
+reply_in_role v (Following s) line = reply_line v s line
+reply_in_role v (Leading t) line = leading_reply v.others t line
 
 abbrev pub role_after : Held → List ℕ → Role
 role_after h line =
@@ -101,19 +101,19 @@ role_after h line =
 abbrev pub after_held : Held → List ℕ → Held
 after_held h line = held h.size (role_after h line)
 
-abbrev pub held_reply : Others → Held → List ℕ → List ℕ
-held_reply o h line =
+abbrev pub held_reply : Voice → Held → List ℕ → List ℕ
+held_reply v h line =
     if is_lead line then lead_reply h.size h.role
     else if is_follow line then follow_reply h.role
-    else reply_in_role o (begun h.role line) line
+    else reply_in_role v (begun h.role line) line
 
 -- a last line that lacks its end is answered where it asks for a read, and changes nothing
-abbrev pub cut_in_role : Others → Role → List ℕ → List ℕ
-cut_in_role o (Following s) line = read_reply o s.held.nodes s.held.next line
-cut_in_role o (Leading t) line = read_reply o t.nodes t.next line
+abbrev pub cut_in_role : Voice → Role → List ℕ → List ℕ
+cut_in_role v (Following s) line = read_reply (follower_others v) s.held.nodes s.held.next line
+cut_in_role v (Leading t) line = read_reply v.others t.nodes t.next line
 
-abbrev pub held_cut : Others → Held → List ℕ → List ℕ
-held_cut o h line = cut_in_role o h.role line
+abbrev pub held_cut : Voice → Held → List ℕ → List ℕ
+held_cut v h line = cut_in_role v h.role line
 
 -- ---- a line of the input
 
@@ -124,8 +124,8 @@ without_return line = strip_last 13 line
 abbrev pub after_input : Held → List ℕ → Held
 after_input h line = after_held h (without_return line)
 
-abbrev pub input_reply : Others → Held → List ℕ → List ℕ
-input_reply o h line = held_reply o h (without_return line)
+abbrev pub input_reply : Voice → Held → List ℕ → List ℕ
+input_reply v h line = held_reply v h (without_return line)
 
 -- the role tells events, and more of them than there are numbers
 abbrev pub role_lacks : Role → Type 0
@@ -138,8 +138,8 @@ held_lacks h = role_lacks h.role
 -- ---- lines
 
 -- the answers to the lines, joined
-abbrev pub held_replies : Others → Held → List (List ℕ) → List ℕ
-held_replies o = replies_to (held_reply o) after_held
+abbrev pub held_replies : Voice → Held → List (List ℕ) → List ℕ
+held_replies v = replies_to (held_reply v) after_held
 
 -- what is held after the lines
 abbrev pub held_after : Held → List (List ℕ) → Held

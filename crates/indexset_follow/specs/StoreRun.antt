@@ -3,11 +3,11 @@ use Rattle.std.specs.Prelude.{Bool, Option, ℕ, List, map}
 use Rattle.indexset_lines.specs.Lines.{whole_lines}
 use Rattle.indexset_lines.specs.Run as lines
 use Rattle.indexset_follow.specs.Store.{Held, after_input, first_held, held_after, held_cut, held_lacks, input_reply, without_return}
-use Rattle.indexset_follow.specs.declared.others.Others.{Others}
+use Rattle.indexset_follow.specs.declared.others.Voice.{Voice}
 
 -- the answers to the lines of the input, from nothing on
-abbrev pub store_text : Others → ℕ → Bool → List ℕ → List ℕ
-store_text o size leads = lines.text_of (input_reply o) after_input (held_cut o) (first_held size leads)
+abbrev pub store_text : Voice → ℕ → Bool → List ℕ → List ℕ
+store_text v size leads = lines.text_of (input_reply v) after_input (held_cut v) (first_held size leads)
 
 -- the lines that have their ends
 abbrev pub input_lines : List ℕ → List (List ℕ)
@@ -18,13 +18,13 @@ abbrev pub store_after : ℕ → Bool → List ℕ → Held
 store_after size leads input = held_after (first_held size leads) (input_lines input)
 
 -- the reader gave an input, to its end, and the writer got the answers
-abbrev pub AnswersAll : Others → ℕ → Bool → (reader reader' writer writer' : Option (List ℕ)) → Type 0
-AnswersAll o size leads = lines.AnswersAll (store_text o size leads)
+abbrev pub AnswersAll : Voice → ℕ → Bool → (reader reader' writer writer' : Option (List ℕ)) → Type 0
+AnswersAll v size leads = lines.AnswersAll (store_text v size leads)
 
 -- the reader gave whole lines and such a rest, and the writer got the answers to the whole lines
-abbrev pub AnswersWholeLines : Others → ℕ → Bool → (List ℕ → Type 0) → (reader reader' writer writer' : Option (List ℕ)) → Type 0
-AnswersWholeLines o size leads = lines.AnswersWholeLines (input_reply o) after_input (first_held size leads)
+abbrev pub AnswersWholeLines : Voice → ℕ → Bool → (List ℕ → Type 0) → (reader reader' writer writer' : Option (List ℕ)) → Type 0
+AnswersWholeLines v size leads = lines.AnswersWholeLines (input_reply v) after_input (first_held size leads)
 
 -- the same, where the rest is the line whose events do not fit
-abbrev pub LacksNumbers : Others → ℕ → Bool → (reader reader' writer writer' : Option (List ℕ)) → Type 0
-LacksNumbers o size leads = lines.LacksNumbers (input_reply o) after_input (first_held size leads) held_lacks
+abbrev pub LacksNumbers : Voice → ℕ → Bool → (reader reader' writer writer' : Option (List ℕ)) → Type 0
+LacksNumbers v size leads = lines.LacksNumbers (input_reply v) after_input (first_held size leads) held_lacks

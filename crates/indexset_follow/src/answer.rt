@@ -8,12 +8,12 @@ use crate::event::{Event, read_event};
 use crate::follower::Follower;
 use crate::mark::read_mark;
 use crate::node::read_node;
-use crate::others::Others;
+use crate::others::Voice;
 use crate::reads::answer_read;
 use crate::reason::Reason;
 use crate::reply::Reply;
 use crate::snapshot::{take_mark, take_node};
-use crate::write::{Nodes, write_reply};
+use crate::write::{Nodes, write_voiced};
 use indexset_bench::RunFault;
 use indexset_core::refusal::Refusal;
 use indexset_replica::lookup::Turn;
@@ -23,14 +23,14 @@ use std::io::Write;
 /// Writes the reply to one line. Where memory runs out, nothing is written.
 pub fn answer_line<W: Write>(
     alloc: Global,
-    others: Others,
+    voice: Voice,
     writer: &mut W,
     follower: &mut Follower,
     line: &[u8],
 ) -> Result<(), RunFault>
     ensures held { OnOk result (follower.new ≡ after_line follower.old line.now) }
     ensures told { OnOk result (Appends (W.contents writer.old) (W.contents writer.new)
-        (reply_line others follower.old line.now)) }
+        (reply_line voice follower.old line.now)) }
     ensures memory_refused { result ≡ Err RunFault.Memory
         → Keeps (W.contents writer.old) (W.contents writer.new) }
     ensures no_read { result ≢ Err RunFault.Read }
@@ -38,18 +38,24 @@ pub fn answer_line<W: Write>(
 {
     if let Some(event) = read_event(line) {
         let reply = take_event(&mut follower.held, &event)?;
-        return write_reply(writer, reply);
+        return write_voiced(writer, voice, reply);
     }
     if let Some(node) = read_node(alloc, line)? {
         let reply = take_node(follower, node)?;
-        return write_reply(writer, reply);
+        return write_voiced(writer, voice, reply);
     }
     match read_mark(line) {
         Some(mark) => {
             let reply = take_mark(alloc, follower, mark)?;
-            write_reply(writer, reply)
+            write_voiced(writer, voice, reply)
         }
-        None => answer_read(alloc, others, writer, &follower.held, line),
+        None => answer_read(
+            alloc,
+            voice.follower_others(),
+            writer,
+            &follower.held,
+            line,
+        ),
     }
 }
 

@@ -31,6 +31,18 @@ pub enum Reply {
     Bad,
 }
 
+impl Reply {
+    ghost use Rattle.std.specs.Prelude.{◌≡◌};
+    ghost use Rattle.indexset_follow.specs.Reply.{is_urgent};
+
+    /// Returns whether something is missing, or does not fit.
+    pub fn is_urgent(self) -> bool
+        ensures { result ≡ is_urgent self }
+    {
+        matches!(self, Reply::Gap(_) | Reply::Unfit(_, _))
+    }
+}
+
 impl fmt::Display for Reply {
     ghost output = { λ r. Some (reply_text r) };
 

@@ -5,7 +5,7 @@ ghost use Rattle.std.specs.Io.KnownBytes.{Appends};
 ghost use Rattle.indexset_lines.specs.Lines.{HasNoEnd, IsLinePart};
 ghost use Rattle.indexset_follow.specs.StoreRun.{AnswersAll, AnswersWholeLines, LacksNumbers, store_text};
 
-use crate::others::Others;
+use crate::others::Voice;
 use crate::store::Store;
 use indexset_lines::RunFault;
 use indexset_lines::output::flush;
@@ -22,7 +22,7 @@ use std::io::{BufRead, Write};
 /// nothing is said of what was written.
 pub fn serve<R: BufRead, W: Write>(
     alloc: Global,
-    others: Others,
+    voice: Voice,
     size: usize,
     leads: bool,
     reader: &mut R,
@@ -35,30 +35,30 @@ pub fn serve<R: BufRead, W: Write>(
         (R.remaining reader.new ≡ Some [])) }
     ensures all_answered { OnOk result (IfSome (R.remaining reader.old) (λ input.
         Appends (W.contents writer.old) (W.contents writer.new)
-        (store_text others size leads input))) }
+        (store_text voice size leads input))) }
 
     // The same of any reader, for the bytes that it gave.
-    ensures given_answered { OnOk result (AnswersAll others size leads
+    ensures given_answered { OnOk result (AnswersAll voice size leads
         (R.remaining reader.old) (R.remaining reader.new)
         (W.contents writer.old) (W.contents writer.new)) }
 
     // The whole lines that the reader gave before it failed have their answers.
-    ensures read_failed { result ≡ Err RunFault.Read → AnswersWholeLines others size leads HasNoEnd
+    ensures read_failed { result ≡ Err RunFault.Read → AnswersWholeLines voice size leads HasNoEnd
         (R.remaining reader.old) (R.remaining reader.new)
         (W.contents writer.old) (W.contents writer.new) }
 
     // The lines before the failed one have their answers; some or all of it was read.
     ensures memory_refused { result ≡ Err RunFault.Memory
-        → AnswersWholeLines others size leads IsLinePart
+        → AnswersWholeLines voice size leads IsLinePart
         (R.remaining reader.old) (R.remaining reader.new)
         (W.contents writer.old) (W.contents writer.new) }
 
     // The same, and the events of the failed line did not fit.
-    ensures numbers_refused { result ≡ Err RunFault.Numbers → LacksNumbers others size leads
+    ensures numbers_refused { result ≡ Err RunFault.Numbers → LacksNumbers voice size leads
         (R.remaining reader.old) (R.remaining reader.new)
         (W.contents writer.old) (W.contents writer.new) }
 {
-    let answered = answer_all(alloc, others, size, leads, reader, writer);
+    let answered = answer_all(alloc, voice, size, leads, reader, writer);
     let flushed = flush(writer);
     answered.and(flushed)
 }
@@ -66,28 +66,28 @@ pub fn serve<R: BufRead, W: Write>(
 /// Writes the answer to each line, and leaves the writer to be flushed at the end.
 fn answer_all<R: BufRead, W: Write>(
     alloc: Global,
-    others: Others,
+    voice: Voice,
     size: usize,
     leads: bool,
     reader: &mut R,
     writer: &mut W,
 ) -> Result<(), RunFault>
     requires { 2 ≤ size }
-    ensures given_answered { OnOk result (AnswersAll others size leads
+    ensures given_answered { OnOk result (AnswersAll voice size leads
         (R.remaining reader.old) (R.remaining reader.new)
         (W.contents writer.old) (W.contents writer.new)) }
-    ensures read_failed { result ≡ Err RunFault.Read → AnswersWholeLines others size leads HasNoEnd
+    ensures read_failed { result ≡ Err RunFault.Read → AnswersWholeLines voice size leads HasNoEnd
         (R.remaining reader.old) (R.remaining reader.new)
         (W.contents writer.old) (W.contents writer.new) }
     ensures memory_refused { result ≡ Err RunFault.Memory
-        → AnswersWholeLines others size leads IsLinePart
+        → AnswersWholeLines voice size leads IsLinePart
         (R.remaining reader.old) (R.remaining reader.new)
         (W.contents writer.old) (W.contents writer.new) }
-    ensures numbers_refused { result ≡ Err RunFault.Numbers → LacksNumbers others size leads
+    ensures numbers_refused { result ≡ Err RunFault.Numbers → LacksNumbers voice size leads
         (R.remaining reader.old) (R.remaining reader.new)
         (W.contents writer.old) (W.contents writer.new) }
 {
     let mut line = Vec::new(alloc);
-    let mut store = Store::new(alloc, others, size, leads);
+    let mut store = Store::new(alloc, voice, size, leads);
     answer_lines(&mut store, reader, writer, &mut line)
 }

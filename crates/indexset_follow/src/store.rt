@@ -9,7 +9,7 @@ use crate::answer::answer_line;
 use crate::follower::Follower;
 use crate::leading::answer_leading;
 use crate::mark::{Mark, read_mark};
-use crate::others::Others;
+use crate::others::Voice;
 use crate::reads::answer_read;
 use crate::reason::Reason;
 use crate::reply::Reply;
@@ -29,7 +29,7 @@ use std::mem;
 #[derive(Drop)]
 pub struct Store {
     alloc: Global,
-    others: Others,
+    voice: Voice,
     /// How many pairs a node holds at most while it leads.
     size: usize,
     role: Role,
@@ -38,9 +38,9 @@ pub struct Store {
 
 impl Store {
     /// Returns a map without nodes, which leads or follows from event 0 on.
-    pub fn new(alloc: Global, others: Others, size: usize, leads: bool) -> Store
+    pub fn new(alloc: Global, voice: Voice, size: usize, leads: bool) -> Store
         requires { 2 ≤ size }
-        ensures others { result.others ≡ others }
+        ensures voice { result.voice ≡ voice }
         ensures held { held result.size result.role ≡ first_held size leads }
     {
         let role = if leads {
@@ -50,7 +50,7 @@ impl Store {
         };
         Store {
             alloc,
-            others,
+            voice,
             size,
             role,
         }
@@ -62,7 +62,7 @@ impl Store {
     fn lead<W: Write>(&mut self, writer: &mut W) -> Result<(), RunFault>
         ensures role { OnOk result (self.new.role ≡ after_lead self.old.size self.old.role) }
         ensures size { self.new.size ≡ self.old.size }
-        ensures others { self.new.others ≡ self.old.others }
+        ensures voice { self.new.voice ≡ self.old.voice }
         ensures told { OnOk result (Appends (W.contents writer.old) (W.contents writer.new)
             (lead_reply self.old.size self.old.role)) }
         ensures memory_refused { result ≡ Err RunFault.Memory
@@ -93,7 +93,7 @@ impl Store {
     fn follow<W: Write>(&mut self, writer: &mut W) -> Result<(), RunFault>
         ensures role { OnOk result (self.new.role ≡ after_follow self.old.role) }
         ensures size { self.new.size ≡ self.old.size }
-        ensures others { self.new.others ≡ self.old.others }
+        ensures voice { self.new.voice ≡ self.old.voice }
         ensures told { OnOk result (Appends (W.contents writer.old) (W.contents writer.new)
             (follow_reply self.old.role)) }
         ensures memory_refused { result ≡ Err RunFault.Memory
@@ -116,7 +116,7 @@ impl Store {
     fn begin(&mut self, line: &[u8])
         ensures role { self.new.role ≡ begun self.old.role line.now }
         ensures size { self.new.size ≡ self.old.size }
-        ensures others { self.new.others ≡ self.old.others }
+        ensures voice { self.new.voice ≡ self.old.voice }
     {
         if let Role::Leading(pairs) = &self.role {
             if starts(line) && pairs.node_count() == 0 {
@@ -130,9 +130,9 @@ impl Store {
     fn answer_in_role<W: Write>(&mut self, writer: &mut W, line: &[u8]) -> Result<(), RunFault>
         ensures role { OnOk result (self.new.role ≡ after_in_role self.old.role line.now) }
         ensures size { self.new.size ≡ self.old.size }
-        ensures others { self.new.others ≡ self.old.others }
+        ensures voice { self.new.voice ≡ self.old.voice }
         ensures told { OnOk result (Appends (W.contents writer.old) (W.contents writer.new)
-            (reply_in_role self.old.others self.old.role line.now)) }
+            (reply_in_role self.old.voice self.old.role line.now)) }
         ensures memory_refused { result ≡ Err RunFault.Memory
             → Keeps (W.contents writer.old) (W.contents writer.new) }
         ensures numbers_refused { result ≡ Err RunFault.Numbers
@@ -143,9 +143,9 @@ impl Store {
     {
         match &mut self.role {
             Role::Following(follower) => {
-                answer_line(self.alloc, self.others, writer, follower, line)
+                answer_line(self.alloc, self.voice, writer, follower, line)
             }
-            Role::Leading(pairs) => answer_leading(self.alloc, self.others, writer, pairs, line),
+            Role::Leading(pairs) => answer_leading(self.alloc, self.voice.others, writer, pairs, line),
         }
     }
 
@@ -153,7 +153,7 @@ impl Store {
     /// says nothing: it may be the beginning of another line.
     fn answer_rest<W: Write>(&self, writer: &mut W, line: &[u8]) -> Result<(), RunFault>
         ensures told { OnOk result (Appends (W.contents writer.old) (W.contents writer.new)
-            (cut_in_role self.now.others self.now.role line.now)) }
+            (cut_in_role self.now.voice self.now.role line.now)) }
         ensures memory_refused { result ≡ Err RunFault.Memory
             → Keeps (W.contents writer.old) (W.contents writer.new) }
         ensures no_read { result ≢ Err RunFault.Read }
@@ -161,9 +161,10 @@ impl Store {
     {
         match &self.role {
             Role::Following(follower) => {
-                answer_read(self.alloc, self.others, writer, &follower.held, line)
+                let others = self.voice.follower_others();
+                answer_read(self.alloc, others, writer, &follower.held, line)
             }
-            Role::Leading(pairs) => answer_read(self.alloc, self.others, writer, pairs, line),
+            Role::Leading(pairs) => answer_read(self.alloc, self.voice.others, writer, pairs, line),
         }
     }
 }
@@ -222,9 +223,9 @@ impl Answers for Store {
 
     ghost state = { λ store. held store.size store.role };
 
-    ghost reply = { λ store. input_reply store.others };
+    ghost reply = { λ store. input_reply store.voice };
 
-    ghost cut_reply = { λ store. held_cut store.others };
+    ghost cut_reply = { λ store. held_cut store.voice };
 
     ghost after = { after_input };
 

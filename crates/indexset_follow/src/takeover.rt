@@ -21,6 +21,7 @@ ghost use Rattle.indexset_follow.specs.Reply.{reply_ended};
 ghost use Rattle.indexset_follow.specs.Store.{Held, after_held, after_input, first_held, held, held_after, held_cut, held_replies, held_reply, input_reply, is_follow, starts, without_return};
 ghost use Rattle.indexset_follow.specs.StoreRun.{store_after, store_text};
 ghost use Rattle.indexset_follow.specs.declared.others.Others.{Others};
+ghost use Rattle.indexset_follow.specs.declared.others.Voice.{Voice};
 ghost use Rattle.indexset_follow.specs.declared.reads.query.Query.{Query};
 ghost use Rattle.indexset_follow.specs.declared.reply.Reply.TheVariants as reply;
 ghost use Rattle.indexset_follow.specs.declared.role.Role.{Role};
@@ -34,10 +35,10 @@ pub fn follower_takes_over()
         → nodes_refusal (by_key nat_cmp) t.size t.nodes ≡ None
         → after_held (held t.size (role.Following s)) (codes "lead")
         ≡ held t.size (role.Leading t) }
-    ensures answers { (o : Others) (t : PairTree) (s : State) (lines : List (List ℕ))
+    ensures answers { (v : Voice) (t : PairTree) (s : State) (lines : List (List ℕ))
         → s.held ≡ copy t.nodes t.next → nodes_refusal (by_key nat_cmp) t.size t.nodes ≡ None
-        → held_replies o (held t.size (role.Following s)) (codes "lead" ∷ lines)
-        ≡ reply_ended (reply.Next t.next) ++ held_replies o (held t.size (role.Leading t)) lines }
+        → held_replies v (held t.size (role.Following s)) (codes "lead" ∷ lines)
+        ≡ reply_ended (reply.Next t.next) ++ held_replies v (held t.size (role.Leading t)) lines }
 {}
 
 /// The events that a leader tells, whatever lines it reads, are numbered from 0 without a gap. They
@@ -66,22 +67,22 @@ pub fn follower_goes_on_as_the_leader()
         → HoldsFirst 0 [] (events_led (fresh size) lines) (length (events_led (fresh size) lines)) s
         → after_held (held size (role.Following s)) (codes "lead")
         ≡ held size (role.Leading (tree_of (fresh size) lines)) }
-    ensures answers { (o : Others) (size : ℕ) (lines more : List (List ℕ)) (s : State)
+    ensures answers { (v : Voice) (size : ℕ) (lines more : List (List ℕ)) (s : State)
         → 2 ≤ size → size < 2 ^ 64
         → HoldsFirst 0 [] (events_led (fresh size) lines) (length (events_led (fresh size) lines)) s
-        → held_replies o (held size (role.Following s)) (codes "lead" ∷ more)
+        → held_replies v (held size (role.Following s)) (codes "lead" ∷ more)
         ≡ reply_ended (reply.Next s.held.next)
-        ++ held_replies o (held size (role.Leading (tree_of (fresh size) lines))) more }
+        ++ held_replies v (held size (role.Leading (tree_of (fresh size) lines))) more }
 {}
 
 /// A read is answered by the nodes and the next number alone, whatever the role, and changes
 /// nothing.
 pub fn reads_agree()
-    ensures follows { (o : Others) (size : ℕ) (s : State) (q : Query) → QueryFits q
-        → held_reply o (held size (role.Following s)) (query_line q)
+    ensures follows { (v : Voice) (size : ℕ) (s : State) (q : Query) → QueryFits q
+        → held_reply v (held size (role.Following s)) (query_line q)
         ≡ query_text s.held.nodes s.held.next q }
-    ensures leads { (o : Others) (size : ℕ) (t : PairTree) (q : Query) → QueryFits q
-        → held_reply o (held size (role.Leading t)) (query_line q) ≡ query_text t.nodes t.next q }
+    ensures leads { (v : Voice) (size : ℕ) (t : PairTree) (q : Query) → QueryFits q
+        → held_reply v (held size (role.Leading t)) (query_line q) ≡ query_text t.nodes t.next q }
     ensures still { (size : ℕ) (r : Role) (q : Query) → QueryFits q
         → after_held (held size r) (query_line q) ≡ held size r }
 {}
@@ -90,8 +91,8 @@ pub fn reads_agree()
 pub fn returns_belong_to_line_ends()
     ensures held { (h : Held) (line : List ℕ)
         → after_input h (line ++ 13 ∷ []) ≡ after_held h line }
-    ensures told { (o : Others) (h : Held) (line : List ℕ)
-        → input_reply o h (line ++ 13 ∷ []) ≡ held_reply o h line }
+    ensures told { (v : Voice) (h : Held) (line : List ℕ)
+        → input_reply v h (line ++ 13 ∷ []) ≡ held_reply v h line }
     ensures others { (line : List ℕ) → ends_with_byte 13 line ≡ false
         → without_return line ≡ line }
 {}
@@ -106,9 +107,9 @@ pub fn cut_lines_change_nothing()
     ensures all_held { (size : ℕ) (leads : Bool) (whole : List ℕ) → IsWhole whole
         → store_after size leads whole
         ≡ held_after (first_held size leads) (map without_return (lines_of whole)) }
-    ensures told { (o : Others) (size : ℕ) (leads : Bool) (whole rest : List ℕ) → IsWhole whole
-        → HasNoEnd rest → 0 < length rest → store_text o size leads (whole ++ rest)
-        ≡ store_text o size leads whole ++ held_cut o (store_after size leads whole) rest }
-    ensures silent { (h : Held) (rest : List ℕ) → query_of rest ≡ None
-        → held_cut Others.Pass h rest ≡ [] }
+    ensures told { (v : Voice) (size : ℕ) (leads : Bool) (whole rest : List ℕ) → IsWhole whole
+        → HasNoEnd rest → 0 < length rest → store_text v size leads (whole ++ rest)
+        ≡ store_text v size leads whole ++ held_cut v (store_after size leads whole) rest }
+    ensures silent { (v : Voice) (h : Held) (rest : List ℕ) → v.others ≡ Others.Pass
+        → query_of rest ≡ None → held_cut v h rest ≡ [] }
 {}

@@ -7,9 +7,10 @@ ghost use Rattle.indexset_follow.specs.Copy.{body_text, copy};
 ghost use Rattle.indexset_follow.specs.Mark.{mark_line};
 ghost use Rattle.indexset_follow.specs.NodeLine.{node_line};
 ghost use Rattle.indexset_follow.specs.Reads.{nodes_text};
-ghost use Rattle.indexset_follow.specs.Reply.{reply_ended};
+ghost use Rattle.indexset_follow.specs.Reply.{reply_ended, voiced};
 
 use crate::mark::Mark;
+use crate::others::Voice;
 use crate::reads::nodes::WalkNodes;
 use crate::reply::Reply;
 use indexset_bench::write::write_node;
@@ -27,6 +28,19 @@ pub fn write_reply<W: Write>(writer: &mut W, reply: Reply) -> Result<(), RunFaul
     ensures fault { IfErr result (λ fault. fault ≡ RunFault.Write) }
 {
     writer.writeln(reply).map_err(|_| RunFault::Write)
+}
+
+/// Writes what a follower tells of its reply to an event or a line of a snapshot.
+pub fn write_voiced<W: Write>(writer: &mut W, voice: Voice, reply: Reply) -> Result<(), RunFault>
+    ensures told { OnOk result (Appends (W.contents writer.old) (W.contents writer.new)
+        (voiced voice reply)) }
+    ensures fault { IfErr result (λ fault. fault ≡ RunFault.Write) }
+{
+    if voice.is_quiet && !reply.is_urgent() {
+        Ok(())
+    } else {
+        write_reply(writer, reply)
+    }
 }
 
 /// Writes the nodes, one a line, and then the next number.

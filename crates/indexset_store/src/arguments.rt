@@ -3,7 +3,7 @@
 ghost use Rattle.std.specs.Prelude.{◌≤◌};
 
 use indexset_events::parts::read_number;
-use indexset_follow::others::Others;
+use indexset_follow::others::{Others, Voice};
 use std::{env, io};
 
 /// The node size unless one is given.
@@ -22,8 +22,8 @@ struct NodeSize {
 /// What is asked for.
 #[derive(Clone, Copy, Debug)]
 pub struct Settings {
-    /// What is done with other lines.
-    pub others: Others,
+    /// Which replies are written.
+    pub voice: Voice,
     /// Whether it leads from the first line on.
     pub leads: bool,
     node_size: NodeSize,
@@ -43,7 +43,10 @@ pub fn read_settings(rt: &HostRuntime) -> io::Result<Option<Settings>> {
     let mut arguments = env::args(rt)?;
     let _program = arguments.next();
     let mut settings = Settings {
-        others: Others::Tell,
+        voice: Voice {
+            others: Others::Tell,
+            is_quiet: false,
+        },
         leads: false,
         node_size: NodeSize { pairs: NODE_SIZE },
     };
@@ -61,7 +64,9 @@ pub fn read_settings(rt: &HostRuntime) -> io::Result<Option<Settings>> {
         } else if word == "--follow" {
             settings.leads = false;
         } else if word == "--pass-others" {
-            settings.others = Others::Pass;
+            settings.voice.others = Others::Pass;
+        } else if word == "--quiet" {
+            settings.voice.is_quiet = true;
         } else if word == "--node-size" {
             is_size_next = true;
         } else {

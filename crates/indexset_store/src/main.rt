@@ -3,7 +3,8 @@
 //!
 //! The arguments are `--follow` or `--lead`, the role that it begins in (it follows unless said),
 //! `--node-size N`, how many pairs a node of a leader holds at most (2 to 65,535; 256 unless said),
-//! and `--pass-others`, with which a line that means nothing is passed over in silence.
+//! `--pass-others`, with which a line that means nothing is passed over in silence, and `--quiet`,
+//! with which a follower tells of lines that are no requests only what is missing or does not fit.
 #![tactic(auto)]
 
 mod arguments;
@@ -24,7 +25,7 @@ fn run(rt: &HostRuntime, settings: Settings) -> Result<(), RunFault> {
     let mut writer = BufWriter::new(alloc, io::writer(rt)).map_err(|_| RunFault::Memory)?;
     serve(
         alloc,
-        settings.others,
+        settings.voice,
         settings.node_size(),
         settings.leads,
         &mut reader,
