@@ -17,6 +17,7 @@ import pathlib
 import random
 import subprocess
 import sys
+from collections.abc import Sequence
 
 sys.dont_write_bytecode = True
 HERE = pathlib.Path(__file__).resolve().parent
@@ -116,7 +117,7 @@ class Commands(Hostile):
         return bytes(random.choices(range(256), k=random.randrange(40))).replace(b"\n", b"")
 
 
-def run(program: pathlib.Path, words: list[str], lines: list[bytes]) -> subprocess.CompletedProcess[bytes]:
+def run(program: pathlib.Path, words: Sequence[str | bytes], lines: list[bytes]) -> subprocess.CompletedProcess[bytes]:
     return subprocess.run([program, *words], input=joined(lines), capture_output=True, timeout=SECONDS)
 
 
@@ -222,15 +223,22 @@ def no_number(program: pathlib.Path) -> Counts:
 
 def arguments(program: pathlib.Path) -> Counts:
     """Arguments that the program knows, and others."""
-    bad = [["--node-size"], ["--node-size", "1"], ["--node-size", "65536"], ["--node-size", "x"], ["--leads"], ["--lead", "-"]]
-    good = [["--lead"], ["--follow"], ["--lead", "--follow"], ["--node-size", "2"], ["--node-size", "65535", "--pass-others"]]
+    usage = b"usage: indexset_store [--follow | --lead] [--node-size N] [--pass-others] [--quiet] | --help | --version"
+    project = (HERE.parent.parent / "bindings/python/pyproject.toml").read_text()
+    version = f"indexset_store {project.split('version = ')[1].split()[0].strip(chr(34))}".encode()
+    bad: list[Sequence[str | bytes]] = [["--node-size"], ["--lead", "--node-size"], ["--node-size", "1"], ["--node-size", "65536"], ["--node-size", "x"]]
+    bad += [["--leads"], ["--lead", "-"], ["--node-size", "--quiet"], [b"--lead\xff"], [""], ["--lead", "--help="]]
+    bad += [it * 2 for it in (["--lead"], ["--follow"], ["--pass-others"], ["--quiet"], ["--node-size", "2"])]
+    bad += [["--lead", "--follow"], ["--follow", "--lead"]]
+    good = [["--lead"], ["--follow"], ["--quiet", "--lead"], ["--node-size", "2"], ["--node-size", "65535", "--pass-others"]]
+    told = {("--help",): usage, ("--lead", "--help"): usage, ("--version",): version, ("--quiet", "--version"): version}
     failed = 0
-    for words, wanted in [(it, (5, b"arguments\n")) for it in bad] + [(it, (0, b"")) for it in good]:
+    for words, wanted in [(it, (5, b"", usage)) for it in bad] + [(it, (0, b"", b"")) for it in good] + [([*it], (0, line, b"")) for it, line in told.items()]:
         done = run(program, words, [])
-        if (done.returncode, done.stderr) != wanted or done.stdout:
-            print(f"{words}: status {done.returncode}, {done.stderr!r}")
+        if (done.returncode, done.stdout.split(b"\n")[0], done.stderr.strip()) != wanted:
+            print(f"{words}: status {done.returncode}, {done.stdout!r} {done.stderr!r}")
             failed += 1
-    return Counts(len(bad) + len(good) - failed, failed)
+    return Counts(len(bad) + len(good) + len(told) - failed, failed)
 
 
 def main() -> int:

@@ -4,7 +4,27 @@ ghost use Rattle.std.specs.Prelude.{◌≤◌};
 
 use indexset_events::parts::read_number;
 use indexset_follow::others::{Others, Voice};
+use std::io::ErrorKind;
 use std::{env, io};
+
+/// How the program is called.
+pub const USAGE: &str = "usage: indexset_store [--follow | --lead] [--node-size N] \
+[--pass-others] [--quiet] | --help | --version";
+
+/// What the arguments mean.
+pub const HELP: &str = "
+Keeps a map of numbers, and answers each line of standard input on standard output.
+
+  --follow       begin as a follower, which takes the events of another map (unless said)
+  --lead         begin as a leader, which carries out commands and prints their events
+  --node-size N  at most N pairs a node of a leader, 2 to 65535 (256 unless said)
+  --pass-others  pass over lines that say nothing
+  --quiet        as a follower, reply only gap, unfit and what a request asks for
+  --help         print this
+  --version      print the version";
+
+/// The name and the version.
+pub const VERSION: &str = "indexset_store 0.2.0";
 
 /// The node size unless one is given.
 const NODE_SIZE: usize = 256;
@@ -19,7 +39,7 @@ struct NodeSize {
     ghost two: { 2 ≤ pairs },
 }
 
-/// What is asked for.
+/// How the program is to run.
 #[derive(Clone, Copy, Debug)]
 pub struct Settings {
     /// Which replies are written.
@@ -38,45 +58,110 @@ impl Settings {
     }
 }
 
-/// Returns what the arguments ask for, or nothing where they are none of those that it knows.
-pub fn read_settings(rt: &HostRuntime) -> io::Result<Option<Settings>> {
-    let mut arguments = env::args(rt)?;
-    let _program = arguments.next();
-    let mut settings = Settings {
-        voice: Voice {
-            others: Others::Tell,
-            is_quiet: false,
-        },
-        leads: false,
-        node_size: NodeSize { pairs: NODE_SIZE },
+/// What is asked for.
+#[derive(Clone, Copy, Debug)]
+pub enum Asked {
+    /// A run with these settings.
+    Run(Settings),
+    /// What the arguments mean.
+    Help,
+    /// The version.
+    Version,
+}
+
+/// What the arguments say, each once at most.
+#[derive(Clone, Copy, Debug)]
+struct Given {
+    leads: Option<bool>,
+    others: Option<Others>,
+    is_quiet: Option<bool>,
+    node_size: Option<NodeSize>,
+    /// The next argument is the node size.
+    is_size_next: bool,
+}
+
+impl Given {
+    /// Takes an argument. Returns whether it is one, and not said before.
+    fn take(&mut self, word: &str) -> bool {
+        if self.is_size_next {
+            self.is_size_next = false;
+            return keep(&mut self.node_size, read_node_size(word.as_bytes()));
+        }
+        if word == "--lead" {
+            keep(&mut self.leads, Some(true))
+        } else if word == "--follow" {
+            keep(&mut self.leads, Some(false))
+        } else if word == "--pass-others" {
+            keep(&mut self.others, Some(Others::Pass))
+        } else if word == "--quiet" {
+            keep(&mut self.is_quiet, Some(true))
+        } else if word == "--node-size" {
+            self.is_size_next = true;
+            true
+        } else {
+            false
+        }
+    }
+
+    /// Returns the settings, or nothing where an argument lacks its value.
+    fn settings(self) -> Option<Settings> {
+        if self.is_size_next {
+            return None;
+        }
+        Some(Settings {
+            voice: Voice {
+                others: self.others.unwrap_or(Others::Tell),
+                is_quiet: self.is_quiet.unwrap_or(false),
+            },
+            leads: self.leads.unwrap_or(false),
+            node_size: self.node_size.unwrap_or(NodeSize { pairs: NODE_SIZE }),
+        })
+    }
+}
+
+/// Stores what an argument says. Returns whether it says something, and nothing was there.
+fn keep<T: Copy>(place: &mut Option<T>, said: Option<T>) -> bool {
+    let is_new = place.is_none() && said.is_some();
+    if is_new {
+        *place = said;
+    }
+    is_new
+}
+
+/// Returns what the arguments ask for, or nothing where one is unknown or doubled or lacks its
+/// value. Fails where memory runs out.
+pub fn read_arguments(rt: &HostRuntime) -> io::Result<Option<Asked>> {
+    let mut arguments = match env::args(rt) {
+        Ok(arguments) => arguments,
+        Err(e) => {
+            return if e.kind() == ErrorKind::InvalidData {
+                Ok(None)
+            } else {
+                Err(e)
+            };
+        }
     };
-    let mut is_size_next = false;
+    let _program = arguments.next();
+    let mut given = Given {
+        leads: None,
+        others: None,
+        is_quiet: None,
+        node_size: None,
+        is_size_next: false,
+    };
     for argument in arguments {
         let word = argument.as_str();
-        if is_size_next {
-            match read_node_size(word.as_bytes()) {
-                Some(size) => settings.node_size = size,
-                None => return Ok(None),
-            }
-            is_size_next = false;
-        } else if word == "--lead" {
-            settings.leads = true;
-        } else if word == "--follow" {
-            settings.leads = false;
-        } else if word == "--pass-others" {
-            settings.voice.others = Others::Pass;
-        } else if word == "--quiet" {
-            settings.voice.is_quiet = true;
-        } else if word == "--node-size" {
-            is_size_next = true;
-        } else {
+        if word == "--help" {
+            return Ok(Some(Asked::Help));
+        }
+        if word == "--version" {
+            return Ok(Some(Asked::Version));
+        }
+        if !given.take(word) {
             return Ok(None);
         }
     }
-    if is_size_next {
-        return Ok(None);
-    }
-    Ok(Some(settings))
+    Ok(given.settings().map(Asked::Run))
 }
 
 /// Returns the node size of a text, if it is one.

@@ -5,17 +5,18 @@
 //! `--node-size N`, how many pairs a node of a leader holds at most (2 to 65,535; 256 unless said),
 //! `--pass-others`, with which a line that means nothing is passed over in silence, and `--quiet`,
 //! with which a follower tells of lines that are no requests only what is missing or does not fit.
+//! `--help` and `--version` are answered on standard output.
 #![tactic(auto)]
 
 mod arguments;
 
-use arguments::{Settings, read_settings};
+use arguments::{Asked, HELP, Settings, USAGE, VERSION, read_arguments};
 use indexset_bench::RunFault;
 use indexset_follow::serve;
 use std::io::{self, BufReader, BufWriter};
 use std::process::ExitCode;
 
-/// The exit status for arguments that it does not know.
+/// The exit status where an argument is unknown or doubled or lacks its value.
 const BAD_ARGUMENTS: u8 = 5;
 
 /// Runs from standard input to standard output.
@@ -33,16 +34,33 @@ fn run(rt: &HostRuntime, settings: Settings) -> Result<(), RunFault> {
     )
 }
 
+/// Writes lines to standard output.
+fn tell(rt: &HostRuntime, text: &str) -> Result<(), RunFault> {
+    println!(rt; "{text}").map_err(|_| RunFault::Write)
+}
+
+/// Does what is asked for.
+fn answer(rt: &HostRuntime, asked: Asked) -> Result<(), RunFault> {
+    match asked {
+        Asked::Run(settings) => run(rt, settings),
+        Asked::Help => {
+            tell(rt, USAGE)?;
+            tell(rt, HELP)
+        }
+        Asked::Version => tell(rt, VERSION),
+    }
+}
+
 fn main(rt: HostRuntime) -> ExitCode {
-    let served = match read_settings(&rt) {
-        Ok(Some(settings)) => run(&rt, settings),
+    let answered = match read_arguments(&rt) {
+        Ok(Some(asked)) => answer(&rt, asked),
         Ok(None) => {
-            let _ = eprintln!(&rt; "arguments");
+            let _ = eprintln!(&rt; "{USAGE}");
             return ExitCode::from(BAD_ARGUMENTS);
         }
         Err(_) => Err(RunFault::Memory),
     };
-    match served {
+    match answered {
         Ok(()) => ExitCode::SUCCESS,
         Err(fault) => {
             let _ = eprintln!(&rt; "{fault}");
