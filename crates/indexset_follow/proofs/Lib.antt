@@ -13,6 +13,7 @@ pub mod Passing
 pub mod Programs
 pub mod QueryLines
 pub mod Readings
+pub mod ReplyExamples
 pub mod Returns
 pub mod Rows
 pub mod Snapshots

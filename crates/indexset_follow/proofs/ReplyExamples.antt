@@ -1,0 +1,33 @@
+-- Worked examples: what a leader answers to a command, heads, bytes 13 before a line's end, and what a quiet follower tells.
+use Rattle.std.proofs.Common.{◌≡◌, true, List, [], ◌∷◌, ◌++◌, refl}
+use lib.Chars.{codes}
+use Rattle.indexset_bench.specs.PairText.{ended}
+use Rattle.indexset_bench.specs.declared.pair_command.PairCommand.TheVariants.{Put, Cut}
+use Rattle.indexset_events.specs.Keys.{key_removal_events}
+use Rattle.indexset_events.specs.Table.{put_events, removal_events}
+use Rattle.indexset_log.specs.Tree.{fresh}
+use Rattle.indexset_follow.specs.Leading.{command_text}
+use Rattle.indexset_follow.specs.Reads.{head_reply}
+use Rattle.indexset_follow.specs.Reply.{follower_others, voiced}
+use Rattle.indexset_follow.specs.Store.{without_return}
+use Rattle.indexset_follow.specs.declared.others.Others.TheVariants.{Tell, Pass}
+use Rattle.indexset_follow.specs.declared.others.Voice.{Voice}
+use Rattle.indexset_follow.specs.declared.reply.Reply.TheVariants.{Next, Had, Gap, Held}
+
+-- the first pair of a map, and the removal of a key that it lacks
+commands : (command_text (fresh 4) (Put 3 30) ≡ ended (codes "new") ++ ended (codes "0 create 3:30") ++ ended (codes "next 1")) × (command_text (fresh 4) (Cut 3) ≡ ended (codes "none") ++ ended (codes "next 0"))
+unfolding put_events key_removal_events removal_events
+commands = (refl, refl)
+
+heads : (head_reply 5 0 ≡ Next 5) × (head_reply 5 5 ≡ Next 5) × (head_reply 5 6 ≡ Gap 5)
+heads = (refl, refl, refl)
+
+-- one byte 13 goes, at the end alone
+returns : (without_return (codes "len" ++ 13 ∷ []) ≡ codes "len") × (without_return (13 ∷ 13 ∷ []) ≡ 13 ∷ []) × (without_return (13 ∷ 65 ∷ []) ≡ 13 ∷ 65 ∷ []) × (without_return [] ≡ [])
+returns = (refl, refl, refl, refl)
+
+abbrev quiet : Voice
+quiet = record { others = Tell; is_quiet = true }
+
+told_quietly : (voiced quiet (Next 5) ≡ []) × (voiced quiet (Had 5) ≡ []) × (voiced quiet Held ≡ []) × (voiced quiet (Gap 5) ≡ ended (codes "gap 5")) × (follower_others quiet ≡ Pass)
+told_quietly = (refl, refl, refl, refl, refl)
