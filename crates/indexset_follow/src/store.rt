@@ -145,7 +145,13 @@ impl Store {
             Role::Following(follower) => {
                 answer_line(self.alloc, self.voice, writer, follower, line)
             }
-            Role::Leading(pairs) => answer_leading(self.alloc, self.voice.others, writer, pairs, line),
+            Role::Leading(pairs) => answer_leading(
+                self.alloc,
+                self.voice.others,
+                writer,
+                pairs,
+                line,
+            ),
         }
     }
 
