@@ -8,12 +8,15 @@
 #include <stdlib.h>
 #include <string.h>
 
-/* ---- requests for memory: every nth is refused, where n is not 0 */
+/* ---- requests for memory: every nth is refused, where n is not 0, and all from one on, where that is not 0 */
 void *__real_malloc(size_t size);
 void *__real_realloc(void *at, size_t size);
-static unsigned long nth, requests;
+static unsigned long nth, onward, requests;
 
-static bool refused(void) { return nth != 0 && ++requests % nth == 0; }
+static bool refused(void) {
+    if (nth != 0 || onward != 0) requests++;
+    return (nth != 0 && requests % nth == 0) || (onward != 0 && requests >= onward);
+}
 void *__wrap_malloc(size_t size) { return refused() ? NULL : __real_malloc(size); }
 void *__wrap_realloc(void *at, size_t size) { return refused() ? NULL : __real_realloc(at, size); }
 

@@ -210,8 +210,8 @@ void indexset_map_clear(indexset_map *map);
 size_t indexset_map_len(const indexset_map *map);
 
 /* Makes a value that of a key. INDEXSET_YES where the key was not there; INDEXSET_NO where it was, and
- * then the value before is written to `before`; or INDEXSET_MEMORY or INDEXSET_NONE, and then nothing
- * changes. `before` is written for INDEXSET_NO alone. */
+ * then the value before is written to `before`, and no memory is taken; or INDEXSET_MEMORY or INDEXSET_NONE,
+ * and then nothing changes. `before` is written for INDEXSET_NO alone. */
 uint32_t indexset_map_insert(indexset_map *map, uint64_t key, uint64_t value, uint64_t *before);
 
 /* Makes a value that of a key in the same way, and writes the key's rank to `rank`, which is the position where

@@ -28,9 +28,9 @@
 // for a run, it does.
 //
 // Exceptions: std::bad_alloc alone, where memory is refused, and what the caller's own iterators and functions throw.
-// Then nothing has changed, except by three calls that make several changes: `erase` and `insert` of several pairs of a
-// multimap, and `apply_all` of a replica, which say what they leave. Moves, swaps and `clear` take no memory, and neither
-// does `erase` of set, map and byte_map. An empty collection has none either.
+// After an exception nothing has changed. `apply_all` of a replica throws only where it took no change: else it returns
+// how many it took. Moves, swaps and `clear` take no memory, and neither does `erase` of set, map and byte_map. A new
+// collection has none either.
 //
 // Threads: a collection is for one thread, the one that made it, reads too. Two collections do not touch each other,
 // except a byte_map and its copies, which share the bytes of keys.
@@ -57,24 +57,12 @@ namespace indexset {
 inline std::uint32_t version() noexcept { return indexset_version(); }
 
 // Removes the elements for which `condition` holds. Returns how many it removed. It asks of all of them before it
-// removes any; a multimap is copied first, and so is left as it was where memory is refused.
+// removes any.
 template <class Collection, class Condition>
 auto erase_if(Collection &from, Condition condition) -> typename Collection::size_type {
-    std::vector<typename Collection::size_type> positions;
-    typename Collection::size_type at = 0;
-    for (auto it = from.begin(); it != from.end(); ++it, at++) {
-        if (condition(*it)) positions.push_back(at);
-    }
-    const auto remove = [&positions](Collection &of) {
-        for (auto it = positions.rbegin(); it != positions.rend(); ++it) of.erase(of.find_by_order(*it));
-    };
-    if constexpr (noexcept(from.erase(from.begin()))) {
-        remove(from);
-    } else if (!positions.empty()) {
-        Collection changed(from);
-        remove(changed);
-        from.swap(changed);
-    }
+    static_assert(noexcept(from.erase(from.begin())), "a removal allocates nothing");
+    const auto positions = detail::positions_where(from, condition);
+    for (auto it = positions.rbegin(); it != positions.rend(); ++it) from.erase(from.find_by_order(*it));
     return positions.size();
 }
 

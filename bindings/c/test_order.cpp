@@ -44,11 +44,7 @@ struct multimap_script {
     void insert_some() {
         std::vector<std::pair<K, V>> pairs(draw_below(20));
         for (auto &pair : pairs) pair = {draw_key<K>(), draw_value()};
-        const Ours before(ours);
-        if (is_refused(refuse, [&] { ours.insert(pairs.begin(), pairs.end()); })) {
-            if (ours != before) ours = before; // what was added stays where memory is refused for its removal too
-            return;
-        }
+        if (is_refused(refuse, [&] { ours.insert(pairs.begin(), pairs.end()); })) return;
         for (const auto &pair : pairs) {
             if (find(pair.first, pair.second) == peer.end()) peer.insert(pair);
         }
@@ -83,9 +79,14 @@ struct multimap_script {
         const auto first = static_cast<std::ptrdiff_t>(draw_below(peer.size() + 1));
         const auto many = static_cast<std::ptrdiff_t>(draw_below(std::min<std::size_t>(peer.size() - static_cast<std::size_t>(first), 9) + 1));
         const auto from = std::next(ours.begin(), first);
-        CHECK(is_at(ours, peer, ours.erase(from, from + many), peer.erase(std::next(peer.begin(), first), std::next(peer.begin(), first + many))));
+        auto after = ours.end();
+        if (!is_refused(refuse, [&] { after = ours.erase(from, from + many); })) {
+            CHECK(is_at(ours, peer, after, peer.erase(std::next(peer.begin(), first), std::next(peer.begin(), first + many))));
+        }
         const K key = draw_key<K>();
-        CHECK(ours.erase(key) == peer.erase(key));
+        std::size_t removed = 0;
+        if (!is_refused(refuse, [&] { removed = ours.erase(key); })) CHECK(removed == peer.erase(key));
+        CHECK(same(ours, peer));
     }
 
     void check_life() {
@@ -153,6 +154,73 @@ static void test_many_values() {
     CHECK(indexset::erase_if(ours, [](const auto &pair) { return pair.second % 2 == 0; }) == 450 && ours.size() == 450);
 }
 
+// ---- changes of several pairs, with all requests refused from one on
+using Multi = indexset::multimap<int, int>;
+using MultiPeer = std::multimap<int, int>;
+
+static bool has_all(const Multi &ours, const MultiPeer &peer) {
+    bool has = same(ours, peer);
+    for (int key : {-1, 0, 4, 12, 20, 25}) {
+        check_reads(ours, peer, key);
+        std::vector<int> wanted;
+        for (auto it = peer.lower_bound(key); it != peer.upper_bound(key); ++it) wanted.push_back(it->second);
+        has = has && ours.values(key) == wanted && std::all_of(wanted.begin(), wanted.end(), [&](int value) {
+            return ours.contains(key, value) && ours.find(key, value) != ours.end();
+        });
+    }
+    return has;
+}
+
+// Whether a collection hides pairs for want of memory: a change of no pair removes them first.
+static bool is_hiding(Multi &ours) {
+    return is_refused(1, [&] { ours.erase(-1, 0); }, onward);
+}
+
+// Each read of pairs that a change left, also while pairs are hidden, and what the next change leaves.
+template <class Call, class PeerCall>
+static void check_several(const Multi &before, const MultiPeer &peer_before, Call call, PeerCall peer_call) {
+    MultiPeer changed(peer_before);
+    peer_call(changed);
+    unsigned hiding = 0;
+    unsigned long at = 0;
+    do {
+        Multi ours(before);
+        requests = 0, at++;
+        MultiPeer peer = is_refused(at, [&] { call(ours); }, onward) ? peer_before : changed;
+        CHECK(requests < at || is_hiding(ours) || ours.size() != 0);
+        if (is_hiding(ours)) {
+            hiding++;
+            CHECK(has_all(ours, peer) && Multi(ours) == ours);
+            const auto middle = ours.begin() + static_cast<std::ptrdiff_t>(ours.size() / 2);
+            CHECK(is_refused(1, [&] { ours.erase(middle, ours.end()); }, onward) && has_all(ours, peer) && is_hiding(ours));
+            const bool added = ours.insert({4, -7}).second;
+            CHECK(added && !is_hiding(ours) && ours.erase(4, -7) == 1);
+        }
+        CHECK(has_all(ours, peer));
+    } while (requests >= at && at < 5000);
+    CHECK(at < 5000 && hiding != 0);
+}
+
+static void test_several() {
+    Multi ours;
+    MultiPeer peer;
+    for (int i = 0; i < 6000; i++) {
+        const std::pair<int, int> pair(i % 3 == 0 ? 12 : i / 240, i);
+        if (ours.insert(pair).second) peer.insert(pair);
+    }
+    const auto at = [](const MultiPeer &of, std::ptrdiff_t steps) { return std::next(of.begin(), steps); };
+    check_several(ours, peer, [](Multi &of) { of.erase(12); }, [](MultiPeer &of) { of.erase(12); });
+    check_several(ours, peer, [](Multi &of) { of.erase(of.begin() + 500, of.begin() + 5400); },
+                  [&](MultiPeer &of) { of.erase(at(of, 500), at(of, 5400)); });
+    const auto is_odd = [](const auto &pair) { return pair.second % 8 != 0; };
+    check_several(ours, peer, [&](Multi &of) { indexset::erase_if(of, is_odd); }, [&](MultiPeer &of) {
+        for (auto it = of.begin(); it != of.end();) it = is_odd(*it) ? of.erase(it) : std::next(it);
+    });
+    std::vector<std::pair<int, int>> pairs;
+    for (int i = 0; i < 3000; i++) pairs.emplace_back(draw_below(25), -i);
+    check_several(ours, peer, [&](Multi &of) { of.insert(pairs.begin(), pairs.end()); }, [&](MultiPeer &of) { of.insert(pairs.begin(), pairs.end()); });
+}
+
 // Each request of a call refused in turn.
 static void test_sweep() {
     indexset::multimap<int, int> multi, more, less, other;
@@ -170,6 +238,16 @@ static void test_sweep() {
     indexset::multimap<int, int> even(multi);
     CHECK(indexset::erase_if(even, is_odd) == 150 && even.size() == 150);
     sweep(multi, even, [&](auto &copy) { indexset::erase_if(copy, is_odd); });
+    sweep(multi, other, [](auto &copy) { copy = {{1, 2}, {1, 2}}; });
+    indexset::multimap<int, int> without(multi), without_some(multi);
+    CHECK(without.erase(50) == 3 && without_some.erase(without_some.begin() + 10, without_some.begin() + 200) - without_some.begin() == 10);
+    sweep(multi, without, [](auto &copy) { copy.erase(50); });
+    sweep(multi, without_some, [](auto &copy) { copy.erase(copy.begin() + 10, copy.begin() + 200); });
+    sweep(multi, indexset::multimap<int, int>(), [](auto &copy) { copy.erase(copy.begin(), copy.end()); });
+    indexset::multimap<int, int> joined(other);
+    joined.insert(more.begin(), more.end());
+    CHECK(joined.size() == 302 && joined.values(1)[0] == 2);
+    sweep(other, joined, [&](auto &copy) { copy.insert(more.begin(), more.end()); });
     CHECK(more.size() == 301 && less.size() == 299 && multi < less && multi != more);
 }
 
@@ -243,6 +321,40 @@ struct log_script {
         CHECK(other.apply_all(all) == std::make_pair(indexset::status::changed, all.size()) && other == replica);
     }
 };
+
+// Many changes in a call, with each request refused in turn, and with all from one on: it throws where it took none, and
+// else the next call goes on with the rest.
+static void test_apply_all() {
+    indexset::logged_map<int, int> log(4);
+    std::vector<indexset::event> changes;
+    for (int i = 0; i < 300; i++) {
+        const auto told = i % 3 == 2 ? log.erase(i * 11 % 100) : log.insert_or_assign(i * 13 % 150, -i);
+        changes.insert(changes.end(), told.begin(), told.end());
+    }
+    unsigned threw = 0, took_some = 0;
+    for (unsigned long *which : {&nth, &onward}) {
+        unsigned long at = 0;
+        do {
+            indexset::replica<int, int> replica, peer;
+            std::pair<indexset::status, std::size_t> answer{};
+            requests = 0, at++;
+            if (is_refused(at, [&] { answer = replica.apply_all(changes); }, *which)) {
+                threw++;
+                CHECK(answer.second == 0 && replica.empty() && replica.node_count() == 0);
+            } else {
+                const bool took_all = answer.second == changes.size();
+                took_some += !took_all;
+                CHECK(answer.second != 0 && answer.first == (took_all ? indexset::status::changed : indexset::status::no_memory));
+            }
+            for (std::size_t i = 0; i < answer.second; i++) CHECK(peer.apply(changes[i]) == indexset::status::changed);
+            CHECK(replica == peer && replica.next() == peer.next() && replica.node_lengths() == peer.node_lengths());
+            answer = replica.apply_all(changes.data() + answer.second, changes.size() - answer.second);
+            CHECK(answer.first == indexset::status::changed && replica == indexset::replica(log) && replica.next() == log.next());
+        } while (requests >= at && at < 5000);
+        CHECK(at < 5000);
+    }
+    CHECK(threw != 0 && took_some != 0);
+}
 
 // ---- a logged_byte_map, and nodes to which its changes are made
 struct byte_log_script {
@@ -353,12 +465,14 @@ int main() {
     multimap_script<double, double>{0, 300}.run(1500);
     for (unsigned long refuse = 1; refuse <= 12; refuse++) multimap_script<std::uint64_t, int>{refuse, 8}.run(200);
     test_many_values();
+    test_several();
     test_sweep();
     log_script<std::uint64_t, std::uint64_t>{0}.run(2000);
     log_script<int, float>{0}.run(1500);
     for (unsigned long refuse = 2; refuse <= 12; refuse++) log_script<std::uint64_t, std::uint64_t>{refuse}.run(200);
     byte_log_script{0}.run(2000);
     for (unsigned long refuse = 2; refuse <= 12; refuse++) byte_log_script{refuse}.run(200);
+    test_apply_all();
     test_statuses();
     return told();
 }

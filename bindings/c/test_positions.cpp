@@ -248,6 +248,8 @@ static void test_keys() {
     CHECK(copied.get(1) == 2.5F && listed.begin()->second == 'a');
     CHECK(*deduced.begin() == 1 && std::accumulate(deduced.begin(), deduced.end(), 0) == 6);
     CHECK(indexset::version() == indexset_version());
+    indexset_set plain = INDEXSET_HANDLE; // which compilers take in C++ without a word too
+    CHECK(indexset_set_len(&plain) == 0);
 }
 
 static void test_empty() {
@@ -293,6 +295,14 @@ static void test_sweep() {
     sweep(map, larger, [&](auto &copy) { copy.insert(pairs.begin(), pairs.end()); });
     sweep(bytes, more_bytes, [&](auto &copy) { copy.insert(texts.begin(), texts.end()); });
     sweep(larger, map, [&](auto &copy) { copy = map; });
+    sweep(set, {1, 3}, [](auto &copy) { copy = {3, 1}; });
+    sweep(map, {{1, 2}}, [](auto &copy) { copy = {{1, 2}}; });
+    sweep(bytes, {{"", 2}}, [](auto &copy) { copy = {{"", 2}}; });
+    larger = map, more_bytes = bytes;
+    larger[3000] = larger[2000], more_bytes["3000"] = more_bytes["2000"];
+    CHECK(larger.size() == 702 && more_bytes.size() == 702 && larger.get(2000) == 0 && more_bytes.get("3000") == 0);
+    sweep(map, larger, [](auto &copy) { copy[3000] = copy[2000]; });
+    sweep(bytes, more_bytes, [](auto &copy) { copy["3000"] = copy["2000"]; });
 }
 
 template <class K>

@@ -169,6 +169,10 @@ class held {
     held &operator=(const held &) = delete;
     ~held() { Calls::release(&handle_); }
 
+    // Has a handle that leads to none lead to a copy.
+    void copy_from(const held &from) { pass(Calls::clone(&from.handle_, &handle_)); }
+    void clear() noexcept { Calls::clear(&handle_); }
+
     std::size_t size() const noexcept { return Calls::len(&handle_); }
     typename Calls::handle *handle() const noexcept { return &handle_; }
 

@@ -72,6 +72,7 @@ class number_nodes : public nodes<Self, Store, V> {
 enum class status : std::uint32_t {
     unchanged = INDEXSET_NO,        // there was nothing to do, or the change was made before
     changed = INDEXSET_YES,         // it was done
+    no_memory = INDEXSET_MEMORY,    // memory was refused, by apply_all alone: other calls throw
     out_of_numbers = INDEXSET_NUMBERS, // too few numbers are left
     unfit = INDEXSET_UNFIT,         // what was given does not fit
     gap = INDEXSET_GAP,             // changes before it are missing
@@ -272,20 +273,20 @@ class replica
     }
 
     // Makes changes, first to last, and passes over those that were made before. Returns `changed` where it took them
-    // all, or why the next one does not fit, and how many it took. Where memory is refused, those that were made stay,
-    // and the same changes can be given again.
-    std::pair<status, std::size_t> apply_all(const event *changes, std::size_t count) {
+    // all, or why it did not take the next one, and how many it took. Where memory is refused for the first one it
+    // throws, and for a later one it returns `no_memory`: those after can be given again.
+    [[nodiscard]] std::pair<status, std::size_t> apply_all(const event *changes, std::size_t count) {
         std::size_t taken = 0;
         if (count == 0) return {status::changed, 0};
         const std::uint32_t answer = indexset_replica_apply_all(made().handle(), changes, count, &taken);
         this->store_->changed();
-        detail::pass(answer);
+        if (taken == 0) detail::pass(answer);
         return {static_cast<status>(answer), taken};
     }
 
     // The same, of an array, a vector or what a logged map told.
     template <class Events>
-    auto apply_all(const Events &changes) -> decltype(apply_all(changes.data(), changes.size())) {
+    [[nodiscard]] auto apply_all(const Events &changes) -> decltype(apply_all(changes.data(), changes.size())) {
         return apply_all(changes.data(), changes.size());
     }
 

@@ -30,7 +30,15 @@ class value_reference {
         map_.insert_or_assign(key_, value);
         return *this;
     }
-    value_reference &operator=(const value_reference &other) { return *this = static_cast<value_type>(other); }
+    value_reference &operator=(const value_reference &other) {
+        const bool added = other.map_.try_emplace(other.key_).second;
+        try {
+            return *this = *other.map_.get(other.key_);
+        } catch (...) {
+            if (added) other.map_.erase(other.key_);
+            throw;
+        }
+    }
 
     template <class By>
     value_reference &operator+=(const By &by) {

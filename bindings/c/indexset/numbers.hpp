@@ -17,7 +17,6 @@ namespace detail {
 struct set_calls {
     using handle = indexset_set;
     static constexpr bool has_values = false;
-    static constexpr bool repeats = false; // whether a key may have several values
     static constexpr auto make = indexset_set_new;
     static constexpr auto clone = indexset_set_clone;
     static constexpr auto release = indexset_set_free;
@@ -45,7 +44,7 @@ struct set_calls {
 template <class Handle, auto At, auto Read, auto Get>
 struct pair_calls {
     using handle = Handle;
-    static constexpr bool has_values = true, repeats = false;
+    static constexpr bool has_values = true;
     static constexpr auto get = Get;
 
     static std::size_t read(handle *of, std::size_t from, std::uint64_t *keys, std::uint64_t *values, std::size_t places) {
@@ -89,27 +88,13 @@ inline bool first_value(indexset_multi *of, std::uint64_t key, std::uint64_t *ou
     return indexset_multi_get(of, key, out, 1) != 0;
 }
 
-// Copies a multimap to a handle that leads to none, pair by pair.
-inline std::uint32_t copy_multi(indexset_multi *from, indexset_multi *to) {
-    std::uint64_t keys[64], values[64];
-    std::uint32_t answer = indexset_multi_new(to);
-    for (std::size_t at = 0, many = 64; many == 64 && answer == INDEXSET_YES; at += many) {
-        many = indexset_multi_range_by_position(from, at, keys, 64, values, 64);
-        for (std::size_t i = 0; i < many && answer == INDEXSET_YES; i++) answer = indexset_multi_push(to, keys[i], values[i]);
-    }
-    return answer;
-}
-
 // The calls of the library for a multimap.
 struct multi_calls : pair_calls<indexset_multi, indexset_multi_at, indexset_multi_range_by_position, first_value> {
-    static constexpr bool repeats = true;
     static constexpr auto make = indexset_multi_new;
-    static constexpr auto clone = copy_multi;
     static constexpr auto release = indexset_multi_free;
     static constexpr auto clear = indexset_multi_clear;
     static constexpr auto len = indexset_multi_len;
     static constexpr auto rank = indexset_multi_rank;
-    static constexpr auto count = indexset_multi_count;
     static constexpr auto count_up_to = count_below_next<multi_calls>;
 };
 
@@ -172,16 +157,8 @@ class number_store : public held<Calls> {
     }
 
     std::size_t rank(key_type key) const noexcept { return Calls::rank(this->handle(), Code::key(key)); }
-    // Returns where an element stands that is there: where a key may have several values, behind a walk over those
-    // before it.
-    std::size_t position_of(const pair &element) noexcept {
-        std::size_t position = Calls::rank(this->handle(), element.key);
-        if constexpr (Calls::repeats) {
-            std::size_t left = Calls::count(this->handle(), element.key);
-            for (; left > 1 && at(position).value != element.value; left--) position++;
-        }
-        return position;
-    }
+    // Returns where an element stands that is there.
+    std::size_t position_of(const pair &element) noexcept { return Calls::rank(this->handle(), element.key); }
     std::size_t count_up_to(key_type key) const noexcept { return Calls::count_up_to(this->handle(), Code::key(key)); }
     bool find(key_type key, pair &out) const noexcept { return Calls::find(this->handle(), Code::key(key), out); }
     bool get(key_type key, std::uint64_t &value) const noexcept {

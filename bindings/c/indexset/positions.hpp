@@ -14,6 +14,7 @@
 #include <optional>
 #include <type_traits>
 #include <utility>
+#include <vector>
 
 namespace indexset {
 
@@ -226,6 +227,17 @@ class reading : public comparisons<Self, typename Store::order> {
     element_walk walk() const noexcept { return {store_.get(), 0, size()}; }
 };
 
+// Returns the positions of the elements for which a condition holds, in order.
+template <class Collection, class Condition>
+std::vector<std::size_t> positions_where(const Collection &in, Condition &condition) {
+    std::vector<std::size_t> positions;
+    std::size_t at = 0;
+    for (auto it = in.begin(); it != in.end(); ++it, at++) {
+        if (condition(*it)) positions.push_back(at);
+    }
+    return positions;
+}
+
 // What those have alike that are copied and emptied: set, map, byte_map and multimap.
 template <class Self, class Store>
 class copied : public reading<Self, Store> {
@@ -233,7 +245,7 @@ class copied : public reading<Self, Store> {
     // Removes all elements.
     void clear() noexcept {
         if (!this->store_) return;
-        Store::calls::clear(this->store_->handle());
+        this->store_->clear();
         this->store_->changed();
     }
 
@@ -246,7 +258,7 @@ class copied : public reading<Self, Store> {
     copied(const copied &other) : reading<Self, Store>() {
         if (!other.store_) return;
         auto made = std::make_unique<Store>();
-        pass(Store::calls::clone(other.store_->handle(), made->handle()));
+        made->copy_from(*other.store_);
         this->store_ = std::move(made);
     }
     copied &operator=(const copied &other) {
