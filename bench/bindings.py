@@ -1,5 +1,6 @@
 """CPU nanoseconds an operation of the Python package beside `sortedcontainers`, in random order: the least of
-some runs, with the loop over the operations, and without the end of what they made.
+some runs, with the loop over the operations, and without the end of what they made. Each row of both is measured
+in turn, with the same keys, and without the collection of garbage.
 
 After `bindings/test.sh`:  PYTHONPATH=bindings/python/out python3 bench/bindings.py 1000 100000 1000000
 INDEXSET_BACKEND=ctypes has it go by ctypes.
@@ -7,33 +8,65 @@ INDEXSET_BACKEND=ctypes has it go by ctypes.
 from __future__ import annotations
 
 import argparse
+import gc
 import importlib
 import random
 import time
 from collections import deque
 from collections.abc import Callable, Iterable, Iterator, Sequence
+from functools import partial
 from types import ModuleType
-from typing import Any
+from typing import Any, NamedTuple
 
 indexset = importlib.import_module("indexset")
 sortedcontainers = importlib.import_module("sortedcontainers")
 SLICE = 100
-Row = tuple[str, float, int]  # its name, the cost of all its operations, and how many they are
-Rows = Callable[[ModuleType, Sequence[int], Sequence[int], Sequence[int], int], Iterator[Row]]
+TURNS, ENOUGH = 6, 2.0  # how often reads are repeated at most, and the seconds after which they are not
 
 
-def cost(call: Callable[..., object], *words: object) -> float:
+class Row(NamedTuple):
+    name: str
+    call: Callable[[], object]  # all its operations
+    operations: int  # how many they are
+    reads: bool = True  # whether it changes nothing, so that it can be repeated
+
+
+class Keys:
+    """Keys, the same ones in another order, and positions, with the texts of both."""
+
+    def __init__(self, count: int) -> None:
+        rng = random.Random(count)
+        self.keys = list({rng.getrandbits(63) - (1 << 62) for _ in range(count)})
+        self.drawn = rng.sample(self.keys, len(self.keys))
+        self.positions = [rng.randrange(count) for _ in self.keys]
+        self.texts, self.sought = ([f"key {key}" for key in items] for items in (self.keys, self.drawn))
+        # A string keeps its hash: neither side is the one that computes it.
+        each(hash, self.texts)
+        each(hash, self.sought)
+        self.some = min(count, 10000)
+
+
+Rows = Callable[[ModuleType, Keys], Iterator[Row]]
+
+
+def cost(call: Callable[[], object]) -> float:
     start = time.thread_time()
-    kept = call(*words)
+    kept = call()
     spent = time.thread_time() - start
     del kept
     return spent
 
 
-def least(call: Callable[..., object], *words: object) -> float:
-    """The same of what ends soon, the least of some runs in a row."""
-    first = cost(call, *words)
-    return min([first, *(cost(call, *words) for _ in range(20 if first < 0.001 else 0))])
+def in_turn(rows: Sequence[Row], backwards: bool) -> list[float]:
+    """The least cost of each of some rows, which are measured in turn, each time in the other order."""
+    costs: list[list[float]] = [[] for _ in rows]
+    for turn in range(20 * TURNS if rows[0].reads else 1):
+        for i in sorted(range(len(rows)), reverse=backwards ^ (turn % 2 == 1)):
+            costs[i].append(cost(rows[i].call))
+        spent = sum(sum(it) for it in costs)
+        if spent > ENOUGH or (turn + 1 >= TURNS and spent > 0.01):
+            break
+    return [min(it) for it in costs]
 
 
 # ---- loops over an operation
@@ -96,91 +129,82 @@ def drain(iterable: Iterable[object]) -> None:
 # ---- rows
 
 
-def of_set(lib: ModuleType, keys: Sequence[int], drawn: Sequence[int], positions: Sequence[int], some: int) -> Iterator[Row]:
+def of_set(lib: ModuleType, of: Keys) -> Iterator[Row]:
     """The rows of a set."""
-    held, count = lib.SortedSet(), len(keys)
-    yield "add", cost(each, held.add, keys), count
-    yield "in", cost(contains, held, drawn), count
-    yield "bisect_left", cost(each, held.bisect_left, drawn), count
-    yield "[position]", cost(at, held, positions), count
-    yield "a slice of 100", cost(slices, held, positions[:some]), some
-    yield "next(iter)", cost(first, held, positions[:some]), some
-    yield "next(irange)", cost(ranges, held, drawn[:some]), some
-    yield "iterate", least(walk, held), count
-    yield "list", least(list, held), count
-    yield "index", cost(each, held.index, drawn), count
-    yield "ranks", least(getattr(held, "ranks", lambda values: each(held.bisect_left, values)), drawn), count
-    yield "copy", least(held.copy), count
-    yield "update", cost(lib.SortedSet, keys), count
-    yield "remove", cost(each, held.remove, drawn), count
+    held, count, some = lib.SortedSet(), len(of.keys), of.positions[: of.some]
+    yield Row("add", partial(each, held.add, of.keys), count, False)
+    yield Row("in", partial(contains, held, of.drawn), count)
+    yield Row("bisect_left", partial(each, held.bisect_left, of.drawn), count)
+    yield Row("[position]", partial(at, held, of.positions), count)
+    yield Row("a slice of 100", partial(slices, held, some), of.some)
+    yield Row("next(iter)", partial(first, held, some), of.some)
+    yield Row("next(irange)", partial(ranges, held, of.drawn[: of.some]), of.some)
+    yield Row("iterate", partial(walk, held), count)
+    yield Row("list", partial(list, held), count)
+    yield Row("index", partial(each, held.index, of.drawn), count)
+    yield Row("ranks", partial(getattr(held, "ranks", partial(each, held.bisect_left)), of.drawn), count)
+    yield Row("copy", held.copy, count)
+    yield Row("update", partial(lib.SortedSet, of.keys), count)
+    yield Row("remove", partial(each, held.remove, of.drawn), count, False)
 
 
-def of_dict(lib: ModuleType, keys: Sequence[int], drawn: Sequence[int], positions: Sequence[int], some: int) -> Iterator[Row]:
-    held, count = lib.SortedDict(), len(keys)
-    yield "d[k] = v", cost(set_at, held, keys), count
-    yield "d[k]", cost(at, held, drawn), count
-    yield "k in d", cost(contains, held, drawn), count
-    yield "peekitem", cost(each, held.peekitem, positions), count
-    yield "items", least(lambda: drain(held.items())), count
-    yield "del d[k]", cost(delete, held, drawn), count
+def of_dict(lib: ModuleType, of: Keys) -> Iterator[Row]:
+    held, count = lib.SortedDict(), len(of.keys)
+    yield Row("d[k] = v", partial(set_at, held, of.keys), count, False)
+    yield Row("d[k]", partial(at, held, of.drawn), count)
+    yield Row("k in d", partial(contains, held, of.drawn), count)
+    yield Row("peekitem", partial(each, held.peekitem, of.positions), count)
+    yield Row("items", lambda: drain(held.items()), count)
+    yield Row("del d[k]", partial(delete, held, of.drawn), count, False)
 
 
-def of_text(lib: ModuleType, keys: Sequence[int], drawn: Sequence[int], positions: Sequence[int], some: int) -> Iterator[Row]:
-    texts, sought = ([f"key {key}" for key in items] for items in (keys, drawn))
-    held, count = lib.SortedDict(), len(keys)
-    yield "text: d[k] = v", cost(set_at, held, texts), count
-    yield "text: get", cost(each, held.get, sought), count
-    yield "text: bisect_left", cost(each, held.bisect_left, sought), count
-    yield "text: list", least(list, held), count
-    yield "text: del d[k]", cost(delete, held, sought), count
+def of_text(lib: ModuleType, of: Keys) -> Iterator[Row]:
+    held, count = lib.SortedDict(), len(of.keys)
+    yield Row("text: d[k] = v", partial(set_at, held, of.texts), count, False)
+    yield Row("text: get", partial(each, held.get, of.sought), count)
+    yield Row("text: bisect_left", partial(each, held.bisect_left, of.sought), count)
+    yield Row("text: list", partial(list, held), count)
+    yield Row("text: del d[k]", partial(delete, held, of.sought), count, False)
 
 
 def of_a_list(held: Any, name: str, added: Sequence[int], sought: Sequence[int], positions: Sequence[int]) -> Iterator[Row]:
     """The rows of a list, which is empty at first."""
     count = len(added)
-    yield f"{name}: add", cost(each, held.add, added), count
-    yield f"{name}: in", cost(contains, held, sought), count
-    yield f"{name}: [position]", cost(at, held, positions), count
-    yield f"{name}: bisect_left", cost(each, held.bisect_left, sought), count
-    yield f"{name}: list", least(list, held), count
-    yield f"{name}: remove", cost(each, held.remove, sought), count
+    yield Row(f"{name}: add", partial(each, held.add, added), count, False)
+    yield Row(f"{name}: in", partial(contains, held, sought), count)
+    yield Row(f"{name}: [position]", partial(at, held, positions), count)
+    yield Row(f"{name}: bisect_left", partial(each, held.bisect_left, sought), count)
+    yield Row(f"{name}: list", partial(list, held), count)
+    yield Row(f"{name}: remove", partial(each, held.remove, sought), count, False)
 
 
-def of_list(lib: ModuleType, keys: Sequence[int], drawn: Sequence[int], positions: Sequence[int], some: int) -> Iterator[Row]:
-    yield from of_a_list(lib.SortedList(), "list", keys, drawn, positions)
+def of_list(lib: ModuleType, of: Keys) -> Iterator[Row]:
+    yield from of_a_list(lib.SortedList(), "list", of.keys, of.drawn, of.positions)
 
 
-def of_repeats(lib: ModuleType, keys: Sequence[int], drawn: Sequence[int], positions: Sequence[int], some: int) -> Iterator[Row]:
+def of_repeats(lib: ModuleType, of: Keys) -> Iterator[Row]:
     """Those of a list in which each number stands ten times."""
-    rng, often = random.Random(len(keys)), list(keys[: len(keys) // 10]) * 10
+    rng, often = random.Random(len(of.keys)), list(of.keys[: len(of.keys) // 10]) * 10
     added, sought = rng.sample(often, len(often)), rng.sample(often, len(often))
-    yield from of_a_list(lib.SortedList(), "list of repeats", added, sought, positions[: len(often)])
+    yield from of_a_list(lib.SortedList(), "list of repeats", added, sought, of.positions[: len(often)])
 
 
-def of_plain(lib: ModuleType, keys: Sequence[int], drawn: Sequence[int], positions: Sequence[int], some: int) -> Iterator[Row]:
+def of_plain(lib: ModuleType, of: Keys) -> Iterator[Row]:
     """A dict beside both."""
-    yield "in, of a dict", cost(contains, dict.fromkeys(keys), drawn), len(keys)
-
-
-def run(rows: Rows, lib: ModuleType, count: int) -> Iterator[tuple[str, float]]:
-    """Each row's name and its nanoseconds an operation."""
-    rng = random.Random(count)
-    keys = list({rng.getrandbits(63) - (1 << 62) for _ in range(count)})
-    drawn = rng.sample(keys, len(keys))
-    positions = [rng.randrange(count) for _ in keys]
-    for name, seconds, operations in rows(lib, keys, drawn, positions, min(count, 10000)):
-        yield name, seconds / operations * 1e9
+    yield Row("in, of a dict", partial(contains, dict.fromkeys(of.keys), of.drawn), len(of.keys))
 
 
 def compare(rows: Rows, count: int, times: int) -> None:
-    """Prints each row, with the least costs of some runs."""
-    found: dict[str, dict[ModuleType, list[float]]] = {}
-    for _ in range(times):
-        for lib in (indexset, sortedcontainers):
-            for name, spent in run(rows, lib, count):
-                found.setdefault(name, {}).setdefault(lib, []).append(spent)
+    """Prints each row, with the least nanoseconds an operation of some runs."""
+    found: dict[str, list[list[float]]] = {}
+    for turn in range(times):
+        of = Keys(count)
+        for both in zip(rows(indexset, of), rows(sortedcontainers, of)):
+            spent = [it / both[0].operations * 1e9 for it in in_turn(both, turn % 2 == 1)]
+            found.setdefault(both[0].name, []).append(spent)
+        gc.collect()
     for name, figures in found.items():
-        ours, peer = (min(figures[lib]) for lib in (indexset, sortedcontainers))
+        ours, peer = (min(it) for it in zip(*figures))
         ours, peer = (min(ours, peer),) * 2 if rows is of_plain else (ours, peer)
         print(f"{count}\t{name}\t{ours:.0f}\t{peer:.0f}", flush=True)
 
@@ -190,10 +214,11 @@ def main() -> None:
     words.add_argument("counts", type=int, nargs="+")
     words.add_argument("--times", type=int, help="how many runs; more where there are few keys")
     given = words.parse_args()
+    gc.disable()
     print(f"keys\trow\t{indexset.BACKEND}\tsortedcontainers")
     for count in given.counts:
         for rows in (of_set, of_dict, of_text, of_list, of_repeats, of_plain):
-            compare(rows, count, given.times or (21 if count < 10000 else 3))
+            compare(rows, count, given.times or (21 if count < 10000 else 3 if count < 1000000 else 2))
 
 
 if __name__ == "__main__":
