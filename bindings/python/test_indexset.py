@@ -319,6 +319,24 @@ class Dictionaries(unittest.TestCase):
         self.assertRaises(IndexError, other.peekitem)
         self.assertRaises(TypeError, hash, other)
 
+    def test_classes_below(self):
+        """What a class below says of keys that are missing, of `in` and of `[key]` goes first."""
+
+        class Doubled(SortedDict):
+            def __missing__(self, key):
+                return key * 2
+
+        class Odd(SortedDict):
+            def __contains__(self, key):
+                return key == 7
+
+            def __getitem__(self, key):
+                return "odd"
+
+        doubled, odd = Doubled({1: "a"}), Odd({1: "a"})
+        self.assertEqual((doubled[1], doubled[5], doubled.get(5), 5 in doubled, list(doubled)), ("a", 10, None, False, [1]))
+        self.assertEqual((odd[1], odd[5], 7 in odd, 1 in odd, list(odd)), ("odd", "odd", True, False, [1]))
+
     def test_references(self):
         """What is held of a number ends with the number, and with the object."""
         number = 10**15 + len(repr(self))

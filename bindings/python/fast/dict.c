@@ -126,7 +126,10 @@ static PyObject *get_order(DictFront *self, void *nothing) {
 
 static PyMethodDef methods[] = {{"__class_getitem__", Py_GenericAlias, METH_O | METH_CLASS, NULL}, {0}};
 static PyGetSetDef properties[] = {{"_order", (getter)get_order, (setter)set_order, NULL, NULL}, {0}};
+/* `in` and `[key]` are dict's: a class below, which has slots from here, goes straight to them, where from dict it would
+ * look for the methods at each call. The module has the other slot from dict. */
 static PyMappingMethods mapping = {.mp_ass_subscript = (objobjargproc)assign};
+static PySequenceMethods sequence = {.sq_contains = PyDict_Contains};
 
 PyTypeObject DictFrontType = {
     PyVarObject_HEAD_INIT(NULL, 0)
@@ -141,4 +144,5 @@ PyTypeObject DictFrontType = {
     .tp_methods = methods,
     .tp_getset = properties,
     .tp_as_mapping = &mapping,
+    .tp_as_sequence = &sequence,
 };

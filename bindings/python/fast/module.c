@@ -24,6 +24,7 @@ static int add_types(PyObject *made) {
     PyTypeObject *types[] = {&NumbersType, &CodedType, &MultiType, &FrontType, &DictFrontType};
     const char *names[] = {"Numbers", "Coded", "Multi", "Front", "DictFront"};
     DictFrontType.tp_base = &PyDict_Type;
+    DictFrontType.tp_as_mapping->mp_subscript = PyDict_Type.tp_as_mapping->mp_subscript;
     if (PyType_Ready(&WalkType) < 0)
         return 0;
     for (size_t i = 0; i < sizeof types / sizeof *types; i++) {
