@@ -16,6 +16,7 @@ use indexset_core::locate::{locate_by, place_from, place_to};
 use indexset_core::positions::{end_position, first_position};
 use indexset_core::probe::Probe;
 use indexset_core::walk::ReadVec;
+use indexset_set::Positions;
 use std::ops::Bound;
 
 impl<T: Ord + Clone + Drop> Replica<T> {
@@ -119,17 +120,18 @@ impl<T: Ord + Clone + Drop> Replica<T> {
     /// // The second page of two items each.
     /// let nodes = vec![in alloc; vec![in alloc; 5, 10, 15]?, vec![in alloc; 20, 25]?]?;
     /// let copy = Replica::from_nodes(nodes, 0)?;
-    /// let page = copy.range_idx((Bound::Included(2), Bound::Excluded(4)));
+    /// let page = copy.range_idx(2..4);
     /// assert!(rt; page.copied().eq([15, 20]));
     /// ```
-    pub fn range_idx(&self, range: (Bound<usize>, Bound<usize>)) -> Iter<'_, T>
-        ensures rest { result ≡ in_positions (joined self.now.nodes) range.0 range.1 }
+    pub fn range_idx<R: Positions + Drop>(&self, range: R) -> Iter<'_, T>
+        ensures rest { result ≡ in_positions (joined self.now.nodes) (R.start range)
+            (R.end range) }
         ensures runs { ShowsInOrder (deref {X = T}) }
         ensures runs_back { ShowsInReverse (deref {X = T}) }
     {
         let len = self.len();
-        let to = end_position(range.1, len);
-        let from = first_position(range.0, len).min(to);
+        let to = end_position(range.end_bound(), len);
+        let from = first_position(range.start_bound(), len).min(to);
         let nodes = self.nodes.as_slice();
         Iter::between(
             nodes,

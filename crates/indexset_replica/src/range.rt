@@ -11,6 +11,7 @@ use super::iter::Iter;
 use super::keys::{ByKeyOf, KeyOf};
 use indexset_core::locate::{place_from, place_to};
 use indexset_core::walk::ReadVec;
+use indexset_set::Bounds;
 use std::ops::Bound;
 
 impl<T: Ord + Clone + Drop> Replica<T> {
@@ -23,16 +24,25 @@ impl<T: Ord + Clone + Drop> Replica<T> {
     /// // The items from 10 on that are below 20.
     /// let nodes = vec![in alloc; vec![in alloc; 5, 10]?, vec![in alloc; 15, 20]?]?;
     /// let copy = Replica::from_nodes(nodes, 4)?;
-    /// let teens = copy.range((Bound::Included(&10), Bound::Excluded(&20)));
+    /// let teens = copy.range(10..20);
     /// assert!(rt; teens.copied().eq([10, 15]));
     /// ```
-    pub fn range<Q: KeyOf<T>>(&self, range: (Bound<&Q>, Bound<&Q>)) -> Iter<'_, T>
-        requires { IsTrue (are_ordered Q.cmp (bound_map (λ v. v.now) range.0)
-            (bound_map (λ v. v.now) range.1)) }
-        ensures rest { result ≡ range_by_key Q.cmp Q.key (joined self.now.nodes)
-            (bound_map (λ v. v.now) range.entry.0) (bound_map (λ v. v.now) range.entry.1) }
+    pub fn range<Q: KeyOf<T>, R: Bounds<Q> + Drop>(&self, range: R) -> Iter<'_, T>
+        requires { IsTrue (are_ordered Q.cmp (R.start range) (R.end range)) }
+        ensures rest { result ≡ range_by_key Q.cmp Q.key (joined self.now.nodes) (R.start range)
+            (R.end range) }
         ensures runs { ShowsInOrder (deref {X = T}) }
         ensures runs_back { ShowsInReverse (deref {X = T}) }
+    {
+        self.within((range.start_bound(), range.end_bound()))
+    }
+
+    // Returns the same for two bounds.
+    fn within<Q: KeyOf<T>>(&self, range: (Bound<&Q>, Bound<&Q>)) -> Iter<'_, T>
+        requires { IsTrue (are_ordered Q.cmp (bound_map (λ v. v.now) range.0)
+            (bound_map (λ v. v.now) range.1)) }
+        ensures { result ≡ range_by_key Q.cmp Q.key (joined self.now.nodes)
+            (bound_map (λ v. v.now) range.entry.0) (bound_map (λ v. v.now) range.entry.1) }
     {
         let nodes = self.nodes.as_slice();
         let from = place_from::<T, Vec<T>, ReadVec, ByKeyOf<'_, Q>>(

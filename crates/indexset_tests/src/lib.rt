@@ -25,6 +25,8 @@ mod probe;
 #[cfg(test)]
 mod program;
 #[cfg(test)]
+mod range_forms;
+#[cfg(test)]
 mod refusal;
 #[cfg(test)]
 mod set;

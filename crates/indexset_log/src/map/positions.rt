@@ -19,6 +19,7 @@ use crate::set::range;
 use indexset_core::node::NodeLike;
 use indexset_core::pair::Pair;
 use indexset_core::probe::Probe;
+use indexset_set::Positions;
 use std::ops::Bound;
 
 impl<K: Ord + Clone + Drop, V: Clone + Drop, Node: NodeLike<Pair<K, V>>> BTreeMap<K, V, Node> {
@@ -157,11 +158,12 @@ impl<K: Ord + Clone + Drop, V: Clone + Drop, Node: NodeLike<Pair<K, V>>> BTreeMa
     /// for key in [5, 10, 15] {
     ///     tree.insert(key, key * 10)?;
     /// }
-    /// let page = tree.range_idx((Bound::Included(1), Bound::Unbounded));
+    /// let page = tree.range_idx(1..);
     /// assert!(rt; page.eq([(&10, &100), (&15, &150)]));
     /// ```
-    pub fn range_idx(&self, range: (Bound<usize>, Bound<usize>)) -> Range<'_, K, V, Node>
-        ensures rest { result ≡ in_positions (joined self.now.nodes) range.0 range.1 }
+    pub fn range_idx<R: Positions + Drop>(&self, range: R) -> Range<'_, K, V, Node>
+        ensures rest { result ≡ in_positions (joined self.now.nodes) (R.start range)
+            (R.end range) }
         ensures ascending { IsAscending (by_key K.cmp) result }
         ensures runs { ShowsInOrder (pair_shown {K = K} {V = V}) }
         ensures runs_back { ShowsInReverse (pair_shown {K = K} {V = V}) }

@@ -12,6 +12,7 @@ use crate::set::range;
 use indexset_core::node::NodeLike;
 use indexset_core::pair::Pair;
 use indexset_core::probe::ByKey;
+use indexset_set::Bounds;
 use std::ops::Bound;
 
 /// The remaining pairs of a part of a map, from both ends.
@@ -28,16 +29,25 @@ impl<K: Ord + Clone + Drop, V: Clone + Drop, Node: NodeLike<Pair<K, V>>> BTreeMa
     /// for key in [5, 10, 15, 20] {
     ///     tree.insert(key, 0)?;
     /// }
-    /// let teens = tree.range((Bound::Included(&10), Bound::Excluded(&20)));
+    /// let teens = tree.range(10..20);
     /// assert!(rt; teens.map(|(key, _)| *key).eq([10, 15]));
     /// ```
-    pub fn range(&self, range: (Bound<&K>, Bound<&K>)) -> Range<'_, K, V, Node>
-        requires { IsTrue (are_ordered K.cmp (bound_map (λ k. k.now) range.0)
-            (bound_map (λ k. k.now) range.1)) }
-        ensures rest { result ≡ pairs_within K.cmp (joined self.now.nodes)
-            (bound_map (λ k. k.now) range.entry.0) (bound_map (λ k. k.now) range.entry.1) }
+    pub fn range<R: Bounds<K> + Drop>(&self, range: R) -> Range<'_, K, V, Node>
+        requires { IsTrue (are_ordered K.cmp (R.start range) (R.end range)) }
+        ensures rest { result ≡ pairs_within K.cmp (joined self.now.nodes) (R.start range)
+            (R.end range) }
         ensures runs { ShowsInOrder (pair_shown {K = K} {V = V}) }
         ensures runs_back { ShowsInReverse (pair_shown {K = K} {V = V}) }
+    {
+        self.within((range.start_bound(), range.end_bound()))
+    }
+
+    // Returns the same for two bounds.
+    fn within(&self, range: (Bound<&K>, Bound<&K>)) -> Range<'_, K, V, Node>
+        requires { IsTrue (are_ordered K.cmp (bound_map (λ k. k.now) range.0)
+            (bound_map (λ k. k.now) range.1)) }
+        ensures { result ≡ pairs_within K.cmp (joined self.now.nodes)
+            (bound_map (λ k. k.now) range.entry.0) (bound_map (λ k. k.now) range.entry.1) }
     {
         // The contract of `node_count` says that the pairs ascend, so the range is what lies
         // between the two places.

@@ -17,6 +17,7 @@ use super::range::Range;
 use indexset_core::node::NodeLike;
 use indexset_core::positions::{end_position, first_position};
 use indexset_core::probe::Probe;
+use indexset_set::Positions;
 use std::ops::Bound;
 
 impl<T: Ord + Clone + Drop, Node: NodeLike<T>> BTreeSet<T, Node> {
@@ -145,17 +146,18 @@ impl<T: Ord + Clone + Drop, Node: NodeLike<T>> BTreeSet<T, Node> {
     /// for number in [5, 10, 15, 20, 25] {
     ///     set.insert(number)?;
     /// }
-    /// let page = set.range_idx((Bound::Included(2), Bound::Excluded(4)));
+    /// let page = set.range_idx(2..4);
     /// assert!(rt; page.copied().eq([15, 20]));
     /// ```
-    pub fn range_idx(&self, range: (Bound<usize>, Bound<usize>)) -> Range<'_, T, Node>
-        ensures rest { result ≡ in_positions (joined self.now.nodes) range.0 range.1 }
+    pub fn range_idx<R: Positions + Drop>(&self, range: R) -> Range<'_, T, Node>
+        ensures rest { result ≡ in_positions (joined self.now.nodes) (R.start range)
+            (R.end range) }
         ensures ascending { IsAscending T.cmp result }
         ensures runs { ShowsInOrder (deref {X = T}) }
         ensures runs_back { ShowsInReverse (deref {X = T}) }
     {
-        let to = end_position(range.1, self.len);
-        let from = first_position(range.0, self.len).min(to);
+        let to = end_position(range.end_bound(), self.len);
+        let from = first_position(range.start_bound(), self.len).min(to);
         self.range_between(self.place_after(from), self.place_after(to))
     }
 

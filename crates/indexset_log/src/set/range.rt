@@ -19,6 +19,7 @@ use indexset_core::node::NodeLike;
 use indexset_core::probe::{ByItem, Probe};
 use indexset_core::search::first_not_less_near;
 use indexset_core::walk::ReadAny;
+use indexset_set::Bounds;
 use std::iter::FusedIterator;
 use std::marker::Model;
 use std::ops::Bound;
@@ -39,11 +40,9 @@ impl<'a, T: Ord + Clone + Drop, Node: NodeLike<T>> Model for Range<'a, T, Node> 
 
 impl<'a, T: Ord + Clone + Drop, Node: NodeLike<T>> Range<'a, T, Node> {
     /// Returns the items of a set that satisfy both bounds, as the set's `range` has them.
-    pub fn new(set: &'a BTreeSet<T, Node>, range: (Bound<&T>, Bound<&T>)) -> Self
-        requires { IsTrue (are_ordered T.cmp (bound_map (λ v. v.now) range.0)
-            (bound_map (λ v. v.now) range.1)) }
-        ensures rest { result ≡ in_range T.cmp (joined set.now.nodes)
-            (bound_map (λ v. v.now) range.entry.0) (bound_map (λ v. v.now) range.entry.1) }
+    pub fn new<R: Bounds<T> + Drop>(set: &'a BTreeSet<T, Node>, range: R) -> Self
+        requires { IsTrue (are_ordered T.cmp (R.start range) (R.end range)) }
+        ensures rest { result ≡ in_range T.cmp (joined set.now.nodes) (R.start range) (R.end range) }
         ensures runs { ShowsInOrder (deref {X = T}) }
         ensures runs_back { ShowsInReverse (deref {X = T}) }
     {
@@ -97,16 +96,24 @@ impl<T: Ord + Clone + Drop, Node: NodeLike<T>> BTreeSet<T, Node> {
     /// for number in [5, 10, 15] {
     ///     tree.insert(number)?;
     /// }
-    /// let upper = tree.range((Bound::Included(&10), Bound::Unbounded));
-    /// assert!(rt; upper.copied().eq([10, 15]));
+    /// assert!(rt; tree.range(10..).copied().eq([10, 15]) && tree.range(..=10).len() == 2);
     /// ```
-    pub fn range(&self, range: (Bound<&T>, Bound<&T>)) -> Range<'_, T, Node>
-        requires { IsTrue (are_ordered T.cmp (bound_map (λ v. v.now) range.0)
-            (bound_map (λ v. v.now) range.1)) }
-        ensures rest { result ≡ in_range T.cmp (joined self.now.nodes)
-            (bound_map (λ v. v.now) range.entry.0) (bound_map (λ v. v.now) range.entry.1) }
+    pub fn range<R: Bounds<T> + Drop>(&self, range: R) -> Range<'_, T, Node>
+        requires { IsTrue (are_ordered T.cmp (R.start range) (R.end range)) }
+        ensures rest { result ≡ in_range T.cmp (joined self.now.nodes) (R.start range)
+            (R.end range) }
         ensures runs { ShowsInOrder (deref {X = T}) }
         ensures runs_back { ShowsInReverse (deref {X = T}) }
+    {
+        self.within((range.start_bound(), range.end_bound()))
+    }
+
+    // Returns the same for two bounds.
+    fn within(&self, range: (Bound<&T>, Bound<&T>)) -> Range<'_, T, Node>
+        requires { IsTrue (are_ordered T.cmp (bound_map (λ v. v.now) range.0)
+            (bound_map (λ v. v.now) range.1)) }
+        ensures { result ≡ in_range T.cmp (joined self.now.nodes)
+            (bound_map (λ v. v.now) range.entry.0) (bound_map (λ v. v.now) range.entry.1) }
     {
         // The nodes are lawful, so their items ascend.
         let _nodes = &self.nodes;

@@ -7,6 +7,7 @@ ghost use Rattle.indexset_log.specs.Made.{outside, without_range};
 
 use super::BTreeSet;
 use indexset_core::walk::ReadVec;
+use indexset_set::Bounds;
 use std::ops::Bound;
 
 impl<T: Ord + Clone + Drop> BTreeSet<T, Vec<T>> {
@@ -16,19 +17,19 @@ impl<T: Ord + Clone + Drop> BTreeSet<T, Vec<T>> {
     ///
     /// ```
     /// let mut tree: set::BTreeSet<u64, Vec<u64>> = set::BTreeSet::from_iter(alloc, [5, 10, 15])?;
-    /// tree.remove_range((Bound::Included(&10), Bound::Unbounded));
+    /// tree.remove_range(10..);
     /// assert!(rt; tree.iter().copied().eq([5]));
     /// ```
-    pub fn remove_range(&mut self, range: (Bound<&T>, Bound<&T>))
-        ensures nodes { self.new.nodes ≡ without_range T.cmp self.old.nodes
-            (bound_map (λ v. v.now) range.entry.0) (bound_map (λ v. v.now) range.entry.1) }
-        ensures contents { joined self.new.nodes ≡ outside T.cmp
-            (bound_map (λ v. v.now) range.entry.0) (bound_map (λ v. v.now) range.entry.1)
+    pub fn remove_range<R: Bounds<T> + Drop>(&mut self, range: R)
+        ensures nodes { self.new.nodes ≡ without_range T.cmp self.old.nodes (R.start range)
+            (R.end range) }
+        ensures contents { joined self.new.nodes ≡ outside T.cmp (R.start range) (R.end range)
             (joined self.old.nodes) }
         ensures size { self.new.size ≡ self.old.size }
         ensures next { self.new.next ≡ self.old.next }
     {
-        self.len = remove_within(self.nodes.as_mut_slice(), range);
+        let bounds = (range.start_bound(), range.end_bound());
+        self.len = remove_within(self.nodes.as_mut_slice(), bounds);
         self.nodes.retain(|node| !node.is_empty());
         // There is room for as many lengths as there were, and their sum fits.
         let _count = self.index.len();

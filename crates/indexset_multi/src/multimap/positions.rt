@@ -16,7 +16,7 @@ use indexset_core::multipair::MultiPair;
 use indexset_core::node::NodeLike;
 use indexset_core::refusal::Refusal;
 use indexset_events::change::ChangeEvent;
-use std::ops::Bound;
+use indexset_set::Positions;
 
 impl<K: Ord + Clone + Drop, V: Eq + Clone + Drop, Node: NodeLike<MultiPair<K, V>>> BTreeMultiMap<
     K,
@@ -105,11 +105,12 @@ impl<K: Ord + Clone + Drop, V: Eq + Clone + Drop, Node: NodeLike<MultiPair<K, V>
     /// for (tag, document) in [(1, 100), (1, 101), (2, 100)] {
     ///     tags.insert(tag, document)?;
     /// }
-    /// let page = tags.range_idx((Bound::Included(1), Bound::Unbounded));
+    /// let page = tags.range_idx(1..);
     /// assert!(rt; page.eq([(&1, &101), (&2, &100)]));
     /// ```
-    pub fn range_idx(&self, range: (Bound<usize>, Bound<usize>)) -> Range<'_, K, V, Node>
-        ensures rest { result ≡ entries (in_positions (joined self.now.nodes) range.0 range.1) }
+    pub fn range_idx<R: Positions + Drop>(&self, range: R) -> Range<'_, K, V, Node>
+        ensures rest { result ≡ entries (in_positions (joined self.now.nodes) (R.start range)
+            (R.end range)) }
         ensures runs { ShowsInOrder (pair_shown {K = K} {V = V}) }
         ensures runs_back { ShowsInReverse (pair_shown {K = K} {V = V}) }
     {

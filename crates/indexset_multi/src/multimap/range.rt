@@ -17,6 +17,7 @@ use indexset_core::multipair::MultiPair;
 use indexset_core::node::NodeLike;
 use indexset_core::probe::ByKey;
 use indexset_log::set::range;
+use indexset_set::Bounds;
 use std::iter::FusedIterator;
 use std::marker::Model;
 use std::ops::Bound;
@@ -214,19 +215,18 @@ impl<K: Ord + Clone + Drop, V: Eq + Clone + Drop, Node: NodeLike<MultiPair<K, V>
     /// for (tag, document) in [(5, 1), (10, 1), (10, 2), (20, 1)] {
     ///     tags.insert(tag, document)?;
     /// }
-    /// let teens = tags.range((Bound::Included(&10), Bound::Excluded(&20)));
+    /// let teens = tags.range(10..20);
     /// assert!(rt; teens.eq([(&10, &1), (&10, &2)]));
     /// ```
-    pub fn range(&self, range: (Bound<&K>, Bound<&K>)) -> Range<'_, K, V, Node>
-        requires { IsTrue (are_ordered K.cmp (bound_map (λ k. k.now) range.0)
-            (bound_map (λ k. k.now) range.1)) }
+    pub fn range<R: Bounds<K> + Drop>(&self, range: R) -> Range<'_, K, V, Node>
+        requires { IsTrue (are_ordered K.cmp (R.start range) (R.end range)) }
         ensures rest { result ≡ entries (pairs_between K.cmp (joined self.now.nodes)
-            (bound_map (λ k. k.now) range.entry.0) (bound_map (λ k. k.now) range.entry.1)) }
+            (R.start range) (R.end range)) }
         ensures runs { ShowsInOrder (pair_shown {K = K} {V = V}) }
         ensures runs_back { ShowsInReverse (pair_shown {K = K} {V = V}) }
     {
         Range {
-            rest: self.pairs_between(range),
+            rest: self.pairs_between((range.start_bound(), range.end_bound())),
         }
     }
 

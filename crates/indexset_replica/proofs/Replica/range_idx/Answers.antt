@@ -10,10 +10,10 @@ pub returns-clause-rest : goal.returns-clause-rest
 returns-clause-rest g c =
     let l = joined c.args.self.now.nodes in
     let same : vec_items c.as_slice-nodes.result.now ≡ c.args.self.now.nodes = ap (λ vs. vec_items vs) c.as_slice-nodes.ensures.value ∙ ap (λ t. t.nodes) c.self.view_is in
-    let to = rw c.len-len.ensures at c.end_position-to.ensures in
-    let from = c.min-from.ensures ∙ ap (λ n. min n c.end_position-to.result) (rw c.len-len.ensures at c.first_position.ensures) in
+    let to = rw (c.len-len.ensures, c.end_bound.ensures) at c.end_position-to.ensures in
+    let from = c.min-from.ensures ∙ ap (λ n. min n c.end_position-to.result) (rw (c.len-len.ensures, c.start_bound.ensures) at c.first_position.ensures) in
     rw (c.place_after.ensures.before, c.place_after-2.ensures.before, same) at c.between.ensures
-    ∙ clipped l (start_index c.args.range.0) (end_index c.args.range.1 (length l)) c.min-from.result c.end_position-to.result to from
+    ∙ clipped l (start_index (g.R.Positions.start c.args.range)) (end_index (g.R.Positions.end c.args.range) (length l)) c.min-from.result c.end_position-to.result to from
 
 pub returns-clause-runs : goal.returns-clause-runs
 returns-clause-runs g c = shows_in_order deref

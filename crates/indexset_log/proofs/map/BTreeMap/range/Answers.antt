@@ -1,15 +1,5 @@
-use Rattle.std.proofs.Common.{◌≡◌, ◌≤◌, ◌∙◌}
-use Rattle.std.specs.List.{between}
-use Rattle.std.specs.Range.Bound.{bound_map}
 use Rattle.std_collections.proofs.IterRuns.{shows_in_order, shows_in_reverse}
-use Rattle.indexset_core.specs.Nodes.{joined}
-use Rattle.indexset_core.specs.Pairs.{by_key, pair_shown, pairs_within}
-use Rattle.indexset_core.proofs.CallerLemmas.{each_bounded, key_range_is, key_range_order, probed_before, probed_up_to}
-use Rattle.indexset_core.specs.Places.{items_before}
-use Rattle.indexset_log.proofs.Keys.{parted_keys}
-use Rattle.indexset_events.proofs.CallerLemmas.{lawful_ascends}
-use Rattle.indexset_log.proofs.map.BTreeMap.range.Given.{Over}
-use Rattle.indexset_log.proofs.map.BTreeMap.range.Goals.{After-place_to-to}
+use Rattle.indexset_core.specs.Pairs.{pair_shown}
 use Rattle.indexset_log.proofs.map.BTreeMap.range.Goals as goal
 
 pub returns-clause-runs : goal.returns-clause-runs
@@ -17,25 +7,3 @@ returns-clause-runs g c = shows_in_order pair_shown
 
 pub returns-clause-runs_back : goal.returns-clause-runs_back
 returns-clause-runs_back g c = shows_in_reverse pair_shown
-
--- the two places cut out the range
-cut : (g : Over) (c : After-place_to-to g) → let i = items_before c.self.inside.set.nodes c.place_from-from.result in let j = items_before c.self.inside.set.nodes c.place_to-to.result in let l = joined c.self.inside.set.nodes in (i ≤ j) × (between i j l ≡ pairs_within g.K.Ord.cmp l (bound_map (λ k. k.now) c.args.range.0) (bound_map (λ k. k.now) c.args.range.1))
-cut g c =
-    let cmp = g.K.Ord.cmp in
-    let l = joined c.self.inside.set.nodes in
-    let up = lawful_ascends (by_key cmp) c.self.inside.set.size c.self.inside.set.nodes c.node_count-nodes.ensures.lawful in
-    let from = c.place_from-from.ensures.before ∙ probed_before cmp (λ k. k.now) (λ x. x.key) l c.args.range.0 c.map.result c.map.ensures in
-    let to = c.place_to-to.ensures.before ∙ probed_up_to cmp (λ k. k.now) (λ x. x.key) l c.args.range.1 c.map-2.result c.map-2.ensures in
-    (key_range_order cmp g.met.K.Ord.total l up _ _ c.requires _ _ from to, key_range_is cmp g.met.K.Ord.total l up _ _ c.requires _ _ from to)
-
-pub place_from-from-requires : goal.place_from-from-requires
-place_from-from-requires g c = each_bounded _ (λ p. parted_keys g.met.K.Ord.total c.node_count-nodes.ensures.lawful p.0) c.map.result
-
-pub place_to-to-requires : goal.place_to-to-requires
-place_to-to-requires g c = each_bounded _ (λ p. parted_keys g.met.K.Ord.total c.node_count-nodes.ensures.lawful p.0) c.map-2.result
-
-pub range_between-requires-clause-order : goal.range_between-requires-clause-order
-range_between-requires-clause-order g c = (cut g c).0
-
-pub returns-clause-rest : goal.returns-clause-rest
-returns-clause-rest g c = c.rest.view_is ∙ rw (← c.self.view_is) (c.range_between.ensures.rest ∙ (cut g (goal.at.returns-clause-rest g c).After-place_to-to).1)

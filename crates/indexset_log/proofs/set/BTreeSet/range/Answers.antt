@@ -1,39 +1,9 @@
-use Rattle.std.proofs.Common.{◌≡◌, ◌≤◌, ◌∙◌}
-use Rattle.std.specs.List.{between}
-use Rattle.std.specs.Range.Bound.{bound_map}
-use Rattle.indexset_core.specs.Bounds.{in_range}
-use Rattle.indexset_core.specs.Nodes.{joined}
-use Rattle.indexset_core.proofs.CallerLemmas.{each_bounded, probed_before, probed_up_to, range_order, range_is}
-use Rattle.indexset_core.specs.Places.{items_before}
-use Rattle.indexset_log.proofs.Trees.{held}
-use Rattle.indexset_events.proofs.CallerLemmas.{lawful_ascends, lawful_parted}
-use Rattle.indexset_log.proofs.set.BTreeSet.range.Given.{Over}
-use Rattle.indexset_log.proofs.set.BTreeSet.range.Goals.{After-place_to-to}
+use Rattle.std.specs.Map.Iter.{deref}
+use Rattle.std_collections.proofs.IterRuns.{shows_in_order, shows_in_reverse}
 use Rattle.indexset_log.proofs.set.BTreeSet.range.Goals as goal
 
--- the two places cut out the range
-cut : (g : Over) (c : After-place_to-to g) → let i = items_before c.args.self.now.nodes c.place_from-from.result in let j = items_before c.args.self.now.nodes c.place_to-to.result in let l = joined c.args.self.now.nodes in (i ≤ j) × (between i j l ≡ in_range g.T.Ord.cmp l (bound_map (λ v. v.now) c.args.range.0) (bound_map (λ v. v.now) c.args.range.1))
-cut g c =
-    let cmp = g.T.Ord.cmp in
-    let l = joined c.args.self.now.nodes in
-    let t = held g.Node.NodeLike.list c.self.inside.nodes.items c.self.view_is c.self.invariant in
-    let up = lawful_ascends cmp c.args.self.now.size c.args.self.now.nodes t.rule.lawful in
-    let from = c.place_from-from.ensures.before ∙ probed_before cmp (λ v. v.now) (λ x. x) l c.args.range.0 c.map.result c.map.ensures in
-    let to = c.place_to-to.ensures.before ∙ probed_up_to cmp (λ v. v.now) (λ x. x) l c.args.range.1 c.map-2.result c.map-2.ensures in
-    (range_order cmp g.met.T.Ord.total l up _ _ c.requires _ _ from to, range_is cmp g.met.T.Ord.total l up _ _ c.requires _ _ from to)
+pub returns-clause-runs : goal.returns-clause-runs
+returns-clause-runs g c = shows_in_order deref
 
-pub place_from-from-requires : goal.place_from-from-requires
-place_from-from-requires g c =
-    let t = held g.Node.NodeLike.list c.self.inside.nodes.items c.self.view_is c.self.invariant in
-    each_bounded _ (λ p. lawful_parted g.T.Ord.cmp c.args.self.now.size c.args.self.now.nodes t.rule.lawful g.met.T.Ord.total p.0) c.map.result
-
-pub place_to-to-requires : goal.place_to-to-requires
-place_to-to-requires g c =
-    let t = held g.Node.NodeLike.list c.self.inside.nodes.items c.self.view_is c.self.invariant in
-    each_bounded _ (λ p. lawful_parted g.T.Ord.cmp c.args.self.now.size c.args.self.now.nodes t.rule.lawful g.met.T.Ord.total p.0) c.map-2.result
-
-pub range_between-requires-clause-order : goal.range_between-requires-clause-order
-range_between-requires-clause-order g c = (cut g c).0
-
-pub returns-clause-rest : goal.returns-clause-rest
-returns-clause-rest g c = c.range_between.ensures.rest ∙ (cut g (goal.at.returns-clause-rest g c).After-place_to-to).1
+pub returns-clause-runs_back : goal.returns-clause-runs_back
+returns-clause-runs_back g c = shows_in_reverse deref

@@ -1,8 +1,7 @@
-use Rattle.std.proofs.Common.{◌≡◌, ◌==◌, Bool, not, map, filter, length, sum, vec_len, Vec, Global, Bor, rules, arith, ap, sym, ◌∙◌}
+use Rattle.std.proofs.Common.{◌≡◌, ◌==◌, Bool, not, map, filter, length, sum, vec_len, Vec, Global, rules, arith, ap, sym, ◌∙◌}
 use Rattle.std.proofs.lemmas.Fn.{filter_same}
 use Rattle.std.proofs.lemmas.List.{with_items_is}
 use Rattle.std.proofs.lemmas.List.Sums.{count_by-le-length, length-filter}
-use Rattle.std.specs.Range.Bound.{bound_map}
 use Rattle.indexset_core.specs.Bounds.{is_within}
 use Rattle.indexset_core.specs.Nodes.{joined}
 use Rattle.indexset_core.proofs.CallerLemmas.{length-joined}
@@ -18,44 +17,44 @@ pub remove_within-self-inside-requires : goal.remove_within-self-inside-requires
 remove_within-self-inside-requires g c = rw c.as_mut_slice.ensures.value (omega (arith, c.self.invariant.tree.counted))
 
 -- the nodes that are left
-left : (g : Over) (c : After-retain g) → map (λ (v : Vec g.row.T.Denot Global). v.items) c.retain.new.self.items ≡ without_range g.T.Ord.cmp (map (λ v. v.items) c.self.inside.nodes.items) (bound_map (λ (v : Bor g.row.T.Denot). v.now) c.args.range.0) (bound_map (λ (v : Bor g.row.T.Denot). v.now) c.args.range.1)
+left : (g : Over) (c : After-retain g) → map (λ (v : Vec g.row.T.Denot Global). v.items) c.retain.new.self.items ≡ without_range g.T.Ord.cmp (map (λ v. v.items) c.self.inside.nodes.items) (g.R.Bounds.start c.args.range) (g.R.Bounds.end c.args.range)
 left g c =
     let asked = c.remove_within-self-inside in
     let written = with_items_is c.self.inside.nodes asked.new.nodes (omega (arith, c.as_mut_slice.ensures.len)) in
     let kept : c.retain.new.self.items ≡ filter (λ v. not (vec_len v == 0)) asked.new.nodes = filter_same _ (λ v. not (vec_len v == 0)) _ (λ x b f2 k. search rules) _ _ c.retain.ensures.filtered ∙ ap (λ q. filter (λ v. not (vec_len v == 0)) q) written in
-    ap (λ q. map (λ (v : Vec g.row.T.Denot Global). v.items) q) kept ∙ (filled-map (λ v. v.items) (λ v. not (vec_len v == 0)) (λ v. has_items (vec_len v) v.items (omega (arith, v.ok))) asked.new.nodes ∙ ap (filter is_filled) (rw c.as_mut_slice.ensures.value at asked.ensures.nodes))
+    ap (λ q. map (λ (v : Vec g.row.T.Denot Global). v.items) q) kept ∙ (filled-map (λ v. v.items) (λ v. not (vec_len v == 0)) (λ v. has_items (vec_len v) v.items (omega (arith, v.ok))) asked.new.nodes ∙ ap (filter is_filled) (rw (c.as_mut_slice.ensures.value, c.start_bound.ensures, c.end_bound.ensures) at asked.ensures.nodes))
 
 pub invariant_of-self : goal.invariant_of-self
 invariant_of-self g c =
     let asked = c.remove_within-self-inside in
     let held = map (λ (v : Vec g.row.T.Denot Global). v.items) c.self.inside.nodes.items in
-    let start = bound_map (λ (v : Bor g.row.T.Denot). v.now) c.args.range.0 in
-    let end = bound_map (λ (v : Bor g.row.T.Denot). v.now) c.args.range.1 in
+    let start = g.R.Bounds.start c.args.range in
+    let end = g.R.Bounds.end c.args.range in
     let tree : IsTree g.T.Ord.cmp _ (without_range g.T.Ord.cmp held start end) c.self.inside.size asked.result =
     record {
       lawful = ranged_lawful g.T.Ord.cmp (λ x. not (is_within g.T.Ord.cmp start end x)) c.self.inside.size held c.self.invariant.tree.lawful;
       two = c.self.invariant.tree.two;
       within = c.self.invariant.tree.within;
-      counted = asked.ensures.count ∙ ap (λ q. length q) (ap joined (rw c.as_mut_slice.ensures.value at asked.ensures.nodes) ∙ sym (joined_filled (map (outside g.T.Ord.cmp start end) held)));
+      counted = asked.ensures.count ∙ ap (λ q. length q) (ap joined (rw (c.as_mut_slice.ensures.value, c.start_bound.ensures, c.end_bound.ensures) at asked.ensures.nodes) ∙ sym (joined_filled (map (outside g.T.Ord.cmp start end) held)));
     } in
     record { tree = rw (left g (goal.at.invariant_of-self g c).After-retain) tree; index_is = rw c.as_slice.ensures.value at c.rebuild.ensures.lengths }
 
 pub rebuild-requires-clause-fits : goal.rebuild-requires-clause-fits
 rebuild-requires-clause-fits g c =
     let held = map (λ (v : Vec g.row.T.Denot Global). v.items) c.self.inside.nodes.items in
-    let start = bound_map (λ (v : Bor g.row.T.Denot). v.now) c.args.range.0 in
-    let end = bound_map (λ (v : Bor g.row.T.Denot). v.now) c.args.range.1 in
+    let start = g.R.Bounds.start c.args.range in
+    let end = g.R.Bounds.end c.args.range in
     let keep : g.row.T.Denot → Bool = λ x. not (is_within g.T.Ord.cmp start end x) in
     let kept = ap joined (left g (goal.at.rebuild-requires-clause-fits g c).After-retain) ∙ (joined_filled (map (outside g.T.Ord.cmp start end) held) ∙ joined-filter keep held) in
     rw c.as_slice.ensures.value (omega (arith, ap (λ l. length l) kept, length-filter keep (joined held), count_by-le-length keep (joined held), c.len-count.ensures.fits, ap sum c.self.invariant.index_is, length-joined held, length-joined (map (λ (v : Vec g.row.T.Denot Global). v.items) c.retain.new.self.items)))
 
 pub returns-clause-nodes : goal.returns-clause-nodes
 returns-clause-nodes g c =
-    left g (goal.at.returns-clause-nodes g c).After-retain ∙ ap (λ t. without_range g.T.Ord.cmp t.nodes (bound_map (λ (v : Bor g.row.T.Denot). v.now) c.args.range.0) (bound_map (λ (v : Bor g.row.T.Denot). v.now) c.args.range.1)) c.self.view_is
+    left g (goal.at.returns-clause-nodes g c).After-retain ∙ ap (λ t. without_range g.T.Ord.cmp t.nodes (g.R.Bounds.start c.args.range) (g.R.Bounds.end c.args.range)) c.self.view_is
 
 pub returns-clause-contents : goal.returns-clause-contents
 returns-clause-contents g c =
-    let start = bound_map (λ (v : Bor g.row.T.Denot). v.now) c.args.range.0 in
-    let end = bound_map (λ (v : Bor g.row.T.Denot). v.now) c.args.range.1 in
+    let start = g.R.Bounds.start c.args.range in
+    let end = g.R.Bounds.end c.args.range in
     let keep : g.row.T.Denot → Bool = λ x. not (is_within g.T.Ord.cmp start end x) in
     ap joined (returns-clause-nodes g c) ∙ (joined_filled (map (outside g.T.Ord.cmp start end) c.args.self.now.nodes) ∙ joined-filter keep c.args.self.now.nodes)
