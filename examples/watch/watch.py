@@ -141,9 +141,9 @@ class Watch:
             if is_seen:
                 self.tell("sent", to=store.name, n=number(event), **dataclasses.asdict(sent))
 
-    def send_again(self, store: Shown) -> None:
-        """Sends some events of the file from the one on that a store expects."""
-        for event in (events := self.kept.events[store.next : store.next + AGAIN]):
+    def send_again(self, store: Shown, end: int) -> None:
+        """Sends some events of the file, from the one that a store expects to an end."""
+        for event in (events := self.kept.events[store.next : min(store.next + AGAIN, end)]):
             self.send(store, event, "again")
         store.asked_to, store.asked_until = store.next + len(events), store.channel.free + FLIGHT
 
@@ -152,14 +152,14 @@ class Watch:
         lines = store.channel.arrived(now, BATCH)
         for reply in store.take(lines) if lines else []:
             store.last_reply = reply.decode()
-            word, _, awaited = store.last_reply.partition(" ")
+            word, *numbers = store.last_reply.split(" ")
             store.replies[word] += 1
             if word in ("next", "gap"):
-                store.next = int(awaited)
+                store.next = int(numbers[0])
                 is_quiet = not store.channel.flight
                 is_due = is_quiet or store.next >= store.asked_to or now >= store.asked_until
                 if is_due and (word == "gap" or is_quiet and store.next < self.kept.head):
-                    self.send_again(store)
+                    self.send_again(store, int(numbers[-1]) if numbers[1:] else self.kept.head)
             store.is_unfit |= word == "unfit"
         if lines:
             self.tell("reply", who=store.name, reply=store.last_reply)
