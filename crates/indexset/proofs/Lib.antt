@@ -1,1 +1,4 @@
+mod Entries
+mod ListSums
+mod PairSums
 pub mod CallerLemmas

@@ -2,6 +2,7 @@
 //! contract. The program prints what they return.
 #![tactic(auto)]
 
+mod accounts;
 mod change_log;
 mod copies;
 mod counting;

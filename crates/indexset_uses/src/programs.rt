@@ -1,8 +1,9 @@
 //! What the programs in small return: a time window, an order book, a leaderboard, a secondary
-//! index, a map and its copy, standings read from a copy.
+//! index, a map and its copy, standings read from a copy, accounts.
 
 ghost use Rattle.std.specs.Prelude.{◌<◌};
 
+use crate::accounts::{self, Accounts};
 use crate::follower::{self, Primary};
 use crate::leaderboard::{self, Board, Entry};
 use crate::order_book::{self, Book};
@@ -23,7 +24,8 @@ pub fn show(rt: &HostRuntime) -> Result<()> {
     show_leaderboard(rt)?;
     show_index(rt)?;
     show_follower(rt)?;
-    show_standings(rt)
+    show_standings(rt)?;
+    show_accounts(rt)
 }
 
 fn show_window(rt: &HostRuntime) -> Result<()> {
@@ -199,5 +201,19 @@ fn show_ranks(rt: &HostRuntime, ranking: &Ranking) -> Result<()> {
     for entry in standings::page(ranking, 0, 2) {
         println!(rt; "  {} by player {}", entry.key.0, entry.value)?;
     }
+    Ok(())
+}
+
+fn show_accounts(rt: &HostRuntime) -> Result<()> {
+    let mut accounts = BTreeMap::from(rt.alloc(), [(1, 50), (2, 20)])?;
+    play_accounts(rt, &mut accounts)
+}
+
+fn play_accounts(rt: &HostRuntime, accounts: &mut Accounts) -> Result<()> {
+    for amount in [30, 30] {
+        let paid = accounts::transfer(accounts, 1, 2, amount);
+        println!(rt; "paid {amount}: {paid:?}")?;
+    }
+    println!(rt; "balances: {accounts:?}")?;
     Ok(())
 }
