@@ -7,6 +7,7 @@ mod change_log;
 mod copies;
 mod counting;
 mod follower;
+mod idioms;
 mod journal;
 mod leaderboard;
 mod listing;
