@@ -8,6 +8,7 @@ import re
 from collections.abc import Sequence
 
 MOST = 2**64 - 1
+WINDOW = 4096  # unless it is told another
 NUMBER = rb"(0|[1-9][0-9]*)"
 PAIR = rb"(?:0|[1-9][0-9]*):(?:0|[1-9][0-9]*)"
 EVENT = re.compile(
@@ -93,12 +94,14 @@ class Model:
 
     leads = False
 
-    def __init__(self, is_quiet: bool = False) -> None:
+    def __init__(self, is_quiet: bool = False, window: int = WINDOW) -> None:
         self.is_quiet = is_quiet
         self.nodes: list[Node] = []
         self.next = 0
         self.coming: list[Node] | None = None
         self.coming_next = 0
+        self.window = window
+        self.early: dict[int, Event] = {}
 
     def named(self, name: Pair) -> int | None:
         """The place of the node whose last key is that of the name, or None."""
@@ -147,12 +150,16 @@ class Model:
     def event(self, event: Event) -> bytes:
         if event.at < self.next:
             return b"had %d" % self.next
-        if event.at > self.next:
+        if event.at - self.next > self.window:
             return b"gap %d" % self.next
-        nodes = self.step(event)
-        if isinstance(nodes, str):
-            return self.unfit(nodes)
-        self.nodes, self.next = nodes, self.next + 1
+        self.early[event.at] = event
+        if event.at > self.next:
+            return b"gap %d %d" % (self.next, min(self.early))
+        while due := self.early.pop(self.next, None):
+            nodes = self.step(due)
+            if isinstance(nodes, str):
+                return self.unfit(nodes)
+            self.nodes, self.next = nodes, self.next + 1
         return b"next %d" % self.next
 
     def node(self, items: Node) -> bytes:
@@ -178,7 +185,7 @@ class Model:
             return self.unfit("count")
         if told_sum(snapshot(came, self.coming_next)[:-1]) != told:
             return self.unfit("sum")
-        self.nodes, self.next = came, self.coming_next
+        self.nodes, self.next, self.early = came, self.coming_next, {}
         return b"next %d" % self.next
 
     def asked(self, line: bytes) -> bytes | None:

@@ -1,9 +1,11 @@
 #!/usr/bin/env python3
-"""Fuzzes the follower with 100,000 adversarial lines, and compares each answer with that of a model.
+"""Fuzzes the follower with adversarial lines, 100,000 at its window and 10,000 at each of others, and compares each
+answer with that of a model.
 
 The lines are events in turn and out of turn, events with a number, a name, an item, an index or a word
 altered, whole nodes that do not fit, snapshots cut short, requests, and bytes of any kind. The model is
-written from docs/FOLLOWING.md, and shares nothing with the program. Some lines are then cut at every byte:
+written from docs/FOLLOWING.md, and shares nothing with the program. Events of one map come too with losses and
+repeats, in any order. Some lines are then cut at every byte:
 what a last line without its end would be is not done. Lines of megabytes follow, each in a run of its own
 whose memory is bounded.
 
@@ -26,10 +28,11 @@ from collections.abc import Callable
 HERE = pathlib.Path(__file__).resolve().parent
 sys.dont_write_bytecode = True
 sys.path.insert(0, str(HERE.parent.parent / "tools"))
-from answers import MOST, Model, shown, snapshot  # noqa: E402
+from answers import MOST, WINDOW, Model, shown, snapshot  # noqa: E402
 from programs import built  # noqa: E402
 
 LINES = 100_000
+WINDOWS = (0, 1, 5, 64, WINDOW)
 SECONDS = 1200  # for one run, on a busy machine
 Run = Callable[[pathlib.Path, bytes, int], subprocess.CompletedProcess[bytes]]
 
@@ -198,21 +201,63 @@ def kind(answer: bytes) -> str:
     return answer.split(b" ")[0].decode() if answer[:1].isalpha() else "others"
 
 
-def compare(program: pathlib.Path, seed: int) -> Counts:
+def told(program: pathlib.Path, window: int, lines: list[bytes], answers: list[bytes]) -> Counts:
+    """Counts of lines that a follower answers so, and of others."""
+    done = subprocess.run([program, "--window", str(window)], input=joined(lines), capture_output=True, timeout=SECONDS)
+    kinds = collections.Counter(map(kind, answers))
+    print(f"window {window}: " + ", ".join(f"{word} {count}" for word, count in sorted(kinds.items())))
+    if (done.returncode, done.stdout, done.stderr) == (0, joined(answers), b""):
+        return Counts(len(lines), 0)
+    return Counts(agreed(lines, answers, done.stdout.split(b"\n")), 1)
+
+
+def compare(program: pathlib.Path, window: int, count: int, seed: int) -> Counts:
     """Counts of lines whose answer is as the model's, and of others."""
-    model = Model()
+    model = Model(window=window)
     hostile = Hostile(model, seed)
     lines: list[bytes] = []
     answers: list[bytes] = []
-    for _ in range(LINES):
+    for _ in range(count):
         lines.append(hostile.given())
         answers.append(model.answer(lines[-1]))
-    done = subprocess.run([program], input=joined(lines), capture_output=True, timeout=SECONDS)
-    kinds = collections.Counter(map(kind, answers))
-    print(", ".join(f"{word} {count}" for word, count in sorted(kinds.items())))
-    if (done.returncode, done.stdout, done.stderr) == (0, joined(answers), b""):
-        return Counts(LINES, 0)
-    return Counts(agreed(lines, answers, done.stdout.split(b"\n")), 1)
+    return told(program, window, lines, answers)
+
+
+def of_one_map(count: int, seed: int) -> list[bytes]:
+    """Events of one map, in their order."""
+    model = Model()
+    hostile = Hostile(model, seed)
+    events: list[bytes] = []
+    while len(events) < count:
+        line = b"%d %b" % (model.next, hostile.likely())
+        if model.answer(line).startswith(b"next"):
+            events.append(line)
+    return events
+
+
+def disordered(program: pathlib.Path, window: int, count: int, seed: int) -> Counts:
+    """The counts of events of one map that are lost, come again and come in any order. The awaited event must be the
+    first that never came within the window."""
+    events, chance, model = of_one_map(count, seed), random.Random(seed), Model(window=window)
+    lines: list[bytes] = []
+    answers: list[bytes] = []
+    came: set[int] = set()
+    first = 0
+    while len(lines) < count and model.next < len(events):
+        ahead = chance.choice([0, 0, 1, 2, chance.randrange(9), chance.randrange(window + 3), -chance.randrange(9)])
+        at = min(max(model.next + ahead, 0), len(events) - 1)
+        if at - model.next <= window:
+            came.add(at)
+        while first in came:
+            first += 1
+        lines.append(events[at])
+        answers.append(model.answer(lines[-1]))
+        if model.next != first:
+            print(f"window {window}: event {model.next} is awaited, and {first} is the first that never came")
+            return Counts(len(lines) - 1, 1)
+    lines.append(b"sum")
+    answers.append(model.answer(lines[-1]))
+    return told(program, window, lines, answers)
 
 
 def long_lines(program: pathlib.Path, run: Run) -> Counts:
@@ -259,7 +304,9 @@ def main() -> int:
     given = ask.parse_args()
     program = built("indexset_store")
     lines = (HERE.parent / "faults" / "follower_lines").read_bytes()
-    counts = [compare(program, given.seed), cuts(program, lines, [], Model), long_lines(program, sanitized if given.sanitized else limited)]
+    counts = [compare(program, window, LINES if window == WINDOW else LINES // 10, given.seed) for window in WINDOWS]
+    counts += [disordered(program, window, LINES // len(WINDOWS), given.seed + window) for window in WINDOWS]
+    counts += [cuts(program, lines, [], Model), long_lines(program, sanitized if given.sanitized else limited)]
     passed, failed = sum(it.passed for it in counts), sum(it.failed for it in counts)
     print(f"{passed} passed, {failed} failed")
     return 1 if failed else 0

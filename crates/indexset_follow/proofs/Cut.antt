@@ -14,33 +14,33 @@ unfolding left_by
 lines_held h [] = refl
 lines_held h (line ∷ lines) = lines_held (after_input h line) lines
 
-module _ (size : ℕ) (leads : Bool) (whole : List ℕ) (is_whole : IsWhole whole) where
+module _ (size w : ℕ) (leads : Bool) (whole : List ℕ) (is_whole : IsWhole whole) where
   abbrev first : Held
-  first = first_held size leads
+  first = first_held size w leads
 
   abbrev bare : List (List ℕ)
   bare = map without_return (lines_of whole)
 
-  pub all_held : store_after size leads whole ≡ held_after first bare
-  all_held = ap (store_after size leads) (sym (append-nil whole)) ∙ ap (λ ls. held_after first (map without_return ls)) (whole_lines-append [] (All-nil (λ x. x ≢ 10)) whole is_whole)
+  pub all_held : store_after size w leads whole ≡ held_after first bare
+  all_held = ap (store_after size w leads) (sym (append-nil whole)) ∙ ap (λ ls. held_after first (map without_return ls)) (whole_lines-append [] (All-nil (λ x. x ≢ 10)) whole is_whole)
 
   module _ (rest : List ℕ) (none : HasNoEnd rest) where
-    pub held_whole : store_after size leads (whole ++ rest) ≡ store_after size leads whole
+    pub held_whole : store_after size w leads (whole ++ rest) ≡ store_after size w leads whole
     held_whole = ap (λ ls. held_after first (map without_return ls)) (whole_lines-append rest none whole is_whole) ∙ sym all_held
 
   module _ (v : Voice) where
     abbrev replies : List ℕ
     replies = replies_to (input_reply v) after_input first (lines_of whole)
 
-    answered : (rest : List ℕ) → HasNoEnd rest → store_text v size leads (whole ++ rest) ≡ replies ++ rest_reply (input_reply v) after_input (held_cut v) (left_by after_input first (lines_of whole)) rest
+    answered : (rest : List ℕ) → HasNoEnd rest → store_text v size w leads (whole ++ rest) ≡ replies ++ rest_reply (input_reply v) after_input (held_cut v) (left_by after_input first (lines_of whole)) rest
     answered rest none = rw (whole_lines-append rest none whole is_whole, rest_of-append rest none whole is_whole) refl
 
-    whole_answered : store_text v size leads whole ≡ replies
-    whole_answered = ap (store_text v size leads) (sym (append-nil whole)) ∙ answered [] (All-nil (λ x. x ≢ 10)) ∙ append-nil replies
+    whole_answered : store_text v size w leads whole ≡ replies
+    whole_answered = ap (store_text v size w leads) (sym (append-nil whole)) ∙ answered [] (All-nil (λ x. x ≢ 10)) ∙ append-nil replies
 
-    is_held : store_after size leads whole ≡ left_by after_input first (lines_of whole)
+    is_held : store_after size w leads whole ≡ left_by after_input first (lines_of whole)
     is_held = all_held ∙ sym (lines_held first (lines_of whole))
 
-    pub cut_answered : (rest : List ℕ) → HasNoEnd rest → 0 < length rest → store_text v size leads (whole ++ rest) ≡ store_text v size leads whole ++ held_cut v (store_after size leads whole) rest
+    pub cut_answered : (rest : List ℕ) → HasNoEnd rest → 0 < length rest → store_text v size w leads (whole ++ rest) ≡ store_text v size w leads whole ++ held_cut v (store_after size w leads whole) rest
     cut_answered [] none some = absurd (omega (arith, some))
     cut_answered (x ∷ xs) none some = answered (x ∷ xs) none ∙ sym (λ i. whole_answered i ++ held_cut v (is_held i) (x ∷ xs))

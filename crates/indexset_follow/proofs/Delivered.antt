@@ -1,5 +1,5 @@
 -- A follower of lines that the first program wrote.
-use Rattle.std.proofs.Common.{Option, None, Some, ◌≡◌, inl, ℕ, zero, suc, ◌<◌, ◌^◌, cond, List, [], ◌∷◌, length, map, get_or, slice_get, take, is_some, refl, ap, sym, ◌∙◌, subst}
+use Rattle.std.proofs.Common.{Option, None, Some, ◌≡◌, inl, ℕ, zero, suc, ◌<◌, ◌≤◌, ◌^◌, cond, List, [], ◌∷◌, length, map, get_or, slice_get, take, is_some, refl, ap, sym, ◌∙◌, subst}
 use Rattle.std.proofs.lemmas.Option.{slice_get-get_or}
 use Rattle.std.specs.List.{All}
 use Rattle.std.specs.Option.{option_map_or}
@@ -8,14 +8,14 @@ use Rattle.indexset_bench.specs.PairText.{event_text}
 use Rattle.indexset_bench.specs.Text.{no_stores, stores_of}
 use Rattle.indexset_events.proofs.CallerLemmas.{Each, all_each, each_all}
 use Rattle.indexset_replica.specs.Delivery.{IsSubsequence}
-use Rattle.indexset_follow.specs.Drawn.{HoldsFirst, IsDrawn}
-use Rattle.indexset_follow.specs.EventLine.{Event, event_of}
+use Rattle.indexset_follow.specs.Drawn.{AreWithin, HoldsFirst, IsDrawn}
+use Rattle.indexset_follow.specs.EventLine.{Event, EventFits, event_of}
 use Rattle.indexset_follow.specs.Copy.{copy}
 use Rattle.indexset_follow.specs.Follow.{State, after_line, start_state, state_after}
 use Rattle.indexset_follow.specs.Told.{IsAmong, event_lines, events_of_lines, output_lines}
-use Rattle.indexset_follow.proofs.EventLines.{event_sound}
+use Rattle.indexset_follow.proofs.EventLines.{event_sound, event_told}
 use Rattle.indexset_follow.proofs.Output.{Known, events_in, output_known, output_tells}
-use Rattle.indexset_follow.proofs.Programs.{follower_begins, follower_ends, same_nodes}
+use Rattle.indexset_follow.proofs.Programs.{follower_begins, follower_ends, follower_holds, same_nodes, told_fit}
 use Rattle.indexset_events.specs.Spelling.Laws.{some_inj, none_some}
 
 -- ---- lists
@@ -56,6 +56,23 @@ event_at (x ∷ ls) (suc p) l e at told = behind (event_of x) (event_at ls p l e
     behind None found = found
     behind (Some f) found = (suc found.0, found.1)
 
+-- a line that tells one is among those that do
+among_told : (ls : List (List ℕ)) (i : ℕ) (l : List ℕ) (e : Event) → slice_get ls i ≡ Some l → event_of l ≡ Some e → IsAmong (event_lines ls) l
+among_told [] i l e at told = none_some l at
+among_told (x ∷ ls) zero l e at told =
+    let own : event_of x ≡ Some e = ap event_of (some_inj x l at) ∙ told in
+    rw own (record { place = 0; at = at })
+among_told (x ∷ ls) (suc i) l e at told = behind (event_of x) (among_told ls i l e at told)
+  where
+    behind : (o : Option Event) → IsAmong (event_lines ls) l → IsAmong (cond (is_some o) (x ∷ event_lines ls) (event_lines ls)) l
+    behind None found = found
+    behind (Some f) found = record { place = suc found.place; at = found.at }
+
+text_at : (es : List Event) (p : ℕ) (e : Event) → slice_get es p ≡ Some e → slice_get (map event_text es) p ≡ Some (event_text e)
+text_at [] p e at = none_some e at
+text_at (f ∷ es) zero e at = ap (λ g. Some (event_text g)) (some_inj f e at)
+text_at (f ∷ es) (suc p) e at = text_at es p e at
+
 -- what holds of the lines that tell events holds of these alone
 each_told : (Q : List ℕ → Type 0) (ls : List (List ℕ)) → Each (λ l. (e : Event) → event_of l ≡ Some e → Q l) ls → Each Q (event_lines ls)
 each_told Q [] h = tt
@@ -76,13 +93,22 @@ only_told r (l ∷ ls) h = at (event_of l) (λ none. h.0 none r) (only_told r ls
     at None still same made = ap (λ q. state_after q ls) (still refl) ∙ same
     at (Some e) still same made = made
 
+-- and what is within the window is so without them
+only_within : (r : State) (ls : List (List ℕ)) → Each Known ls → AreWithin r ls → AreWithin r (event_lines ls)
+only_within r [] h within = tt
+only_within r (l ∷ ls) h within = at (event_of l) (λ none. h.0 none r) (only_within r ls h.1) (within.0, only_within (after_line r l) ls h.1 within.1)
+  where
+    at : (o : Option Event) → (o ≡ None → after_line r l ≡ r) → (AreWithin r ls → AreWithin r (event_lines ls)) → AreWithin r (l ∷ event_lines ls) → AreWithin r (cond (is_some o) (l ∷ event_lines ls) (event_lines ls))
+    at None still same made = same (subst (λ q. AreWithin q ls) (still refl) within.1)
+    at (Some e) still same made = made
+
 -- ---- what is delivered
 
 module _ (lines : List (List ℕ)) (many : length lines < 2 ^ 64) (less : (stores_of no_stores lines).pairs.next < 2 ^ 64) where
   pub output_texts : event_lines (output_lines lines) ≡ map event_text (events_of_lines lines)
   output_texts = texts_told (output_lines lines) ∙ ap (map event_text) (output_tells lines many less)
 
-  module _ (delivered : List (List ℕ)) (among : All (IsAmong (output_lines lines)) delivered) where
+  module _ (w : ℕ) (delivered : List (List ℕ)) (among : All (IsAmong (output_lines lines)) delivered) where
     one_drawn : (line : List ℕ) → IsAmong (output_lines lines) line → (e : Event) → event_of line ≡ Some e → IsDrawn (events_of_lines lines) line
     one_drawn line a e told =
         let found = event_at (output_lines lines) a.place line e a.at told in
@@ -91,19 +117,32 @@ module _ (lines : List (List ℕ)) (many : length lines < 2 ^ 64) (less : (store
     drawn : All (IsDrawn (events_of_lines lines)) (event_lines delivered)
     drawn = each_all (IsDrawn (events_of_lines lines)) (event_lines delivered) (each_told (IsDrawn (events_of_lines lines)) delivered (all_each _ delivered (λ k d lt. one_drawn (get_or delivered k d) (among k d lt))))
 
-    told_alone : state_after start_state delivered ≡ state_after start_state (event_lines delivered)
-    told_alone = only_told start_state delivered (all_each Known delivered (λ k d lt. let a = among k d lt in each_read Known (output_lines lines) a.place (get_or delivered k d) a.at (output_known lines many less)))
+    all_known : Each Known delivered
+    all_known = all_each Known delivered (λ k d lt. let a = among k d lt in each_read Known (output_lines lines) a.place (get_or delivered k d) a.at (output_known lines many less))
 
-    pub delivered_begins : (k : ℕ) × HoldsFirst 0 [] (events_of_lines lines) k (state_after start_state delivered)
+    told_alone : state_after (start_state w) delivered ≡ state_after (start_state w) (event_lines delivered)
+    told_alone = only_told (start_state w) delivered all_known
+
+    pub delivered_begins : (k : ℕ) × HoldsFirst 0 [] (events_of_lines lines) k (state_after (start_state w) delivered)
     delivered_begins =
-        let held = follower_begins lines less (event_lines delivered) drawn in
+        let held = follower_begins lines less w (event_lines delivered) drawn in
         (held.0, subst (HoldsFirst 0 [] (events_of_lines lines) held.0) (sym told_alone) held.1)
 
-    pub delivered_same : (n : ℕ) → (state_after start_state delivered).held.next ≡ (stores_of no_stores (take n lines)).pairs.next → (state_after start_state delivered).held.nodes ≡ (stores_of no_stores (take n lines)).pairs.nodes
-    delivered_same n same = ap (λ r. r.held.nodes) told_alone ∙ same_nodes lines less (event_lines delivered) drawn n (sym (ap (λ r. r.held.next) told_alone) ∙ same)
+    pub delivered_same : (n : ℕ) → (state_after (start_state w) delivered).held.next ≡ (stores_of no_stores (take n lines)).pairs.next → (state_after (start_state w) delivered).held.nodes ≡ (stores_of no_stores (take n lines)).pairs.nodes
+    delivered_same n same = ap (λ r. r.held.nodes) told_alone ∙ same_nodes lines less w (event_lines delivered) drawn n (sym (ap (λ r. r.held.next) told_alone) ∙ same)
 
-    pub delivered_whole : IsSubsequence (event_lines (output_lines lines)) (event_lines delivered) → (state_after start_state delivered).held ≡ copy (stores_of no_stores lines).pairs.nodes (stores_of no_stores lines).pairs.next
-    delivered_whole came = ap (λ r. r.held) told_alone ∙ follower_ends lines less (event_lines delivered) drawn (subst (λ ls. IsSubsequence ls (event_lines delivered)) output_texts came)
+    pub delivered_whole : IsSubsequence (event_lines (output_lines lines)) (event_lines delivered) → (state_after (start_state w) delivered).held ≡ copy (stores_of no_stores lines).pairs.nodes (stores_of no_stores lines).pairs.next
+    delivered_whole came = ap (λ r. r.held) told_alone ∙ follower_ends lines less w (event_lines delivered) drawn (subst (λ ls. IsSubsequence ls (event_lines delivered)) output_texts came)
 
-  pub delivered_piped : (state_after start_state (output_lines lines)).held ≡ copy (stores_of no_stores lines).pairs.nodes (stores_of no_stores lines).pairs.next
-  delivered_piped = delivered_whole (output_lines lines) (all_among (output_lines lines)) (all_came (event_lines (output_lines lines)))
+    pub delivered_within : AreWithin (start_state w) delivered → All (IsAmong delivered) (event_lines (output_lines lines)) → (state_after (start_state w) delivered).held ≡ copy (stores_of no_stores lines).pairs.nodes (stores_of no_stores lines).pairs.next
+    delivered_within within came = ap (λ r. r.held) told_alone ∙ follower_holds lines less w (event_lines delivered) drawn (only_within (start_state w) delivered all_known within) there
+      where
+        there : (p : ℕ) (e : Event) → 0 ≤ p → slice_get (events_of_lines lines) p ≡ Some e → IsAmong (event_lines delivered) (event_text e)
+        there p e le at =
+            let told : event_of (event_text e) ≡ Some e = event_told e (each_read EventFits (events_of_lines lines) p e at (all_each EventFits (events_of_lines lines) (told_fit lines less))) in
+            let text : slice_get (event_lines (output_lines lines)) p ≡ Some (event_text e) = ap (λ ls. slice_get ls p) output_texts ∙ text_at (events_of_lines lines) p e at in
+            let among = each_read (IsAmong delivered) (event_lines (output_lines lines)) p (event_text e) text (all_each (IsAmong delivered) (event_lines (output_lines lines)) came) in
+            among_told delivered among.place (event_text e) e among.at told
+
+  pub delivered_piped : (w : ℕ) → (state_after (start_state w) (output_lines lines)).held ≡ copy (stores_of no_stores lines).pairs.nodes (stores_of no_stores lines).pairs.next
+  delivered_piped w = delivered_whole w (output_lines lines) (all_among (output_lines lines)) (all_came (event_lines (output_lines lines)))

@@ -83,47 +83,47 @@ word_still t line is = subst (λ l. t ≡ after_leading t l) (sym is) refl
 abbrev stays : List ℕ → Type 0
 stays line = (starts line || is_follow line) ≡ false
 
-leader_line : (size : ℕ) (t : PairTree) (line : List ℕ) → stays line → after_held (held size (role.Leading t)) line ≡ held size (role.Leading (after_leading t line))
-leader_line size t line stay = at (is_lead line) (starts line) (is_follow line) (not (is_filled t.nodes)) refl stay
+leader_line : (size w : ℕ) (t : PairTree) (line : List ℕ) → stays line → after_held (held size w (role.Leading t)) line ≡ held size w (role.Leading (after_leading t line))
+leader_line size w t line stay = at (is_lead line) (starts line) (is_follow line) (not (is_filled t.nodes)) refl stay
   where
     at : (b c d e : Bool) → is_lead line ≡ b → (c || d) ≡ false
-        → held size (cond b (role.Leading t) (cond d (role.Following (holding (copy t.nodes t.next))) (after_in_role (cond (c && e) (role.Following (holding (copy [] t.next))) (role.Leading t)) line))) ≡ held size (role.Leading (after_leading t line))
-    at true c d e is none = ap (λ r. held size (role.Leading r)) (word_still t line ((bytes_eq-Decides line (codes "lead")).0 is))
+        → held size w (cond b (role.Leading t) (cond d (role.Following (holding w (copy t.nodes t.next))) (after_in_role (cond (c && e) (role.Following (holding w (copy [] t.next))) (role.Leading t)) line))) ≡ held size w (role.Leading (after_leading t line))
+    at true c d e is none = ap (λ r. held size w (role.Leading r)) (word_still t line ((bytes_eq-Decides line (codes "lead")).0 is))
     at false false false e is none = refl
     at false true d e is none = absurd (cc)
     at false false true e is none = absurd (cc)
 
-pub leader_lines : (size : ℕ) (t : PairTree) (lines : List (List ℕ)) → All stays lines → held_after (held size (role.Leading t)) lines ≡ held size (role.Leading (tree_of t lines))
+pub leader_lines : (size w : ℕ) (t : PairTree) (lines : List (List ℕ)) → All stays lines → held_after (held size w (role.Leading t)) lines ≡ held size w (role.Leading (tree_of t lines))
 unfolding left_by
-leader_lines size t [] none = refl
-leader_lines size t (line ∷ lines) none =
-    ap (λ h. held_after h lines) (leader_line size t line (All-head stays line lines none)) ∙ leader_lines size (after_leading t line) lines (All-tail stays line lines none)
+leader_lines size w t [] none = refl
+leader_lines size w t (line ∷ lines) none =
+    ap (λ h. held_after h lines) (leader_line size w t line (All-head stays line lines none)) ∙ leader_lines size w (after_leading t line) lines (All-tail stays line lines none)
 
 -- a follower becomes the leader of its nodes
-module _ (size : ℕ) (s : State) (fits : nodes_refusal (by_key nat_cmp) size s.held.nodes ≡ None) where
-  pub takes_over : after_held (held size (role.Following s)) (codes "lead") ≡ held size (role.Leading (promoted size s.held))
+module _ (size w : ℕ) (s : State) (fits : nodes_refusal (by_key nat_cmp) size s.held.nodes ≡ None) where
+  pub takes_over : after_held (held size w (role.Following s)) (codes "lead") ≡ held size w (role.Leading (promoted size s.held))
   takes_over = rw fits refl
 
   pub told_so : lead_reply size (role.Following s) ≡ reply_ended (reply.Next s.held.next)
   told_so = rw fits refl
 
-  pub answers_on : (v : Voice) (lines : List (List ℕ)) → held_replies v (held size (role.Following s)) (codes "lead" ∷ lines) ≡ reply_ended (reply.Next s.held.next) ++ held_replies v (held size (role.Leading (promoted size s.held))) lines
+  pub answers_on : (v : Voice) (lines : List (List ℕ)) → held_replies v (held size w (role.Following s)) (codes "lead" ∷ lines) ≡ reply_ended (reply.Next s.held.next) ++ held_replies v (held size w (role.Leading (promoted size s.held))) lines
   unfolding replies_to
   answers_on v lines = λ i. told_so i ++ held_replies v (takes_over i) lines
 
 -- and so the leader of which it holds the nodes
-module _ (t : PairTree) (s : State) (holds : s.held ≡ copy t.nodes t.next) (fits : nodes_refusal (by_key nat_cmp) t.size t.nodes ≡ None) where
+module _ (w : ℕ) (t : PairTree) (s : State) (holds : s.held ≡ copy t.nodes t.next) (fits : nodes_refusal (by_key nat_cmp) t.size t.nodes ≡ None) where
   fit_held : nodes_refusal (by_key nat_cmp) t.size s.held.nodes ≡ None
   fit_held = subst (λ c. nodes_refusal (by_key nat_cmp) t.size c.nodes ≡ None) (sym holds) fits
 
   same_leader : promoted t.size s.held ≡ t
   same_leader = ap (promoted t.size) holds
 
-  pub leads_as : after_held (held t.size (role.Following s)) (codes "lead") ≡ held t.size (role.Leading t)
-  leads_as = takes_over t.size s fit_held ∙ ap (λ t'. held t.size (role.Leading t')) same_leader
+  pub leads_as : after_held (held t.size w (role.Following s)) (codes "lead") ≡ held t.size w (role.Leading t)
+  leads_as = takes_over t.size w s fit_held ∙ ap (λ t'. held t.size w (role.Leading t')) same_leader
 
-  pub answers_as : (v : Voice) (lines : List (List ℕ)) → held_replies v (held t.size (role.Following s)) (codes "lead" ∷ lines) ≡ reply_ended (reply.Next t.next) ++ held_replies v (held t.size (role.Leading t)) lines
-  answers_as v lines = answers_on t.size s fit_held v lines ∙ (λ i. reply_ended (reply.Next (holds i).next) ++ held_replies v (held t.size (role.Leading (same_leader i))) lines)
+  pub answers_as : (v : Voice) (lines : List (List ℕ)) → held_replies v (held t.size w (role.Following s)) (codes "lead" ∷ lines) ≡ reply_ended (reply.Next t.next) ++ held_replies v (held t.size w (role.Leading t)) lines
+  answers_as v lines = answers_on t.size w s fit_held v lines ∙ (λ i. reply_ended (reply.Next (holds i).next) ++ held_replies v (held t.size w (role.Leading (same_leader i))) lines)
 
 -- a follower that holds what all events of a leader lead to
 module _ (size : ℕ) (two : 2 ≤ size) (few : size < 2 ^ 64) (lines : List (List ℕ)) (s : State) (holds : HoldsFirst 0 [] (events_led (fresh size) lines) (length (events_led (fresh size) lines)) s) where
@@ -151,8 +151,8 @@ module _ (size : ℕ) (two : 2 ≤ size) (few : size < 2 ^ 64) (lines : List (Li
   same_tree : promoted size s.held ≡ tree
   same_tree = λ i. record { nodes = same_nodes i; size = sym same_size i; next = same_next i }
 
-  pub goes_on : after_held (held size (role.Following s)) (codes "lead") ≡ held size (role.Leading tree)
-  goes_on = takes_over size s can ∙ ap (λ t. held size (role.Leading t)) same_tree
+  pub goes_on : (w : ℕ) → after_held (held size w (role.Following s)) (codes "lead") ≡ held size w (role.Leading tree)
+  goes_on w = takes_over size w s can ∙ ap (λ t. held size w (role.Leading t)) same_tree
 
-  pub goes_on_answering : (v : Voice) (more : List (List ℕ)) → held_replies v (held size (role.Following s)) (codes "lead" ∷ more) ≡ reply_ended (reply.Next s.held.next) ++ held_replies v (held size (role.Leading tree)) more
-  goes_on_answering v more = answers_on size s can v more ∙ ap (λ t. reply_ended (reply.Next s.held.next) ++ held_replies v (held size (role.Leading t)) more) same_tree
+  pub goes_on_answering : (w : ℕ) (v : Voice) (more : List (List ℕ)) → held_replies v (held size w (role.Following s)) (codes "lead" ∷ more) ≡ reply_ended (reply.Next s.held.next) ++ held_replies v (held size w (role.Leading tree)) more
+  goes_on_answering w v more = answers_on size w s can v more ∙ ap (λ t. reply_ended (reply.Next s.held.next) ++ held_replies v (held size w (role.Leading t)) more) same_tree

@@ -1,3 +1,4 @@
+pub mod Ahead
 pub mod Asked
 pub mod Cut
 pub mod Delivered
@@ -6,6 +7,8 @@ pub mod EventLines
 pub mod Fits
 pub mod Leads
 pub mod MarkLines
+pub mod Near
+pub mod NoWindow
 pub mod NodeLines
 pub mod Output
 pub mod Pages
@@ -19,3 +22,5 @@ pub mod Rows
 pub mod Snapshots
 pub mod Sums
 pub mod Taking
+pub mod Turns
+pub mod Within

@@ -1,5 +1,5 @@
 -- The events that the first program tells lead from no nodes to its nodes.
-use Rattle.std.proofs.Common.{Option, None, Some, ◌≡◌, ℕ, ◌+◌, ◌<◌, ◌≤◌, ◌^◌, List, [], ◌∷◌, ◌++◌, length, map, drop, take, option_and_then, Ordering, refl, ap, sym, ◌∙◌, subst, arith, append_assoc, length-append}
+use Rattle.std.proofs.Common.{Option, None, Some, ◌≡◌, ℕ, ◌+◌, ◌<◌, ◌≤◌, ◌^◌, List, [], ◌∷◌, ◌++◌, length, map, drop, slice_get, take, option_and_then, Ordering, refl, ap, sym, ◌∙◌, subst, arith, append_assoc, length-append}
 use Rattle.std.below.core.specs.declared.int.u64.TheConstants.{MAX}
 use Rattle.std.proofs.Math.Seq.{take-append_seam}
 use Rattle.std.proofs.lemmas.Cmp.{nat_cmp_total}
@@ -28,13 +28,14 @@ use Rattle.indexset_events.specs.declared.change.ChangeEventUnassigned.{ChangeEv
 use Rattle.indexset_events.specs.declared.change.ChangeEventUnassigned.TheVariants.{InsertAt, RemoveAt, CreateNode, RemoveNode, SplitNode, MergeNodes}
 use Rattle.indexset_events.proofs.CallerLemmas.{Each, Leads, each-append, each_all, key_removal_leads, length-numbered, nodes_each, none_lawful, nothing_leads, numbered-append, numbered_is, put_leads, replay-append}
 use Rattle.indexset_replica.specs.Delivery.{IsSubsequence}
-use Rattle.indexset_follow.specs.Drawn.{HoldsFirst, IsDrawn, IsFeedOfPairs}
+use Rattle.indexset_follow.specs.Drawn.{AreWithin, HoldsFirst, IsDrawn, IsFeedOfPairs}
 use Rattle.indexset_follow.specs.EventLine.{Event, EventFits}
 use Rattle.indexset_follow.specs.Numbers.{PairFits}
 use Rattle.indexset_follow.specs.Copy.{copy}
 use Rattle.indexset_follow.specs.Follow.{start_state, state_after}
-use Rattle.indexset_follow.specs.Told.{events_from, events_of_lines, line_events}
+use Rattle.indexset_follow.specs.Told.{IsAmong, events_from, events_of_lines, line_events}
 use Rattle.indexset_follow.proofs.Drawing.{beginning, whole}
+use Rattle.indexset_follow.proofs.Within.{all_held}
 use Rattle.indexset_events.specs.Spelling.Laws.{some_inj}
 use Rattle.indexset_follow.proofs.Fits.{PlainFits, key_removal_fit, put_fit}
 
@@ -165,15 +166,15 @@ module _ (lines : List (List ℕ)) where
     pub told_feed : IsFeedOfPairs 0 [] (events_of_lines lines)
     told_feed = record { numbered = told.numbered; defined = ap is_some told.replayed; fits = omega (arith, told_count, less) }
 
-    start : HoldsFirst 0 [] (events_of_lines lines) 0 start_state
-    start = record { within = omega arith; nodes = refl; next = omega arith }
+    start : (w : ℕ) → HoldsFirst 0 [] (events_of_lines lines) 0 (start_state w)
+    start w = record { within = omega arith; nodes = refl; next = omega arith }
 
-    module _ (delivered : List (List ℕ)) (drawn : All (IsDrawn (events_of_lines lines)) delivered) where
-      pub follower_begins : (k : ℕ) × HoldsFirst 0 [] (events_of_lines lines) k (state_after start_state delivered)
-      follower_begins = beginning 0 [] (events_of_lines lines) told_feed told_fit 0 start_state delivered start drawn
+    module _ (w : ℕ) (delivered : List (List ℕ)) (drawn : All (IsDrawn (events_of_lines lines)) delivered) where
+      pub follower_begins : (k : ℕ) × HoldsFirst 0 [] (events_of_lines lines) k (state_after (start_state w) delivered)
+      follower_begins = let held = beginning 0 [] (events_of_lines lines) told_feed told_fit 0 (start_state w) delivered (start w) tt drawn in (held.0, held.1)
 
       -- a follower that holds what k events lead to, and the program after lines that told as many
-      pub same_nodes : (n : ℕ) → (state_after start_state delivered).held.next ≡ (stores_of no_stores (take n lines)).pairs.next → (state_after start_state delivered).held.nodes ≡ (stores_of no_stores (take n lines)).pairs.nodes
+      pub same_nodes : (n : ℕ) → (state_after (start_state w) delivered).held.next ≡ (stores_of no_stores (take n lines)).pairs.next → (state_after (start_state w) delivered).held.nodes ≡ (stores_of no_stores (take n lines)).pairs.nodes
       same_nodes n same =
           let at = follower_begins in
           let front = lines_onward no_stores no_good (take n lines) in
@@ -181,9 +182,15 @@ module _ (lines : List (List ℕ)) where
           let first : take at.0 (events_of_lines lines) ≡ events_of_lines (take n lines) = ap (λ k. take k (events_of_lines lines)) count ∙ told_first n in
           some_inj _ _ (sym at.1.nodes ∙ ap (replay order []) first ∙ front.replayed)
 
-      pub follower_ends : IsSubsequence (map event_text (events_of_lines lines)) delivered → (state_after start_state delivered).held ≡ copy (stores_of no_stores lines).pairs.nodes (stores_of no_stores lines).pairs.next
-      follower_ends came =
-          let at = whole 0 [] (events_of_lines lines) told_feed told_fit 0 start_state delivered start drawn came in
-          let nodes : (state_after start_state delivered).held.nodes ≡ (stores_of no_stores lines).pairs.nodes = some_inj _ _ (sym at.nodes ∙ ap (replay order []) (take_all (length (events_of_lines lines)) (events_of_lines lines) (omega arith)) ∙ told.replayed) in
-          let next : (state_after start_state delivered).held.next ≡ (stores_of no_stores lines).pairs.next = omega (arith, at.next, told_count) in
+      -- a follower that holds what all events lead to holds the program's nodes
+      at_end : HoldsFirst 0 [] (events_of_lines lines) (length (events_of_lines lines)) (state_after (start_state w) delivered) → (state_after (start_state w) delivered).held ≡ copy (stores_of no_stores lines).pairs.nodes (stores_of no_stores lines).pairs.next
+      at_end at =
+          let nodes : (state_after (start_state w) delivered).held.nodes ≡ (stores_of no_stores lines).pairs.nodes = some_inj _ _ (sym at.nodes ∙ ap (replay order []) (take_all (length (events_of_lines lines)) (events_of_lines lines) (omega arith)) ∙ told.replayed) in
+          let next : (state_after (start_state w) delivered).held.next ≡ (stores_of no_stores lines).pairs.next = omega (arith, at.next, told_count) in
           λ i. copy (nodes i) (next i)
+
+      pub follower_ends : IsSubsequence (map event_text (events_of_lines lines)) delivered → (state_after (start_state w) delivered).held ≡ copy (stores_of no_stores lines).pairs.nodes (stores_of no_stores lines).pairs.next
+      follower_ends came = at_end (whole 0 [] (events_of_lines lines) told_feed told_fit 0 (start_state w) delivered (start w) tt drawn came)
+
+      pub follower_holds : AreWithin (start_state w) delivered → ((p : ℕ) (e : Event) → 0 ≤ p → slice_get (events_of_lines lines) p ≡ Some e → IsAmong delivered (event_text e)) → (state_after (start_state w) delivered).held ≡ copy (stores_of no_stores lines).pairs.nodes (stores_of no_stores lines).pairs.next
+      follower_holds within came = at_end (all_held 0 [] (events_of_lines lines) told_feed told_fit 0 (start_state w) delivered refl (start w) drawn within came)

@@ -23,7 +23,7 @@ use Rattle.indexset_events.specs.Attach.{attach_index, attach_refusal, attached,
 use Rattle.indexset_events.specs.Nodes.{is_filled}
 use Rattle.indexset_follow.specs.EventLine.{Event, event_of}
 use Rattle.indexset_follow.specs.Copy.{Copy, copy, end_line, snapshot_text, sum_of}
-use Rattle.indexset_follow.specs.Follow.{State, after_event, after_line, after_mark, after_node, holding, put_in_place, state_after}
+use Rattle.indexset_follow.specs.Follow.{State, after_event, after_line, after_mark, after_node, holding, put_in_place, state_after, with_coming}
 use Rattle.indexset_follow.specs.NodeLine.{NodeFits, node_line, node_of}
 use Rattle.indexset_events.specs.Spelling.{cut_at}
 use Rattle.indexset_follow.specs.Numbers.{PairFits}
@@ -85,13 +85,13 @@ module _ {T : Type 0} (cmp : T → T → Ordering) where
 -- ---- lines
 
 -- a snapshot is coming
-abbrev coming : Copy → Copy → State
-coming c came = record { held = c; coming = Some came }
+abbrev coming : State → Copy → State
+coming s came = with_coming s (Some came)
 
 mark_line_told : (s : State) (m : Mark) → MarkFits m → event_of (mark_line m) ≡ None → node_of (mark_line m) ≡ None → after_line s (mark_line m) ≡ after_mark s m
 mark_line_told s m fit event node = rw (event, node, mark_told m fit) refl
 
-start_told : (s : State) (n : ℕ) → n < 2 ^ 64 → after_line s (mark_line (Start n)) ≡ coming s.held (copy [] n)
+start_told : (s : State) (n : ℕ) → n < 2 ^ 64 → after_line s (mark_line (Start n)) ≡ coming s (copy [] n)
 start_told s n small =
     let cut : cut_at 32 (mark_line (Start n)) ≡ Some (codes "start", decimal n) = cut_told 32 (codes "start") (decimal n) (lacks_tested 32 (codes "start") refl) in
     let word = no_number 115 (codes "tart") (omega arith) in
@@ -104,8 +104,8 @@ end_told s count sum few small =
     mark_line_told s (End count sum) (few, small) (rw (cut, word) refl) (rw cut refl)
 
 -- what came whole takes the place of what is held
-whole_put : (c came : Copy) → after_mark (coming c came) (End (length came.nodes) (sum_of came)) ≡ holding came
-whole_put c came = rw (eq-eqb (length came.nodes) (length came.nodes) refl, eq-eqb (sum_of came) (sum_of came) refl) refl
+whole_put : (s : State) (came : Copy) → after_mark (coming s came) (End (length came.nodes) (sum_of came)) ≡ holding s.window came
+whole_put s came = rw (eq-eqb (length came.nodes) (length came.nodes) refl, eq-eqb (sum_of came) (sum_of came) refl) refl
 
 node_line_told : (s : State) (n : List (Pair ℕ ℕ)) → NodeFits n → after_line s (node_line n) ≡ after_node s n
 node_line_told s n fit =
@@ -115,16 +115,16 @@ node_line_told s n fit =
     rw (event, node_told n fit) refl
 
 -- the nodes, one line after the other
-filled_up : (c : Copy) (next : ℕ) (done rest : List (List (Pair ℕ ℕ))) → Ruled (by_key nat_cmp) (done ++ rest) → All NodeFits rest → state_after (coming c (copy done next)) (map node_line rest) ≡ coming c (copy (done ++ rest) next)
+filled_up : (s : State) (next : ℕ) (done rest : List (List (Pair ℕ ℕ))) → Ruled (by_key nat_cmp) (done ++ rest) → All NodeFits rest → state_after (coming s (copy done next)) (map node_line rest) ≡ coming s (copy (done ++ rest) next)
 unfolding left_by
-filled_up c next done [] rule fit = ap (λ ns. coming c (copy ns next)) (sym (append-nil done))
-filled_up c next done (n ∷ rest) rule fit =
-    let one = node_line_told (coming c (copy done next)) n (All-head NodeFits n rest fit) in
-    let held : after_node (coming c (copy done next)) n ≡ coming c (copy (done ++ n ∷ []) next) = rw (fits_behind (by_key nat_cmp) done rest n rule, goes_behind (by_key nat_cmp) done rest n rule) refl in
+filled_up s next done [] rule fit = ap (λ ns. coming s (copy ns next)) (sym (append-nil done))
+filled_up s next done (n ∷ rest) rule fit =
+    let one = node_line_told (coming s (copy done next)) n (All-head NodeFits n rest fit) in
+    let held : after_node (coming s (copy done next)) n ≡ coming s (copy (done ++ n ∷ []) next) = rw (fits_behind (by_key nat_cmp) done rest n rule, goes_behind (by_key nat_cmp) done rest n rule) refl in
     let more : (done ++ n ∷ []) ++ rest ≡ done ++ n ∷ rest = append_assoc done (n ∷ []) rest in
-    ap (λ s. state_after s (map node_line rest)) (one ∙ held)
-    ∙ filled_up c next (done ++ n ∷ []) rest (subst (Ruled (by_key nat_cmp)) (sym more) rule) (All-tail NodeFits n rest fit)
-    ∙ ap (λ ns. coming c (copy ns next)) more
+    ap (λ r. state_after r (map node_line rest)) (one ∙ held)
+    ∙ filled_up s next (done ++ n ∷ []) rest (subst (Ruled (by_key nat_cmp)) (sym more) rule) (All-tail NodeFits n rest fit)
+    ∙ ap (λ ns. coming s (copy ns next)) more
 
 -- ---- the text of a snapshot is cut into its lines
 
@@ -164,15 +164,15 @@ module _ (c : Copy) (small : c.next < 2 ^ 64) (few : length c.nodes < 2 ^ 64) (f
       ∙ ap (λ ls. mark_line (Start c.next) ∷ ls)
       (node_lines c.nodes (ended (end_line c)) fit ∙ ap (λ ls. map node_line c.nodes ++ ls) (lines_of-line (end_line c) [] (mark_lacks (End (length c.nodes) (sum_of c)) (few, sum_small c))))
 
-  pub snapshot_taken : (t : State) → IsNodeList (by_key nat_cmp) c.nodes → state_after t (lines_of (snapshot_text c)) ≡ holding c
+  pub snapshot_taken : (t : State) → IsNodeList (by_key nat_cmp) c.nodes → state_after t (lines_of (snapshot_text c)) ≡ holding t.window c
   unfolding left_by
   snapshot_taken t lawful =
       ap (state_after t) snapshot_lines
       ∙ ap (λ r. state_after r (map node_line c.nodes ++ end_line c ∷ [])) (start_told t c.next small)
-      ∙ left_by-append after_line (coming t.held (copy [] c.next)) (map node_line c.nodes) (end_line c ∷ [])
-      ∙ ap (λ r. after_line r (end_line c)) (filled_up t.held c.next [] c.nodes (nodes_ruled (by_key nat_cmp) c.nodes lawful) fit)
-      ∙ end_told (coming t.held c) (length c.nodes) (sum_of c) few (sum_small c)
-      ∙ whole_put t.held c
+      ∙ left_by-append after_line (coming t (copy [] c.next)) (map node_line c.nodes) (end_line c ∷ [])
+      ∙ ap (λ r. after_line r (end_line c)) (filled_up t c.next [] c.nodes (nodes_ruled (by_key nat_cmp) c.nodes lawful) fit)
+      ∙ end_told (coming t c) (length c.nodes) (sum_of c) few (sum_small c)
+      ∙ whole_put t c
 
 -- ---- until the end
 
@@ -192,10 +192,10 @@ unfolding left_by
 held_before s [] lack = refl
 held_before s (line ∷ lines) lack = held_before (after_line s line) lines (All-tail LacksEnd line lines lack) ∙ held_still s line (All-head LacksEnd line lines lack)
 
-pub wrong_end : (s : State) (came : Copy) (count sum : ℕ) → s.coming ≡ Some came → (length came.nodes ≢ count) ⊎ (sum_of came ≢ sum) → after_mark s (End count sum) ≡ holding s.held
+pub wrong_end : (s : State) (came : Copy) (count sum : ℕ) → s.coming ≡ Some came → (length came.nodes ≢ count) ⊎ (sum_of came ≢ sum) → after_mark s (End count sum) ≡ with_coming s None
 wrong_end s came count sum is other = rw is (at (length came.nodes == count) refl (sum_of came == sum) refl)
   where
-    at : (a : Bool) → (length came.nodes == count) ≡ a → (b : Bool) → (sum_of came == sum) ≡ b → put_in_place count sum s came ≡ holding s.held
+    at : (a : Bool) → (length came.nodes == count) ≡ a → (b : Bool) → (sum_of came == sum) ≡ b → put_in_place count sum s came ≡ with_coming s None
     at false few b same = rw few refl
     at true few false same = rw (few, same) refl
     at true few true same =

@@ -1,7 +1,7 @@
 -- What a follower makes of an event, and of a range that runs backwards.
-use Rattle.std.proofs.Common.{Result, Ok, Err, OnOk, IfOk, Option, None, Some, ◌≡◌, ◌≢◌, ◌==◌, ℕ, ◌+◌, ◌<◌, ◌&&◌, Bool, true, false, if◌then◌else◌, nat_lt, List, [], ◌∷◌, unwrap_or, refl, sym, ap, ◌∙◌, arith}
+use Rattle.std.proofs.Common.{Result, Ok, Err, OnOk, IfOk, Option, None, Some, ◌≡◌, ◌≢◌, ◌==◌, ℕ, ◌+◌, ◌<◌, ◌&&◌, Bool, true, false, if◌then◌else◌, nat_lt, List, [], ◌∷◌, slice_get, unwrap_or, refl, sym, ap, ◌∙◌, arith}
 use Rattle.std.below.core.specs.declared.int.u64.TheConstants.{MAX}
-use Rattle.std.proofs.lemmas.Bool.{eqb-true, eqb-false, not-false}
+use Rattle.std.proofs.lemmas.Bool.{eq-eqb, eqb-true, ne_eqb, not-false}
 use Rattle.std.specs.Option.{option_map, option_map_or}
 use Rattle.std.proofs.lemmas.Map.Keys.{ge_from_not_lt, le_from_is_le}
 use Rattle.std.specs.Ordering.{is_ge, is_le, is_lt, nat_cmp}
@@ -9,7 +9,7 @@ use Rattle.std.specs.declared.cmp.Ordering.{Ordering}
 use Rattle.std.specs.declared.cmp.Ordering.TheVariants.{Less, Equal, Greater}
 use Rattle.std.specs.declared.ops.Bound.TheVariants.{Included}
 use Rattle.indexset_core.specs.Bounds.{is_within}
-use Rattle.indexset_core.specs.Pairs.{by_key}
+use Rattle.indexset_core.specs.Pairs.{by_key, pair}
 use Rattle.indexset_core.specs.declared.pair.Pair.{Pair}
 use Rattle.indexset_core.specs.declared.refusal.Refusal.{Refusal}
 use Rattle.indexset_core.specs.declared.refusal.Refusal.TheVariants.{Gap, Memory, Numbers}
@@ -21,7 +21,8 @@ use Rattle.indexset_replica.specs.declared.lookup.Turn.{Turn}
 use Rattle.indexset_replica.specs.declared.lookup.Turn.TheVariants.{Next, Had, Missing}
 use Rattle.indexset_follow.specs.EventLine.{Event}
 use Rattle.indexset_follow.specs.Copy.{Copy, copy}
-use Rattle.indexset_follow.specs.Follow.{copy_after, event_reply, taken_reply}
+use Rattle.indexset_follow.specs.Early.{EarlyEvents, Taken, caught_up, copy_after, taken}
+use Rattle.indexset_follow.specs.Follow.{State, ahead_taken, event_taken, with_taken}
 use Rattle.indexset_follow.specs.declared.reason.Reason.TheVariants.{Refused}
 use Rattle.indexset_follow.specs.Reads.{keys_from}
 use Rattle.indexset_lines.specs.declared.fault.RunFault.{RunFault}
@@ -35,30 +36,15 @@ turn_next true c e = refl
 turn_next false true e = absurd (cc)
 turn_next false false e = absurd (cc)
 
-turn_had : (b c : Bool) → (if b then Next else if c then Had else Missing) ≡ Had → b ≡ false
-turn_had true c e = absurd (cc)
-turn_had false c e = refl
-
-turn_missing : (b c : Bool) → (if b then Next else if c then Had else Missing) ≡ Missing → b ≡ false
-turn_missing true c e = absurd (cc)
-turn_missing false c e = refl
-
 abbrev turn : Copy → Event → Turn
 turn r e = if event_number e == r.next then Next else if nat_lt (event_number e) r.next then Had else Missing
 
-pub is_next : (r : Copy) (e : Event) → turn r e ≡ Next → (event_number e == r.next) ≡ true
-is_next r e t = turn_next (event_number e == r.next) (nat_lt (event_number e) r.next) t
-
--- an event out of turn changes nothing
-out_of_turn : (r : Copy) (e : Event) → (event_number e == r.next) ≡ false → r ≡ copy_after r e
-unfolding delivered
-out_of_turn r e other = rw other refl
-
-pub had_before : (r : Copy) (e : Event) → turn r e ≡ Had → r ≡ copy_after r e
-had_before r e t = out_of_turn r e (turn_had (event_number e == r.next) (nat_lt (event_number e) r.next) t)
-
-pub is_missing : (r : Copy) (e : Event) → turn r e ≡ Missing → r ≡ copy_after r e
-is_missing r e t = out_of_turn r e (turn_missing (event_number e == r.next) (nat_lt (event_number e) r.next) t)
+module _ (s : State) (e : Event) where
+  pub is_next : turn s.held e ≡ Next → event_taken s e ≡ caught_up s.held (pair s.held.next e ∷ s.early)
+  is_next t =
+      let is = turn_next (event_number e == s.held.next) (nat_lt (event_number e) s.held.next) t in
+      let chosen : event_taken s e ≡ caught_up s.held (pair (event_number e) e ∷ s.early) = rw is refl in
+      chosen ∙ ap (λ n. caught_up s.held (pair n e ∷ s.early)) (eqb-true (event_number e) s.held.next is)
 
 -- ---- the awaited event
 
@@ -73,44 +59,43 @@ delivered_new r new e fits made next =
     let more = else_none (r.next == MAX) Numbers (misfit (by_key nat_cmp) r.nodes (unassigned e)) number.1 in
     rw (not-false _ number.0, more.0, made, ← next) refl
 
-module _ (r : Copy) (e : Event) (here : (event_number e == r.next) ≡ true) where
-  reply_taken : event_reply r e ≡ taken_reply r e
-  reply_taken = rw here refl
+module _ (r : Copy) (e : Event) (early : EarlyEvents) where
+  -- one that fits is followed by those after it
+  pub one_taken : (new : Copy) → apply_refusal (by_key nat_cmp) r.nodes r.next e ≡ None → step (by_key nat_cmp) r.nodes e ≡ Some new.nodes → new.next ≡ r.next + 1 → caught_up r (pair r.next e ∷ early) ≡ caught_up new early
+  unfolding caught_up
+  one_taken new fits made next =
+      let held : copy_after r e ≡ new = ap (λ o. unwrap_or o r) (delivered_new r new e fits made next) in
+      rw (eq-eqb r.next r.next refl, fits, held) refl
 
-  module _ (new : Copy) (fits : apply_refusal (by_key nat_cmp) r.nodes r.next e ≡ None) (made : step (by_key nat_cmp) r.nodes e ≡ Some new.nodes) (next : new.next ≡ r.next + 1) where
-    pub held_new : new ≡ copy_after r e
-    held_new = ap (λ o. unwrap_or o r) (sym (delivered_new r new e fits made next))
+  -- one that does not is dropped
+  pub one_refused : (cause : Refusal) → cause ≡ unwrap_or (apply_refusal (by_key nat_cmp) r.nodes r.next e) Memory → cause ≢ Memory → caught_up r (pair r.next e ∷ early) ≡ taken r early (reply.Unfit r.next (Refused cause))
+  unfolding caught_up
+  one_refused cause refused other = rw (eq-eqb r.next r.next refl, some_cause (apply_refusal (by_key nat_cmp) r.nodes r.next e) refused) refl
+    where
+      some_cause : (o : Option Refusal) → cause ≡ unwrap_or o Memory → o ≡ Some cause
+      some_cause None is = absurd (other is)
+      some_cause (Some c) is = sym (ap Some is)
 
-    pub reply_new : reply.Next new.next ≡ event_reply r e
-    reply_new = ap reply.Next next ∙ sym (reply_taken ∙ ap (λ o. option_map_or (λ cause. reply.Unfit r.next (Refused cause)) o (reply.Next (r.next + 1))) fits)
+  -- the same of the reply to it
+  pub refused_reply : (t : Taken) → t ≡ caught_up r (pair r.next e ∷ early) → (cause : Refusal) → cause ≡ unwrap_or (apply_refusal (by_key nat_cmp) r.nodes r.next e) Memory → (o : Result Reply RunFault) (next : ℕ) → next ≡ r.next → OnOk o (cause ≢ Memory) → IfOk o (λ x. x ≡ reply.Unfit next (Refused cause)) → (new : Copy) → new ≡ r → IfOk o (λ x. t ≡ taken new early x)
+  refused_reply t from cause refused (Ok x) next same other is new still = from ∙ one_refused cause refused other ∙ (λ i. taken (sym still i) early ((ap (λ n. reply.Unfit n (Refused cause)) (sym same) ∙ sym is) i))
+  refused_reply t from cause refused (Err fault) next same other is new still = tt
 
-  module _ (cause : Refusal) (refused : cause ≡ unwrap_or (apply_refusal (by_key nat_cmp) r.nodes r.next e) Memory) where
-    delivered_none : cause ≢ Memory → delivered (by_key nat_cmp) r e ≡ None
-    unfolding delivered
-    delivered_none other = rw here (at (r.next == MAX) refl (step (by_key nat_cmp) r.nodes e) refl)
-      where
-        at : (b : Bool) → (r.next == MAX) ≡ b → (o : Option (List (List (Pair ℕ ℕ)))) → step (by_key nat_cmp) r.nodes e ≡ o
-            → (if b then None else option_map {U = Copy} (λ ns. copy ns (r.next + 1)) o) ≡ None
-        at true last o made = refl
-        at false more None made = refl
-        at false more (Some after) made =
-            let none = misfit_refused (by_key nat_cmp) r.nodes r.next e (eqb-true (event_number e) r.next here) (eqb-false r.next MAX more) ∙ step_fits (by_key nat_cmp) r.nodes (unassigned e) after made in
-            absurd (other (refused ∙ ap (λ o. unwrap_or o Memory) none))
+-- what a call took is held, and its reply is told
+module _ (t u : Taken) (from : t ≡ u) (c : Copy) (early : EarlyEvents) where
+  pub reply_by : (o : Result Reply RunFault) → IfOk o (λ x. u ≡ taken c early x) → IfOk o (λ x. x ≡ t.reply)
+  reply_by (Ok x) is = ap (λ v. v.reply) (sym (from ∙ is))
+  reply_by (Err fault) is = tt
 
-    pub held_refused : cause ≢ Memory → r ≡ copy_after r e
-    held_refused other = ap (λ o. unwrap_or o r) (sym (delivered_none other))
+  pub held_by : (s : State) (o : Result Reply RunFault) → IfOk o (λ x. u ≡ taken c early x) → OnOk o (with_taken s (taken c early reply.Held) ≡ with_taken s t)
+  held_by s (Ok x) is = ap (λ v. with_taken s (taken v.held v.early reply.Held)) (sym (from ∙ is))
+  held_by s (Err fault) is = tt
 
-    some_cause : (o : Option Refusal) → cause ≡ unwrap_or o Memory → cause ≢ Memory → o ≡ Some cause
-    some_cause None is other = absurd (other is)
-    some_cause (Some c) is other = sym (ap Some is)
-
-    reply_refused : cause ≢ Memory → reply.Unfit r.next (Refused cause) ≡ event_reply r e
-    reply_refused other = sym (reply_taken ∙ ap (λ o. option_map_or (λ c. reply.Unfit r.next (Refused c)) o (reply.Next (r.next + 1))) (some_cause (apply_refusal (by_key nat_cmp) r.nodes r.next e) refused other))
-
-    -- the reply, where the refusal is none for memory
-    pub reply_given : (o : Result Reply RunFault) (next : ℕ) → next ≡ r.next → OnOk o (cause ≢ Memory) → IfOk o (λ x. x ≡ reply.Unfit next (Refused cause)) → IfOk o (λ x. x ≡ event_reply r e)
-    reply_given (Ok x) next same other is = is ∙ ap (λ n. reply.Unfit n (Refused cause)) same ∙ reply_refused other
-    reply_given (Err fault) next same other is = tt
+-- the first is not the awaited one
+pub none_due : (c : Copy) (early : EarlyEvents) → option_map (λ p. p.key) (slice_get early 0) ≢ Some c.next → caught_up c early ≡ taken c early (reply.Next c.next)
+unfolding caught_up
+none_due c [] other = refl
+none_due c (p ∷ early) other = rw (ne_eqb p.key c.next (λ same. other (ap Some same))) refl
 
 -- ---- a range
 

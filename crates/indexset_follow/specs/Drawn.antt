@@ -1,12 +1,15 @@
 -- Lines that come from events, with losses, repeats and in any order.
-use Rattle.std.specs.Prelude.{◌≡◌, ℕ, Some, slice_get, List}
+use Rattle.std.specs.Prelude.{◌≡◌, ℕ, ◌+◌, ◌-◌, ◌<◌, ◌≤◌, Some, slice_get, List, [], ◌∷◌}
 use Rattle.std.specs.Ordering.{nat_cmp}
 use Rattle.indexset_bench.specs.PairText.{event_text}
 use Rattle.indexset_core.specs.Pairs.{by_key}
 use Rattle.indexset_core.specs.declared.pair.Pair.{Pair}
+use Rattle.indexset_events.specs.Replay.{event_number}
 use Rattle.indexset_replica.specs.Delivery.{IsAt, IsFeed}
-use Rattle.indexset_follow.specs.EventLine.{Event}
-use Rattle.indexset_follow.specs.Follow.{State}
+use Rattle.indexset_follow.specs.Early.{AscendFrom}
+use Rattle.indexset_follow.specs.EventLine.{Event, event_of}
+use Rattle.indexset_follow.specs.Follow.{State, after_line}
+use Rattle.indexset_follow.specs.Told.{IsAmong}
 
 -- the line is the text of one of the events
 pub record IsDrawn (es : List Event) (line : List ℕ) : Type 0 where
@@ -22,3 +25,22 @@ IsFeedOfPairs s ns es = IsFeed (by_key nat_cmp) s ns es
 -- the nodes are those that the first k events lead to, and the event after these is awaited
 abbrev pub HoldsFirst : ℕ → List (List (Pair ℕ ℕ)) → List Event → ℕ → State → Type 0
 HoldsFirst s ns es k r = IsAt (by_key nat_cmp) s ns es k r.held
+
+-- the event is that of its number among those numbered from s on
+abbrev pub IsOneOf : ℕ → List Event → Pair ℕ Event → Type 0
+IsOneOf s es p = slice_get es (p.key - s) ≡ Some p.value
+
+-- the events that are early are some of those after the awaited one
+abbrev pub HoldsAhead : ℕ → List Event → State → Type 0
+HoldsAhead s es r = AscendFrom (IsOneOf s es) (r.held.next + 1) r.early
+
+-- each event is ahead of the awaited one by no more than the window when its line comes
+abbrev pub AreWithin : State → List (List ℕ) → Type 0
+AreWithin r [] = Unit {0}
+AreWithin r (line ∷ lines) = ((e : Event) → event_of line ≡ Some e → event_number e ≤ r.held.next + r.window) × AreWithin (after_line r line) lines
+
+-- k is the first place from j on whose event is not among the lines
+pub record IsFirstMissing (es : List Event) (j : ℕ) (lines : List (List ℕ)) (k : ℕ) : Type 0 where
+  pub from : j ≤ k
+  pub came : (p : ℕ) (e : Event) → j ≤ p → p < k → slice_get es p ≡ Some e → IsAmong lines (event_text e)
+  pub missing : (e : Event) → slice_get es k ≡ Some e → IsAmong lines (event_text e) → ⊥

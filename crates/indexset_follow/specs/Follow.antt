@@ -1,15 +1,14 @@
 -- What a line does to a follower, and the text that answers it.
-use Rattle.std.specs.Prelude.{ℕ, ◌+◌, ◌==◌, is_none, not, if◌then◌else◌, nat_lt, List, [], length, unwrap_or, Option, Some, None}
+use Rattle.std.specs.Prelude.{ℕ, ◌+◌, ◌≤◌, ◌==◌, is_none, not, if◌then◌else◌, nat_le, nat_lt, List, [], ◌∷◌, length, Option, Some, None}
 use Rattle.std.specs.Option.{option_map, option_map_or}
 use Rattle.std.specs.Ordering.{nat_cmp}
 use Rattle.indexset_lines.specs.Run.{left_by}
-use Rattle.indexset_core.specs.Pairs.{by_key}
+use Rattle.indexset_core.specs.Pairs.{by_key, pair}
 use Rattle.indexset_core.specs.declared.pair.Pair.{Pair}
 use Rattle.indexset_events.specs.Attach.{attach_refusal, attached}
 use Rattle.indexset_events.specs.Replay.{event_number}
-use Rattle.indexset_replica.specs.Delivery.{delivered}
-use Rattle.indexset_replica.specs.Replica.{apply_refusal}
 use Rattle.indexset_follow.specs.Copy.{Copy, copy, sum_of}
+use Rattle.indexset_follow.specs.Early.{AscendFrom, Taken, caught_up, first_number, taken, with_early}
 use Rattle.indexset_follow.specs.EventLine.{Event, event_of}
 use Rattle.indexset_follow.specs.Mark.{mark_of}
 use Rattle.indexset_follow.specs.NodeLine.{node_of}
@@ -29,28 +28,39 @@ use Rattle.indexset_follow.specs.declared.reply.Reply.TheVariants as reply
 abbrev pub State : Type 0
 State = Follower
 
--- a copy is held, and no snapshot has begun
-abbrev pub holding : Copy → State
-holding c = record { held = c; coming = None }
+-- a copy is held with a window, no snapshot has begun, and no event is early
+abbrev pub holding : ℕ → Copy → State
+holding window c = record { held = c; coming = None; window = window; early = [] }
+
+-- another snapshot comes, or none
+abbrev pub with_coming : State → Option Copy → State
+with_coming s c = record { held = s.held; coming = c; window = s.window; early = s.early }
 
 -- ---- an event
 
--- the awaited event makes its step where it is one; any other event changes nothing
-abbrev pub copy_after : Copy → Event → Copy
-copy_after c e = unwrap_or (delivered (by_key nat_cmp) c e) c
+-- an event that is ahead of the awaited one is held where it is ahead by no more than the window
+abbrev pub ahead_taken : State → Event → Taken
+ahead_taken s e =
+    if nat_le (event_number e) (s.held.next + s.window)
+    then taken s.held (with_early s.early e) (reply.Missing s.held.next (first_number (with_early s.early e) (event_number e)))
+    else taken s.held s.early (reply.Gap s.held.next)
+
+-- the awaited event is taken, and then the early ones whose turn has come
+abbrev pub event_taken : State → Event → Taken
+event_taken s e =
+    if event_number e == s.held.next then caught_up s.held (pair (event_number e) e ∷ s.early)
+    else if nat_lt (event_number e) s.held.next then taken s.held s.early (reply.Had s.held.next)
+    else ahead_taken s e
+
+-- what was taken is held
+abbrev pub with_taken : State → Taken → State
+with_taken s t = record { held = t.held; coming = s.coming; window = s.window; early = t.early }
 
 abbrev pub after_event : State → Event → State
-after_event s e = record { held = copy_after s.held e; coming = s.coming }
+after_event s e = with_taken s (event_taken s e)
 
--- the reply to the awaited event
-abbrev pub taken_reply : Copy → Event → Reply
-taken_reply c e = option_map_or (λ cause. reply.Unfit c.next (Refused cause)) (apply_refusal (by_key nat_cmp) c.nodes c.next e) (reply.Next (c.next + 1))
-
-abbrev pub event_reply : Copy → Event → Reply
-event_reply c e =
-    if event_number e == c.next then taken_reply c e
-    else if nat_lt (event_number e) c.next then reply.Had c.next
-    else reply.Gap c.next
+abbrev pub event_reply : State → Event → Reply
+event_reply s e = (event_taken s e).reply
 
 -- ---- a whole node
 
@@ -63,7 +73,7 @@ abbrev pub with_node : List (Pair ℕ ℕ) → Copy → Copy
 with_node n c = if is_none (node_refusal c n) then copy (attached (by_key nat_cmp) c.nodes n) c.next else c
 
 abbrev pub after_node : State → List (Pair ℕ ℕ) → State
-after_node s n = record { held = s.held; coming = option_map (with_node n) s.coming }
+after_node s n = with_coming s (option_map (with_node n) s.coming)
 
 abbrev pub node_reply : State → List (Pair ℕ ℕ) → Reply
 node_reply s n = option_map_or (λ c. option_map_or (λ cause. reply.Unfit s.held.next (Refused cause)) (node_refusal c n) reply.Held) s.coming (reply.Unfit s.held.next NotBegun)
@@ -77,12 +87,12 @@ end_reason count sum c =
     else if not (sum_of c == sum) then Some Sum
     else None
 
--- the snapshot takes the place of what is held, where it is whole
+-- the snapshot takes the place of all that is held, where it is whole
 abbrev pub put_in_place : ℕ → ℕ → State → Copy → State
-put_in_place count sum s c = if is_none (end_reason count sum c) then holding c else holding s.held
+put_in_place count sum s c = if is_none (end_reason count sum c) then holding s.window c else with_coming s None
 
 abbrev pub after_mark : State → Mark → State
-after_mark s (Start n) = record { held = s.held; coming = Some (copy [] n) }
+after_mark s (Start n) = with_coming s (Some (copy [] n))
 after_mark s (End count sum) = option_map_or (put_in_place count sum s) s.coming s
 
 abbrev pub mark_reply : State → Mark → Reply
@@ -97,7 +107,7 @@ after_line s line = option_map_or (after_event s) (event_of line) (option_map_or
 
 abbrev pub reply_line : Voice → State → List ℕ → List ℕ
 reply_line v s line =
-    option_map_or (λ e. voiced v (event_reply s.held e)) (event_of line)
+    option_map_or (λ e. voiced v (event_reply s e)) (event_of line)
     (option_map_or (λ n. voiced v (node_reply s n)) (node_of line)
     (option_map_or (λ m. voiced v (mark_reply s m)) (mark_of line) (read_reply (follower_others v) s.held.nodes s.held.next line)))
 
@@ -106,5 +116,9 @@ abbrev pub state_after : State → List (List ℕ) → State
 state_after = left_by after_line
 
 -- at first: no nodes, and event 0 is awaited
-abbrev pub start_state : State
-start_state = holding (copy [] 0)
+abbrev pub start_state : ℕ → State
+start_state window = holding window (copy [] 0)
+
+-- the events that are early are ahead of the awaited one by no more than the window
+abbrev pub HoldsNear : State → Type 0
+HoldsNear s = AscendFrom (λ p. p.key ≤ s.held.next + s.window) (s.held.next + 1) s.early

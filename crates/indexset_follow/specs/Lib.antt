@@ -1,5 +1,6 @@
 pub mod Copy
 pub mod Drawn
+pub mod Early
 pub mod EventLine
 pub mod Follow
 pub mod Leading

@@ -7,12 +7,13 @@ use Rattle.indexset_follow.specs.declared.others.Others.{Others}
 use Rattle.indexset_follow.specs.declared.others.Others.TheVariants.{Tell, Pass}
 use Rattle.indexset_follow.specs.declared.others.Voice.{Voice}
 use Rattle.indexset_follow.specs.declared.reply.Reply.{Reply}
-use Rattle.indexset_follow.specs.declared.reply.Reply.TheVariants.{Next, Had, Gap, Unfit, Held, Sum, Item, Count, Nothing, Bad}
+use Rattle.indexset_follow.specs.declared.reply.Reply.TheVariants.{Next, Had, Gap, Missing, Unfit, Held, Sum, Item, Count, Nothing, Bad}
 
 abbrev pub reply_text : Reply → List ℕ
 reply_text (Next n) = codes "next " ++ decimal n
 reply_text (Had n) = codes "had " ++ decimal n
 reply_text (Gap n) = codes "gap " ++ decimal n
+reply_text (Missing n first) = codes "gap " ++ decimal n ++ codes " " ++ decimal first
 reply_text (Unfit n reason) = codes "unfit " ++ decimal n ++ codes " " ++ word_of reason
 reply_text Held = codes "held"
 reply_text (Sum n count sum) = codes "sum " ++ decimal n ++ codes " " ++ decimal count ++ codes " " ++ decimal sum
@@ -30,6 +31,7 @@ reply_ended reply = ended (reply_text reply)
 -- something is missing, or does not fit
 abbrev pub is_urgent : Reply → Bool
 is_urgent (Gap n) = true
+is_urgent (Missing n first) = true
 is_urgent (Unfit n reason) = true
 is_urgent other = false
 

@@ -10,7 +10,7 @@ use Rattle.indexset_events.specs.Nodes.{is_filled}
 use Rattle.indexset_lines.specs.Run.{left_by, replies_to}
 use Rattle.indexset_core.specs.declared.refusal.Refusal.TheVariants.{TooLarge}
 use Rattle.indexset_follow.specs.Copy.{Copy, copy}
-use Rattle.indexset_follow.specs.Follow.{after_line, holding, reply_line}
+use Rattle.indexset_follow.specs.Follow.{after_line, holding, reply_line, start_state}
 use Rattle.indexset_follow.specs.Leading.{after_leading, lacks, leading_reply}
 use Rattle.indexset_follow.specs.Mark.{mark_of}
 use Rattle.indexset_follow.specs.Reads.{read_reply}
@@ -23,13 +23,14 @@ use Rattle.indexset_follow.specs.declared.reply.Reply.TheVariants as reply
 use Rattle.indexset_follow.specs.declared.role.Role.{Role}
 use Rattle.indexset_follow.specs.declared.role.Role.TheVariants.{Following, Leading}
 
--- a map in one of two roles, and how many pairs a node of a leader holds at most
+-- a map in one of two roles, how many pairs a node of a leader holds at most, and the window of a follower
 pub record Held : Type 0 where
   pub size : ℕ
+  pub window : ℕ
   pub role : Role
 
-abbrev pub held : ℕ → Role → Held
-held size role = record { size = size; role = role }
+abbrev pub held : ℕ → ℕ → Role → Held
+held size window role = record { size = size; window = window; role = role }
 
 -- ---- a follower leads
 
@@ -52,9 +53,9 @@ lead_reply size (Leading t) = reply_ended (reply.Next t.next)
 -- ---- a leader follows
 
 -- a follower of the leader's nodes, which awaits the number that it would have given next
-abbrev pub after_follow : Role → Role
-after_follow (Following s) = Following s
-after_follow (Leading t) = Following (holding (copy t.nodes t.next))
+abbrev pub after_follow : ℕ → Role → Role
+after_follow window (Following s) = Following s
+after_follow window (Leading t) = Following (holding window (copy t.nodes t.next))
 
 abbrev pub follow_reply : Role → List ℕ
 follow_reply (Following s) = reply_ended (reply.Next s.held.next)
@@ -72,9 +73,9 @@ abbrev pub starts : List ℕ → Bool
 starts line = is_start (mark_of line)
 
 -- it finds a leader without nodes, which then follows
-abbrev pub begun : Role → List ℕ → Role
-begun (Following s) line = Following s
-begun (Leading t) line = if starts line && not (is_filled t.nodes) then Following (holding (copy [] t.next)) else Leading t
+abbrev pub begun : ℕ → Role → List ℕ → Role
+begun window (Following s) line = Following s
+begun window (Leading t) line = if starts line && not (is_filled t.nodes) then Following (holding window (copy [] t.next)) else Leading t
 
 -- ---- a line, by the role
 
@@ -95,17 +96,17 @@ reply_in_role v (Leading t) line = leading_reply v.others t line
 abbrev pub role_after : Held → List ℕ → Role
 role_after h line =
     if is_lead line then after_lead h.size h.role
-    else if is_follow line then after_follow h.role
-    else after_in_role (begun h.role line) line
+    else if is_follow line then after_follow h.window h.role
+    else after_in_role (begun h.window h.role line) line
 
 abbrev pub after_held : Held → List ℕ → Held
-after_held h line = held h.size (role_after h line)
+after_held h line = held h.size h.window (role_after h line)
 
 abbrev pub held_reply : Voice → Held → List ℕ → List ℕ
 held_reply v h line =
     if is_lead line then lead_reply h.size h.role
     else if is_follow line then follow_reply h.role
-    else reply_in_role v (begun h.role line) line
+    else reply_in_role v (begun h.window h.role line) line
 
 -- a last line that lacks its end is answered where it asks for a read, and changes nothing
 abbrev pub cut_in_role : Voice → Role → List ℕ → List ℕ
@@ -146,5 +147,5 @@ abbrev pub held_after : Held → List (List ℕ) → Held
 held_after = left_by after_held
 
 -- at first: no nodes, and event 0 is awaited, or to be told
-abbrev pub first_held : ℕ → Bool → Held
-first_held size leads = held size (if leads then Leading (record { nodes = []; size = size; next = 0 }) else Following (holding (copy [] 0)))
+abbrev pub first_held : ℕ → ℕ → Bool → Held
+first_held size window leads = held size window (if leads then Leading (record { nodes = []; size = size; next = 0 }) else Following (start_state window))

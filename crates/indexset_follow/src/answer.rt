@@ -1,9 +1,11 @@
 //! What a line changes in a follower, and the reply that is written to it.
 
-ghost use Rattle.std.specs.Prelude.{◌≡◌, ◌≢◌, IfOk, OnOk, IfErr, Err};
+ghost use Rattle.std.specs.Prelude.{◌≡◌, ◌≢◌, IfOk, OnOk, IfErr, OnErr, Err};
 ghost use Rattle.std.specs.Io.KnownBytes.{Appends, Keeps};
-ghost use Rattle.indexset_follow.specs.Follow.{after_line, copy_after, event_reply, reply_line};
+ghost use Rattle.indexset_follow.specs.Early.{caught_up, taken};
+ghost use Rattle.indexset_follow.specs.Follow.{after_event, after_line, ahead_taken, event_reply, reply_line, with_taken};
 
+use crate::early::Early;
 use crate::event::{Event, read_event};
 use crate::follower::Follower;
 use crate::mark::read_mark;
@@ -37,7 +39,7 @@ pub fn answer_line<W: Write>(
     ensures no_numbers { result ≢ Err RunFault.Numbers }
 {
     if let Some(event) = read_event(line) {
-        let reply = take_event(&mut follower.held, &event)?;
+        let reply = take_event(alloc, follower, event)?;
         return write_voiced(writer, voice, reply);
     }
     if let Some(node) = read_node(alloc, line)? {
@@ -53,21 +55,55 @@ pub fn answer_line<W: Write>(
     }
 }
 
-/// Makes the step of the awaited event, and returns the reply to any event.
-fn take_event(nodes: &mut Nodes, event: &Event) -> Result<Reply, RunFault>
-    ensures held { OnOk result (nodes.new ≡ copy_after nodes.old event.now) }
-    ensures reply { IfOk result (λ reply. reply ≡ event_reply nodes.old event.now) }
+/// Makes the step of the awaited event and those of the early ones after it, holds an early event,
+/// and returns the reply to any event.
+fn take_event(alloc: Global, follower: &mut Follower, event: Event) -> Result<Reply, RunFault>
+    ensures held { OnOk result (follower.new ≡ after_event follower.old event) }
+    ensures reply { IfOk result (λ reply. reply ≡ event_reply follower.old event) }
     ensures fault { IfErr result (λ fault. fault ≡ RunFault.Memory) }
 {
-    let next = nodes.next();
-    match nodes.expects(event) {
-        Turn::Next => match nodes.apply(event) {
-            Ok(()) => Ok(Reply::Next(nodes.next())),
+    let next = follower.held.next();
+    match follower.held.expects(&event) {
+        Turn::Next => match follower.held.apply(&event) {
+            Ok(()) => catch_up(&mut follower.held, &mut follower.early),
             Err(refusal) => reply_unless_memory(refusal, next),
         },
         Turn::Had => Ok(Reply::Had(next)),
-        Turn::Missing => Ok(Reply::Gap(next)),
+        Turn::Missing => take_ahead(alloc, follower, event),
     }
+}
+
+/// Makes the steps of early events while the first is the awaited one, and returns the reply. One
+/// that does not apply is dropped, and ends it.
+fn catch_up(nodes: &mut Nodes, early: &mut Early) -> Result<Reply, RunFault>
+    ensures taken { IfOk result (λ reply. caught_up nodes.old early.old
+        ≡ taken nodes.new early.new reply) }
+    ensures fault { IfErr result (λ fault. fault ≡ RunFault.Memory) }
+{
+    while let Some(event) = early.pop(nodes.next()) {
+        if let Err(refusal) = nodes.apply(&event) {
+            return reply_unless_memory(refusal, nodes.next());
+        }
+    }
+    Ok(Reply::Next(nodes.next()))
+}
+
+/// Holds an event that is ahead of the awaited one by no more than the window, and returns the
+/// reply to one that is ahead. A failed call changes nothing.
+fn take_ahead(alloc: Global, follower: &mut Follower, event: Event) -> Result<Reply, RunFault>
+    ensures held { OnOk result
+        (follower.new ≡ with_taken follower.old (ahead_taken follower.old event)) }
+    ensures reply { IfOk result (λ reply. reply ≡ (ahead_taken follower.old event).reply) }
+    ensures fault { IfErr result (λ fault. fault ≡ RunFault.Memory) }
+    ensures unchanged { OnErr result (follower.new ≡ follower.old) }
+{
+    let next = follower.held.next();
+    let number = event.id().inner();
+    if number > next.saturating_add(follower.window) {
+        return Ok(Reply::Gap(next));
+    }
+    follower.early.insert(alloc, event)?;
+    Ok(Reply::Missing(next, follower.early.first_number(number)))
 }
 
 /// Returns the reply to what does not apply. A lack of memory is a fault.

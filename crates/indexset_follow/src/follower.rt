@@ -1,5 +1,6 @@
 //! What a follower holds.
 
+use crate::early::Early;
 use crate::write::Nodes;
 
 /// What a follower holds.
@@ -9,4 +10,8 @@ pub struct Follower {
     pub held: Nodes,
     /// The snapshot that has begun and not ended.
     pub coming: Option<Nodes>,
+    /// How far ahead of the awaited event another is held.
+    pub window: u64,
+    /// The events that came before their turn.
+    pub early: Early,
 }

@@ -1,6 +1,6 @@
 //! Laws of the definitions of lines and replies, whatever the code.
 
-ghost use Rattle.std.specs.Prelude.{◌≡◌, ◌≢◌, ◌⊎◌, ◌↔◌, ◌<◌, ◌^◌, ◌++◌, ℕ, List, [], codes, length, map, drop, take, Some};
+ghost use Rattle.std.specs.Prelude.{◌≡◌, ◌≢◌, ◌⊎◌, ◌↔◌, ◌<◌, ◌≤◌, ◌^◌, ◌++◌, ℕ, List, [], codes, length, map, drop, slice_get, take, None, Some};
 ghost use Rattle.std.specs.Fmt.{decimal};
 ghost use Rattle.std.specs.List.{All};
 ghost use Rattle.std.specs.Ordering.{nat_cmp};
@@ -12,10 +12,11 @@ ghost use Rattle.indexset_bench.specs.declared.reply.Reply.{Reply};
 ghost use Rattle.indexset_core.specs.Nodes.{IsNodeList};
 ghost use Rattle.indexset_core.specs.Pairs.{by_key};
 ghost use Rattle.indexset_core.specs.declared.pair.Pair.{Pair};
-ghost use Rattle.indexset_follow.specs.Drawn.{HoldsFirst, IsDrawn, IsFeedOfPairs};
+ghost use Rattle.indexset_follow.specs.Drawn.{AreWithin, HoldsAhead, HoldsFirst, IsDrawn, IsFeedOfPairs, IsFirstMissing};
+ghost use Rattle.indexset_follow.specs.Early.{copy_after};
 ghost use Rattle.indexset_follow.specs.EventLine.{Event, EventFits, event_of};
 ghost use Rattle.indexset_follow.specs.Copy.{Copy, copy, snapshot_text, sum_of};
-ghost use Rattle.indexset_follow.specs.Follow.{State, after_mark, holding, start_state, state_after};
+ghost use Rattle.indexset_follow.specs.Follow.{HoldsNear, State, after_event, after_mark, event_reply, holding, start_state, state_after, with_coming};
 ghost use Rattle.indexset_follow.specs.Mark.{LacksEnd, MarkFits, mark_line, mark_of};
 ghost use Rattle.indexset_follow.specs.NodeLine.{NodeFits, node_line, node_of};
 ghost use Rattle.indexset_follow.specs.Passed.{IsPassedOver, ReplyFits};
@@ -23,8 +24,10 @@ ghost use Rattle.indexset_follow.specs.Query.{QueryFits, query_line, query_of};
 ghost use Rattle.indexset_follow.specs.Told.{IsAmong, event_lines, events_of_lines, output_lines};
 ghost use Rattle.indexset_follow.specs.declared.mark.Mark.{Mark};
 ghost use Rattle.indexset_follow.specs.declared.reads.query.Query.{Query};
-ghost use Rattle.indexset_events.specs.Replay.{replay, IsNumberedFrom};
+ghost use Rattle.indexset_follow.specs.declared.reply.Reply.TheVariants as reply;
+ghost use Rattle.indexset_events.specs.Replay.{event_number, replay, IsNumberedFrom};
 ghost use Rattle.indexset_replica.specs.Delivery.{IsSubsequence};
+ghost use Rattle.indexset_replica.specs.Replica.{apply_refusal};
 
 /// A line spells the event of which it is the text, and no other line spells one.
 pub fn event_meaning_is_spelling()
@@ -55,21 +58,66 @@ pub fn mark_meaning_is_spelling()
 {}
 
 /// Let the events be numbered without a gap and lead from some nodes on, and let a follower hold
-/// what the first j of them lead to. After any list of lines that are texts of these events, with
-/// losses, repeats and in any order, it holds what the first k lead to, for some k. Where the texts
+/// what the first j of them lead to, and some of those after the awaited one early. After any list
+/// of lines that are texts of these events, with losses, repeats and in any order, it holds what
+/// the first k lead to, for some k, and some of those after the awaited one early. Where the texts
 /// of the events from j on are among the lines in their order, k is all of them.
 pub fn deliveries_lead_to_a_beginning()
     ensures beginning { (s j : ℕ) (ns : List (List (Pair ℕ ℕ))) (es : List Event) (r : State)
         (lines : List (List ℕ))
-        → IsFeedOfPairs s ns es → All EventFits es → HoldsFirst s ns es j r → All (IsDrawn es) lines
-        → (k : ℕ) × HoldsFirst s ns es k (state_after r lines) }
+        → IsFeedOfPairs s ns es → All EventFits es → HoldsFirst s ns es j r → HoldsAhead s es r
+        → All (IsDrawn es) lines
+        → (k : ℕ) × HoldsFirst s ns es k (state_after r lines)
+        × HoldsAhead s es (state_after r lines) }
     ensures whole { (s j : ℕ) (ns : List (List (Pair ℕ ℕ))) (es : List Event) (r : State)
         (lines : List (List ℕ))
-        → IsFeedOfPairs s ns es → All EventFits es → HoldsFirst s ns es j r → All (IsDrawn es) lines
-        → IsSubsequence (map event_text (drop j es)) lines
+        → IsFeedOfPairs s ns es → All EventFits es → HoldsFirst s ns es j r → HoldsAhead s es r
+        → All (IsDrawn es) lines → IsSubsequence (map event_text (drop j es)) lines
         → HoldsFirst s ns es (length es) (state_after r lines) }
-    ensures none { (s : ℕ) (ns : List (List (Pair ℕ ℕ))) (es : List Event)
-        → HoldsFirst s ns es 0 (holding (copy ns s)) }
+    ensures none { (s w : ℕ) (ns : List (List (Pair ℕ ℕ))) (es : List Event)
+        → HoldsFirst s ns es 0 (holding w (copy ns s)) × HoldsAhead s es (holding w (copy ns s)) }
+{}
+
+/// Let a follower hold what the first j of such events lead to, and none early, and let each event
+/// be ahead of the awaited one by no more than the window when its line comes. Then nothing that
+/// comes is lost, in whatever order: after the lines it holds what the first k lead to, where k is
+/// the first from j on that never came. Where all from j on came, it holds what all lead to.
+pub fn nothing_within_the_window_is_lost()
+    ensures first { (s j : ℕ) (ns : List (List (Pair ℕ ℕ))) (es : List Event) (r : State)
+        (lines : List (List ℕ))
+        → IsFeedOfPairs s ns es → All EventFits es → HoldsFirst s ns es j r → r.early ≡ []
+        → All (IsDrawn es) lines → AreWithin r lines
+        → (k : ℕ) × HoldsFirst s ns es k (state_after r lines) × IsFirstMissing es j lines k }
+    ensures all { (s j : ℕ) (ns : List (List (Pair ℕ ℕ))) (es : List Event) (r : State)
+        (lines : List (List ℕ))
+        → IsFeedOfPairs s ns es → All EventFits es → HoldsFirst s ns es j r → r.early ≡ []
+        → All (IsDrawn es) lines → AreWithin r lines
+        → ((p : ℕ) (e : Event) → j ≤ p → slice_get es p ≡ Some e → IsAmong lines (event_text e))
+        → HoldsFirst s ns es (length es) (state_after r lines) }
+{}
+
+/// The events that are held early are ahead of the awaited one by no more than the window, whatever
+/// the lines, and so they are no more than it.
+pub fn early_events_are_few()
+    ensures near { (r : State) (lines : List (List ℕ)) → HoldsNear r
+        → HoldsNear (state_after r lines) }
+    ensures few { (r : State) → HoldsNear r → length r.early ≤ r.window }
+    ensures none { (w : ℕ) (c : Copy) → HoldsNear (holding w c) }
+{}
+
+/// Without a window no event is held early: the awaited event makes its step or is refused, and any
+/// other changes nothing, and tells what is awaited.
+pub fn without_a_window_only_the_awaited_event_is_taken()
+    ensures early { (r : State) (e : Event) → r.window ≡ 0 → r.early ≡ []
+        → (after_event r e).early ≡ [] }
+    ensures held { (r : State) (e : Event) → r.window ≡ 0 → r.early ≡ []
+        → (after_event r e).held ≡ copy_after r.held e }
+    ensures next { (r : State) (e : Event) → r.window ≡ 0 → r.early ≡ []
+        → event_number e ≡ r.held.next
+        → apply_refusal (by_key nat_cmp) r.held.nodes r.held.next e ≡ None
+        → event_reply r e ≡ reply.Next (after_event r e).held.next }
+    ensures gap { (r : State) (e : Event) → r.window ≡ 0 → r.held.next < event_number e
+        → event_reply r e ≡ reply.Gap r.held.next }
 {}
 
 /// The lines of a snapshot, sent to any follower, make it what its source is: the nodes, and the
@@ -77,7 +125,7 @@ pub fn deliveries_lead_to_a_beginning()
 pub fn snapshot_gives_the_follower()
     ensures { (giver : Copy) (taker : State) → IsNodeList (by_key nat_cmp) giver.nodes
         → giver.next < 2 ^ 64 → length giver.nodes < 2 ^ 64 → All NodeFits giver.nodes
-        → state_after taker (lines_of (snapshot_text giver)) ≡ holding giver }
+        → state_after taker (lines_of (snapshot_text giver)) ≡ holding taker.window giver }
 {}
 
 /// Nothing of a snapshot is held before its end: lines that are neither events nor such an end
@@ -88,7 +136,7 @@ pub fn snapshots_are_held_whole()
         → (state_after s lines).held ≡ s.held }
     ensures wrong { (s : State) (came : Copy) (count sum : ℕ) → s.coming ≡ Some came
         → ((length came.nodes ≢ count) ⊎ (sum_of came ≢ sum))
-        → after_mark s (Mark.End count sum) ≡ holding s.held }
+        → after_mark s (Mark.End count sum) ≡ with_coming s None }
 {}
 
 /// A follower that passes over other lines writes nothing for a reply of the first program, nor for
@@ -129,28 +177,35 @@ pub fn output_tells_the_events()
 /// with losses, repeats and in any order. It then holds what the first k events lead to, for some
 /// k: no other line changes it. Where it expects the number that the first would give next after
 /// its first n lines, it holds the nodes that the first held then. Where all the lines that spell
-/// events came in their order, and so where all that the first wrote came as it was written, it
-/// holds the nodes of the first, and expects its next number.
+/// events came, in their order or each within the window, and so where all that the first wrote
+/// came as it was written, it holds the nodes of the first, and expects its next number.
 pub fn programs_agree()
-    ensures beginning { (lines delivered : List (List ℕ)) → length lines < 2 ^ 64
+    ensures beginning { (w : ℕ) (lines delivered : List (List ℕ)) → length lines < 2 ^ 64
         → (stores_of no_stores lines).pairs.next < 2 ^ 64
         → All (IsAmong (output_lines lines)) delivered
-        → (k : ℕ) × HoldsFirst 0 [] (events_of_lines lines) k (state_after start_state delivered) }
-    ensures same { (lines delivered : List (List ℕ)) → length lines < 2 ^ 64
+        → (k : ℕ)
+        × HoldsFirst 0 [] (events_of_lines lines) k (state_after (start_state w) delivered) }
+    ensures same { (w : ℕ) (lines delivered : List (List ℕ)) → length lines < 2 ^ 64
         → (stores_of no_stores lines).pairs.next < 2 ^ 64
         → All (IsAmong (output_lines lines)) delivered
-        → (n : ℕ) → (state_after start_state delivered).held.next
+        → (n : ℕ) → (state_after (start_state w) delivered).held.next
         ≡ (stores_of no_stores (take n lines)).pairs.next
-        → (state_after start_state delivered).held.nodes
+        → (state_after (start_state w) delivered).held.nodes
         ≡ (stores_of no_stores (take n lines)).pairs.nodes }
-    ensures whole { (lines delivered : List (List ℕ)) → length lines < 2 ^ 64
+    ensures whole { (w : ℕ) (lines delivered : List (List ℕ)) → length lines < 2 ^ 64
         → (stores_of no_stores lines).pairs.next < 2 ^ 64
         → All (IsAmong (output_lines lines)) delivered
         → IsSubsequence (event_lines (output_lines lines)) (event_lines delivered)
-        → (state_after start_state delivered).held
+        → (state_after (start_state w) delivered).held
         ≡ copy (stores_of no_stores lines).pairs.nodes (stores_of no_stores lines).pairs.next }
-    ensures piped { (lines : List (List ℕ)) → length lines < 2 ^ 64
+    ensures within { (w : ℕ) (lines delivered : List (List ℕ)) → length lines < 2 ^ 64
         → (stores_of no_stores lines).pairs.next < 2 ^ 64
-        → (state_after start_state (output_lines lines)).held
+        → All (IsAmong (output_lines lines)) delivered → AreWithin (start_state w) delivered
+        → All (IsAmong delivered) (event_lines (output_lines lines))
+        → (state_after (start_state w) delivered).held
+        ≡ copy (stores_of no_stores lines).pairs.nodes (stores_of no_stores lines).pairs.next }
+    ensures piped { (w : ℕ) (lines : List (List ℕ)) → length lines < 2 ^ 64
+        → (stores_of no_stores lines).pairs.next < 2 ^ 64
+        → (state_after (start_state w) (output_lines lines)).held
         ≡ copy (stores_of no_stores lines).pairs.nodes (stores_of no_stores lines).pairs.next }
 {}

@@ -15,6 +15,8 @@ pub enum Reply {
     Had(u64),
     /// Events are missing, from this number on.
     Gap(u64),
+    /// The event is held. Events are missing, from the first number on, and the second is held.
+    Missing(u64, u64),
     /// The event or the line of a snapshot does not fit; this number is awaited.
     Unfit(u64, Reason),
     /// The line of a snapshot is held.
@@ -39,7 +41,10 @@ impl Reply {
     pub fn is_urgent(self) -> bool
         ensures { result ≡ is_urgent self }
     {
-        matches!(self, Reply::Gap(_) | Reply::Unfit(_, _))
+        matches!(
+            self,
+            Reply::Gap(_) | Reply::Missing(_, _) | Reply::Unfit(_, _)
+        )
     }
 }
 
@@ -51,6 +56,7 @@ impl fmt::Display for Reply {
             Reply::Next(number) => write!(f, "next {number}"),
             Reply::Had(number) => write!(f, "had {number}"),
             Reply::Gap(number) => write!(f, "gap {number}"),
+            Reply::Missing(number, first) => write!(f, "gap {number} {first}"),
             Reply::Unfit(number, reason) => write!(f, "unfit {number} {reason}"),
             Reply::Held => f.write_str("held"),
             Reply::Sum(next, count, sum) => write!(f, "sum {next} {count} {sum}"),

@@ -4,6 +4,7 @@ ghost use Rattle.std.specs.Prelude.{◌≡◌, OnOk, OnErr, IfOk, IfErr};
 ghost use Rattle.indexset_follow.specs.Follow.{after_mark, after_node, end_reason, mark_reply, node_reply};
 
 use crate::answer::reply_unless_memory;
+use crate::early::Early;
 use crate::follower::Follower;
 use crate::mark::Mark;
 use crate::node::Node;
@@ -46,7 +47,8 @@ pub fn take_mark(alloc: Global, follower: &mut Follower, mark: Mark) -> Result<R
     }
 }
 
-/// Puts the snapshot that came in place of what is held, where it is whole, and returns the reply.
+/// Puts the snapshot that came in place of all that is held, early events among it, where it is
+/// whole, and returns the reply.
 fn take_end(alloc: Global, follower: &mut Follower, count: u64, sum: u64) -> Result<Reply, RunFault>
     ensures held { OnOk result (follower.new ≡ after_mark follower.old (Mark.End count sum)) }
     ensures reply { IfOk result (λ reply. reply ≡ mark_reply follower.old (Mark.End count sum)) }
@@ -64,6 +66,7 @@ fn take_end(alloc: Global, follower: &mut Follower, count: u64, sum: u64) -> Res
     let next = coming.next();
     if let Some(came) = follower.coming.take() {
         follower.held = came;
+        follower.early = Early::new();
     }
     Ok(Reply::Next(next))
 }

@@ -6,6 +6,7 @@ ghost use Rattle.indexset_follow.specs.Follow.{holding};
 ghost use Rattle.indexset_follow.specs.Store.{after_follow, after_in_role, after_lead, begun, can_lead, cut_in_role, first_held, follow_reply, held, lead_reply, promoted, reply_in_role, role_lacks, starts, without_return};
 
 use crate::answer::answer_line;
+use crate::early::Early;
 use crate::follower::Follower;
 use crate::leading::answer_leading;
 use crate::mark::{Mark, read_mark};
@@ -32,36 +33,40 @@ pub struct Store {
     voice: Voice,
     /// How many pairs a node holds at most while it leads.
     size: usize,
+    /// The window of a follower.
+    window: u64,
     role: Role,
     ghost two: { 2 ≤ size },
 }
 
 impl Store {
     /// Returns a map without nodes, which leads or follows from event 0 on.
-    pub fn new(alloc: Global, voice: Voice, size: usize, leads: bool) -> Store
+    pub fn new(alloc: Global, voice: Voice, size: usize, window: u64, leads: bool) -> Store
         requires { 2 ≤ size }
         ensures voice { result.voice ≡ voice }
-        ensures held { held result.size result.role ≡ first_held size leads }
+        ensures held { held result.size result.window result.role ≡ first_held size window leads }
     {
         let role = if leads {
             Role::Leading(Pairs::with_maximum_node_size(alloc, size))
         } else {
-            Role::Following(holding(Nodes::new(alloc, 0)))
+            Role::Following(holding(window, Nodes::new(alloc, 0)))
         };
         Store {
             alloc,
             voice,
             size,
+            window,
             role,
         }
     }
 
     /// Makes a follower a leader of the same nodes, which goes on with the next number, and writes
-    /// the reply. A snapshot that has not ended is dropped. It stays a follower where a node is
-    /// larger than one of a leader.
+    /// the reply. Early events and a snapshot that has not ended are dropped. It stays a follower
+    /// where a node is larger than one of a leader.
     fn lead<W: Write>(&mut self, writer: &mut W) -> Result<(), RunFault>
         ensures role { OnOk result (self.new.role ≡ after_lead self.old.size self.old.role) }
         ensures size { self.new.size ≡ self.old.size }
+        ensures window { self.new.window ≡ self.old.window }
         ensures voice { self.new.voice ≡ self.old.voice }
         ensures told { OnOk result (Appends (W.contents writer.old) (W.contents writer.new)
             (lead_reply self.old.size self.old.role)) }
@@ -91,8 +96,9 @@ impl Store {
     /// Makes a leader a follower of its own nodes, which awaits the next number, and writes the
     /// reply.
     fn follow<W: Write>(&mut self, writer: &mut W) -> Result<(), RunFault>
-        ensures role { OnOk result (self.new.role ≡ after_follow self.old.role) }
+        ensures role { OnOk result (self.new.role ≡ after_follow self.old.window self.old.role) }
         ensures size { self.new.size ≡ self.old.size }
+        ensures window { self.new.window ≡ self.old.window }
         ensures voice { self.new.voice ≡ self.old.voice }
         ensures told { OnOk result (Appends (W.contents writer.old) (W.contents writer.new)
             (follow_reply self.old.role)) }
@@ -106,7 +112,7 @@ impl Store {
             Role::Leading(pairs) => {
                 let nodes = follower_of(self.alloc, pairs)?;
                 let next = nodes.next();
-                self.role = Role::Following(holding(nodes));
+                self.role = Role::Following(holding(self.window, nodes));
                 write_reply(writer, Reply::Next(next))
             }
         }
@@ -114,14 +120,15 @@ impl Store {
 
     /// Makes a leader without nodes a follower, where the line begins a snapshot.
     fn begin(&mut self, line: &[u8])
-        ensures role { self.new.role ≡ begun self.old.role line.now }
+        ensures role { self.new.role ≡ begun self.old.window self.old.role line.now }
         ensures size { self.new.size ≡ self.old.size }
+        ensures window { self.new.window ≡ self.old.window }
         ensures voice { self.new.voice ≡ self.old.voice }
     {
         if let Role::Leading(pairs) = &self.role {
             if starts(line) && pairs.node_count() == 0 {
                 let next = pairs.events_issued();
-                self.role = Role::Following(holding(Nodes::new(self.alloc, next)));
+                self.role = Role::Following(holding(self.window, Nodes::new(self.alloc, next)));
             }
         }
     }
@@ -130,6 +137,7 @@ impl Store {
     fn answer_in_role<W: Write>(&mut self, writer: &mut W, line: &[u8]) -> Result<(), RunFault>
         ensures role { OnOk result (self.new.role ≡ after_in_role self.old.role line.now) }
         ensures size { self.new.size ≡ self.old.size }
+        ensures window { self.new.window ≡ self.old.window }
         ensures voice { self.new.voice ≡ self.old.voice }
         ensures told { OnOk result (Appends (W.contents writer.old) (W.contents writer.new)
             (reply_in_role self.old.voice self.old.role line.now)) }
@@ -175,11 +183,16 @@ impl Store {
     }
 }
 
-/// Returns a follower that holds these nodes, where no snapshot has begun.
-fn holding(held: Nodes) -> Follower
-    ensures { result ≡ holding held }
+/// Returns a follower that holds these nodes, where no snapshot has begun and no event is early.
+fn holding(window: u64, held: Nodes) -> Follower
+    ensures { result ≡ holding window held }
 {
-    Follower { held, coming: None }
+    Follower {
+        held,
+        coming: None,
+        window,
+        early: Early::new(),
+    }
 }
 
 /// Returns whether the line begins a snapshot.
@@ -227,7 +240,7 @@ impl Answers for Store {
 
     ghost State = { Held };
 
-    ghost state = { λ store. held store.size store.role };
+    ghost state = { λ store. held store.size store.window store.role };
 
     ghost reply = { λ store. input_reply store.voice };
 

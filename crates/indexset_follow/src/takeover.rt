@@ -31,14 +31,14 @@ ghost use Rattle.indexset_follow.specs.declared.role.Role.TheVariants as role;
 /// number, whether a snapshot is coming or not. So it answers all further lines, and tells the
 /// events of them, as that leader does.
 pub fn follower_takes_over()
-    ensures held { (t : PairTree) (s : State) → s.held ≡ copy t.nodes t.next
+    ensures held { (t : PairTree) (w : ℕ) (s : State) → s.held ≡ copy t.nodes t.next
         → nodes_refusal (by_key nat_cmp) t.size t.nodes ≡ None
-        → after_held (held t.size (role.Following s)) (codes "lead")
-        ≡ held t.size (role.Leading t) }
-    ensures answers { (v : Voice) (t : PairTree) (s : State) (lines : List (List ℕ))
+        → after_held (held t.size w (role.Following s)) (codes "lead")
+        ≡ held t.size w (role.Leading t) }
+    ensures answers { (v : Voice) (t : PairTree) (w : ℕ) (s : State) (lines : List (List ℕ))
         → s.held ≡ copy t.nodes t.next → nodes_refusal (by_key nat_cmp) t.size t.nodes ≡ None
-        → held_replies v (held t.size (role.Following s)) (codes "lead" ∷ lines)
-        ≡ reply_ended (reply.Next t.next) ++ held_replies v (held t.size (role.Leading t)) lines }
+        → held_replies v (held t.size w (role.Following s)) (codes "lead" ∷ lines)
+        ≡ reply_ended (reply.Next t.next) ++ held_replies v (held t.size w (role.Leading t)) lines }
 {}
 
 /// The events that a leader tells, whatever lines it reads, are numbered from 0 without a gap. They
@@ -53,38 +53,38 @@ pub fn led_events_lead_to_the_nodes()
         ≡ Some (tree_of (fresh size) lines).nodes }
     ensures count { (size : ℕ) (lines : List (List ℕ)) → 2 ≤ size → size < 2 ^ 64
         → (tree_of (fresh size) lines).next ≡ length (events_led (fresh size) lines) }
-    ensures role { (size : ℕ) (t : PairTree) (lines : List (List ℕ))
+    ensures role { (size w : ℕ) (t : PairTree) (lines : List (List ℕ))
         → All (λ line. (starts line || is_follow line) ≡ false) lines
-        → held_after (held size (role.Leading t)) lines
-        ≡ held size (role.Leading (tree_of t lines)) }
+        → held_after (held size w (role.Leading t)) lines
+        ≡ held size w (role.Leading (tree_of t lines)) }
 {}
 
 /// Let a leader begin without nodes and read some lines, and let a follower hold what all events
 /// lead to that it told. The follower that is told to lead is what the leader is, and answers all
 /// further lines, and tells the events of them, as the leader that goes on.
 pub fn follower_goes_on_as_the_leader()
-    ensures held { (size : ℕ) (lines : List (List ℕ)) (s : State) → 2 ≤ size → size < 2 ^ 64
+    ensures held { (size w : ℕ) (lines : List (List ℕ)) (s : State) → 2 ≤ size → size < 2 ^ 64
         → HoldsFirst 0 [] (events_led (fresh size) lines) (length (events_led (fresh size) lines)) s
-        → after_held (held size (role.Following s)) (codes "lead")
-        ≡ held size (role.Leading (tree_of (fresh size) lines)) }
-    ensures answers { (v : Voice) (size : ℕ) (lines more : List (List ℕ)) (s : State)
+        → after_held (held size w (role.Following s)) (codes "lead")
+        ≡ held size w (role.Leading (tree_of (fresh size) lines)) }
+    ensures answers { (v : Voice) (size w : ℕ) (lines more : List (List ℕ)) (s : State)
         → 2 ≤ size → size < 2 ^ 64
         → HoldsFirst 0 [] (events_led (fresh size) lines) (length (events_led (fresh size) lines)) s
-        → held_replies v (held size (role.Following s)) (codes "lead" ∷ more)
+        → held_replies v (held size w (role.Following s)) (codes "lead" ∷ more)
         ≡ reply_ended (reply.Next s.held.next)
-        ++ held_replies v (held size (role.Leading (tree_of (fresh size) lines))) more }
+        ++ held_replies v (held size w (role.Leading (tree_of (fresh size) lines))) more }
 {}
 
 /// A read is answered by the nodes and the next number alone, whatever the role, and changes
 /// nothing.
 pub fn reads_agree()
-    ensures follows { (v : Voice) (size : ℕ) (s : State) (q : Query) → QueryFits q
-        → held_reply v (held size (role.Following s)) (query_line q)
+    ensures follows { (v : Voice) (size w : ℕ) (s : State) (q : Query) → QueryFits q
+        → held_reply v (held size w (role.Following s)) (query_line q)
         ≡ query_text s.held.nodes s.held.next q }
-    ensures leads { (v : Voice) (size : ℕ) (t : PairTree) (q : Query) → QueryFits q
-        → held_reply v (held size (role.Leading t)) (query_line q) ≡ query_text t.nodes t.next q }
-    ensures still { (size : ℕ) (r : Role) (q : Query) → QueryFits q
-        → after_held (held size r) (query_line q) ≡ held size r }
+    ensures leads { (v : Voice) (size w : ℕ) (t : PairTree) (q : Query) → QueryFits q
+        → held_reply v (held size w (role.Leading t)) (query_line q) ≡ query_text t.nodes t.next q }
+    ensures still { (size w : ℕ) (r : Role) (q : Query) → QueryFits q
+        → after_held (held size w r) (query_line q) ≡ held size w r }
 {}
 
 /// A line with a byte 13 before its end is answered as the line without it, and any other as it is.
@@ -102,14 +102,14 @@ pub fn returns_belong_to_line_ends()
 /// the cut line stands behind those to the whole ones. It is none where lines that say nothing are
 /// passed over and the cut one asks for no read.
 pub fn cut_lines_change_nothing()
-    ensures held { (size : ℕ) (leads : Bool) (whole rest : List ℕ) → IsWhole whole → HasNoEnd rest
-        → store_after size leads (whole ++ rest) ≡ store_after size leads whole }
-    ensures all_held { (size : ℕ) (leads : Bool) (whole : List ℕ) → IsWhole whole
-        → store_after size leads whole
-        ≡ held_after (first_held size leads) (map without_return (lines_of whole)) }
-    ensures told { (v : Voice) (size : ℕ) (leads : Bool) (whole rest : List ℕ) → IsWhole whole
-        → HasNoEnd rest → 0 < length rest → store_text v size leads (whole ++ rest)
-        ≡ store_text v size leads whole ++ held_cut v (store_after size leads whole) rest }
+    ensures held { (size w : ℕ) (leads : Bool) (whole rest : List ℕ) → IsWhole whole → HasNoEnd rest
+        → store_after size w leads (whole ++ rest) ≡ store_after size w leads whole }
+    ensures all_held { (size w : ℕ) (leads : Bool) (whole : List ℕ) → IsWhole whole
+        → store_after size w leads whole
+        ≡ held_after (first_held size w leads) (map without_return (lines_of whole)) }
+    ensures told { (v : Voice) (size w : ℕ) (leads : Bool) (whole rest : List ℕ) → IsWhole whole
+        → HasNoEnd rest → 0 < length rest → store_text v size w leads (whole ++ rest)
+        ≡ store_text v size w leads whole ++ held_cut v (store_after size w leads whole) rest }
     ensures silent { (v : Voice) (h : Held) (rest : List ℕ) → v.others ≡ Others.Pass
         → query_of rest ≡ None → held_cut v h rest ≡ [] }
 {}

@@ -9,7 +9,7 @@ use std::{env, io};
 
 /// How the program is called.
 pub const USAGE: &str = "usage: indexset_store [--follow | --lead] [--node-size N] \
-[--pass-others] [--quiet] | --help | --version";
+[--window N] [--pass-others] [--quiet] | --help | --version";
 
 /// What the arguments mean.
 pub const HELP: &str = "
@@ -18,6 +18,7 @@ Keeps a map of numbers, and answers each line of standard input on standard outp
   --follow       begin as a follower, which takes the events of another map (unless said)
   --lead         begin as a leader, which carries out commands and prints their events
   --node-size N  at most N pairs a node of a leader, 2 to 65535 (256 unless said)
+  --window N     as a follower, hold events up to N ahead of the awaited one (4096 unless said)
   --pass-others  pass over lines that say nothing
   --quiet        as a follower, reply only gap, unfit and what a request asks for
   --help         print this
@@ -29,6 +30,9 @@ pub const VERSION: &str = "indexset_store 0.2.0";
 /// The node size unless one is given.
 const NODE_SIZE: usize = 256;
 
+/// The window unless one is given.
+const WINDOW: u64 = 4_096;
+
 /// The greatest node size.
 const MOST: u64 = 65_535;
 
@@ -39,13 +43,28 @@ struct NodeSize {
     ghost two: { 2 ≤ pairs },
 }
 
-/// How the program is to run.
+/// What the program is to write.
+#[derive(Clone, Copy, Debug)]
+pub enum Asked {
+    /// The answers to lines.
+    Answers,
+    /// What the arguments mean.
+    Help,
+    /// The version.
+    Version,
+}
+
+/// What is asked for.
 #[derive(Clone, Copy, Debug)]
 pub struct Settings {
+    /// What is to be written.
+    pub asked: Asked,
     /// Which replies are written.
     pub voice: Voice,
     /// Whether it leads from the first line on.
     pub leads: bool,
+    /// How far ahead of the awaited event a follower holds others.
+    pub window: u64,
     node_size: NodeSize,
 }
 
@@ -58,36 +77,37 @@ impl Settings {
     }
 }
 
-/// What is asked for.
+/// A number that is given as an argument.
 #[derive(Clone, Copy, Debug)]
-pub enum Asked {
-    /// A run with these settings.
-    Run(Settings),
-    /// What the arguments mean.
-    Help,
-    /// The version.
-    Version,
+enum Number {
+    NodeSize,
+    Window,
 }
 
 /// What the arguments say, each once at most.
 #[derive(Clone, Copy, Debug)]
 struct Given {
+    asked: Option<Asked>,
     leads: Option<bool>,
     others: Option<Others>,
     is_quiet: Option<bool>,
     node_size: Option<NodeSize>,
-    /// The next argument is the node size.
-    is_size_next: bool,
+    window: Option<u64>,
+    /// The next argument is this number.
+    wanted: Option<Number>,
 }
 
 impl Given {
     /// Takes an argument. Returns whether it is one, and not said before.
     fn take(&mut self, word: &str) -> bool {
-        if self.is_size_next {
-            self.is_size_next = false;
-            return keep(&mut self.node_size, read_node_size(word.as_bytes()));
+        if let Some(number) = self.wanted.take() {
+            return self.set(number, word.as_bytes());
         }
-        if word == "--lead" {
+        if word == "--help" {
+            keep(&mut self.asked, Some(Asked::Help))
+        } else if word == "--version" {
+            keep(&mut self.asked, Some(Asked::Version))
+        } else if word == "--lead" {
             keep(&mut self.leads, Some(true))
         } else if word == "--follow" {
             keep(&mut self.leads, Some(false))
@@ -96,24 +116,37 @@ impl Given {
         } else if word == "--quiet" {
             keep(&mut self.is_quiet, Some(true))
         } else if word == "--node-size" {
-            self.is_size_next = true;
+            self.wanted = Some(Number::NodeSize);
+            true
+        } else if word == "--window" {
+            self.wanted = Some(Number::Window);
             true
         } else {
             false
         }
     }
 
+    /// Sets a number to that of a text. Returns whether it is one, and was not set before.
+    fn set(&mut self, number: Number, text: &[u8]) -> bool {
+        match number {
+            Number::NodeSize => keep(&mut self.node_size, read_node_size(text)),
+            Number::Window => keep(&mut self.window, read_number(text)),
+        }
+    }
+
     /// Returns the settings, or nothing where an argument lacks its value.
     fn settings(self) -> Option<Settings> {
-        if self.is_size_next {
+        if self.wanted.is_some() {
             return None;
         }
         Some(Settings {
+            asked: self.asked.unwrap_or(Asked::Answers),
             voice: Voice {
                 others: self.others.unwrap_or(Others::Tell),
                 is_quiet: self.is_quiet.unwrap_or(false),
             },
             leads: self.leads.unwrap_or(false),
+            window: self.window.unwrap_or(WINDOW),
             node_size: self.node_size.unwrap_or(NodeSize { pairs: NODE_SIZE }),
         })
     }
@@ -130,7 +163,7 @@ fn keep<T: Copy>(place: &mut Option<T>, said: Option<T>) -> bool {
 
 /// Returns what the arguments ask for, or nothing where one is unknown or doubled or lacks its
 /// value. Fails where memory runs out.
-pub fn read_arguments(rt: &HostRuntime) -> io::Result<Option<Asked>> {
+pub fn read_settings(rt: &HostRuntime) -> io::Result<Option<Settings>> {
     let mut arguments = match env::args(rt) {
         Ok(arguments) => arguments,
         Err(e) => {
@@ -143,25 +176,20 @@ pub fn read_arguments(rt: &HostRuntime) -> io::Result<Option<Asked>> {
     };
     let _program = arguments.next();
     let mut given = Given {
+        asked: None,
         leads: None,
         others: None,
         is_quiet: None,
         node_size: None,
-        is_size_next: false,
+        window: None,
+        wanted: None,
     };
     for argument in arguments {
-        let word = argument.as_str();
-        if word == "--help" {
-            return Ok(Some(Asked::Help));
-        }
-        if word == "--version" {
-            return Ok(Some(Asked::Version));
-        }
-        if !given.take(word) {
+        if !given.take(argument.as_str()) {
             return Ok(None);
         }
     }
-    Ok(given.settings().map(Asked::Run))
+    Ok(given.settings())
 }
 
 /// Returns the node size of a text, if it is one.

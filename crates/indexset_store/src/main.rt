@@ -3,6 +3,7 @@
 //!
 //! The arguments are `--follow` or `--lead`, the role that it begins in (it follows unless said),
 //! `--node-size N`, how many pairs a node of a leader holds at most (2 to 65,535; 256 unless said),
+//! `--window N`, how far ahead of the awaited event a follower holds others (4,096 unless said),
 //! `--pass-others`, with which a line that means nothing is passed over in silence, and `--quiet`,
 //! with which a follower tells of lines that are no requests only what is missing or does not fit.
 //! `--help` and `--version` are answered on standard output.
@@ -10,7 +11,7 @@
 
 mod arguments;
 
-use arguments::{Asked, HELP, Settings, USAGE, VERSION, read_arguments};
+use arguments::{Asked, HELP, Settings, USAGE, VERSION, read_settings};
 use indexset_bench::RunFault;
 use indexset_follow::serve;
 use std::io::{self, BufReader, BufWriter};
@@ -28,6 +29,7 @@ fn run(rt: &HostRuntime, settings: Settings) -> Result<(), RunFault> {
         alloc,
         settings.voice,
         settings.node_size(),
+        settings.window,
         settings.leads,
         &mut reader,
         &mut writer,
@@ -40,9 +42,9 @@ fn tell(rt: &HostRuntime, text: &str) -> Result<(), RunFault> {
 }
 
 /// Does what is asked for.
-fn answer(rt: &HostRuntime, asked: Asked) -> Result<(), RunFault> {
-    match asked {
-        Asked::Run(settings) => run(rt, settings),
+fn answer(rt: &HostRuntime, settings: Settings) -> Result<(), RunFault> {
+    match settings.asked {
+        Asked::Answers => run(rt, settings),
         Asked::Help => {
             tell(rt, USAGE)?;
             tell(rt, HELP)
@@ -52,8 +54,8 @@ fn answer(rt: &HostRuntime, asked: Asked) -> Result<(), RunFault> {
 }
 
 fn main(rt: HostRuntime) -> ExitCode {
-    let answered = match read_arguments(&rt) {
-        Ok(Some(asked)) => answer(&rt, asked),
+    let answered = match read_settings(&rt) {
+        Ok(Some(settings)) => answer(&rt, settings),
         Ok(None) => {
             let _ = eprintln!(&rt; "{USAGE}");
             return ExitCode::from(BAD_ARGUMENTS);

@@ -3,10 +3,10 @@ use Rattle.indexset_follow.proofs.Drawing.{beginning, whole}
 use Rattle.indexset_follow.proofs.laws.deliveries_lead_to_a_beginning.Goals as goal
 
 pub returns-clause-beginning : goal.returns-clause-beginning
-returns-clause-beginning c = λ s j ns es r lines feed fit at drawn. beginning s ns es feed fit j r lines at drawn
+returns-clause-beginning c = λ s j ns es r lines feed fit at ahead drawn. beginning s ns es feed fit j r lines at ahead drawn
 
 pub returns-clause-whole : goal.returns-clause-whole
-returns-clause-whole c = λ s j ns es r lines feed fit at drawn came. whole s ns es feed fit j r lines at drawn came
+returns-clause-whole c = λ s j ns es r lines feed fit at ahead drawn came. whole s ns es feed fit j r lines at ahead drawn came
 
 pub returns-clause-none : goal.returns-clause-none
-returns-clause-none c = λ s ns es. record { within = omega arith; nodes = refl; next = omega arith }
+returns-clause-none c = λ s w ns es. (record { within = omega arith; nodes = refl; next = omega arith }, tt)

@@ -18,13 +18,13 @@ silent v (Following s) rest pass none = rw (none, pass) (silent_at v.is_quiet)
 silent v (Leading t) rest pass none = rw (none, pass) refl
 
 pub returns-clause-held : goal.returns-clause-held
-returns-clause-held c = λ size leads whole rest is_whole none. held_whole size leads whole is_whole rest none
+returns-clause-held c = λ size w leads whole rest is_whole none. held_whole size w leads whole is_whole rest none
 
 pub returns-clause-all_held : goal.returns-clause-all_held
-returns-clause-all_held c = λ size leads whole is_whole. all_held size leads whole is_whole
+returns-clause-all_held c = λ size w leads whole is_whole. all_held size w leads whole is_whole
 
 pub returns-clause-told : goal.returns-clause-told
-returns-clause-told c = λ v size leads whole rest is_whole none some. cut_answered size leads whole is_whole v rest none some
+returns-clause-told c = λ v size w leads whole rest is_whole none some. cut_answered size w leads whole is_whole v rest none some
 
 pub returns-clause-silent : goal.returns-clause-silent
 returns-clause-silent c = λ v h rest pass none. silent v h.role rest pass none
