@@ -1,6 +1,7 @@
 -- Worked examples: what a leader answers to a command, heads, bytes 13 before a line's end, and what a quiet follower tells.
 use Rattle.std.proofs.Common.{◌≡◌, true, List, [], ◌∷◌, ◌++◌, refl}
 use lib.Chars.{codes}
+use Rattle.std.specs.Fmt.{digits}
 use Rattle.indexset_bench.specs.PairText.{ended}
 use Rattle.indexset_bench.specs.declared.pair_command.PairCommand.TheVariants.{Put, Cut}
 use Rattle.indexset_events.specs.Keys.{key_removal_events}
@@ -16,7 +17,7 @@ use Rattle.indexset_follow.specs.declared.reply.Reply.TheVariants.{Next, Had, Ga
 
 -- the first pair of a map, and the removal of a key that it lacks
 commands : (command_text (fresh 4) (Put 3 30) ≡ ended (codes "new") ++ ended (codes "0 create 3:30") ++ ended (codes "next 1")) × (command_text (fresh 4) (Cut 3) ≡ ended (codes "none") ++ ended (codes "next 0"))
-unfolding put_events key_removal_events removal_events
+unfolding put_events key_removal_events removal_events digits
 commands = (refl, refl)
 
 heads : (head_reply 5 0 ≡ Next 5) × (head_reply 5 5 ≡ Next 5) × (head_reply 5 6 ≡ Gap 5)
@@ -30,4 +31,5 @@ abbrev quiet : Voice
 quiet = record { others = Tell; is_quiet = true }
 
 told_quietly : (voiced quiet (Next 5) ≡ []) × (voiced quiet (Had 5) ≡ []) × (voiced quiet Held ≡ []) × (voiced quiet (Gap 5) ≡ ended (codes "gap 5")) × (follower_others quiet ≡ Pass)
+unfolding digits
 told_quietly = (refl, refl, refl, refl, refl)
