@@ -99,11 +99,11 @@ no_follow Sum = refl
 
 module _ (q : Query) (fit : QueryFits q) where
   pub follower_answers : (v : Voice) (size w : ℕ) (s : State) → held_reply v (held size w (Following s)) (query_line q) ≡ query_text s.held.nodes s.held.next q
-  follower_answers v size s = rw (no_lead q, no_follow q, no_event q, no_node q, no_mark q, query_told q fit) refl
+  follower_answers v size w s = rw (no_lead q, no_follow q, no_event q, no_node q, no_mark q, query_told q fit) refl
 
   pub leader_answers : (v : Voice) (size w : ℕ) (t : PairTree) → held_reply v (held size w (Leading t)) (query_line q) ≡ query_text t.nodes t.next q
-  leader_answers v size t = rw (no_lead q, no_follow q, no_mark q) (rw (query_told q fit) refl)
+  leader_answers v size w t = rw (no_lead q, no_follow q, no_mark q) (rw (query_told q fit) refl)
 
   pub nothing_changed : (size w : ℕ) (r : Role) → after_held (held size w r) (query_line q) ≡ held size w r
-  nothing_changed size (Following s) = rw (no_lead q, no_follow q, no_event q, no_node q, no_mark q) refl
-  nothing_changed size (Leading t) = rw (no_lead q, no_follow q, no_mark q) (rw (query_told q fit) refl)
+  nothing_changed size w (Following s) = rw (no_lead q, no_follow q, no_event q, no_node q, no_mark q) refl
+  nothing_changed size w (Leading t) = rw (no_lead q, no_follow q, no_mark q) (rw (query_told q fit) refl)
