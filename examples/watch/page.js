@@ -169,10 +169,10 @@ const on = {
   taken({ who, source, lines, told }) {
     talk(`${who} starts from ${source === "file" ? "the file" : source}: ${many(lines, "line")}`, told);
   },
-  sent({ to, n, fate, wait, takes }) {
+  sent({ to, word, fate, wait, takes }) {
     const way = lanes[to].querySelector(".way");
     if (still || document.hidden || way.children.length > PILLS) return;
-    const pill = made("span", way, { class: "pill " + fate, text: n });
+    const pill = made("span", way, { class: "pill " + fate, text: word });
     const end = way.clientWidth - pill.offsetWidth, half = { left: end / 2 + "px", transform: "none", opacity: 1 };
     const fall = { left: end * 0.6 + "px", transform: "translateY(30px)", opacity: 0 };
     const way_of_it = [{ left: 0 }, ...(fate === "lost" ? [half, fall] : [{ left: end + "px" }])];

@@ -24,7 +24,7 @@ class Shown(Store):
         super().__init__(built("indexset_store"), "--node-size", str(node_size), *["--lead"] * leads)
         self.name, self.channel, self.leads, self.shown = name, channel, leads, max(8, PAIRS // node_size)
         self.nodes_held: list[bytes] = []
-        self.next, self.pairs, self.last_sum = 0, 0, ""
+        self.awaited, self.pairs, self.last_sum = 0, 0, ""
         self.is_stale, self.is_unfit = True, False
         self.asked_to, self.asked_until = 0, 0.0  # up to which event it was sent again, and when that must have come
         self.replies: collections.Counter[str] = collections.Counter()
@@ -70,7 +70,7 @@ class Shown(Store):
             self.is_stale, self.last_sum = False, ""
             if told := self.say(b"nodes") if self.is_running() else []:
                 *self.nodes_held, last = told
-                self.next, self.pairs = int(last[5:]), sum(node.count(b":") for node in self.nodes_held)
+                self.awaited, self.pairs = int(last[5:]), sum(node.count(b":") for node in self.nodes_held)
 
     def sum_of_all(self) -> str:
         """Its reply to `sum`, for which it is asked once after a change."""

@@ -15,14 +15,13 @@ import threading
 import time
 
 from channel import FLIGHT, Channel, Kept, Percent
-from followers import number
 from shown import Shown
 
 NAMES = ("A", "B", "C")
 EVENT = re.compile(rb"\d+ (create|drop|insert|remove|split|merge) ")
 LINES = 60  # of a reply are shown
 AGAIN = 8  # events are sent again for one `gap`
-QUIET = 0.4  # seconds with nothing on the way, until the last event is sent again
+QUIET = 0.4  # seconds with nothing on the way, until `head` is sent
 BATCH = 200  # lines are handed over at once
 NEWS = 200  # lines at most are told to a page at once
 
@@ -119,7 +118,7 @@ class Watch:
     def giver(self, taker: str) -> Shown | None:
         """Who gives a snapshot: the leader, or else the store that expects the highest number."""
         others = [each for name, each in self.stores.items() if name != taker and each.is_running()]
-        others.sort(key=lambda each: (each.name == self.leader, each.next))
+        others.sort(key=lambda each: (each.name == self.leader, each.awaited))
         return others[-1] if others else None
 
     def promote(self, who: str) -> None:
@@ -131,21 +130,21 @@ class Watch:
                 self.say(self.stores[self.leader], b"follow")
             store.channel.clear()
             store.look()
-            store.take(self.kept.events[store.next :])
+            store.take(self.kept.events[store.awaited :])
             self.say(store, b"lead")
 
-    def send(self, store: Shown, event: bytes, why: str) -> None:
-        """Puts an event on the way to a store."""
+    def send(self, store: Shown, line: bytes, why: str) -> None:
+        """Puts an event or a `head` on the way to a store."""
         is_seen = len(store.channel.flight) < LINES
-        for sent in store.channel.send(event, why, time.monotonic()):
+        for sent in store.channel.send(line, why, time.monotonic()):
             if is_seen:
-                self.tell("sent", to=store.name, n=number(event), **dataclasses.asdict(sent))
+                self.tell("sent", to=store.name, word=line.split(b" ")[0].decode(), **dataclasses.asdict(sent))
 
     def send_again(self, store: Shown, end: int) -> None:
         """Sends some events of the file, from the one that a store expects to an end."""
-        for event in (events := self.kept.events[store.next : min(store.next + AGAIN, end)]):
+        for event in (events := self.kept.events[store.awaited : min(store.awaited + AGAIN, end)]):
             self.send(store, event, "again")
-        store.asked_to, store.asked_until = store.next + len(events), store.channel.free + FLIGHT
+        store.asked_to, store.asked_until = store.awaited + len(events), store.channel.free + FLIGHT
 
     def deliver(self, store: Shown, now: float) -> None:
         """Hands over what has arrived, and sends again what the replies ask for, unless that may still come."""
@@ -155,20 +154,20 @@ class Watch:
             word, *numbers = store.last_reply.split(" ")
             store.replies[word] += 1
             if word in ("next", "gap"):
-                store.next = int(numbers[0])
+                store.awaited = int(numbers[0])
                 is_quiet = not store.channel.flight
-                is_due = is_quiet or store.next >= store.asked_to or now >= store.asked_until
-                if is_due and (word == "gap" or is_quiet and store.next < self.kept.head):
+                is_due = is_quiet or store.awaited >= store.asked_to or now >= store.asked_until
+                if is_due and (word == "gap" or is_quiet and store.awaited < self.kept.head):
                     self.send_again(store, int(numbers[-1]) if numbers[1:] else self.kept.head)
             store.is_unfit |= word == "unfit"
         if lines:
             self.tell("reply", who=store.name, reply=store.last_reply)
 
     def ask_on(self, store: Shown, now: float) -> None:
-        """Sends the last event again where all is quiet and a store lacks some, so that it says from where on."""
+        """Tells a store that lacks events where they end, once all is quiet, so that it says what is missing."""
         is_quiet = not store.channel.flight and now >= max(store.channel.free + QUIET, store.asked_until)
-        if is_quiet and store.next < self.kept.head and not store.is_unfit:
-            self.send(store, self.kept.events[-1], "again")
+        if is_quiet and store.awaited < self.kept.head and not store.is_unfit:
+            self.send(store, b"head %d" % self.kept.head, "head")
 
     def step(self) -> None:
         """Hands over what is due, looks at the stores that changed, and tells the pages."""
@@ -188,7 +187,7 @@ class Watch:
         """Looks at the stores that changed, and at the sums of those that lack nothing."""
         for each in self.stores.values():
             each.look()
-        level = [each for each in self.stores.values() if each.follows() and each.next == self.kept.head]
+        level = [each for each in self.stores.values() if each.follows() and each.awaited == self.kept.head]
         if level and self.has_leader():
             self.sum = self.stores[self.leader].sum_of_all()
         for each in level:
@@ -203,8 +202,8 @@ class Watch:
             return "leads" if store.name == self.leader else "unheard"
         if store.is_unfit:
             return "unfit"
-        if store.next != self.kept.head:
-            return "behind" if store.next < self.kept.head else "ahead"
+        if store.awaited != self.kept.head:
+            return "behind" if store.awaited < self.kept.head else "ahead"
         if not self.sum.startswith(f"sum {self.kept.head} "):
             return "level"
         return "same" if store.last_sum == self.sum else "other"
@@ -220,7 +219,7 @@ class Watch:
                 pid=each.process.pid,
                 status=each.process.poll(),
                 standing=self.standing(each),
-                next=each.next,
+                next=each.awaited,
                 sum=each.last_sum,
                 pairs=each.pairs,
                 total=len(each.nodes_held),

@@ -67,6 +67,12 @@ const over = rects.filter(([e, r]) => rects.some(([f, s]) => e !== f && !e.conta
 return [...cut, ...over].map(e => e.outerHTML.slice(0, 80));
 """
 
+# Boxes that slide are where they belong; events fly on.
+SETTLED = """
+const slides = each => ["transform", "opacity", "width"].includes(each.transitionProperty);
+document.getAnimations().filter(slides).forEach(each => each.finish());
+"""
+
 # How long a line takes from the key that sends it until its reply is drawn.
 ANSWERED = """
 const [line] = a, reply = document.getElementById("reply"), before = performance.now();
@@ -159,9 +165,10 @@ class Story:
     def pictured(self, name: str, width: int) -> None:
         """Writes some commands, and a picture of the whole page while their events are on the way."""
         self.browser.size(width, 1000)
-        self.browser.size(width, self.browser.run("return document.documentElement.scrollHeight") + 60)
+        self.browser.size(width, self.browser.run("return document.documentElement.scrollHeight") + 40)
         self.watch.ask("line", to="A", lines=self.puts(8))
         time.sleep(0.9)
+        self.browser.run(SETTLED)
         self.browser.picture(PICTURES / f"{name}.png")
 
     def kills_followers(self) -> None:
