@@ -48,12 +48,12 @@ function laid(lines, wide) {
 }
 
 // A box slides along its row. One that comes fades in where it belongs, and one that changes its row is there at once.
+const arriving = [];
 function move(node, x, y) {
   if (node.row !== y) {
     const opacity = node.row === undefined ? 0 : 1;
-    Object.assign(node.style, { transition: "none", opacity, transform: `translate(${x}px, ${y}px)` });
-    node.getBoundingClientRect();
-    Object.assign(node.style, { transition: "", opacity: 1 });
+    Object.assign(node.style, { transition: "none", opacity });
+    arriving.push(node);
   }
   node.style.transform = `translate(${x}px, ${y}px)`;
   node.row = y;
@@ -119,8 +119,16 @@ export function draw(svg, lines, isNew = () => false) {
     Object.assign(svg, { boxes: new Map(), frames: [], low: drawn("g", svg), high: drawn("g", svg) });
   }
   const frames = laid(lines, svg.clientWidth || 320);
+  const isElsewhere = !frames.some(frame => frame.cells.some(cell => svg.boxes.has(cell.key)));
+  if (isElsewhere) {
+    for (const layer of [svg.low, svg.high]) layer.replaceChildren();
+    Object.assign(svg, { boxes: new Map(), frames: [] });
+  }
   drawBoxes(svg, frames, isNew);
   drawFrames(svg, frames);
+  if (isElsewhere) for (const node of arriving) node.style.opacity = 1;
+  svg.getBoundingClientRect();  // what arrives is placed, all at once, before it fades in
+  for (const node of arriving.splice(0)) Object.assign(node.style, { transition: "", opacity: 1 });
   svg.style.height = (frames.length ? frames.at(-1).y + HIGH + 4 : 4) + "px";
   svg.setAttribute("aria-label", lines.length ? "nodes: " + lines.slice(0, 30).join(" | ") : "no nodes");
 }
