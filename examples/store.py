@@ -31,6 +31,8 @@ class Store:
 
     def answers(self, lines: list[bytes], is_whole: Callable[[bytearray], bool]) -> list[bytes]:
         """The lines that come until they are whole, read while the others are written, so that neither side waits."""
+        if self.process.returncode is not None:
+            raise Ended  # its pipes are closed, and their numbers may stand for other files
         left, found = memoryview(b"".join(line + b"\n" for line in lines)), bytearray()
         while left or not is_whole(found):
             readable, writable, _ = select.select([self.told], [self.given] if left else [], [], SECONDS)

@@ -77,15 +77,20 @@ function box(layer, cell) {
   return { g, rect, key, value, title: drawn("title", g) };
 }
 
+function write(box, { key, value, shown, width }) {
+  box.told = value;
+  box.rect.setAttribute("width", width);
+  for (const text of [box.key, box.value]) text.setAttribute("x", width / 2);
+  box.value.textContent = short(value);
+  box.title.textContent = `${key}:${value}`;
+  if (shown) box.key.textContent = shown;
+}
+
 function drawBoxes(svg, frames, isNew) {
   const kept = new Map();
   for (const cell of frames.flatMap(frame => frame.cells)) {
     const now = svg.boxes.get(cell.key) ?? box(svg.low, cell);
-    now.rect.setAttribute("width", cell.width);
-    for (const text of [now.key, now.value]) text.setAttribute("x", cell.width / 2);
-    now.value.textContent = short(cell.value);
-    now.title.textContent = `${cell.key}:${cell.value}`;
-    if (cell.shown) now.key.textContent = cell.shown;
+    if (now.told !== cell.value || cell.shown) write(now, cell);
     if (isNew(cell.key, cell.value)) lit(now.g, "fresh", 700);
     move(now.g, cell.x, cell.y);
     kept.set(cell.key, now);
