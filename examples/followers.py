@@ -133,6 +133,8 @@ class Relay:
         answers = self.follower.each(events)
         counts, before = self.run.counts, self.awaited
         for answer in answers:
+            if answer.startswith(b"unfit"):
+                sys.exit(f"the follower says {answer.decode()}")
             counts[{b"had": "repeats", b"gap": "early", b"next": "in turn"}[answer.split(b" ", 1)[0]]] += 1
         self.awaited = int(answers[-1].split(b" ")[1])
         counts["taken"] += self.awaited - before
