@@ -1,6 +1,6 @@
 """CPU nanoseconds an operation of the Python package beside `sortedcontainers`, in random order: the least of
 some runs, with the loop over the operations, and without the end of what they made. Each row of both is measured
-in turn, with the same keys, and without the collection of garbage.
+in turn, in each second run the other one first, with the same keys, and without the collection of garbage.
 
 After `bindings/test.sh`:  PYTHONPATH=bindings/python/out python3 bench/bindings.py 1000 100000 1000000
 INDEXSET_BACKEND=ctypes has it go by ctypes.
@@ -21,7 +21,7 @@ from typing import Any, NamedTuple
 indexset = importlib.import_module("indexset")
 sortedcontainers = importlib.import_module("sortedcontainers")
 SLICE = 100
-TURNS, ENOUGH = 6, 2.0  # how often reads are repeated at most, and the seconds after which they are not
+TURNS, ENOUGH = 4, 2.0  # how often reads are repeated, those that end soon more often, and up to how many seconds
 
 
 class Row(NamedTuple):
@@ -58,10 +58,10 @@ def cost(call: Callable[[], object]) -> float:
 
 
 def in_turn(rows: Sequence[Row], backwards: bool) -> list[float]:
-    """The least cost of each of some rows, which are measured in turn, each time in the other order."""
+    """The least cost of each of some rows, which are measured in turn."""
     costs: list[list[float]] = [[] for _ in rows]
     for turn in range(20 * TURNS if rows[0].reads else 1):
-        for i in sorted(range(len(rows)), reverse=backwards ^ (turn % 2 == 1)):
+        for i in sorted(range(len(rows)), reverse=backwards):
             costs[i].append(cost(rows[i].call))
         spent = sum(sum(it) for it in costs)
         if spent > ENOUGH or (turn + 1 >= TURNS and spent > 0.01):
@@ -218,7 +218,7 @@ def main() -> None:
     print(f"keys\trow\t{indexset.BACKEND}\tsortedcontainers")
     for count in given.counts:
         for rows in (of_set, of_dict, of_text, of_list, of_repeats, of_plain):
-            compare(rows, count, given.times or (21 if count < 10000 else 3 if count < 1000000 else 2))
+            compare(rows, count, given.times or (21 if count < 10000 else 5 if count < 1000000 else 2))
 
 
 if __name__ == "__main__":
