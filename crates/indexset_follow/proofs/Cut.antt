@@ -1,10 +1,10 @@
 -- A last line that lacks its end changes nothing.
 use Rattle.std.proofs.Common.{◌≡◌, ◌≢◌, ℕ, ◌<◌, Bool, List, [], ◌∷◌, ◌++◌, length, map, refl, sym, ap, ◌∙◌, arith, append-nil}
 use Rattle.std.proofs.lemmas.List.Elements.{All-nil}
-use Rattle.indexset_lines.specs.Lines.{HasNoEnd, IsWhole, lines_of, rest_of, whole_lines}
+use Rattle.indexset_lines.specs.Lines.{HasNoEnd, IsWhole, lines_of}
 use Rattle.indexset_lines.specs.Run.{left_by, rest_reply, replies_to}
 use Rattle.indexset_lines.proofs.CallerLemmas.{rest_of-append, whole_lines-append}
-use Rattle.indexset_follow.specs.Store.{Held, after_held, after_input, first_held, held_after, held_cut, input_reply, without_return}
+use Rattle.indexset_follow.specs.Store.{Held, after_input, first_held, held_after, held_cut, input_reply, without_return}
 use Rattle.indexset_follow.specs.StoreRun.{store_after, store_text}
 use Rattle.indexset_follow.specs.declared.others.Voice.{Voice}
 

@@ -1,10 +1,9 @@
 -- Without a window a follower takes the awaited event alone.
-use Rattle.std.proofs.Common.{◌≡◌, ◌≢◌, ℕ, ◌+◌, ◌<◌, ◌==◌, Bool, true, false, if◌then◌else◌, List, [], ◌∷◌, Option, None, Some, option_map, refl, ap, sym, ◌∙◌, subst, arith}
+use Rattle.std.proofs.Common.{◌≡◌, ◌≢◌, ℕ, ◌+◌, ◌<◌, ◌==◌, Bool, true, false, if◌then◌else◌, List, [], ◌∷◌, Option, None, Some, option_map, refl, ap, sym, ◌∙◌, arith}
 use Rattle.std.below.core.specs.declared.int.u64.TheConstants.{MAX}
-use Rattle.std.proofs.lemmas.Bool.{eq-eqb, eqb-false, eqb-true, le-ltb, lt-leb, lt-ltb, ne_eqb}
-use Rattle.std.specs.Option.{option_map_or}
+use Rattle.std.proofs.lemmas.Bool.{eq-eqb, eqb-false, le-ltb, lt-leb, lt-ltb, ne_eqb}
 use Rattle.std.specs.Ordering.{nat_cmp}
-use Rattle.std.specs.Prelude.{nat_le, nat_lt, unwrap_or}
+use Rattle.std.specs.Prelude.{unwrap_or}
 use Rattle.indexset_core.specs.Pairs.{by_key, pair}
 use Rattle.indexset_core.specs.declared.pair.Pair.{Pair}
 use Rattle.indexset_core.specs.declared.refusal.Refusal.{Refusal}
@@ -13,9 +12,9 @@ use Rattle.indexset_replica.specs.Delivery.{delivered}
 use Rattle.indexset_replica.specs.Replica.{apply_refusal}
 use Rattle.indexset_replica.proofs.CallerLemmas.{misfit_refused, step_fits}
 use Rattle.indexset_follow.specs.Copy.{Copy, copy}
-use Rattle.indexset_follow.specs.Early.{EarlyEvents, Taken, caught_up, copy_after, first_number, taken, with_early}
+use Rattle.indexset_follow.specs.Early.{caught_up, copy_after, taken}
 use Rattle.indexset_follow.specs.EventLine.{Event}
-use Rattle.indexset_follow.specs.Follow.{State, ahead_taken, event_taken}
+use Rattle.indexset_follow.specs.Follow.{State, event_taken}
 use Rattle.indexset_follow.specs.declared.reason.Reason.TheVariants.{Refused}
 use Rattle.indexset_follow.specs.declared.reply.Reply.TheVariants as reply
 use Rattle.indexset_follow.proofs.Ahead.{equals, higher, lower, side}

@@ -1,5 +1,5 @@
 -- Worked examples: what a leader answers to a command, heads, bytes 13 before a line's end, and what a quiet follower tells.
-use Rattle.std.proofs.Common.{◌≡◌, true, List, [], ◌∷◌, ◌++◌, refl}
+use Rattle.std.proofs.Common.{◌≡◌, true, [], ◌∷◌, ◌++◌, refl}
 use lib.Chars.{codes}
 use Rattle.std.specs.Fmt.{digits}
 use Rattle.indexset_bench.specs.PairText.{ended}

@@ -2,7 +2,7 @@
 use Rattle.std.proofs.Common.{Result, Ok, Err, OnOk, IfOk, Option, None, Some, ◌≡◌, ◌≢◌, ◌==◌, ℕ, ◌+◌, ◌<◌, ◌&&◌, Bool, true, false, if◌then◌else◌, nat_lt, List, [], ◌∷◌, slice_get, unwrap_or, refl, sym, ap, ◌∙◌, arith}
 use Rattle.std.below.core.specs.declared.int.u64.TheConstants.{MAX}
 use Rattle.std.proofs.lemmas.Bool.{eq-eqb, eqb-true, ne_eqb, not-false}
-use Rattle.std.specs.Option.{option_map, option_map_or}
+use Rattle.std.specs.Option.{option_map}
 use Rattle.std.proofs.lemmas.Map.Keys.{ge_from_not_lt, le_from_is_le}
 use Rattle.std.specs.Ordering.{is_ge, is_le, is_lt, nat_cmp}
 use Rattle.std.specs.declared.cmp.Ordering.{Ordering}
@@ -14,15 +14,14 @@ use Rattle.indexset_core.specs.declared.pair.Pair.{Pair}
 use Rattle.indexset_core.specs.declared.refusal.Refusal.{Refusal}
 use Rattle.indexset_core.specs.declared.refusal.Refusal.TheVariants.{Gap, Memory, Numbers}
 use Rattle.indexset_events.specs.Replay.{event_number, step, unassigned}
-use Rattle.indexset_replica.proofs.CallerLemmas.{misfit_refused, step_fits}
 use Rattle.indexset_replica.specs.Delivery.{delivered}
 use Rattle.indexset_replica.specs.Replica.{apply_refusal, misfit}
 use Rattle.indexset_replica.specs.declared.lookup.Turn.{Turn}
 use Rattle.indexset_replica.specs.declared.lookup.Turn.TheVariants.{Next, Had, Missing}
 use Rattle.indexset_follow.specs.EventLine.{Event}
-use Rattle.indexset_follow.specs.Copy.{Copy, copy}
+use Rattle.indexset_follow.specs.Copy.{Copy}
 use Rattle.indexset_follow.specs.Early.{EarlyEvents, Taken, caught_up, copy_after, taken}
-use Rattle.indexset_follow.specs.Follow.{State, ahead_taken, event_taken, with_taken}
+use Rattle.indexset_follow.specs.Follow.{State, event_taken, with_taken}
 use Rattle.indexset_follow.specs.declared.reason.Reason.TheVariants.{Refused}
 use Rattle.indexset_follow.specs.Reads.{keys_from}
 use Rattle.indexset_lines.specs.declared.fault.RunFault.{RunFault}

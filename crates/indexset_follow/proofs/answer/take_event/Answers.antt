@@ -1,4 +1,4 @@
-use Rattle.std.proofs.Common.{◌≡◌, ◌∙◌, ◌∷◌, refl, sym}
+use Rattle.std.proofs.Common.{◌≡◌, ◌∙◌, refl, sym}
 use Rattle.indexset_follow.specs.Early.{caught_up}
 use Rattle.indexset_follow.specs.Follow.{event_taken}
 use Rattle.indexset_follow.proofs.Taking.{held_by, is_next, one_taken, refused_reply, reply_by}
