@@ -312,7 +312,7 @@ size_t indexset_multi_len(const indexset_multi *multi);
 
 /* Adds a value to those of a key, as the last. INDEXSET_YES, or INDEXSET_NO where the key has it, or
  * INDEXSET_MEMORY, INDEXSET_NUMBERS or INDEXSET_NONE; unless it is INDEXSET_YES, nothing changes. Each
- * pair that is added and each change of a node uses up a number of 64 bits; INDEXSET_NUMBERS says that
+ * pair that is added and each change of a node consumes a number of 64 bits; INDEXSET_NUMBERS says that
  * too few are left. */
 uint32_t indexset_multi_insert(indexset_multi *multi, uint64_t key, uint64_t value);
 

@@ -18,7 +18,7 @@ namespace indexset {
 
 namespace detail {
 
-// Throws where a multimap was refused memory. Each change uses up a number of 64 bits: they do not run out in practice.
+// Throws where a multimap was refused memory. Each change consumes a number of 64 bits: they do not run out in practice.
 inline void pass_multi(std::uint32_t answer) {
     if (answer == INDEXSET_MEMORY || answer == INDEXSET_NUMBERS) throw std::bad_alloc();
 }
