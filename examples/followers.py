@@ -127,6 +127,7 @@ class Relay:
     def __init__(self, link: Link, follower: Store, run: Run) -> None:
         self.link, self.follower, self.run = link, follower, run
         self.awaited = follower.next()
+        self.held: int | None = None  # the first early event that the follower holds, where it told one
 
     def hand(self, events: list[bytes]) -> None:
         """Each answer names the number that is awaited, the last one that after all of them."""
@@ -136,13 +137,15 @@ class Relay:
             if answer.startswith(b"unfit"):
                 sys.exit(f"the follower says {answer.decode()}")
             counts[{b"had": "repeats", b"gap": "early", b"next": "in turn"}[answer.split(b" ", 1)[0]]] += 1
-        self.awaited = int(answers[-1].split(b" ")[1])
+        word, awaited, *held = answers[-1].split(b" ")
+        self.awaited, self.held = int(awaited), int(held[0]) if word == b"gap" and held else None
         counts["taken"] += self.awaited - before
 
     def catch_up(self, head: int) -> None:
         """Asks for the events from the awaited one on, up to `head`."""
         while self.awaited < head:
             before, events = self.awaited, self.link.kept(self.awaited)
+            events = events[: self.held - before] if self.held else events
             self.run.counts["asked for again"] += 1
             self.run.counts["sent again"] += len(events)
             self.hand(events)
