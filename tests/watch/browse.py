@@ -124,7 +124,7 @@ class Story:
         leader = self.watch.leader["who"]
         is_level = reached(lambda: self.watch.is_level(head, leader) and ALL_SAME in self.browser.text("#all"))
         self.check(f"{when}: the page says that all are the same", is_level)
-        self.check(f"{when}: the replies to sum and nodes are", self.watch.is_same())
+        self.check(f"{when}: the replies to sum and nodes are", reached(self.watch.is_same))
 
     def puts(self, count: int) -> list[str]:
         """Commands, most of which put."""
