@@ -1,4 +1,4 @@
-"""The table of the two programs: lines of input, and events from one to the other."""
+"""The tables of the two programs: lines of input, and events from a leader to a follower."""
 
 from __future__ import annotations
 
@@ -13,7 +13,7 @@ from typing import IO
 import build
 from tables import table
 
-LINES, COMMANDS, KEYS = 2_000_000, 500_000, 1_000
+LINES, COMMANDS, KEYS = 2_000_000, 500_000, [1_000, 100_000, 1_000_000]
 
 
 def given(text: bytes) -> IO[bytes]:
@@ -24,19 +24,19 @@ def given(text: bytes) -> IO[bytes]:
     return file
 
 
-def seconds(program: pathlib.Path, text: bytes) -> float:
+def seconds(program: pathlib.Path, text: bytes, *words: str) -> float:
     with given(text) as lines:
         start = time.monotonic()
-        subprocess.run([program], stdin=lines, stdout=subprocess.DEVNULL, check=True)
+        subprocess.run([program, *words], stdin=lines, stdout=subprocess.DEVNULL, check=True)
         return time.monotonic() - start
 
 
-def piped(first: pathlib.Path, second: pathlib.Path, text: bytes) -> float:
-    """How long two programs take, the first's output being the second's input."""
+def piped(store: pathlib.Path, text: bytes) -> float:
+    """How long a leader and a follower take, the first's output being the second's input."""
     with given(text) as lines:
         start = time.monotonic()
-        one = subprocess.Popen([first], stdin=lines, stdout=subprocess.PIPE)
-        other = subprocess.Popen([second, "--pass-others"], stdin=one.stdout, stdout=subprocess.DEVNULL)
+        one = subprocess.Popen([store, "--lead"], stdin=lines, stdout=subprocess.PIPE)
+        other = subprocess.Popen([store, "--quiet"], stdin=one.stdout, stdout=subprocess.DEVNULL)
         assert one.stdout
         one.stdout.close()
         if one.wait() or other.wait():
@@ -44,9 +44,19 @@ def piped(first: pathlib.Path, second: pathlib.Path, text: bytes) -> float:
         return time.monotonic() - start
 
 
-def events_of(program: pathlib.Path, text: bytes) -> bytes:
+def commands(keys: int) -> bytes:
+    """All keys put in no order, and then puts and cuts."""
+    draw = random.Random(1)
+    lines = [b"put %d 1\n" % key for key in draw.sample(range(keys), keys)]
+    for at in range(COMMANDS):
+        key = draw.randrange(keys)
+        lines.append(b"put %d %d\n" % (key, at) if draw.random() < 0.6 else b"cut %d\n" % key)
+    return b"".join(lines)
+
+
+def events_of(store: pathlib.Path, text: bytes) -> bytes:
     with given(text) as lines:
-        told = subprocess.run([program], stdin=lines, stdout=subprocess.PIPE, check=True).stdout
+        told = subprocess.run([store, "--lead"], stdin=lines, stdout=subprocess.PIPE, check=True).stdout
     return b"".join(line for line in told.splitlines(True) if line[:1].isdigit())
 
 
@@ -64,26 +74,32 @@ def of_each(program: pathlib.Path, times: int) -> list[list[str]]:
     return rows
 
 
-def paces(program: pathlib.Path, follower: pathlib.Path, text: bytes, events: bytes, times: int) -> list[list[str]]:
-    """How many events a second come of a text, are followed, and both."""
-    spent = {
-        "events written, to nowhere": least(times, lambda: seconds(program, text)),
-        "events followed, from a file": least(times, lambda: seconds(follower, events)),
-        "events written and followed, through a pipe": least(times, lambda: piped(program, follower, text)),
-    }
+def paces(store: pathlib.Path, keys: int, times: int) -> dict[str, str]:
+    """How many events there are, and how many a second are told, followed, and both."""
+    text = commands(keys)
+    events = events_of(store, text)
     count = events.count(b"\n")
-    return [[name, f"{count / it / 1e6:.2f} million a second"] for name, it in spent.items()]
+    spent = {
+        "told by a leader, to nowhere": least(times, lambda: seconds(store, text, "--lead")),
+        "followed, from a file": least(times, lambda: seconds(store, events)),
+        "the same with `--quiet`": least(times, lambda: seconds(store, events, "--quiet")),
+        "told and followed, through a pipe": least(times, lambda: piped(store, text)),
+    }
+    return {"events": f"{count:,}", **{name: f"{count / it / 1e6:.2f} million" for name, it in spent.items()}}
 
 
 def of_lines(times: int) -> str | None:
     """None where the programs are not built: `rt run` in their folders builds them."""
-    program, follower = build.program("program"), build.program("store")
-    if not program or not follower:
+    program, store = build.program("program"), build.program("store")
+    if not program or not store:
         return None
-    rows = of_each(program, times)
-    draw = random.Random(1)
-    text = b"".join(b"put %d %d\n" % (draw.randrange(KEYS), at) for at in range(COMMANDS))
-    events = events_of(program, text)
-    rows += paces(program, follower, text, events, times)
-    count = events.count(b"\n")
-    return f"The programs, over {LINES:,} lines, and over {COMMANDS:,} puts at {KEYS:,} keys, which give {count:,} events:\n\n" + table(["what", "time"], rows)
+    found = [paces(store, keys, times) for keys in KEYS]
+    rows = [[name, *(it[name] for it in found)] for name in found[0]]
+    return "\n".join(
+        [
+            f"`indexset_program`, over {LINES:,} lines:\n",
+            table(["what", "time"], of_each(program, times)),
+            f"`indexset_store`, in nodes of 256 pairs: events a second of all keys put in no order, and of {COMMANDS:,} puts and cuts.\n",
+            table(["events a second", *(f"{keys:,} keys" for keys in KEYS)], rows),
+        ]
+    )
