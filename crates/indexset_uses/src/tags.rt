@@ -46,8 +46,8 @@ pub fn add(
     Ok(events)
 }
 
-/// Removes the first of a tag's documents with this name, where there is one, and returns the
-/// events. The tag has its other documents, and other tags have what they had.
+/// Removes the first of a tag's documents with this name, if any, and returns the events. The tag
+/// has its other documents, and other tags have what they had.
 pub fn remove(
     tags: &mut Tags,
     tag: &ByteStr,
