@@ -14,6 +14,14 @@ use std::{mem, slice};
 /// A node of at most `N` items, which lie in the node itself: it allocates nothing, and none of its
 /// calls fails. A node of fewer than two items can't be halved, so a tree needs an `N` of at least
 /// 2.
+///
+/// ```
+/// # use indexset::base::array_node::ArrayNode;
+/// let mut tree: set::BTreeSet<u64, ArrayNode<u64, 256>> =
+///     set::BTreeSet::with_maximum_node_size(alloc, 256);
+/// tree.insert(5)?;
+/// assert!(rt; tree.contains(&5));
+/// ```
 #[derive(Drop)]
 pub struct ArrayNode<T, const N: usize> {
     items: ArrayVec<T, N>,

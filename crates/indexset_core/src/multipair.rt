@@ -14,6 +14,11 @@ use std::hash::{Hash, Hasher};
 
 /// A key with its value and a number that tells apart the pairs of one key. Its order, equality and
 /// hash are those of the key, and then of the number.
+///
+/// ```
+/// let (first, second) = (MultiPair::new("fig", 5, 0), MultiPair::new("fig", 5, 1));
+/// assert!(rt; first < second && first != second);
+/// ```
 #[derive(Clone, Default, Debug, Drop)]
 pub struct MultiPair<K, V> {
     /// The key.
@@ -26,6 +31,11 @@ pub struct MultiPair<K, V> {
 
 impl<K, V> MultiPair<K, V> {
     /// Returns the pair of a key and a value, with its number.
+    ///
+    /// ```
+    /// let pair = MultiPair::new("fig", 5, 7);
+    /// assert!(rt; pair.key == "fig" && pair.value == 5 && pair.discriminator == 7);
+    /// ```
     pub fn new(key: K, value: V, discriminator: u64) -> Self
         ensures { result ≡ record { key = key; value = value; discriminator = discriminator } }
     {
@@ -39,6 +49,11 @@ impl<K, V> MultiPair<K, V> {
 
 impl<K, V> Pair<K, V> {
     /// Returns the same key and value with a number.
+    ///
+    /// ```
+    /// let pair = Pair { key: "fig", value: 5 }.numbered(7);
+    /// assert!(rt; pair.value == 5 && pair.discriminator == 7);
+    /// ```
     pub fn numbered(self, discriminator: u64) -> MultiPair<K, V>
         ensures { result ≡ record {
           key = self.key;

@@ -7,6 +7,12 @@ use std::fmt;
 
 /// The error of a call. Where several reasons apply, the contract of the call says which one is
 /// returned.
+///
+/// ```
+/// let mut copy: Replica<u64> = Replica::new(alloc, 0);
+/// let late = ChangeEvent::CreateNode { event_id: Id::from(1), max_value: 5 };
+/// assert_eq!(rt; copy.apply(&late), Err(Refusal::Gap));
+/// ```
 #[derive(Clone, Copy, Debug, PartialEq, Eq)]
 pub enum Refusal {
     /// An allocation or an element's clone failed, or the length would pass `usize::MAX`.
@@ -46,6 +52,10 @@ impl Refusal {
     ghost use Rattle.indexset_core.specs.Refusal.{number_of};
 
     /// Returns the number of this error, from 1 to 18; 8 to 10 are not in use.
+    ///
+    /// ```
+    /// assert!(rt; Refusal::Memory.number() == 1 && Refusal::NotNeighbours.number() == 18);
+    /// ```
     pub fn number(self) -> u8
         ensures { result ≡ number_of self }
     {
@@ -100,6 +110,15 @@ impl Error for Refusal {}
 
 /// The error of a failed call, with the value that the call was given. Its text is that of the
 /// error alone.
+///
+/// ```
+/// // No event number is left, so the value comes back.
+/// let mut tree: set::BTreeSet<u64, Vec<u64>> = set::BTreeSet::starting_at(alloc, 256, u64::MAX);
+/// if let Err(refused) = tree.insert(5) {
+///     assert!(rt; refused.value == 5 && refused.cause == Refusal::Numbers);
+/// }
+/// assert!(rt; tree.is_empty());
+/// ```
 #[derive(Drop)]
 pub struct Refused<X> {
     /// What was given, as it was.

@@ -45,6 +45,13 @@ impl<'a> Model for ByStr<'a> {
 
 impl<'a> ByStr<'a> {
     /// Returns a comparator with the text, which has made no comparison yet.
+    ///
+    /// ```
+    /// let mut names = BTreeSet::new(alloc)?;
+    /// names.insert(String::from_str(alloc, "pear")?)?;
+    /// assert_eq!(rt; names.locate_by(&mut ByStr::new("pear")), Ok(0));
+    /// assert_eq!(rt; names.locate_by(&mut ByStr::new("plum")), Err(1));
+    /// ```
     pub fn new(sought: &'a str) -> Self
         ensures { result ≡ (sought.now, 0) }
     {
@@ -80,6 +87,12 @@ impl<P> Model for OnKey<P> {
 
 impl<P> OnKey<P> {
     /// Returns the comparator of pairs whose keys this one compares.
+    ///
+    /// ```
+    /// let mut prices = BTreeMap::new(alloc)?;
+    /// prices.insert(String::from_str(alloc, "pear")?, 120)?;
+    /// assert_eq!(rt; prices.get_by(&mut OnKey::new(ByStr::new("pear"))), Some(&120));
+    /// ```
     pub fn new(probe: P) -> Self
         ensures { result ≡ probe }
     {

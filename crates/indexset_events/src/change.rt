@@ -13,6 +13,10 @@ pub struct Id(u64);
 
 impl Id {
     /// Returns the number.
+    ///
+    /// ```
+    /// assert_eq!(rt; Id::from(7).inner(), 7);
+    /// ```
     pub fn inner(&self) -> u64
         ensures { result ≡ self.now.0 }
     {
@@ -20,6 +24,11 @@ impl Id {
     }
 
     /// Returns whether this is the number after the other. Nothing is after `u64::MAX`.
+    ///
+    /// ```
+    /// assert!(rt; Id::from(8).is_next_for(Id::from(7)));
+    /// assert!(rt; !Id::from(0).is_next_for(Id::from(u64::MAX)));
+    /// ```
     pub fn is_next_for(&self, other: Id) -> bool
         ensures { IsTrue result ↔ (self.now.0 ≡ other.0 + 1) }
     {
@@ -54,6 +63,14 @@ impl From<Id> for u64 {
 /// A change, numbered. A node is named by its last item before the change. Two events are equal
 /// where kind, number and index are the same and the items are equal by their own `==`: pairs by
 /// their keys, and numbered pairs by keys and numbers, whatever their values are.
+///
+/// ```
+/// // The first item makes a node, and the second is inserted at its start.
+/// let mut tree: set::BTreeSet<u64, Vec<u64>> = set::BTreeSet::from_iter(alloc, [10])?;
+/// let (_, events) = tree.put_cdc(5)?;
+/// let event = ChangeEvent::InsertAt { event_id: Id::from(1), max_value: 10, value: 5, index: 0 };
+/// assert!(rt; events.len() == 1 && events[0] == event);
+/// ```
 #[derive(Clone, Debug, PartialEq, Eq, Drop)]
 pub enum ChangeEvent<T> {
     /// In the node named, the value is inserted at the index.
@@ -163,6 +180,11 @@ impl<T> ChangeEvent<T> {
     ghost use Rattle.indexset_events.specs.Replay.{event_id};
 
     /// Returns the number.
+    ///
+    /// ```
+    /// let event = ChangeEvent::CreateNode { event_id: Id::from(7), max_value: 5 };
+    /// assert_eq!(rt; event.id(), Id::from(7));
+    /// ```
     pub fn id(&self) -> Id
         ensures { result ≡ event_id self.now }
     {
@@ -181,6 +203,13 @@ impl<T> ChangeEventUnassigned<T> {
     ghost use Rattle.indexset_events.specs.Replay.{with_id};
 
     /// Returns the same change with a number.
+    ///
+    /// ```
+    /// # use indexset::cdc::change::ChangeEventUnassigned;
+    /// let change = ChangeEventUnassigned::RemoveNode { max_value: 5 };
+    /// let event = change.assign_id(Id::from(7));
+    /// assert!(rt; event == ChangeEvent::RemoveNode { event_id: Id::from(7), max_value: 5 });
+    /// ```
     pub fn assign_id(self, event_id: Id) -> ChangeEvent<T>
         ensures { result ≡ with_id event_id self }
     {

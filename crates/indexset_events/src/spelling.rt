@@ -10,6 +10,14 @@ pub use event::{NoEvent, read_event};
 use std::fmt;
 
 /// A type each value of which has one text, by which it is read: the bytes that `{}` writes.
+///
+/// ```
+/// # use indexset::cdc::spelling::Spelled;
+/// let number: u64 = 250;
+/// number.attest();
+/// assert!(rt; u64::read(b"250") == Some(number) && u64::read(b"0250").is_none());
+/// assert!(rt; u8::read(b"256").is_none());
+/// ```
 pub trait Spelled: fmt::Display {
     /// The text of a value.
     ghost spelling: { Self → List ℕ };
@@ -45,6 +53,16 @@ pub trait Spelled: fmt::Display {
 
 /// A type whose texts are words: they have no space and no colon, so that they may stand in the
 /// text of a pair.
+///
+/// ```
+/// // The text of a pair of words is read as the pair.
+/// # use indexset::cdc::spelling::{Spelled, Word};
+/// fn pair_of<K: Word + Drop, V: Word + Drop>(text: &[u8]) -> Option<Pair<K, V>> {
+///     Pair::read(text)
+/// }
+/// let pair = pair_of::<u64, u64>(b"5:50");
+/// assert!(rt; pair.map(|pair| pair.value) == Some(50));
+/// ```
 pub trait Word: Spelled {
     /// The text has no end of line, no space and no colon.
     ghost whole: { (x : Self) → Self.in_range x → is_word (Self.spelling x) ≡ true };

@@ -33,6 +33,16 @@ use std::marker::Model;
 
 /// A list of pairs, ascending by key and partitioned into nodes, which returns its changes as
 /// events.
+///
+/// ```
+/// let mut tree: map::BTreeMap<u64, u64, Vec<Pair<u64, u64>>> = map::BTreeMap::new(alloc);
+/// let mut copy = Replica::new(alloc, 0);
+/// let (_, events) = tree.insert_cdc(5, 50)?;
+/// for event in events {
+///     copy.apply(&event)?;
+/// }
+/// assert!(rt; tree.contains_key(&5) && copy.contains(&5));
+/// ```
 #[derive(Drop)]
 pub struct BTreeMap<K: Ord + Clone + Drop, V: Clone + Drop, Node: NodeLike<Pair<K, V>>> {
     set: BTreeSet<Pair<K, V>, Node>,
@@ -124,6 +134,11 @@ impl<K: Ord + Clone + Drop, V: Clone + Drop, Node: NodeLike<Pair<K, V>>> BTreeMa
     }
 
     /// Returns an empty map, as `new` makes it.
+    ///
+    /// ```
+    /// let tree: map::BTreeMap<u64, u64, Vec<Pair<u64, u64>>> = map::BTreeMap::default(alloc);
+    /// assert!(rt; tree.is_empty() && tree.events_issued() == 0);
+    /// ```
     pub fn default(alloc: Global) -> Self
         requires { DEFAULT_INNER_SIZE ≤ Node.most }
         ensures { result ≡ record { nodes = []; size = DEFAULT_INNER_SIZE; next = 0 } }
@@ -207,6 +222,15 @@ impl<K: Ord + Clone + Drop, V: Clone + Drop, Node: NodeLike<Pair<K, V>>> BTreeMa
     }
 
     /// Returns the allocator that it keeps.
+    ///
+    /// ```
+    /// // A key made by the allocator of the map.
+    /// let mut tree: map::BTreeMap<String, u64, Vec<Pair<String, u64>>> =
+    ///     map::BTreeMap::new(alloc);
+    /// let key = String::from_str(*tree.allocator(), "fig")?;
+    /// tree.insert(key, 5)?;
+    /// assert_eq!(rt; tree.len(), 1);
+    /// ```
     pub fn allocator(&self) -> &Global {
         self.set.allocator()
     }

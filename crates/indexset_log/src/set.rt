@@ -34,6 +34,16 @@ use std::alloc::Global;
 use std::marker::{Model, PhantomData};
 
 /// An ascending list partitioned into nodes, which returns its changes as events.
+///
+/// ```
+/// let mut tree: set::BTreeSet<u64, Vec<u64>> = set::BTreeSet::new(alloc);
+/// let mut copy = Replica::new(alloc, 0);
+/// let (_, events) = tree.put_cdc(5)?;
+/// for event in events {
+///     copy.apply(&event)?;
+/// }
+/// assert!(rt; tree.contains(&5) && copy.contains(&5));
+/// ```
 #[derive(Drop)]
 pub struct BTreeSet<T: Ord + Clone + Drop, Node: NodeLike<T>> {
     nodes: Vec<Node>,
@@ -114,6 +124,11 @@ impl<T: Ord + Clone + Drop, Node: NodeLike<T>> BTreeSet<T, Node> {
     }
 
     /// Returns an empty tree, as `new` makes it.
+    ///
+    /// ```
+    /// let tree: set::BTreeSet<u64, Vec<u64>> = set::BTreeSet::default(alloc);
+    /// assert!(rt; tree.is_empty() && tree.events_issued() == 0);
+    /// ```
     pub fn default(alloc: Global) -> Self
         requires { DEFAULT_INNER_SIZE ≤ Node.most }
         ensures { result ≡ record { nodes = []; size = DEFAULT_INNER_SIZE; next = 0 } }
@@ -196,6 +211,13 @@ impl<T: Ord + Clone + Drop, Node: NodeLike<T>> BTreeSet<T, Node> {
     }
 
     /// Returns the allocator that it keeps.
+    ///
+    /// ```
+    /// // A second tree from the allocator of the first.
+    /// let tree: set::BTreeSet<u64, Vec<u64>> = set::BTreeSet::new(alloc);
+    /// let other: set::BTreeSet<u64, Vec<u64>> = set::BTreeSet::from_iter(*tree.allocator(), [5])?;
+    /// assert_eq!(rt; other.len(), 1);
+    /// ```
     pub fn allocator(&self) -> &Global {
         self.nodes.allocator()
     }

@@ -30,6 +30,15 @@ use std::marker::Model;
 
 /// A list of numbered pairs, ascending by key and then by number and partitioned into nodes, which
 /// returns its changes as events.
+///
+/// ```
+/// // Two values of one key.
+/// let mut tree: multimap::BTreeMultiMap<u64, u64, Vec<MultiPair<u64, u64>>> =
+///     multimap::BTreeMultiMap::new(alloc);
+/// tree.insert(5, 50)?;
+/// tree.insert(5, 51)?;
+/// assert!(rt; tree.get(&5).map(|pair| *pair.1).eq([50, 51]));
+/// ```
 #[derive(Drop)]
 pub struct BTreeMultiMap<
     K: Ord + Clone + Drop,
@@ -117,6 +126,12 @@ impl<K: Ord + Clone + Drop, V: Eq + Clone + Drop, Node: NodeLike<MultiPair<K, V>
     }
 
     /// Returns an empty map, as `new` makes it.
+    ///
+    /// ```
+    /// let tree: multimap::BTreeMultiMap<u64, u64, Vec<MultiPair<u64, u64>>> =
+    ///     multimap::BTreeMultiMap::default(alloc);
+    /// assert!(rt; tree.is_empty() && tree.events_issued() == 0);
+    /// ```
     pub fn default(alloc: Global) -> Self
         requires { DEFAULT_INNER_SIZE ≤ Node.most }
         ensures { result ≡ record {

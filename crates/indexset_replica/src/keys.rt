@@ -14,6 +14,15 @@ use std::marker::Model;
 
 /// A key by which items are sought: an item itself, or the key of a pair, numbered or not. It stands
 /// for `Borrow`: items that ascend have keys that do not descend, and equal items have equal keys.
+///
+/// ```
+/// // A pair is found by its key.
+/// # use indexset::replica::keys::KeyOf;
+/// let nodes = vec![in alloc; vec![in alloc; Pair { key: 5, value: 50 }]?]?;
+/// let copy = Replica::from_nodes(nodes, 1)?;
+/// assert!(rt; copy.get(&5).map(|pair| pair.value) == Some(50));
+/// assert_eq!(rt; u64::key_of(&Pair { key: 5, value: 50 }), &5);
+/// ```
 pub trait KeyOf<T: Ord>: Ord {
     /// The key of an item.
     ghost key: { T → Self };

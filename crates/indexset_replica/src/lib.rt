@@ -40,6 +40,17 @@ use std::marker::Model;
 
 /// Nodes that follow a tree's events: non-empty lists whose concatenation is ascending. A node is
 /// named by its last item.
+///
+/// ```
+/// let mut tree: set::BTreeSet<u64, Vec<u64>> = set::BTreeSet::new(alloc);
+/// let mut copy = Replica::new(alloc, 0);
+/// for number in [10, 5, 15] {
+///     for event in tree.put_cdc(number)?.1 {
+///         copy.apply(&event)?;
+///     }
+/// }
+/// assert!(rt; copy.iter().eq(tree.iter()));
+/// ```
 #[derive(Drop)]
 pub struct Replica<T: Ord + Clone + Drop> {
     nodes: Vec<Vec<T>>,

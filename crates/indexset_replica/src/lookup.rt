@@ -20,6 +20,13 @@ use indexset_core::walk::ReadVec;
 use indexset_events::change::ChangeEvent;
 
 /// Whether an event is the one that a replica expects.
+///
+/// ```
+/// # use indexset::replica::lookup::Turn;
+/// let copy: Replica<u64> = Replica::new(alloc, 4);
+/// let event = ChangeEvent::CreateNode { event_id: Id::from(6), max_value: 5 };
+/// assert_eq!(rt; copy.expects(&event), Turn::Missing);
+/// ```
 #[derive(Clone, Copy, Debug, PartialEq, Eq)]
 pub enum Turn {
     /// The event is the next one.

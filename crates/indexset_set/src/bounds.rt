@@ -12,6 +12,12 @@ use std::ops::{Bound, Range, RangeFrom, RangeFull, RangeInclusive, RangeTo, Rang
 /// `a..b`, `a..=b`, `a..`, `..b`, `..=b` and `..`, of values or of references to them. It stands
 /// for `RangeBounds`, and has one impl alone for pairs, so that `(Unbounded, Unbounded)` needs no
 /// type annotation. An `a..=b` that was iterated to its end still includes both.
+///
+/// ```
+/// let board = BTreeSet::from_iter(alloc, [10, 20, 30])?;
+/// assert!(rt; board.range(15..).copied().eq([20, 30]) && board.range(..=10).len() == 1);
+/// assert!(rt; board.range((Bound::Excluded(&10), Bound::Unbounded)).copied().eq([20, 30]));
+/// ```
 pub trait Bounds<T> {
     /// The bound at the start.
     ghost start: { Self → Bound T };
@@ -198,6 +204,14 @@ impl<'a, T> Bounds<T> for RangeToInclusive<&'a T> {
 
 /// A start and an end, as `range_idx` takes them: `(Bound<usize>, Bound<usize>)`, or `i..j`,
 /// `i..=j`, `i..`, `..j`, `..=j` and `..`.
+///
+/// ```
+/// # use indexset::Positions;
+/// let page = (Bound::Included(2), Bound::Excluded(4));
+/// assert!(rt; page.start_bound() == (2..4).start_bound());
+/// let board = BTreeSet::from_iter(alloc, [5, 10, 15, 20, 25])?;
+/// assert!(rt; board.range_idx(page).eq(board.range_idx(2..4)));
+/// ```
 pub trait Positions {
     /// The bound at the start.
     ghost start: { Self → Bound ℕ };
@@ -205,9 +219,11 @@ pub trait Positions {
     /// The bound at the end.
     ghost end: { Self → Bound ℕ };
 
+    /// Returns the bound at the start.
     fn start_bound(&self) -> Bound<usize>
         ensures { result ≡ start self.now };
 
+    /// Returns the bound at the end.
     fn end_bound(&self) -> Bound<usize>
         ensures { result ≡ end self.now };
 }

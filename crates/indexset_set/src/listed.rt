@@ -4,6 +4,12 @@ ghost use Rattle.std.specs.Prelude.{◌≡◌, List, IfOk};
 use std::alloc::{AllocError, Global};
 
 /// Values in a row: a `Vec` or an array.
+///
+/// ```
+/// let from_array = BTreeSet::from(alloc, [20, 10])?;
+/// let from_vec = BTreeSet::from(alloc, vec![in alloc; 10, 20]?)?;
+/// assert!(rt; from_array == from_vec);
+/// ```
 pub trait Listed {
     type Item;
 

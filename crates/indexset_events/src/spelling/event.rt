@@ -44,6 +44,14 @@ impl<T: Spelled + Drop> FromStr for ChangeEvent<T> {
 }
 
 /// Returns the event of which this is the text, or `None` where it is that of no event.
+///
+/// ```
+/// # use indexset::cdc::spelling::read_event;
+/// let event = ChangeEvent::CreateNode { event_id: Id::from(7), max_value: 5 };
+/// let text = format!(in alloc; "{event}")?;
+/// assert!(rt; read_event::<u64>(text.as_str().as_bytes()) == Some(event));
+/// assert!(rt; read_event::<u64>(b"7 make 5").is_none());
+/// ```
 #[tactic(auto, unfolding(crate::specs::EventText::event_reading))]
 pub fn read_event<T: Spelled + Drop>(text: &[u8]) -> Option<ChangeEvent<T>>
     ensures { result ≡ event_reading T.reading text.now }
@@ -194,6 +202,11 @@ fn item_behind<T: Spelled>(text: &[u8], front: &[u8]) -> Option<T>
 impl<T: Spelled> ChangeEvent<T> {
     /// Does nothing. From its contract a proof learns that the items and numbers of the event are
     /// in range, so that its text is read as the identical event (`laws::texts_are_read`).
+    ///
+    /// ```
+    /// let event = ChangeEvent::CreateNode { event_id: Id::from(7), max_value: 5u64 };
+    /// event.attest();
+    /// ```
     pub fn attest(&self)
         ensures { EventInRange T.in_range self.now }
     {

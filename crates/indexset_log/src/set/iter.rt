@@ -31,6 +31,11 @@ impl<'a, T: Ord + Clone + Drop, Node: NodeLike<T>> Model for Iter<'a, T, Node> {
 
 impl<'a, T: Ord + Clone + Drop, Node: NodeLike<T>> Iter<'a, T, Node> {
     /// Returns all items of a set, in order.
+    ///
+    /// ```
+    /// let tree: set::BTreeSet<u64, Vec<u64>> = set::BTreeSet::from_iter(alloc, [15, 5, 10])?;
+    /// assert!(rt; set::Iter::new(&tree).copied().eq([5, 10, 15]));
+    /// ```
     pub fn new(set: &'a BTreeSet<T, Node>) -> Self
         ensures rest { result ≡ joined set.now.nodes }
         ensures ascending { IsAscending T.cmp result }

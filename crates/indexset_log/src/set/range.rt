@@ -40,6 +40,11 @@ impl<'a, T: Ord + Clone + Drop, Node: NodeLike<T>> Model for Range<'a, T, Node> 
 
 impl<'a, T: Ord + Clone + Drop, Node: NodeLike<T>> Range<'a, T, Node> {
     /// Returns the items of a set that satisfy both bounds, as the set's `range` has them.
+    ///
+    /// ```
+    /// let tree: set::BTreeSet<u64, Vec<u64>> = set::BTreeSet::from_iter(alloc, [5, 10, 15])?;
+    /// assert!(rt; set::Range::new(&tree, 10..).copied().eq([10, 15]));
+    /// ```
     pub fn new<R: Bounds<T> + Drop>(set: &'a BTreeSet<T, Node>, range: R) -> Self
         requires { IsTrue (are_ordered T.cmp (R.start range) (R.end range)) }
         ensures rest { result ≡ in_range T.cmp (joined set.now.nodes) (R.start range) (R.end range) }

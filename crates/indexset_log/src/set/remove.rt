@@ -136,6 +136,14 @@ impl<T: Ord + Clone + Drop, Node: NodeLike<T>> BTreeSet<T, Node> {
 
     /// Returns why a removal of the item at a place would be refused: with `Numbers` where too few
     /// are left for its events, else with `Memory`.
+    ///
+    /// ```
+    /// // A removal needs a number for its event, and none is left.
+    /// let mut tree: set::BTreeSet<u64, Vec<u64>> =
+    ///     set::BTreeSet::starting_at(alloc, 256, u64::MAX - 1);
+    /// tree.insert(5)?;
+    /// assert_eq!(rt; tree.removal_refusal(0, 0), Refusal::Numbers);
+    /// ```
     pub fn removal_refusal(&self, node: usize, offset: usize) -> Refusal
         requires node { node < length self.now.nodes }
         requires offset { offset < length (node_at self.now.nodes node) }

@@ -9,6 +9,14 @@ impl<'a, K: Ord, V> VacantEntry<'a, K, V> {
     ghost use Rattle.indexset_map.specs.Entry.{Vacant, entry_map_ref, missing_key};
 
     /// Returns the given key.
+    ///
+    /// ```
+    /// # use indexset::Entry;
+    /// let mut stock: BTreeMap<&str, u64> = BTreeMap::new(alloc)?;
+    /// if let Entry::Vacant(entry) = stock.entry("plum") {
+    ///     assert_eq!(rt; entry.key(), &"plum");
+    /// }
+    /// ```
     pub fn key(&self) -> &K
         ensures { missing_key (Vacant self.now) ≡ Some result.now }
     {
@@ -16,6 +24,15 @@ impl<'a, K: Ord, V> VacantEntry<'a, K, V> {
     }
 
     /// Returns the key, and changes nothing.
+    ///
+    /// ```
+    /// # use indexset::Entry;
+    /// let mut stock: BTreeMap<&str, u64> = BTreeMap::new(alloc)?;
+    /// if let Entry::Vacant(entry) = stock.entry("plum") {
+    ///     assert_eq!(rt; entry.into_key(), "plum");
+    /// }
+    /// assert!(rt; stock.is_empty());
+    /// ```
     pub fn into_key(self) -> K
         ensures key { missing_key (Vacant self.entry) ≡ Some result }
         ensures unchanged { self.exit.0.now ≡ (entry_map_ref (Vacant self.entry)).now }
@@ -29,6 +46,15 @@ impl<'a, K: Ord + Drop, V: Drop> VacantEntry<'a, K, V> {
 
     /// Inserts the key with a value, and returns a mutable reference to the value. Fails with
     /// `Memory`: a failed call returns both in the error and changes nothing.
+    ///
+    /// ```
+    /// # use indexset::Entry;
+    /// let mut stock = BTreeMap::new(alloc)?;
+    /// if let Entry::Vacant(entry) = stock.entry("plum") {
+    ///     *entry.insert(1)? += 1;
+    /// }
+    /// assert_eq!(rt; stock.get(&"plum"), Some(&2));
+    /// ```
     pub fn insert(self, value: V) -> Result<&'a mut V, Refused<(K, V)>>
         ensures* writes_back { sem 𝓛 (entry_lends_ok K.row V.row (Vacant self.entry) result) }
         ensures value { IfOk result (λ r. r.now ≡ value) }
