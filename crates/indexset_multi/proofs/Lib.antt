@@ -7,6 +7,7 @@ pub mod Inserts
 pub mod Lists
 pub mod Numbers
 pub mod Positions
+pub mod Puts
 pub mod Removals
 pub mod Runs
 pub mod Searches

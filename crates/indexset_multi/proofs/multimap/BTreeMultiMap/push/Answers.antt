@@ -1,14 +1,7 @@
-use Rattle.std.proofs.Common.{rules, ◌≡◌, false, IfErr, length, ◌∙◌, ap, refl, sym, subst}
-use Rattle.indexset_core.specs.MultiPairs.{by_number}
-use Rattle.indexset_core.specs.Nodes.{joined}
-use Rattle.indexset_core.specs.Order.{put}
-use Rattle.indexset_log.specs.Changed.{Changed, put_change}
-use Rattle.indexset_events.specs.Table.{put_events}
-use Rattle.indexset_log.specs.Tree.{refusal_for}
-use Rattle.indexset_multi.specs.Changed.{addition, set_tree}
+use Rattle.std.proofs.Common.{rules, ◌≡◌, false, IfErr, ◌∙◌, ap, sym, subst}
+use Rattle.indexset_multi.specs.Changed.{set_tree}
 use Rattle.indexset_multi.proofs.Additions.{added, new_is, next_is, none_left, some_left}
-use Rattle.indexset_multi.proofs.Inserts.{insertion_tree, numbered_after}
-use Rattle.indexset_multi.proofs.Takes.{multi_changed}
+use Rattle.indexset_multi.proofs.Puts.{put_changed, put_numbers, put_refusal}
 use Rattle.indexset_multi.proofs.multimap.BTreeMultiMap.push.Goals as goal
 
 pub invariant_of-self : goal.invariant_of-self
@@ -22,23 +15,24 @@ returns-in_err-pair-clause-refusal g c =
 
 pub returns-in_err-put-clause-refusal : goal.returns-in_err-put-clause-refusal
 returns-in_err-put-clause-refusal g c =
+    let cmp = g.K.Ord.cmp in
     let m = c.args.self.now in
-    let same : c.self.inside.set.nodes ≡ m.nodes = ap (λ t. t.nodes) c.self.view_is in
-    let size : c.self.inside.set.size ≡ m.size = ap (λ t. t.size) c.self.view_is in
-    let next : c.self.inside.set.next ≡ m.next = ap (λ t. t.next) c.self.view_is in
-    let pair = ap (λ q. q.0) c.in_ok-pair.ensures.answer ∙ new_is g.K.Ord.cmp m c.args.key c.args.value in
-    let cause = c.in_err-put.ensures.refusal ∙ (λ i. refusal_for (next i) (length (put_events (by_number g.K.Ord.cmp) (size i) (same i) (pair i)))) in
+    let k = c.args.key in
+    let w = c.args.value in
+    let pair = ap (λ q. q.0) c.in_ok-pair.ensures.answer ∙ new_is cmp m k w in
+    let cause = c.in_err-put.ensures.refusal ∙ put_refusal cmp (λ _ _. false) m k w (ap set_tree c.self.view_is) pair in
     let kept : IfErr c.from_residual-in_err-put.result (λ e. e.cause ≡ c.in_err-put.field-0.0.cause) = search rules in
-    subst (λ r. IfErr c.from_residual-in_err-put.result (λ e. e.cause ≡ r)) (cause ∙ some_left g.K.Ord.cmp m c.args.key c.args.value (sym c.in_ok-pair.ensures.refusal)) kept
+    subst (λ r. IfErr c.from_residual-in_err-put.result (λ e. e.cause ≡ r)) (cause ∙ some_left cmp m k w (sym c.in_ok-pair.ensures.refusal)) kept
 
 pub invariant_of-self-2 : goal.invariant_of-self-2
 invariant_of-self-2 g c =
+    let cmp = g.K.Ord.cmp in
     let m = c.args.self.now in
-    let same : c.self.inside.set.nodes ≡ m.nodes = ap (λ t. t.nodes) c.self.view_is in
-    let pair = ap (λ q. q.0) c.in_ok-pair.ensures.answer ∙ new_is g.K.Ord.cmp m c.args.key c.args.value in
-    let pair_next = ap (λ q. q.1) c.in_ok-pair.ensures.answer ∙ next_is g.K.Ord.cmp m c.args.key c.args.value in
-    let made = c.in_ok-put.ensures.changed.contents ∙ (λ i. put (by_number g.K.Ord.cmp) (joined (same i)) (pair i)) in
-    rw (made, pair_next) (numbered_after g.K.Ord.cmp (λ _ _. false) m c.args.key c.args.value c.node_count-nodes.ensures.numbers)
+    let k = c.args.key in
+    let w = c.args.value in
+    let pair = ap (λ q. q.0) c.in_ok-pair.ensures.answer ∙ new_is cmp m k w in
+    let pair_next = ap (λ q. q.1) c.in_ok-pair.ensures.answer ∙ next_is cmp m k w in
+    put_numbers cmp (λ _ _. false) m k w (ap set_tree c.self.view_is) pair c.in_ok-put.ensures.changed.contents pair_next c.node_count-nodes.ensures.numbers
 
 pub returns : goal.returns
 returns g c =
@@ -46,28 +40,16 @@ returns g c =
     let m = c.args.self.now in
     let k = c.args.key in
     let w = c.args.value in
-    let same : c.self.inside.set.nodes ≡ m.nodes = ap (λ t. t.nodes) c.self.view_is in
-    let size : c.self.inside.set.size ≡ m.size = ap (λ t. t.size) c.self.view_is in
-    let next : c.self.inside.set.next ≡ m.next = ap (λ t. t.next) c.self.view_is in
+    let now = c.node_count-nodes.ensures in
+    let done = c.in_ok-put.ensures in
+    let seen : c.self.inside.set ≡ set_tree m = ap set_tree c.self.view_is in
     let pair = ap (λ q. q.0) c.in_ok-pair.ensures.answer ∙ new_is cmp m k w in
     let pair_next = ap (λ q. q.1) c.in_ok-pair.ensures.answer ∙ next_is cmp m k w in
-    let now = c.node_count-nodes.ensures in
-    let after = c.put.new.self in
-    let seen : c.self.inside.set ≡ set_tree m = λ i. record { nodes = same i; size = size i; next = next i } in
-    let made = subst (λ p. Changed (by_number cmp) (set_tree m) after (put_change (by_number cmp) (set_tree m) p)) pair
-    (subst (λ t. Changed (by_number cmp) t after (put_change (by_number cmp) t c.in_ok-pair.pair)) seen c.in_ok-put.ensures.changed) in
-    let tree = insertion_tree cmp (λ _ _. false) m k w refl refl made.nodes made.size made.next pair_next in
+    let changed = put_changed cmp (λ _ _. false) m k w seen pair pair_next done.changed in
     record {
       refusal = tt;
       given_back = tt;
       unchanged = tt;
-      added = added cmp m k w g.met.K.Ord.total now.lawful now.numbers _ made.contents;
-      changed = multi_changed {cmp = cmp} {old = m} {made = addition cmp m k w} tree made.fits (record {
-        contents = made.contents;
-        size = made.size;
-        next = made.next;
-        table = made.table;
-        few = made.few;
-        spaced = made.spaced;
-      });
+      added = added cmp m k w g.met.K.Ord.total now.lawful now.numbers _ changed.contents;
+      changed = changed;
     }
