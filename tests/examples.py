@@ -38,7 +38,7 @@ sys.path.insert(0, str(TOP / "tools"))
 import kit  # noqa: E402
 import lay  # noqa: E402
 
-CRATES = ["core", "spine", "set", "map", "events", "log", "multi", "replica"]
+CRATES = ["core", "spine", "set", "map", "events", "log", "multi", "replica", "journal"]
 PROVED = "indexset_uses"
 PAGES = ["*.md", "docs/*.md", "bindings/*.md", "crates/*/README.md", "examples/**/*.md"]
 HEAD = "//! The examples of the documentation.\n#![tactic(auto)]\n"
@@ -53,7 +53,7 @@ use indexset::{BTreeMap, BTreeSet};
 use std::ops::Bound;
 use std::test::Fail;
 """
-LISTS = "anyhow bytes std_collections indexset " + " ".join(f"indexset_{it}" for it in CRATES)
+LISTS = "anyhow bytes sqlite sqlite_disk sqlite_trees std_collections indexset " + " ".join(f"indexset_{it}" for it in CRATES)
 
 
 @dataclasses.dataclass(frozen=True)

@@ -60,6 +60,15 @@ fn end_of<S: Store>(store: &S, next: u64, count: usize) -> Result<u64, JournalEr
 impl<S: Store> Journal<S> {
     /// Returns a journal over a store, and the lines that it keeps, in order. What was under way in
     /// the store is undone. An `Err` returns the store. Reads all rows, and commits nothing.
+    ///
+    /// ```
+    /// # use indexset_journal::Journal;
+    /// let mut conn = sqlite::Connection::open_in_memory(alloc)?;
+    /// let table = "CREATE TABLE kept (number INTEGER PRIMARY KEY, line TEXT NOT NULL) STRICT";
+    /// conn.execute(table, &[])?;
+    /// let opened = Journal::open(alloc, conn.into_store());
+    /// assert!(rt; opened.is_ok_and(|(_, lines)| lines.is_empty()));
+    /// ```
     pub fn open(
         alloc: Global,
         mut store: S,
@@ -95,6 +104,18 @@ impl<S: Store> Journal<S> {
     /// Keeps more lines behind the others, with one commit. At `Ok` each later crash leaves them. A
     /// crash before leaves the lines from before the call, or those and all of the new ones. After an
     /// `Err` the journal may be used again, and keeps what it kept.
+    ///
+    /// ```
+    /// # use indexset_journal::Journal;
+    /// # let mut conn = sqlite::Connection::open_in_memory(alloc)?;
+    /// # let table = "CREATE TABLE kept (number INTEGER PRIMARY KEY, line TEXT NOT NULL) STRICT";
+    /// # conn.execute(table, &[])?;
+    /// if let Ok((mut journal, _)) = Journal::open(alloc, conn.into_store()) {
+    ///     journal.append(&[b"one".to_vec(alloc)?, b"two".to_vec(alloc)?])?;
+    ///     let opened = Journal::open(alloc, journal.into_store());
+    ///     assert!(rt; opened.is_ok_and(|(_, lines)| lines.len() == 2));
+    /// }
+    /// ```
     pub fn append(&mut self, lines: &[Vec<u8>]) -> Result<(), JournalError>
         ensures kept { OnOk result (IsClean (S.view self.new) → IsTrue (S.view self.new).is_open
             × (lines_in (S.view self.new).committed
@@ -126,6 +147,19 @@ impl<S: Store> Journal<S> {
     /// Replaces all lines that are kept by these, with one commit. At `Ok` each later crash
     /// leaves them. A crash before leaves the old lines, or all of the new ones. After an `Err` the
     /// journal may be used again, and keeps what it kept.
+    ///
+    /// ```
+    /// # use indexset_journal::Journal;
+    /// # let mut conn = sqlite::Connection::open_in_memory(alloc)?;
+    /// # let table = "CREATE TABLE kept (number INTEGER PRIMARY KEY, line TEXT NOT NULL) STRICT";
+    /// # conn.execute(table, &[])?;
+    /// if let Ok((mut journal, _)) = Journal::open(alloc, conn.into_store()) {
+    ///     journal.append(&[b"one".to_vec(alloc)?, b"two".to_vec(alloc)?])?;
+    ///     journal.replace(&[b"both".to_vec(alloc)?])?;
+    ///     let opened = Journal::open(alloc, journal.into_store());
+    ///     assert!(rt; opened.is_ok_and(|(_, lines)| lines.len() == 1));
+    /// }
+    /// ```
     pub fn replace(&mut self, lines: &[Vec<u8>]) -> Result<(), JournalError>
         ensures kept { OnOk result (IsClean (S.view self.new) → IsTrue (S.view self.new).is_open
             × (lines_in (S.view self.new).committed ≡ texts lines.now)) }
@@ -150,6 +184,17 @@ impl<S: Store> Journal<S> {
     }
 
     /// Returns the store, with no other effect.
+    ///
+    /// ```
+    /// # use indexset_journal::Journal;
+    /// # let mut conn = sqlite::Connection::open_in_memory(alloc)?;
+    /// # let table = "CREATE TABLE kept (number INTEGER PRIMARY KEY, line TEXT NOT NULL) STRICT";
+    /// # conn.execute(table, &[])?;
+    /// if let Ok((journal, _)) = Journal::open(alloc, conn.into_store()) {
+    ///     let store = journal.into_store();
+    ///     assert!(rt; Journal::open(alloc, store).is_ok());
+    /// }
+    /// ```
     pub fn into_store(self) -> S
         ensures { result ≡ self }
     {
