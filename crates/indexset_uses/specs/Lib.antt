@@ -1,3 +1,4 @@
+pub mod Accounts
 pub mod Shards
 pub mod Standings
 pub mod Wire

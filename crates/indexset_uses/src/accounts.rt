@@ -2,7 +2,9 @@
 ghost use Rattle.std.specs.Prelude.{◌≡◌, ◌-◌, ◌≤◌, ℕ, false, nat_eq, is_some, if◌then◌else◌, Some, None, IfErr, IfOk, OnErr, OnOk};
 ghost use Rattle.std.specs.List.{sum};
 ghost use Rattle.std.specs.Ordering.{is_eq, nat_cmp};
+ghost use Rattle.std.specs.Result.{result_err};
 ghost use Rattle.indexset.specs.Words.{pair_values, set_value, value_of};
+ghost use Rattle.indexset_uses.specs.Accounts.{transfer_error};
 
 use indexset::BTreeMap;
 
@@ -35,6 +37,7 @@ pub fn transfer(
     ensures paid { OnOk result (nat_eq from to ≡ false → (balance : ℕ) × (amount ≤ balance)
         × (value_of nat_cmp accounts.old.pairs from ≡ Some balance)
         × (value_of nat_cmp accounts.new.pairs from ≡ Some (balance - amount))) }
+    ensures refusal { result_err result ≡ transfer_error accounts.old.pairs from to amount }
     ensures refused { OnErr result (accounts.new ≡ accounts.old) }
 {
     let balance = balance_of(accounts, from)?;
@@ -53,7 +56,8 @@ pub fn transfer(
 pub fn balance_of(accounts: &Accounts, account: u64) -> Result<u64, TransferError>
     ensures found { IfOk result (λ balance. value_of nat_cmp accounts.now.pairs account
         ≡ Some balance) }
-    ensures missing { IfErr result (λ _. value_of nat_cmp accounts.now.pairs account ≡ None) }
+    ensures missing { IfErr result (λ error. (error ≡ TransferError.Missing)
+        × (value_of nat_cmp accounts.now.pairs account ≡ None)) }
 {
     accounts
         .get(&account)

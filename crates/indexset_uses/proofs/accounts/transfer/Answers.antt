@@ -1,5 +1,4 @@
-use Rattle.std.proofs.Common.{◌≡◌, ◌+◌, ◌-◌, ℕ, Some, false, is_some, if◌then◌else◌, rules, ap, ◌∙◌, arith}
-use Rattle.std.specs.List.{sum}
+use Rattle.std.proofs.Common.{◌≡◌, ◌+◌, ◌-◌, Some, false, is_some, if◌then◌else◌, rules, ap, ◌∙◌, arith}
 use Rattle.std.specs.Ordering.{is_eq, nat_cmp}
 use Rattle.std.proofs.lemmas.Cmp.{nat_cmp_total}
 use Rattle.std.proofs.lemmas.Grind.{common_steps}
@@ -54,3 +53,9 @@ returns-clause-paid c = λ other.
     let is : left ≡ balance - c.args.amount = omega (arith, less) in
     let here = value_set_value nat_cmp c.args.from left old balance c.in_ok-balance.ensures.found in
     (balance, omega (arith, less), c.in_ok-balance.ensures.found, rw (written at, ← is) (value_set_value_other nat_cmp c.args.to c.in_ok-raised.raised nat_cmp_total c.args.from (search rules) (set_value nat_cmp old c.args.from left) ∙ here))
+
+pub returns-in_err-balance-clause-refusal : goal.returns-in_err-balance-clause-refusal
+returns-in_err-balance-clause-refusal c = grind (arith, common_steps)
+
+pub returns-in_err-held-clause-refusal : goal.returns-in_err-held-clause-refusal
+returns-in_err-held-clause-refusal c = grind (arith, common_steps)
