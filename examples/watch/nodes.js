@@ -1,6 +1,6 @@
 // Nodes, drawn as boxes of pairs: a key keeps its box and a node its frame, so that what changes is seen to move.
 
-const ROW = 52, HIGH = 38, SPACE = 12, MORE = 46;
+const ROW = 52, HIGH = 38, SPACE = 12, MORE = 46, MANY = 60, SHOWY = ".fresh, .split, .merge";
 export const still = matchMedia("(prefers-reduced-motion: reduce)").matches;
 
 export function made(name, parent, props = {}, space = "http://www.w3.org/1999/xhtml") {
@@ -47,20 +47,23 @@ function laid(lines, wide) {
   });
 }
 
-// A box slides along its row. One that comes fades in where it belongs, and one that changes its row is there at once.
-const arriving = [];
-function move(node, x, y) {
-  if (node.row !== y) {
-    const opacity = node.row === undefined ? 0 : 1;
-    Object.assign(node.style, { transition: "none", opacity });
-    arriving.push(node);
-  }
+// A box slides along its row. One that changes its row is there at once, as all are where many would slide.
+function move(node, x, y, leaps) {
+  if (node.at?.x === x && node.at.y === y) return;
+  node.classList.toggle("leaps", leaps || node.at?.y !== y);
   node.style.transform = `translate(${x}px, ${y}px)`;
-  node.row = y;
+  node.at = { x, y };
+}
+
+// What comes to others fades in.
+function come(kind, layer, leaps) {
+  const g = drawn("g", layer, { class: kind });
+  if (!leaps && !still) g.animate({ opacity: [0, 1] }, 450);
+  return g;
 }
 
 function fade(node) {
-  node.style.opacity = 0;
+  node.classList.add("gone");
   setTimeout(() => node.remove(), still ? 0 : 450);
 }
 
@@ -69,49 +72,54 @@ function lit(node, kind, time) {
   setTimeout(() => node.classList.remove(kind), time);
 }
 
-function box(layer, cell) {
-  const g = drawn("g", layer, { class: "cell" });
-  const rect = drawn("rect", g, { height: HIGH, rx: 3 });
-  const key = drawn("text", g, { y: 17, text: cell.shown ?? short(cell.key) });
-  const value = drawn("text", g, { y: 32, class: "value" });
-  return { g, rect, key, value, title: drawn("title", g) };
+function box(layer, leaps) {
+  const g = come("cell", layer, leaps), rect = drawn("rect", g, { height: HIGH, rx: 3 });
+  const text = (name, props) => drawn(name, g, { text: "-", ...props });
+  const [key, value] = [text("text", { y: 17 }), text("text", { y: 32, class: "value" })];
+  return { g, rect, key, value, title: text("title") };
 }
 
 function write(box, { key, value, shown, width }) {
-  box.told = value;
+  const words = { key: shown ?? short(key), value: short(value), title: `${key}:${value}` };
+  for (const [name, word] of Object.entries(words)) {
+    const text = box[name].firstChild;
+    if (text.data !== word) text.data = word;
+  }
+  if (box.width === width) return;
+  box.width = width;
   box.rect.setAttribute("width", width);
   for (const text of [box.key, box.value]) text.setAttribute("x", width / 2);
-  box.value.textContent = short(value);
-  box.title.textContent = `${key}:${value}`;
-  if (shown) box.key.textContent = shown;
 }
 
-function drawBoxes(svg, frames, isNew) {
-  const kept = new Map();
-  for (const cell of frames.flatMap(frame => frame.cells)) {
-    const now = svg.boxes.get(cell.key) ?? box(svg.low, cell);
-    if (now.told !== cell.value || cell.shown) write(now, cell);
-    if (isNew(cell.key, cell.value)) lit(now.g, "fresh", 700);
-    move(now.g, cell.x, cell.y);
+// A key keeps its box. Where none has one, the boxes are those of other keys: that is less work than new ones.
+function drawBoxes(svg, cells, isNew, { isElsewhere, leaps }) {
+  const kept = new Map(), spare = isElsewhere ? [...svg.boxes.values()] : [];
+  const fresh = cells.filter(cell => isNew(cell.key, cell.value));
+  for (const cell of cells) {
+    const now = svg.boxes.get(cell.key) ?? spare.pop() ?? box(svg.low, isElsewhere);
+    write(now, cell);
+    if (fresh.length < MANY && fresh.includes(cell)) lit(now.g, "fresh", 700);
+    move(now.g, cell.x, cell.y, leaps);
     kept.set(cell.key, now);
   }
-  for (const [key, old] of svg.boxes) if (!kept.has(key)) fade(old.g);
+  for (const [key, old] of isElsewhere ? [] : svg.boxes) if (!kept.has(key)) fade(old.g);
+  for (const { g } of spare) g.remove();
   svg.boxes = kept;
 }
 
 // A frame goes to the first node that has one of its keys; a node with none of these gets a frame of its own.
-function drawFrames(svg, frames) {
+function drawFrames(svg, frames, { isElsewhere, leaps }) {
   const free = new Set(svg.frames), owner = new Map(svg.frames.flatMap(frame => frame.keys.map(key => [key, frame])));
   const olds = frames.map(frame => [...new Set(frame.keys.map(key => owner.get(key)).filter(Boolean))]);
   frames.forEach((frame, i) => {
     const from = olds[i], isPart = olds.some((other, j) => j !== i && from.some(old => other.includes(old)));
-    const kept = from.find(old => free.has(old));
+    const kept = isElsewhere ? free.values().next().value : from.find(old => free.has(old));
     free.delete(kept);
-    frame.g = kept?.g ?? drawn("g", svg.high, { class: "frame" });
+    frame.g = kept?.g ?? come("frame", svg.high, isElsewhere);
     frame.rect = kept?.rect ?? drawn("rect", frame.g, { height: HIGH, rx: 5 });
     if (from.length > 1) lit(frame.g, "merge", 900);
     else if (isPart) lit(frame.g, "split", 900);
-    move(frame.g, frame.x, frame.y);
+    move(frame.g, frame.x, frame.y, leaps);
     frame.rect.style.width = frame.whole + "px";
   });
   for (const frame of free) fade(frame.g);
@@ -123,17 +131,13 @@ export function draw(svg, lines, isNew = () => false) {
   if (!svg.boxes) {
     Object.assign(svg, { boxes: new Map(), frames: [], low: drawn("g", svg), high: drawn("g", svg) });
   }
-  const frames = laid(lines, svg.clientWidth || 320);
-  const isElsewhere = !frames.some(frame => frame.cells.some(cell => svg.boxes.has(cell.key)));
-  if (isElsewhere) {
-    for (const layer of [svg.low, svg.high]) layer.replaceChildren();
-    Object.assign(svg, { boxes: new Map(), frames: [] });
-  }
-  drawBoxes(svg, frames, isNew);
-  drawFrames(svg, frames);
-  if (isElsewhere) for (const node of arriving) node.style.opacity = 1;
-  svg.getBoundingClientRect();  // what arrives is placed, all at once, before it fades in
-  for (const node of arriving.splice(0)) Object.assign(node.style, { transition: "", opacity: 1 });
+  const frames = laid(lines, svg.wide || 320), cells = frames.flatMap(frame => frame.cells);
+  const isElsewhere = !cells.some(cell => svg.boxes.has(cell.key));
+  const slides = ({ key, x, y }) => (({ at } = {}) => at?.y === y && at.x !== x)(svg.boxes.get(key)?.g);
+  const how = { isElsewhere, leaps: isElsewhere || cells.filter(slides).length > MANY };
+  for (const node of isElsewhere ? svg.querySelectorAll(".gone") : []) node.remove();
+  for (const node of isElsewhere ? svg.querySelectorAll(SHOWY) : []) node.classList.remove("fresh", "split", "merge");
+  drawBoxes(svg, cells, isNew, how);
+  drawFrames(svg, frames, how);
   svg.style.height = (frames.length ? frames.at(-1).y + HIGH + 4 : 4) + "px";
-  svg.setAttribute("aria-label", lines.length ? "nodes: " + lines.slice(0, 30).join(" | ") : "no nodes");
 }

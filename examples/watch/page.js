@@ -2,17 +2,18 @@
 
 import { board } from "./board.js";
 import { draw, made, still } from "./nodes.js";
+import { follow, list, look, soon, write } from "./sight.js";
 
-const NAMES = ["A", "B", "C"], PERCENT = ["loss", "repeat", "late"], PILLS = 60, SHOWN = 12, FEW = 20;
-const id = name => document.getElementById(name), cards = {}, lanes = {}, stores = {};
-let head = 0, leader = { who: "A", is_there: false, key: "0" }, said = [], back = 0;
+const NAMES = ["A", "B", "C"], PERCENT = ["loss", "repeat", "late"], PILLS = 60, SHOWN = 12, FEW = 20, PATIENCE = 3;
+const id = name => document.getElementById(name), cards = {}, lanes = {}, stores = {}, drawn = {}, undrawn = new Set();
+let head = 0, news = [], patience = 0, leader = { who: "A", is_there: false, key: "0" }, said = [], back = 0;
 
 const many = (n, word) => `${n.toLocaleString("en")} ${word}${n === 1 ? "" : "s"}`;
 const any = below => Math.floor(Math.random() * below);
 
 function lamp(node, [kind, words]) {
-  node.className = "lamp " + kind;
-  if (node.textContent !== words) node.textContent = words;
+  if (!node.classList.contains(kind)) node.className = "lamp " + kind;
+  write(node, words);
 }
 
 async function ask(act, asked) {
@@ -66,13 +67,13 @@ const ACTS = [
 
 function showActs(card, told) {
   const buttons = [...card.querySelectorAll(".acts button")], focused = document.activeElement;
-  ACTS.forEach(([, isThere], i) => (buttons[i].hidden = !isThere(told)));
+  ACTS.forEach(([, isThere], i) => buttons[i].toggleAttribute("hidden", !isThere(told)));
   if (buttons.includes(focused) && focused.hidden) buttons.find(button => !button.hidden)?.focus();
 }
 
 const keys = line => line.split(" ").map(pair => pair.split(":")[0]);
 
-// Whether a pair has come since a store told its nodes before: it was not among these, nor before or behind them.
+// Whether a pair has come since the nodes that are drawn: it was not among these, nor before or behind them.
 function newSince(was) {
   const pairs = new Set(was.nodes.flatMap(line => line.split(" ")));
   const isEnd = was.first + was.nodes.length === was.total;
@@ -80,39 +81,40 @@ function newSince(was) {
   return (key, value) => low <= +key && +key <= high && !pairs.has(`${key}:${value}`);
 }
 
-// Draws the nodes of a store, on a narrow page a few about the key, and says which.
-function drawNodes(who, isNew) {
-  const { nodes, first, pairs, total } = stores[who], most = innerWidth < 700 ? FEW : nodes.length;
+// Shows the nodes of a store, on a narrow page a few about the key, and says which. They are drawn where they are seen.
+function showNodes(who) {
+  const told = stores[who], { nodes, first, pairs, total } = told, most = innerWidth < 700 ? FEW : nodes.length;
   const middle = nodes.findIndex(line => +keys(line).at(-1) >= +leader.key);
   const from = Math.max(0, Math.min((middle < 0 ? nodes.length : middle) - most / 2, nodes.length - most));
-  const drawn = nodes.slice(from, from + most), begin = first + from + 1;
-  const part = drawn.length < total ? `; drawn are nodes ${begin} to ${begin + drawn.length - 1}` : "";
-  const told = `${many(pairs, "pair")} in ${many(total, "node")}${part}`;
-  cards[who].querySelector(".where").textContent = hasEnded(stores[who]) ? "its nodes went with its process" : told;
-  draw(cards[who].querySelector("svg"), drawn, isNew);
+  const shown = nodes.slice(from, from + most), begin = first + from + 1, svg = cards[who].querySelector("svg");
+  const part = shown.length < total ? `; drawn are nodes ${begin} to ${begin + shown.length - 1}` : "";
+  const size = `${many(pairs, "pair")} in ${many(total, "node")}${part}`;
+  write(cards[who].querySelector(".where"), hasEnded(told) ? "its nodes went with its process" : size);
+  svg.setAttribute("aria-label", shown.length ? "nodes: " + shown.slice(0, 30).join(" | ") : "no nodes");
+  if (!svg.isSeen) return;
+  draw(svg, shown, drawn[who] && newSince(drawn[who]));
+  drawn[who] = told;
 }
 
 function store(told) {
   const { who } = told, card = cards[who], isRunning = runs(told), was = stores[who];
   stores[who] = told;
   const role = leads(told) ? "leads" : isRunning ? "follows" : "ended";
-  card.querySelector("h2 small").textContent = `${role}, process ${told.pid}`;
+  write(card.querySelector("h2 small"), `${role}, process ${told.pid}`);
   lamp(card.querySelector(".lamp"), standing(told));
-  card.querySelector("code.next").textContent = isRunning ? `next ${told.next}` : "";
-  card.querySelector("code.sum").textContent = told.sum;
+  write(card.querySelector("code.next"), isRunning ? `next ${told.next}` : "");
+  write(card.querySelector("code.sum"), told.sum);
   card.querySelector("dl").hidden = leads(told);
   const counts = { ...told.counts, ...told.replies };
-  for (const each of card.querySelectorAll("dd")) each.textContent = counts[each.className] ?? 0;
+  for (const each of card.querySelectorAll("dd")) write(each, String(counts[each.className] ?? 0));
   showActs(card, told);
-  for (const choice of document.querySelectorAll(`option[value=${who}]`)) choice.textContent = `${who} ${role}`;
+  for (const choice of document.querySelectorAll(`option[value=${who}]`)) write(choice, `${who} ${role}`);
   lanes[who].hidden = leads(told);
   const isNew = was && was.pid !== told.pid;
   for (const part of isNew ? lanes[who].querySelectorAll(".way, code") : []) part.replaceChildren();
-  drawNodes(who, was && newSince(was));
+  undrawn.add(who);
   isOnBoard(who);
 }
-
-const drawAll = () => NAMES.filter(name => stores[name]).forEach(name => drawNodes(name));
 
 // The leader's card stands above the channel, the others below.
 function arrange() {
@@ -120,20 +122,6 @@ function arrange() {
   if (id("lead").firstElementChild === cards[first]) return;
   id("lead").replaceChildren(cards[first]);
   id("rest").replaceChildren(...NAMES.filter(name => name !== first).map(name => cards[name]));
-  drawAll();
-}
-
-// A line at the end of a list, which stays at its end where it is.
-function listed(list, node, most) {
-  if (!list.due) {
-    const isLow = list.scrollHeight - list.scrollTop - list.clientHeight < 40;
-    list.due = requestAnimationFrame(() => {
-      if (isLow) list.scrollTop = list.scrollHeight;
-      list.due = 0;
-    });
-  }
-  list.append(node);
-  while (list.children.length > most) list.firstChild.remove();
 }
 
 function talk(title, replies, more = 0) {
@@ -142,7 +130,7 @@ function talk(title, replies, more = 0) {
   const shown = replies.slice(0, SHOWN), rest = replies.length - shown.length + more;
   const told = replies.length ? shown.join("\n") : "(no reply)";
   item.append("\n" + told + (rest ? `\n.. and ${many(rest, "line")}` : ""));
-  listed(id("talk"), item, 100);
+  list(id("talk"), item, 100);
 }
 
 const on = {
@@ -161,7 +149,7 @@ const on = {
     made("span", line, { text: n });
     made("span", line, { text: word, class: word });
     made("span", line, { text: rest });
-    listed(id("stream"), line, 200);
+    list(id("stream"), line, 200);
   },
   said({ to, line, told, more }) {
     talk(`${to}: ${line}`, told, more);
@@ -173,23 +161,23 @@ const on = {
     const way = lanes[to].querySelector(".way");
     if (still || document.hidden || way.children.length > PILLS) return;
     const pill = made("span", way, { class: "pill " + fate, text: word });
-    const end = way.clientWidth - pill.offsetWidth, half = { left: end / 2 + "px", transform: "none", opacity: 1 };
-    const fall = { left: end * 0.6 + "px", transform: "translateY(30px)", opacity: 0 };
-    const way_of_it = [{ left: 0 }, ...(fate === "lost" ? [half, fall] : [{ left: end + "px" }])];
+    const end = way.wide - 7.3 * word.length - 16, at = (x, y = 0) => `translate(${x}px, ${y}px)`;
+    const falls = [{ transform: at(end / 2), opacity: 1 }, { transform: at(end * 0.6, 30), opacity: 0 }];
+    const way_of_it = [{ transform: at(0) }, ...(fate === "lost" ? falls : [{ transform: at(end) }])];
     const flies = pill.animate(way_of_it, { duration: 1000 * takes, delay: 1000 * wait, fill: "backwards" });
     flies.onfinish = () => pill.remove();
   },
   reply({ who, reply }) {
     const code = lanes[who].querySelector("code");
-    code.textContent = reply;
+    write(code, reply);
     code.className = reply.split(" ")[0];
   },
   store,
   file({ path, size, head: next, last }) {
     head = next;
-    id("file-size").textContent = `${many(next, "line")}, ${many(size, "byte")}`;
-    id("file-path").textContent = path;
-    id("file-last").textContent = last ? `last: ${last}` : "";
+    write(id("file-size"), `${many(next, "line")}, ${many(size, "byte")}`);
+    write(id("file-path"), path);
+    write(id("file-last"), last ? `last: ${last}` : "");
     for (const name of NAMES) if (stores[name]) lamp(cards[name].querySelector(".lamp"), standing(stores[name]));
   },
   leader(told) {
@@ -211,9 +199,10 @@ for (const name of NAMES) {
     button.setAttribute("aria-label", `${text}, ${name}`);
     button.onclick = () => act(name);
   });
+  look(card.querySelector("svg"), () => stores[name] && showNodes(name));
   const lane = lanes[name] = made("div", id("lanes"), { class: "lane" });
   made("span", lane, { text: `to ${name}` });
-  made("div", lane, { class: "way" });
+  look(made("div", lane, { class: "way" }));
   made("code", lane, { "aria-label": `last reply of ${name}` });
 }
 id("from").value = "B";
@@ -248,10 +237,12 @@ setInterval(() => id("auto").checked && leader.is_there && say_many(1, any(2) ? 
 id("say").onsubmit = async submitted => {
   submitted.preventDefault();
   const line = id("line").value, to = id("to").value;
+  patience = PATIENCE;
   said.push(line);
   back = said.length;
   id("line").value = "";
   const [told = []] = await say(to, [line]);
+  patience = 0;
   id("what").textContent = `${to} replies to “${line}”:`;
   id("reply").textContent = told.length ? told.join("\n") : "(it has ended)";
 };
@@ -277,11 +268,29 @@ id("about").onsubmit = submitted => {
 const edge = place => id("lead").querySelector("svg").frames?.at(place)?.keys.at(-1) ?? "0";
 id("before").onclick = () => show(edge(0));
 id("after").onclick = () => show(edge(-1));
-addEventListener("resize", drawAll);
 
+// The nodes of one store are shown in a frame, those of the leader first.
+function showNext() {
+  const who = undrawn.has(leader.who) ? leader.who : [...undrawn][0];
+  if (!undrawn.delete(who)) return;
+  showNodes(who);
+  if (undrawn.size) soon(showNext);
+}
+
+// What is told is shown in the next frame, but that it waits some for the answer to a line that was typed, so that both
+// are shown in one.
+function showNews() {
+  if (patience-- > 0) return soon(showNews);
+  patience = 0;
+  for (const told of news.splice(0)) on[told.kind](told);
+  lamp(id("all"), overall());
+  showNext();
+  follow();
+}
 const source = new EventSource("/events");
 source.onmessage = ({ data }) => {
-  for (const told of JSON.parse(data)) on[told.kind](told);
-  lamp(id("all"), overall());
+  const isFirst = !news.length;
+  news.push(...JSON.parse(data));
+  if (isFirst || document.hidden) soon(showNews);
 };
 source.onerror = () => lamp(id("all"), ["bad", "the server does not answer"]);

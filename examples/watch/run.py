@@ -19,7 +19,6 @@ import signal
 import sys
 import tempfile
 import threading
-import time
 from collections.abc import Callable
 
 HERE = pathlib.Path(__file__).resolve().parent
@@ -41,7 +40,7 @@ class Server(http.server.ThreadingHTTPServer):
 
     def __init__(self, watch: Watch, port: int) -> None:
         super().__init__(("127.0.0.1", port), Page)
-        self.watch = watch
+        self.watch, self.asked = watch, threading.Event()
 
     def handle_error(self, *_: object) -> None:
         """Says nothing of a page that is gone."""
@@ -52,6 +51,7 @@ class Page(http.server.BaseHTTPRequestHandler):
 
     server: Server
     protocol_version = "HTTP/1.1"
+    disable_nagle_algorithm = True  # a body does not wait until its head has been confirmed
 
     def parse_request(self) -> bool:
         own = f"127.0.0.1:{self.server.server_port}"
@@ -117,6 +117,7 @@ class Page(http.server.BaseHTTPRequestHandler):
             self.send_error(400)
         else:
             self.give("application/json", json.dumps(found).encode())
+            self.server.asked.set()
 
     def log_message(self, *_: object) -> None:
         """Says nothing."""
@@ -128,7 +129,8 @@ def served(watch: Watch, port: int) -> None:
     threading.Thread(target=server.serve_forever, daemon=True).start()
     print(f"http://127.0.0.1:{server.server_port}/", flush=True)
     while True:
-        time.sleep(STEP)
+        server.asked.wait(STEP / 10 if watch.looking else STEP)
+        server.asked.clear()
         with watch.lock:
             watch.step()
 

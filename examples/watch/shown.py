@@ -9,7 +9,7 @@ from channel import Channel
 from programs import built
 from store import Ended, Store
 
-PAIRS = 160  # about so many pairs of a store are drawn
+PAIRS = 96  # about so many pairs of a store are drawn
 
 
 def last_key(node: bytes) -> int:

@@ -13,6 +13,7 @@ import random
 import re
 import threading
 import time
+from collections.abc import Iterator
 
 from channel import FLIGHT, Channel, Kept, Percent
 from shown import Shown
@@ -38,7 +39,9 @@ class Watch:
         self.news: collections.deque[Facts] = collections.deque(maxlen=NEWS)
         self.last: dict[str, Facts] = {}
         self.changed: set[str] = set()
-        self.leader, self.key, self.sum, self.look_from = NAMES[0], 0, "", 0.0
+        self.leader, self.key, self.sum = NAMES[0], 0, ""
+        self.looking: Iterator[bool] | None = None  # a round of looks that has begun
+        self.look_from = 0.0  # seconds: when the next look may be
         self.stores = {name: self.started(name, leads=name == self.leader) for name in NAMES}
         self.look()
         if kept.events:
@@ -170,29 +173,52 @@ class Watch:
             self.send(store, b"head %d" % self.kept.head, "head")
 
     def step(self) -> None:
-        """Hands over what is due, looks at the stores that changed, and tells the pages."""
+        """Hands over what is due, looks at a store that changed, the leader first, and tells the pages."""
         now = time.monotonic()
-        for each in self.stores.values():
+        for each in self.stores.values() if self.looking is None else ():
             if each.nodes_held and not each.is_running():
                 each.stop()
             if each.follows():
                 self.deliver(each, now)
                 self.ask_on(each, now)
-        if now >= self.look_from and any(each.is_stale for each in self.stores.values()):
-            self.look()
+        if self.looking is None and any(each.is_stale for each in self.stores.values()):
+            self.looking = self.looks()
+        if self.looking and now >= self.look_from:
+            leader = self.stores.get(self.leader)
+            if leader and leader.is_stale:
+                self.look_at(leader)
+            elif not next(self.looking, False):
+                self.looking = None
             self.look_from = 2 * time.monotonic() - now
         self.publish()
 
     def look(self) -> None:
-        """Looks at the stores that changed, and at the sums of those that lack nothing."""
-        for each in self.stores.values():
-            each.look()
+        """Looks at all stores that changed."""
+        self.looking = None
+        for _ in self.looks():
+            pass
+
+    def looks(self) -> Iterator[bool]:
+        """Looks at the stores that changed, and at the sums of those that lack nothing, one for each item, so that a
+        line that comes meanwhile waits for one of them alone; and then tells how they stand."""
+        for each in [it for it in self.stores.values() if it.is_stale]:
+            self.look_at(each)
+            yield True
         level = [each for each in self.stores.values() if each.follows() and each.awaited == self.kept.head]
         if level and self.has_leader():
             self.sum = self.stores[self.leader].sum_of_all()
+            yield True
         for each in level:
             each.sum_of_all()
+            yield True
         self.tell_stores()
+
+    def look_at(self, store: Shown) -> None:
+        """Looks at a store, and tells how it stands if it leads; others are compared first."""
+        store.look()
+        if store.leads:
+            self.tell_leader()
+            self.tell_store(store)
 
     def standing(self, store: Shown) -> str:
         """In a word how a store stands to the file and the leader's last sum."""
@@ -210,26 +236,34 @@ class Watch:
 
     def tell_stores(self) -> None:
         """Tells how the stores and the file stand."""
-        for name, each in self.stores.items():
-            first, nodes = each.nodes_about(self.key)
-            self.state(
-                "store",
-                name,
-                who=name,
-                pid=each.process.pid,
-                status=each.process.poll(),
-                standing=self.standing(each),
-                next=each.awaited,
-                sum=each.last_sum,
-                pairs=each.pairs,
-                total=len(each.nodes_held),
-                first=first,
-                nodes=nodes,
-                replies=dict(each.replies),
-                counts=dict(each.channel.counts),
-            )
+        for each in self.stores.values():
+            self.tell_store(each)
         last = self.kept.events[-1].decode() if self.kept.events else ""
         self.state("file", path=str(self.kept.path), size=self.kept.size, head=self.kept.head, last=last)
+        self.tell_leader()
+
+    def tell_store(self, store: Shown) -> None:
+        """Tells how a store stands, and its nodes about the key that is shown."""
+        first, nodes = store.nodes_about(self.key)
+        self.state(
+            "store",
+            store.name,
+            who=store.name,
+            pid=store.process.pid,
+            status=store.process.poll(),
+            standing=self.standing(store),
+            next=store.awaited,
+            sum=store.last_sum,
+            pairs=store.pairs,
+            total=len(store.nodes_held),
+            first=first,
+            nodes=nodes,
+            replies=dict(store.replies),
+            counts=dict(store.channel.counts),
+        )
+
+    def tell_leader(self) -> None:
+        """Tells who leads, and the key about which nodes are shown."""
         self.state("leader", who=self.leader, is_there=self.has_leader(), key=str(self.key))
 
     def state(self, kind: str, of: str = "", **facts: object) -> None:
