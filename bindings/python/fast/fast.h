@@ -19,7 +19,7 @@
 #define TOP ((uint64_t)1 << 63)
 
 /* The most that one call of the library writes for a walk. */
-#define CHUNK 256
+#define CHUNK 1024
 
 #define OBJECT(address) ((PyObject *)(uintptr_t)(address))
 #define ADDRESS(object) ((uint64_t)(uintptr_t)(object))

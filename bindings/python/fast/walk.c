@@ -1,6 +1,9 @@
 /* Walks over positions, and what the methods of both collections share. */
 #include "fast.h"
 
+/* How many objects are fetched before they are handed out. */
+#define AHEAD 32
+
 /* ---- parts */
 
 size_t length_of(PyObject *owner) {
@@ -14,7 +17,14 @@ static int is_ready(PyObject *owner) {
     return Py_TYPE(owner) == &NumbersType || IS_MULTI(owner) || coded_map((Coded *)owner) != NULL;
 }
 
-/* Where the objects lie is known by then, so that they are fetched side by side. No change is noted here. */
+/* Where the objects lie is known by then, so that some of them are fetched side by side, and each later one as one so
+ * many before it is handed out. */
+static inline void fetch(const Part *part, size_t i) {
+    if (i < part->count)
+        __builtin_prefetch(OBJECT(part->objects[i]), 1);
+}
+
+/* No change is noted here. */
 void read_part(PyObject *owner, size_t from, size_t size, Part *part) {
     if (Py_TYPE(owner) == &NumbersType)
         part->count = indexset_map_range_by_position(&((Numbers *)owner)->map, from, part->codes, size, part->objects, size);
@@ -22,8 +32,8 @@ void read_part(PyObject *owner, size_t from, size_t size, Part *part) {
         part->count = indexset_multi_range_by_position(&((Multi *)owner)->pairs, from, part->codes, size, part->objects, size);
     else
         part->count = indexset_text_map_range_by_position(((Coded *)owner)->map, from, part->objects, size);
-    for (size_t i = 0; i < part->count; i++)
-        __builtin_prefetch(OBJECT(part->objects[i]), 1);
+    for (size_t i = 0; i < AHEAD && i < part->count; i++)
+        fetch(part, i);
 }
 
 /* An item of a part, as a new reference. */
@@ -38,6 +48,7 @@ static inline PyObject *item_of(PyObject *owner, const Part *part, size_t i) {
 /* Fills the list from a place on with the items of a part. */
 static int put_part(PyObject *owner, const Part *part, PyObject *list, size_t place) {
     for (size_t i = 0; i < part->count; i++) {
+        fetch(part, i + AHEAD);
         PyObject *item = item_of(owner, part, i);
         if (item == NULL)
             return 0;
@@ -165,6 +176,8 @@ static int read_more(Walk *self) {
         self->past -= size;
     else
         self->first += size;
+    for (size_t i = AHEAD; self->reverse && i < self->part.count; i++)
+        fetch(&self->part, i);
     self->at = 0;
     self->next = self->next * 8 < CHUNK ? self->next * 8 : CHUNK;
     return 1;
@@ -183,7 +196,10 @@ static PyObject *walk_next(Walk *self) {
         return NULL;
     }
     size_t at = self->at++;
-    return item_of(self->owner, &self->part, self->reverse ? self->part.count - 1 - at : at);
+    if (self->reverse)
+        return item_of(self->owner, &self->part, self->part.count - 1 - at);
+    fetch(&self->part, at + AHEAD);
+    return item_of(self->owner, &self->part, at);
 }
 
 static PyObject *length_hint(Walk *self, PyObject *nothing) {
