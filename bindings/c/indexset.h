@@ -68,6 +68,22 @@ typedef struct indexset_set {
 /* What a handle starts as: `indexset_set set = INDEXSET_HANDLE;` */
 #define INDEXSET_HANDLE {NULL, false}
 
+/* Where a walk of a collection stands: between two elements or pairs, before all of them, or at the end. It
+ * belongs to the caller, who may copy it, and it owns nothing. It starts as INDEXSET_CURSOR, before all; the
+ * calls whose names end in cursor_at and cursor_from move it elsewhere, by searches, and those that end in
+ * cursor_next write what follows it and move it past that, with no search: they cost what they write, and a step
+ * for each node on the way. To write the same again, start from a copy of the cursor as it was.
+ *
+ * A cursor goes on from where it stood as long as the collection does not change. After a change, and in another
+ * collection, it is as safe, but may stand elsewhere: `offset` elements of the node numbered `node` are before
+ * it, or all of them where the node has fewer, and it is at the end where there are not so many nodes. */
+typedef struct indexset_cursor {
+    size_t node, offset;
+} indexset_cursor;
+
+/* What a cursor starts as: `indexset_cursor cursor = INDEXSET_CURSOR;` */
+#define INDEXSET_CURSOR {0, 0}
+
 /* Returns the version of the library: major * 65536 + minor * 256 + patch. */
 uint32_t indexset_version(void);
 
@@ -157,6 +173,16 @@ size_t indexset_set_range_by_key(const indexset_set *set, uint64_t low, uint64_t
 /* Writes the elements from a position on, in order into an array of `places` places, as many as it has
  * room for. Returns how many it wrote. */
 size_t indexset_set_range_by_position(const indexset_set *set, size_t from, uint64_t *out, size_t places);
+
+/* Moves a cursor to a position, counted from 0, or to the end where there is none. */
+void indexset_set_cursor_at(const indexset_set *set, size_t position, indexset_cursor *cursor);
+
+/* Moves a cursor to the first element that is not below a key, or to the end where there is none. */
+void indexset_set_cursor_from(const indexset_set *set, uint64_t key, indexset_cursor *cursor);
+
+/* Writes the elements from a cursor on, in order into an array of `places` places, as many as it has room for, and
+ * moves the cursor past them. Returns how many it wrote: 0 at the end. */
+size_t indexset_set_cursor_next(const indexset_set *set, indexset_cursor *cursor, uint64_t *out, size_t places);
 
 /* Adds `count` keys, first to last, and writes how many it took to `taken`. INDEXSET_YES where it took
  * them all, or INDEXSET_MEMORY where memory was refused for the key after those, or INDEXSET_NONE. A
@@ -267,6 +293,16 @@ size_t indexset_map_range_by_key(const indexset_map *map, uint64_t low, uint64_t
  * how many it wrote. */
 size_t indexset_map_range_by_position(const indexset_map *map, size_t from, uint64_t *keys, size_t key_places, uint64_t *values, size_t value_places);
 
+/* Moves a cursor to a position, counted from 0, or to the end where there is none. */
+void indexset_map_cursor_at(const indexset_map *map, size_t position, indexset_cursor *cursor);
+
+/* Moves a cursor to the first pair whose key is not below `from`, or to the end where there is none. */
+void indexset_map_cursor_from(const indexset_map *map, uint64_t from, indexset_cursor *cursor);
+
+/* Writes the pairs from a cursor on, in order into two arrays, as many as both have room for, and moves the cursor
+ * past them. Returns how many it wrote: 0 at the end. */
+size_t indexset_map_cursor_next(const indexset_map *map, indexset_cursor *cursor, uint64_t *keys, size_t key_places, uint64_t *values, size_t value_places);
+
 /* Makes each value that of its key, first to last, as many as there are both keys and values, and writes
  * how many it took to `taken`. INDEXSET_YES where it took them all, or INDEXSET_MEMORY where memory was
  * refused for the key after those, or INDEXSET_NONE. */
@@ -368,6 +404,16 @@ size_t indexset_multi_range(const indexset_multi *multi, uint64_t low, uint64_t 
  * many it wrote. */
 size_t indexset_multi_range_by_position(const indexset_multi *multi, size_t from, uint64_t *keys, size_t key_places, uint64_t *values, size_t value_places);
 
+/* Moves a cursor to a position, counted from 0, or to the end where there is none. */
+void indexset_multi_cursor_at(const indexset_multi *multi, size_t position, indexset_cursor *cursor);
+
+/* Moves a cursor to the first pair whose key is not below `from`, or to the end where there is none. */
+void indexset_multi_cursor_from(const indexset_multi *multi, uint64_t from, indexset_cursor *cursor);
+
+/* Writes the pairs from a cursor on, in order into two arrays, as many as both have room for, and moves the cursor
+ * past them. Returns how many it wrote: 0 at the end. */
+size_t indexset_multi_cursor_next(const indexset_multi *multi, indexset_cursor *cursor, uint64_t *keys, size_t key_places, uint64_t *values, size_t value_places);
+
 /* What a change does. A node is a run of pairs in order; it is named by its last pair before the change. */
 enum indexset_kind {
     INDEXSET_INSERT = 1, /* in the node, the pair is put at the index */
@@ -457,6 +503,16 @@ size_t indexset_log_range(const indexset_log *log, uint64_t low, uint64_t high, 
  * many it wrote. */
 size_t indexset_log_range_by_position(const indexset_log *log, size_t from, uint64_t *keys, size_t key_places, uint64_t *values, size_t value_places);
 
+/* Moves a cursor to a position, counted from 0, or to the end where there is none. */
+void indexset_log_cursor_at(const indexset_log *log, size_t position, indexset_cursor *cursor);
+
+/* Moves a cursor to the first pair whose key is not below `from`, or to the end where there is none. */
+void indexset_log_cursor_from(const indexset_log *log, uint64_t from, indexset_cursor *cursor);
+
+/* Writes the pairs from a cursor on, in order into two arrays, as many as both have room for, and moves the cursor
+ * past them. Returns how many it wrote: 0 at the end. */
+size_t indexset_log_cursor_next(const indexset_log *log, indexset_cursor *cursor, uint64_t *keys, size_t key_places, uint64_t *values, size_t value_places);
+
 /* Writes how many pairs each node has, in order into an array of `places` places, as many as it has room
  * for. Returns how many it wrote. These, the pairs from 0 to UINT64_MAX and the number of the next change
  * are a snapshot, from which a copy goes on. */
@@ -539,6 +595,16 @@ size_t indexset_replica_range(const indexset_replica *replica, uint64_t low, uin
 /* Writes the pairs from a position on, in order into two arrays, as many as both have room for. Returns how
  * many it wrote. */
 size_t indexset_replica_range_by_position(const indexset_replica *replica, size_t from, uint64_t *keys, size_t key_places, uint64_t *values, size_t value_places);
+
+/* Moves a cursor to a position, counted from 0, or to the end where there is none. */
+void indexset_replica_cursor_at(const indexset_replica *replica, size_t position, indexset_cursor *cursor);
+
+/* Moves a cursor to the first pair whose key is not below `from`, or to the end where there is none. */
+void indexset_replica_cursor_from(const indexset_replica *replica, uint64_t from, indexset_cursor *cursor);
+
+/* Writes the pairs from a cursor on, in order into two arrays, as many as both have room for, and moves the cursor
+ * past them. Returns how many it wrote: 0 at the end. */
+size_t indexset_replica_cursor_next(const indexset_replica *replica, indexset_cursor *cursor, uint64_t *keys, size_t key_places, uint64_t *values, size_t value_places);
 
 /* Writes how many pairs each node has, in order into an array of `places` places, as many as it has room
  * for. Returns how many it wrote. */
@@ -650,6 +716,19 @@ size_t indexset_text_map_range_by_position(const indexset_text_map *map, size_t 
  * many lengths it wrote. */
 size_t indexset_text_map_keys_by_position(const indexset_text_map *map, size_t from, void *bytes, size_t byte_places, size_t *lengths, size_t length_places);
 
+/* Moves a cursor to a position, counted from 0, or to the end where there is none. */
+void indexset_text_map_cursor_at(const indexset_text_map *map, size_t position, indexset_cursor *cursor);
+
+/* Moves a cursor to the first pair whose key is not below `from`, which has `from_len` bytes, or to the end where
+ * there is none. */
+void indexset_text_map_cursor_from(const indexset_text_map *map, const void *from, size_t from_len, indexset_cursor *cursor);
+
+/* Writes how many bytes each key from a cursor on has, and the value of its pair, in order into two arrays, as
+ * many as both have room for, and the bytes of those keys, one key behind another, into an array of
+ * `byte_places` places, as many as it has room for: what has no room is cut, also within a key. Moves the cursor
+ * past these pairs. Returns how many they are: 0 at the end. */
+size_t indexset_text_map_cursor_next(const indexset_text_map *map, indexset_cursor *cursor, void *bytes, size_t byte_places, size_t *lengths, size_t length_places, uint64_t *values, size_t value_places);
+
 /* A change of a logged map from byte strings. The bytes of its two keys are written beside it. What a kind has
  * no use for is 0. */
 typedef struct indexset_text_event {
@@ -729,6 +808,19 @@ size_t indexset_text_log_count_up_to(const indexset_text_log *log, const void *k
 bool indexset_text_log_at(const indexset_text_log *log, size_t position, void *key, size_t places, size_t *len, uint64_t *value);
 size_t indexset_text_log_range_by_position(const indexset_text_log *log, size_t from, uint64_t *values, size_t places);
 size_t indexset_text_log_keys_by_position(const indexset_text_log *log, size_t from, void *bytes, size_t byte_places, size_t *lengths, size_t length_places);
+
+/* Moves a cursor to a position, counted from 0, or to the end where there is none. */
+void indexset_text_log_cursor_at(const indexset_text_log *log, size_t position, indexset_cursor *cursor);
+
+/* Moves a cursor to the first pair whose key is not below `from`, which has `from_len` bytes, or to the end where
+ * there is none. */
+void indexset_text_log_cursor_from(const indexset_text_log *log, const void *from, size_t from_len, indexset_cursor *cursor);
+
+/* Writes how many bytes each key from a cursor on has, and the value of its pair, in order into two arrays, as
+ * many as both have room for, and the bytes of those keys, one key behind another, into an array of
+ * `byte_places` places, as many as it has room for: what has no room is cut, also within a key. Moves the cursor
+ * past these pairs. Returns how many they are: 0 at the end. */
+size_t indexset_text_log_cursor_next(const indexset_text_log *log, indexset_cursor *cursor, void *bytes, size_t byte_places, size_t *lengths, size_t length_places, uint64_t *values, size_t value_places);
 
 #ifdef __cplusplus
 }

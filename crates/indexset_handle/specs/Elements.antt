@@ -6,7 +6,7 @@ use Rattle.std.specs.declared.cmp.Ordering.{Ordering}
 use Rattle.indexset_core.specs.declared.constants.TheConstants.{DEFAULT_INNER_SIZE}
 use Rattle.indexset_core.specs.declared.multipair.MultiPair.{MultiPair}
 use Rattle.indexset_core.specs.declared.pair.Pair.{Pair}
-use Rattle.indexset_core.specs.Nodes.{joined}
+use Rattle.indexset_core.specs.Nodes.{joined, node_lengths}
 use Rattle.indexset_core.specs.Pairs.{entry_of, pair_values, put_value, value_of}
 use Rattle.indexset_spine.specs.Cut.{Cut, items}
 use Rattle.indexset_map.specs.Contents.{Contents}
@@ -17,6 +17,10 @@ use Rattle.indexset_multi.specs.Tree.{MultiTree}
 -- the elements in order: none where there is no set
 abbrev pub elements : Option (Cut ℕ) → List ℕ
 elements set = option_map_or items set []
+
+-- how many elements each node has
+abbrev pub set_lengths : Option (Cut ℕ) → List ℕ
+set_lengths set = option_map_or (λ s. node_lengths s.nodes) set []
 
 -- the slice where the first n of the answers went over its first n places
 abbrev pub written : {X : Type 0} → ℕ → List X → List X → List X
@@ -37,6 +41,10 @@ key_count_up_to cmp l k = count_by (λ p. is_le (cmp p.key k)) l
 abbrev pub pairs : Option (Contents ℕ ℕ) → List (Pair ℕ ℕ)
 pairs map = option_map_or (λ m. m.pairs) map []
 
+-- how many pairs each node has
+abbrev pub map_lengths : Option (Contents ℕ ℕ) → List ℕ
+map_lengths map = option_map_or (λ m. m.lengths) map []
+
 -- the key and the value at a position, where there is one
 abbrev pub entry_at : List (Pair ℕ ℕ) → ℕ → Option (ℕ × ℕ)
 entry_at ps i = option_map entry_of (slice_get ps i)
@@ -54,6 +62,10 @@ value_or ps w k = unwrap_or (value_of nat_cmp ps k) w
 -- the numbered pairs in order: none where there is no multimap
 abbrev pub numbered_pairs : Option (MultiTree ℕ ℕ) → List (MultiPair ℕ ℕ)
 numbered_pairs multi = option_map_or (λ m. joined m.nodes) multi []
+
+-- how many pairs each node has
+abbrev pub multi_lengths : Option (MultiTree ℕ ℕ) → List ℕ
+multi_lengths multi = option_map_or (λ m. node_lengths m.nodes) multi []
 
 -- an empty multimap, as it is made
 abbrev pub fresh_multi : MultiTree ℕ ℕ

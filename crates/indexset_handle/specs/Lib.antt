@@ -1,3 +1,4 @@
+pub mod Cursors
 pub mod Elements
 pub mod Events
 pub mod Holds

@@ -32,6 +32,10 @@ not_below Greater = Equal
 abbrev pub text_pairs : Option (Contents (List ℕ) ℕ) → List (Pair (List ℕ) ℕ)
 text_pairs map = option_map_or (λ m. m.pairs) map []
 
+-- how many pairs each node has
+abbrev pub text_lengths : Option (Contents (List ℕ) ℕ) → List ℕ
+text_lengths map = option_map_or (λ m. m.lengths) map []
+
 -- the key at a position, or no byte where there is none
 abbrev pub key_at : List (Pair (List ℕ) ℕ) → ℕ → List ℕ
 key_at ps i = option_map_or (λ p. p.key) (slice_get ps i) []

@@ -2,7 +2,7 @@
 use Rattle.std.specs.Prelude.{ℕ, List, [], length, Option, Some, None, slice_get}
 use Rattle.std.specs.Option.{option_map, option_map_or}
 use Rattle.indexset_core.specs.declared.pair.Pair.{Pair}
-use Rattle.indexset_core.specs.Nodes.{joined}
+use Rattle.indexset_core.specs.Nodes.{joined, node_lengths}
 use Rattle.indexset_events.specs.declared.change.ChangeEvent.{ChangeEvent}
 use Rattle.indexset_events.specs.declared.change.ChangeEvent.TheVariants.{InsertAt, RemoveAt, CreateNode, RemoveNode, SplitNode, MergeNodes}
 use Rattle.indexset_events.specs.Replay.{event_number, numbered_from}
@@ -28,9 +28,12 @@ untold size next = record { tree = record { nodes = []; size = size; next = next
 abbrev pub after : Tree TextPair → Change TextPair → ToldTree
 after before made = record { tree = made.tree; told = numbered_from before.next made.events }
 
--- the pairs in order, and the changes that were told: none where there is no map
+-- the pairs in order, how many each node has, and the changes that were told: none where there is no map
 abbrev pub logged_texts : Option ToldTree → List TextPair
 logged_texts log = option_map_or (λ t. joined t.tree.nodes) log []
+
+abbrev pub logged_lengths : Option ToldTree → List ℕ
+logged_lengths log = option_map_or (λ t. node_lengths t.tree.nodes) log []
 
 abbrev pub told_changes : Option ToldTree → List (ChangeEvent TextPair)
 told_changes log = option_map_or (λ t. t.told) log []

@@ -11,6 +11,7 @@
 ghost use Rattle.std.specs.Prelude.{◌≡◌, Option, Some, None, is_some, true};
 ghost use Rattle.indexset_handle.specs.Holds.{holds};
 
+pub mod cursor;
 pub mod event;
 pub mod log_calls;
 pub mod log_handle;
@@ -24,6 +25,7 @@ pub mod multi_calls;
 pub mod multi_handle;
 pub mod multi_owner;
 pub mod multi_slot;
+pub mod next;
 pub mod replica_calls;
 pub mod replica_handle;
 pub mod replica_owner;

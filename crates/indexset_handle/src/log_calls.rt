@@ -2,18 +2,22 @@
 ghost use Rattle.std.specs.Prelude.{◌≡◌, ◌+◌, ◌<◌, ◌≤◌, length, map, IfOk, OnOk, IfErr, OnErr, IsOk, None, Some, min};
 ghost use Rattle.std.specs.Ordering.{nat_cmp};
 ghost use Rattle.indexset_core.specs.Nodes.{joined, node_lengths, vec_items};
-ghost use Rattle.indexset_core.specs.Pairs.{by_key, pair, value_of, pair_keys, pair_values};
+ghost use Rattle.indexset_core.specs.Pairs.{by_key, key_rank, pair, value_of, pair_keys, pair_values};
 ghost use Rattle.indexset_log.specs.Changed.{Changed, key_removal};
 ghost use Rattle.indexset_events.specs.Edits.{with_put};
 ghost use Rattle.indexset_events.specs.Keys.{key_removal_events};
 ghost use Rattle.indexset_events.specs.Replay.{numbered_from, replay};
 ghost use Rattle.indexset_events.specs.Table.{put_events};
 ghost use Rattle.indexset_log.specs.Tree.{refusal_for};
+ghost use Rattle.indexset_handle.specs.Cursors.{cursor_position};
 ghost use Rattle.indexset_handle.specs.Elements.{written};
 ghost use Rattle.indexset_handle.specs.Events.{record_of};
 
+use crate::cursor::{self, Cursor};
 use crate::event::{Event, write_events};
 use crate::log_slot::{LoggedMap, LoggedNodes, LoggedRange};
+use indexset_core::pair::Pair;
+use indexset_core::probe::ByKey;
 use indexset_core::refusal::Refusal;
 
 /// Inserts a pair and writes the changes. Returns the value before and how many the changes are.
@@ -124,4 +128,35 @@ pub fn write_logged(mut walk: LoggedRange<'_>, keys: &mut [u64], values: &mut [u
         count += 1;
     }
     count
+}
+
+/// Returns the nodes, in order.
+pub fn nodes(log: &LoggedMap) -> &[Vec<Pair<u64, u64>>]
+    ensures { vec_items result.now ≡ log.now.nodes }
+{
+    log.iter_nodes().as_slice()
+}
+
+/// Returns a cursor at the first pair whose key is not below `from`, or at the end.
+pub fn cursor_from(log: &LoggedMap, from: u64) -> Cursor
+    ensures { cursor_position (node_lengths log.now.nodes) result
+        ≡ key_rank nat_cmp (joined log.now.nodes) from }
+{
+    // Says that the keys ascend, and that no node is empty.
+    let _count = log.node_count();
+    cursor::find(nodes(log), ByKey::new(&from))
+}
+
+/// Returns a cursor at a position, or at the end.
+pub fn cursor_at(log: &LoggedMap, position: usize) -> Cursor
+    ensures { cursor_position (node_lengths log.now.nodes) result
+        ≡ min position (length (joined log.now.nodes)) }
+{
+    match log.get_index(position) {
+        Some((key, _)) => {
+            let near = cursor_from(log, *key);
+            cursor::near_to(nodes(log), near, log.rank(key), position)
+        }
+        None => cursor::end(nodes(log)),
+    }
 }

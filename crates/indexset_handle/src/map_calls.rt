@@ -3,9 +3,12 @@ ghost use Rattle.std.specs.Prelude.{◌≡◌, ◌<◌, ◌≤◌, None, length,
 ghost use Rattle.std.specs.Option.{option_map};
 ghost use Rattle.std.specs.Ordering.{nat_cmp};
 ghost use Rattle.std.specs.declared.ops.Bound.TheVariants.{Included, Excluded, Unbounded};
-ghost use Rattle.indexset_core.specs.Pairs.{entry_of, pair_keys, pair_values, pairs_within};
+ghost use Rattle.indexset_core.specs.Pairs.{entry_of, key_rank, pair_keys, pair_values, pairs_within};
+ghost use Rattle.indexset_handle.specs.Cursors.{cursor_position};
 ghost use Rattle.indexset_handle.specs.Elements.{entry_at, key_count_up_to, put_all, value_or, written};
 
+use crate::cursor::{self, Cursor};
+use indexset_core::probe::ByKey;
 use indexset_map::{BTreeMap, RangeMap};
 use std::ops::Bound;
 
@@ -86,6 +89,28 @@ pub fn count_to(map: &BTreeMap<u64, u64>, key: u64) -> usize
     ensures { result ≡ key_count_up_to nat_cmp map.now.pairs key }
 {
     map.range((Bound::Unbounded, Bound::Included(&key))).len()
+}
+
+/// Returns a cursor at the first pair whose key is not below `from`, or at the end.
+pub fn cursor_from(map: &BTreeMap<u64, u64>, from: u64) -> Cursor
+    ensures { cursor_position map.now.lengths result ≡ key_rank nat_cmp map.now.pairs from }
+{
+    // Says that the keys ascend, and that no node of several is empty.
+    let _count = map.node_count();
+    cursor::find(map.nodes(), ByKey::new(&from))
+}
+
+/// Returns a cursor at a position, or at the end.
+pub fn cursor_at(map: &BTreeMap<u64, u64>, position: usize) -> Cursor
+    ensures { cursor_position map.now.lengths result ≡ min position (length map.now.pairs) }
+{
+    match map.get_index(position) {
+        Some((key, _)) => {
+            let near = cursor_from(map, *key);
+            cursor::near_to(map.nodes(), near, map.rank(key), position)
+        }
+        None => cursor::end(map.nodes()),
+    }
 }
 
 /// Removes the pair at a position and returns it, or returns `None` where there is none.

@@ -1,16 +1,20 @@
 //! What the calls of a multimap do with it.
 ghost use Rattle.std.specs.Prelude.{◌≡◌, is_some, length, min, nat_eq, ◌∷◌, ◌++◌, [], ℕ, false, IfErr, OnErr, OnOk, None};
-ghost use Rattle.std.specs.List.{list_any};
-ghost use Rattle.std.specs.Ordering.{nat_cmp, is_eq};
-ghost use Rattle.indexset_core.specs.Nodes.{joined};
+ghost use Rattle.std.specs.List.{count_by, list_any};
+ghost use Rattle.std.specs.Ordering.{nat_cmp, is_eq, is_lt};
+ghost use Rattle.indexset_core.specs.Nodes.{joined, node_lengths, vec_items};
 ghost use Rattle.indexset_core.specs.Pairs.{pair_values, pair_keys};
 ghost use Rattle.indexset_multi.specs.Keys.{equal_pair, pairs_of};
+ghost use Rattle.indexset_handle.specs.Cursors.{cursor_position};
 ghost use Rattle.indexset_handle.specs.Elements.{values_of, written};
 ghost use Rattle.indexset_core.specs.MultiPairs.{by_number, numbered_pair};
 ghost use Rattle.indexset_core.specs.Order.{put};
 ghost use Rattle.indexset_multi.specs.Tree.{after_insertion, insertion_refusal};
 
+use crate::cursor::{self, Cursor};
 use crate::multi_slot::{MultiMap, MultiRange};
+use indexset_core::multipair::MultiPair;
+use indexset_core::probe::ByKey;
 use indexset_core::refusal::Refusal;
 
 /// Returns whether an iterator yields a value.
@@ -88,4 +92,35 @@ pub fn write_entries(mut walk: MultiRange<'_>, keys: &mut [u64], values: &mut [u
         count += 1;
     }
     count
+}
+
+/// Returns the nodes, in order.
+pub fn nodes(multi: &MultiMap) -> &[Vec<MultiPair<u64, u64>>]
+    ensures { vec_items result.now ≡ multi.now.nodes }
+{
+    multi.iter_nodes().as_slice()
+}
+
+/// Returns a cursor at the first pair whose key is not below `from`, or at the end.
+pub fn cursor_from(multi: &MultiMap, from: u64) -> Cursor
+    ensures { cursor_position (node_lengths multi.now.nodes) result
+        ≡ count_by (λ p. is_lt (nat_cmp p.key from)) (joined multi.now.nodes) }
+{
+    // Says that the pairs ascend, and that no node is empty.
+    let _count = multi.node_count();
+    cursor::find(nodes(multi), ByKey::new(&from))
+}
+
+/// Returns a cursor at a position, or at the end.
+pub fn cursor_at(multi: &MultiMap, position: usize) -> Cursor
+    ensures { cursor_position (node_lengths multi.now.nodes) result
+        ≡ min position (length (joined multi.now.nodes)) }
+{
+    match multi.get_index(position) {
+        Some((key, _)) => {
+            let near = cursor_from(multi, *key);
+            cursor::near_to(nodes(multi), near, multi.rank(key), position)
+        }
+        None => cursor::end(nodes(multi)),
+    }
 }

@@ -1,15 +1,19 @@
 //! What the calls of a replica do with it.
 ghost use Rattle.std.specs.Prelude.{◌≡◌, ◌≢◌, ◌<◌, ◌≤◌, length, take, unwrap_or, IfSome, None, Some, slice_get, IfOk, min};
 ghost use Rattle.indexset_handle.specs.Replicas.{applied, applied_all, refused, replica_of};
-ghost use Rattle.indexset_core.specs.Nodes.{vec_items, node_lengths};
-ghost use Rattle.indexset_core.specs.Pairs.{pair_keys, pair_values};
+ghost use Rattle.std.specs.Ordering.{nat_cmp};
+ghost use Rattle.indexset_core.specs.Nodes.{joined, vec_items, node_lengths};
+ghost use Rattle.indexset_core.specs.Pairs.{key_rank, pair_keys, pair_values};
+ghost use Rattle.indexset_handle.specs.Cursors.{cursor_position};
 ghost use Rattle.indexset_handle.specs.Elements.{written};
 
+use crate::cursor::{self, Cursor};
 use crate::event::{Event, event_of};
 use crate::log_slot::{LoggedMap, LoggedNodes};
 use crate::replica_slot::{MapReplica, ReplicaRange};
 use crate::status::{MEMORY, NO, NONE, UNFIT, YES, status_of};
 use indexset_core::pair::Pair;
+use indexset_core::probe::ByKey;
 use indexset_replica::Replica;
 use std::alloc::{AllocError, Global};
 
@@ -117,4 +121,26 @@ pub fn write_copied(mut walk: ReplicaRange<'_>, keys: &mut [u64], values: &mut [
         count += 1;
     }
     count
+}
+
+/// Returns a cursor at the first pair whose key is not below `from`, or at the end.
+pub fn cursor_from(replica: &MapReplica, from: u64) -> Cursor
+    ensures { cursor_position (node_lengths replica.now.nodes) result
+        ≡ key_rank nat_cmp (joined replica.now.nodes) from }
+{
+    cursor::find(replica.nodes(), ByKey::new(&from))
+}
+
+/// Returns a cursor at a position, or at the end.
+pub fn cursor_at(replica: &MapReplica, position: usize) -> Cursor
+    ensures { cursor_position (node_lengths replica.now.nodes) result
+        ≡ min position (length (joined replica.now.nodes)) }
+{
+    match replica.get_index(position) {
+        Some(pair) => {
+            let near = cursor_from(replica, pair.key);
+            cursor::near_to(replica.nodes(), near, replica.rank(&pair.key), position)
+        }
+        None => cursor::end(replica.nodes()),
+    }
 }

@@ -3,9 +3,13 @@ ghost use Rattle.std.specs.Prelude.{◌≡◌, ◌<◌, ◌≤◌, None, false, 
 ghost use Rattle.std.specs.List.{AllWithin, fold};
 ghost use Rattle.std.specs.Ordering.{nat_cmp};
 ghost use Rattle.indexset_core.specs.Order.{has_equal, keep, rank};
+ghost use Rattle.indexset_core.specs.Nodes.{node_lengths};
 ghost use Rattle.indexset_spine.specs.Cut.{items};
+ghost use Rattle.indexset_handle.specs.Cursors.{cursor_position};
 ghost use Rattle.indexset_handle.specs.Elements.{count_up_to, element_at, written};
 
+use crate::cursor::{self, Cursor};
+use indexset_core::probe::ByItem;
 use indexset_set::BTreeSet;
 use indexset_set::range::Range;
 use std::ops::Bound;
@@ -83,6 +87,30 @@ pub fn count_to(set: &BTreeSet<u64>, key: u64) -> usize
     ensures { result ≡ count_up_to nat_cmp (items set.now) key }
 {
     set.range((Bound::Unbounded, Bound::Included(&key))).len()
+}
+
+/// Returns a cursor at the first element that is not below a key, or at the end.
+pub fn cursor_from(set: &BTreeSet<u64>, key: u64) -> Cursor
+    ensures { cursor_position (node_lengths set.now.nodes) result ≡ rank nat_cmp (items set.now)
+        key }
+{
+    // These say that the elements ascend, and that no node of several is empty.
+    let (_len, _count) = (set.len(), set.node_count());
+    cursor::find(set.nodes(), ByItem::new(&key))
+}
+
+/// Returns a cursor at a position, or at the end.
+pub fn cursor_at(set: &BTreeSet<u64>, position: usize) -> Cursor
+    ensures { cursor_position (node_lengths set.now.nodes) result
+        ≡ min position (length (items set.now)) }
+{
+    match set.get_index(position) {
+        Some(key) => {
+            let near = cursor_from(set, *key);
+            cursor::near_to(set.nodes(), near, set.rank(key), position)
+        }
+        None => cursor::end(set.nodes()),
+    }
 }
 
 /// Removes the element at a position and returns it, or returns `None` where there is none.

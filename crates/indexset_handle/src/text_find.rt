@@ -1,12 +1,14 @@
 //! Where a map from byte strings has a key, or would have it.
-ghost use Rattle.std.specs.Prelude.{◌≡◌};
+ghost use Rattle.std.specs.Prelude.{◌≡◌, length, min};
 ghost use Rattle.std.specs.List.{position};
 ghost use Rattle.std.specs.Cmp.Lexicographic.{slice_cmp};
 ghost use Rattle.std.specs.Ordering.{is_eq, nat_cmp};
 ghost use Rattle.indexset_core.specs.Order.{IsAscending};
 ghost use Rattle.indexset_core.specs.Pairs.{by_key, key_rank, value_of};
+ghost use Rattle.indexset_handle.specs.Cursors.{cursor_position};
 ghost use Rattle.indexset_handle.specs.Elements.{key_count_up_to};
 
+use crate::cursor::{self, Cursor};
 use crate::text_probe::{ByBytes, FromBytes};
 use crate::text_slot::TextMap;
 
@@ -53,4 +55,27 @@ pub fn get(map: &TextMap, key: &[u8]) -> Option<u64>
     // Tells that the keys ascend.
     let _len = map.len();
     map.get_by(&mut ByBytes::new(key)).copied()
+}
+
+/// Returns a cursor at the first pair whose key is not below `from`, or at the end.
+pub fn cursor_from(map: &TextMap, from: &[u8]) -> Cursor
+    ensures { cursor_position map.now.lengths result
+        ≡ key_rank (slice_cmp nat_cmp) map.now.pairs from.now }
+{
+    // Says that the keys ascend, and that no node of several is empty.
+    let _count = map.node_count();
+    cursor::find(map.nodes(), ByBytes::new(from))
+}
+
+/// Returns a cursor at a position, or at the end.
+pub fn cursor_at(map: &TextMap, position: usize) -> Cursor
+    ensures { cursor_position map.now.lengths result ≡ min position (length map.now.pairs) }
+{
+    match map.get_index(position) {
+        Some((key, _)) => {
+            let near = cursor_from(map, key.as_slice());
+            cursor::near_to(map.nodes(), near, map.rank(key), position)
+        }
+        None => cursor::end(map.nodes()),
+    }
 }

@@ -2,17 +2,19 @@
 //!
 //! The changes stay beside the map, since C can't own the byte strings that they name: it reads a
 //! change at a time, into bytes of its own.
-ghost use Rattle.std.specs.Prelude.{◌≡◌, ◌≢◌, ◌≤◌, Some, None, IfOk, OnOk, IfErr, OnErr, IsOk, drop, length, slice_get};
+ghost use Rattle.std.specs.Prelude.{◌≡◌, ◌≢◌, ◌≤◌, Some, None, IfOk, OnOk, IfErr, OnErr, IsOk, drop, length, min, slice_get};
 ghost use Rattle.std.specs.Cmp.Lexicographic.{slice_cmp};
 ghost use Rattle.std.specs.Option.{option_copied, option_map};
 ghost use Rattle.std.specs.Ordering.{nat_cmp};
-ghost use Rattle.indexset_core.specs.Nodes.{joined};
+ghost use Rattle.indexset_core.specs.Nodes.{joined, node_lengths, vec_items};
 ghost use Rattle.indexset_core.specs.Pairs.{by_key, entry_of, key_rank, pair, value_of};
 ghost use Rattle.indexset_core.specs.Parted.{IsParted};
 ghost use Rattle.indexset_log.specs.Changed.{Changed, key_removal, put_change, refusal_of};
+ghost use Rattle.indexset_handle.specs.Cursors.{cursor_position};
 ghost use Rattle.indexset_handle.specs.Elements.{key_count_up_to};
 ghost use Rattle.indexset_handle.specs.TextLogs.{after, untold};
 
+use crate::cursor::{self, Cursor};
 use crate::text_probe::ByBytes;
 use bytes::Bytes;
 use indexset_core::pair::Pair;
@@ -115,6 +117,37 @@ impl TextLog {
     {
         self.tree
             .range_idx((Bound::Included(from), Bound::Unbounded))
+    }
+
+    /// Returns the nodes, in order.
+    pub fn nodes(&self) -> &[Vec<Pair<Bytes, u64>>]
+        ensures { vec_items result.now ≡ self.now.tree.nodes }
+    {
+        self.tree.iter_nodes().as_slice()
+    }
+
+    /// Returns a cursor at the first pair whose key is not below `from`, or at the end.
+    pub fn cursor_from(&self, from: &[u8]) -> Cursor
+        ensures { cursor_position (node_lengths self.now.tree.nodes) result
+            ≡ key_rank (slice_cmp nat_cmp) (joined self.now.tree.nodes) from.now }
+    {
+        // Says that no node is empty.
+        let _count = self.tree.node_count();
+        cursor::find(self.nodes(), self.by_bytes(from))
+    }
+
+    /// Returns a cursor at a position, or at the end.
+    pub fn cursor_at(&self, position: usize) -> Cursor
+        ensures { cursor_position (node_lengths self.now.tree.nodes) result
+            ≡ min position (length (joined self.now.tree.nodes)) }
+    {
+        match self.get_index(position) {
+            Some((key, _)) => {
+                let near = self.cursor_from(key.as_slice());
+                cursor::near_to(self.nodes(), near, self.rank(key.as_slice()), position)
+            }
+            None => cursor::end(self.nodes()),
+        }
     }
 
     /// Inserts a pair, or replaces that of an equal key and returns its value. The bytes of the key

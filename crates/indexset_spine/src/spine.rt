@@ -72,6 +72,13 @@ impl<T> Spine<T> {
         self.nodes.allocator()
     }
 
+    /// Returns the nodes, in order.
+    pub fn nodes(&self) -> &[Vec<T>]
+        ensures { vec_items result.now ≡ self.now.nodes }
+    {
+        self.nodes.as_slice()
+    }
+
     /// Returns the number of nodes.
     pub fn node_count(&self) -> usize
         ensures value { result ≡ length self.now.nodes }

@@ -28,6 +28,20 @@ impl<'a, Node> Model for Nodes<'a, Node> {
     ghost view = { λ a. iter_rest a.rest };
 }
 
+impl<'a, Node> Nodes<'a, Node> {
+    /// Returns the remaining nodes.
+    ///
+    /// ```
+    /// let tree: set::BTreeSet<u64, Vec<u64>> = set::BTreeSet::from_iter(alloc, [5, 10, 15])?;
+    /// assert!(rt; tree.iter_nodes().as_slice()[0].len() == 3);
+    /// ```
+    pub fn as_slice(&self) -> &'a [Node]
+        ensures { result.now ≡ self.now }
+    {
+        self.rest.as_slice()
+    }
+}
+
 impl<'a, Node> Iterator for Nodes<'a, Node> {
     type Item = &'a Node;
 

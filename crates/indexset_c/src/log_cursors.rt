@@ -1,0 +1,82 @@
+//! Calls of a logged map that walk it by a cursor.
+ghost use Rattle.std.specs.Prelude.{◌≡◌, ◌+◌, length, min};
+ghost use Rattle.std.specs.Ordering.{nat_cmp};
+ghost use Rattle.indexset_core.specs.Nodes.{node_lengths};
+ghost use Rattle.indexset_core.specs.Pairs.{key_rank, pair_keys, pair_values};
+ghost use Rattle.indexset_handle.specs.Cursors.{cursor_position, log_from};
+ghost use Rattle.indexset_handle.specs.Elements.{logged_nodes, logged_pairs, written};
+
+use indexset_handle::cursor::{Cursor, START};
+use indexset_handle::log_calls::{cursor_at, cursor_from, nodes};
+use indexset_handle::log_handle::LogHandle;
+use indexset_handle::next::next_pairs;
+use std::alloc::Global;
+
+/// Moves a cursor to a position, counted from 0, or to the end where there is none.
+#[unsafe(no_mangle)]
+pub extern "C" fn indexset_log_cursor_at(
+    alloc: Global,
+    log: &mut LogHandle,
+    position: usize,
+    cursor: &mut Cursor,
+)
+    ensures there { cursor_position (node_lengths (logged_nodes log.old.slot.value)) cursor.new
+        ≡ min position (length (logged_pairs log.old.slot.value)) }
+    ensures same { log.new.slot.value ≡ log.old.slot.value }
+{
+    let Some(held) = log.take(alloc) else {
+        *cursor = START;
+        return;
+    };
+    *cursor = cursor_at(&held, position);
+    log.put(held);
+}
+
+/// Moves a cursor to the first pair whose key is not below `from`, or to the end where there is
+/// none.
+#[unsafe(no_mangle)]
+pub extern "C" fn indexset_log_cursor_from(
+    alloc: Global,
+    log: &mut LogHandle,
+    from: u64,
+    cursor: &mut Cursor,
+)
+    ensures there { cursor_position (node_lengths (logged_nodes log.old.slot.value)) cursor.new
+        ≡ key_rank nat_cmp (logged_pairs log.old.slot.value) from }
+    ensures same { log.new.slot.value ≡ log.old.slot.value }
+{
+    let Some(held) = log.take(alloc) else {
+        *cursor = START;
+        return;
+    };
+    *cursor = cursor_from(&held, from);
+    log.put(held);
+}
+
+/// Writes the pairs from a cursor on, in order and as far as there is room, and moves the cursor
+/// past them. Returns how many it wrote.
+#[unsafe(no_mangle)]
+pub extern "C" fn indexset_log_cursor_next(
+    alloc: Global,
+    log: &mut LogHandle,
+    cursor: &mut Cursor,
+    keys: &mut [u64],
+    values: &mut [u64],
+) -> usize
+    ensures count { result ≡ min (length (log_from log.old.slot.value cursor.old))
+        (min (length keys.old) (length values.old)) }
+    ensures keys { keys.new ≡ written result
+        (pair_keys (log_from log.old.slot.value cursor.old)) keys.old }
+    ensures values { values.new ≡ written result
+        (pair_values (log_from log.old.slot.value cursor.old)) values.old }
+    ensures moved { cursor_position (node_lengths (logged_nodes log.old.slot.value)) cursor.new
+        ≡ cursor_position (node_lengths (logged_nodes log.old.slot.value)) cursor.old + result }
+    ensures same { log.new.slot.value ≡ log.old.slot.value }
+{
+    let Some(held) = log.take(alloc) else {
+        return 0;
+    };
+    let count = next_pairs(nodes(&held), cursor, keys, values);
+    log.put(held);
+    count
+}

@@ -1,0 +1,81 @@
+//! Calls of a multimap that walk it by a cursor.
+ghost use Rattle.std.specs.Prelude.{◌≡◌, ◌+◌, length, map, min};
+ghost use Rattle.std.specs.List.{count_by};
+ghost use Rattle.std.specs.Ordering.{is_lt, nat_cmp};
+ghost use Rattle.indexset_handle.specs.Cursors.{cursor_position, multi_from};
+ghost use Rattle.indexset_handle.specs.Elements.{multi_lengths, numbered_pairs, written};
+
+use indexset_handle::cursor::{Cursor, START};
+use indexset_handle::multi_calls::{cursor_at, cursor_from, nodes};
+use indexset_handle::multi_handle::MultiHandle;
+use indexset_handle::next::next_pairs;
+use std::alloc::Global;
+
+/// Moves a cursor to a position, counted from 0, or to the end where there is none.
+#[unsafe(no_mangle)]
+pub extern "C" fn indexset_multi_cursor_at(
+    alloc: Global,
+    multi: &mut MultiHandle,
+    position: usize,
+    cursor: &mut Cursor,
+)
+    ensures there { cursor_position (multi_lengths multi.old.slot.value) cursor.new
+        ≡ min position (length (numbered_pairs multi.old.slot.value)) }
+    ensures same { multi.new.slot.value ≡ multi.old.slot.value }
+{
+    let Some(held) = multi.take(alloc) else {
+        *cursor = START;
+        return;
+    };
+    *cursor = cursor_at(&held, position);
+    multi.put(held);
+}
+
+/// Moves a cursor to the first pair whose key is not below `from`, or to the end where there is
+/// none.
+#[unsafe(no_mangle)]
+pub extern "C" fn indexset_multi_cursor_from(
+    alloc: Global,
+    multi: &mut MultiHandle,
+    from: u64,
+    cursor: &mut Cursor,
+)
+    ensures there { cursor_position (multi_lengths multi.old.slot.value) cursor.new
+        ≡ count_by (λ p. is_lt (nat_cmp p.key from)) (numbered_pairs multi.old.slot.value) }
+    ensures same { multi.new.slot.value ≡ multi.old.slot.value }
+{
+    let Some(held) = multi.take(alloc) else {
+        *cursor = START;
+        return;
+    };
+    *cursor = cursor_from(&held, from);
+    multi.put(held);
+}
+
+/// Writes the pairs from a cursor on, in order and as far as there is room, and moves the cursor
+/// past them. Returns how many it wrote.
+#[unsafe(no_mangle)]
+pub extern "C" fn indexset_multi_cursor_next(
+    alloc: Global,
+    multi: &mut MultiHandle,
+    cursor: &mut Cursor,
+    keys: &mut [u64],
+    values: &mut [u64],
+) -> usize
+    ensures count { result ≡ min (length (multi_from multi.old.slot.value cursor.old))
+        (min (length keys.old) (length values.old)) }
+    ensures keys { keys.new ≡ written result
+        (map (λ p. p.key) (multi_from multi.old.slot.value cursor.old)) keys.old }
+    ensures values { values.new ≡ written result
+        (map (λ p. p.value) (multi_from multi.old.slot.value cursor.old)) values.old }
+    ensures moved { cursor_position (multi_lengths multi.old.slot.value) cursor.new
+        ≡ cursor_position (multi_lengths multi.old.slot.value) cursor.old + result }
+    ensures same { multi.new.slot.value ≡ multi.old.slot.value }
+{
+    let Some(held) = multi.take(alloc) else {
+        return 0;
+    };
+    let count = next_pairs(nodes(&held), cursor, keys, values);
+    multi.put(held);
+    count
+}

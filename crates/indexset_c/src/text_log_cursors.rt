@@ -1,0 +1,88 @@
+//! Calls of a logged map from byte strings that walk it by a cursor.
+ghost use Rattle.std.specs.Prelude.{◌≡◌, ◌+◌, length, min, take};
+ghost use Rattle.std.specs.Cmp.Lexicographic.{slice_cmp};
+ghost use Rattle.std.specs.Ordering.{nat_cmp};
+ghost use Rattle.indexset_core.specs.Nodes.{joined};
+ghost use Rattle.indexset_core.specs.Pairs.{key_rank, pair_keys, pair_values};
+ghost use Rattle.indexset_handle.specs.Cursors.{cursor_position, text_log_from};
+ghost use Rattle.indexset_handle.specs.Elements.{written};
+ghost use Rattle.indexset_handle.specs.Text.{key_lengths, written_over};
+ghost use Rattle.indexset_handle.specs.TextLogs.{logged_lengths, logged_texts};
+
+use indexset_handle::cursor::{Cursor, START};
+use indexset_handle::next::next_texts;
+use indexset_handle::text_log_handle::TextLogHandle;
+use std::alloc::Global;
+
+/// Moves a cursor to a position, counted from 0, or to the end where there is none.
+#[unsafe(no_mangle)]
+pub extern "C" fn indexset_text_log_cursor_at(
+    alloc: Global,
+    log: &mut TextLogHandle,
+    position: usize,
+    cursor: &mut Cursor,
+)
+    ensures there { cursor_position (logged_lengths log.old.slot.value) cursor.new
+        ≡ min position (length (logged_texts log.old.slot.value)) }
+    ensures same { log.new.slot.value ≡ log.old.slot.value }
+{
+    let Some(held) = log.take(alloc) else {
+        *cursor = START;
+        return;
+    };
+    *cursor = held.cursor_at(position);
+    log.put(held);
+}
+
+/// Moves a cursor to the first pair whose key is not below `from`, or to the end where there is
+/// none.
+#[unsafe(no_mangle)]
+pub extern "C" fn indexset_text_log_cursor_from(
+    alloc: Global,
+    log: &mut TextLogHandle,
+    from: &[u8],
+    cursor: &mut Cursor,
+)
+    ensures there { cursor_position (logged_lengths log.old.slot.value) cursor.new
+        ≡ key_rank (slice_cmp nat_cmp) (logged_texts log.old.slot.value) from.now }
+    ensures same { log.new.slot.value ≡ log.old.slot.value }
+{
+    let Some(held) = log.take(alloc) else {
+        *cursor = START;
+        return;
+    };
+    *cursor = held.cursor_from(from);
+    log.put(held);
+}
+
+/// Writes the lengths of the keys and the values of the pairs from a cursor on, in order and as far
+/// as there is room, and the bytes of these keys, one key behind another and as far as there is
+/// room. Moves the cursor past the pairs, and returns how many they are.
+#[unsafe(no_mangle)]
+pub extern "C" fn indexset_text_log_cursor_next(
+    alloc: Global,
+    log: &mut TextLogHandle,
+    cursor: &mut Cursor,
+    bytes: &mut [u8],
+    lengths: &mut [usize],
+    values: &mut [u64],
+) -> usize
+    ensures count { result ≡ min (length (text_log_from log.old.slot.value cursor.old))
+        (min (length lengths.old) (length values.old)) }
+    ensures bytes { bytes.new ≡ written_over
+        (joined (take result (pair_keys (text_log_from log.old.slot.value cursor.old)))) bytes.old }
+    ensures lengths { lengths.new ≡ written result
+        (key_lengths (text_log_from log.old.slot.value cursor.old)) lengths.old }
+    ensures values { values.new ≡ written result
+        (pair_values (text_log_from log.old.slot.value cursor.old)) values.old }
+    ensures moved { cursor_position (logged_lengths log.old.slot.value) cursor.new
+        ≡ cursor_position (logged_lengths log.old.slot.value) cursor.old + result }
+    ensures same { log.new.slot.value ≡ log.old.slot.value }
+{
+    let Some(held) = log.take(alloc) else {
+        return 0;
+    };
+    let count = next_texts(held.nodes(), cursor, bytes, lengths, values);
+    log.put(held);
+    count
+}

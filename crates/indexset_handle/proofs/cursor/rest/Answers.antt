@@ -1,0 +1,11 @@
+use Rattle.std.proofs.Common.{◌≡◌, ◌≤◌, length, sym, arith}
+use Rattle.indexset_core.specs.Nodes.{joined, vec_items}
+use Rattle.indexset_core.specs.Places.{items_before}
+use Rattle.indexset_handle.proofs.CursorLemmas.{within}
+use Rattle.indexset_handle.proofs.cursor.rest.Goals as goal
+
+pub between-requires-clause-order : goal.between-requires-clause-order
+between-requires-clause-order g c =
+    let le = within (vec_items c.args.nodes.now) c.args.cursor in
+    let first = c.place.ensures.before in let last = c.last_place-last.ensures.before in
+    omega (arith, le, first, last)
