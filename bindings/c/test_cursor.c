@@ -223,7 +223,7 @@ static void test(const kind *of, uint64_t many) {
     walk(of);
     for (uint64_t i = 0; i < 2 * many; i++) of->put(3 * (draw() >> 20 & 4095) % (3 * many), i);
     walk(of);
-    CHECK(count != 0);
+    CHECK((count != 0) == (many != 0));
     indexset_cursor cursor = INDEXSET_CURSOR, old;
     of->at(count / 2, &cursor);
     old = cursor;
