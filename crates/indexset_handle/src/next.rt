@@ -125,24 +125,35 @@ pub fn next_texts(
     count
 }
 
-// Writes the items of a walk, as far as there is room, and returns how many that are.
+// Writes the items of a walk, node by node and as far as there is room, and returns how many that
+// are.
 fn write_elements(mut walk: Walk<'_, u64, Vec<u64>, ReadVec>, out: &mut [u64]) -> usize
     ensures count { result ≡ min (length walk.entry) (length out.old) }
     ensures written { out.new ≡ written result walk.entry out.old }
 {
     let mut count = 0;
     while count < out.len() {
-        let Some(element) = walk.next() else {
+        let run = walk.next_run();
+        if run.is_empty() {
             break;
-        };
-        out[count] = *element;
-        count += 1;
+        }
+        count += write_elements_of(run, &mut out[count..]);
     }
     count
 }
 
-// Writes the keys and the values of a walk, as far as there is room in both slices, and returns how
-// many that are.
+// Writes items, as far as there is room, and returns how many that are.
+fn write_elements_of(run: &[u64], out: &mut [u64]) -> usize
+    ensures count { result ≡ min (length run.now) (length out.old) }
+    ensures written { out.new ≡ written result run.now out.old }
+{
+    let count = run.len().min(out.len());
+    out[..count].copy_from_slice(&run[..count]);
+    count
+}
+
+// Writes the keys and the values of a walk, node by node and as far as there is room in both
+// slices, and returns how many that are.
 fn write_numbers<P: Numbers>(
     mut walk: Walk<'_, P, Vec<P>, ReadVec>,
     keys: &mut [u64],
@@ -155,12 +166,26 @@ fn write_numbers<P: Numbers>(
     let room = keys.len().min(values.len());
     let mut count = 0;
     while count < room {
-        let Some(pair) = walk.next() else {
+        let run = walk.next_run();
+        if run.is_empty() {
             break;
-        };
-        keys[count] = pair.key();
-        values[count] = pair.value();
-        count += 1;
+        }
+        count += write_numbers_of(run, &mut keys[count..], &mut values[count..]);
+    }
+    count
+}
+
+// Writes the keys and the values of items, as far as there is room in both slices, and returns how
+// many that are.
+fn write_numbers_of<P: Numbers>(run: &[P], keys: &mut [u64], values: &mut [u64]) -> usize
+    ensures count { result ≡ min (length run.now) (min (length keys.old) (length values.old)) }
+    ensures keys { keys.new ≡ written result (map P.key_of run.now) keys.old }
+    ensures values { values.new ≡ written result (map P.value_of run.now) values.old }
+{
+    let count = run.len().min(keys.len()).min(values.len());
+    for i in 0..count {
+        keys[i] = run[i].key();
+        values[i] = run[i].value();
     }
     count
 }

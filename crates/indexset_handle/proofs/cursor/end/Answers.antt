@@ -1,4 +1,4 @@
-use Rattle.std.proofs.Common.{◌≤◌, length, arith}
+use Rattle.std.proofs.Common.{length, arith}
 use Rattle.std.proofs.lemmas.List.{length-map}
 use Rattle.indexset_core.specs.Nodes.{vec_items}
 use Rattle.indexset_handle.proofs.CursorLemmas.{ends}

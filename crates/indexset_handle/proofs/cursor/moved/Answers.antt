@@ -1,7 +1,6 @@
-use Rattle.std.proofs.Common.{◌≡◌, ◌+◌, ◌-◌, ◌≤◌, ◌∙◌, length, arith}
+use Rattle.std.proofs.Common.{◌+◌, ◌∙◌, arith}
 use Rattle.std.proofs.lemmas.List.{length-map}
-use Rattle.indexset_core.specs.Nodes.{joined, node_lengths, vec_items}
-use Rattle.indexset_handle.specs.Cursors.{cursor_position}
+use Rattle.indexset_core.specs.Nodes.{vec_items}
 use Rattle.indexset_handle.proofs.CursorLemmas.{ends, on, over, within}
 use Rattle.indexset_handle.proofs.cursor.moved.Goals as goal
 

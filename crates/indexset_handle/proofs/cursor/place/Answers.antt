@@ -1,4 +1,4 @@
-use Rattle.std.proofs.Common.{◌∙◌, length, sym, arith}
+use Rattle.std.proofs.Common.{◌∙◌, sym, arith}
 use Rattle.std.proofs.lemmas.List.{length-map}
 use Rattle.indexset_core.specs.Nodes.{vec_items}
 use Rattle.indexset_handle.proofs.CursorLemmas.{ends, here}

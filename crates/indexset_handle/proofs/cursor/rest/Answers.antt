@@ -1,6 +1,5 @@
-use Rattle.std.proofs.Common.{◌≡◌, ◌≤◌, length, sym, arith}
-use Rattle.indexset_core.specs.Nodes.{joined, vec_items}
-use Rattle.indexset_core.specs.Places.{items_before}
+use Rattle.std.proofs.Common.{arith}
+use Rattle.indexset_core.specs.Nodes.{vec_items}
 use Rattle.indexset_handle.proofs.CursorLemmas.{within}
 use Rattle.indexset_handle.proofs.cursor.rest.Goals as goal
 

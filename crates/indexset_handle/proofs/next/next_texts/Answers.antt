@@ -1,4 +1,4 @@
-use Rattle.std.proofs.Common.{◌≤◌, ◌∙◌, ap, length, arith}
+use Rattle.std.proofs.Common.{◌∙◌, ap, length, arith}
 use Rattle.indexset_core.specs.Nodes.{vec_items}
 use Rattle.indexset_handle.proofs.CursorLemmas.{few}
 use Rattle.indexset_handle.proofs.next.next_texts.Goals as goal

@@ -1,22 +1,20 @@
-use Rattle.std.proofs.Common.{slice_set, ap, sym, ◌∙◌, arith}
-use Rattle.std.proofs.lemmas.List.{length-set}
-use Rattle.indexset_handle.proofs.WrittenLemmas.{IsNext, written_more, next_is, none_left}
+use Rattle.std.proofs.Common.{◌≡◌, ◌+◌, ◌-◌, length, min, sym, ap, ◌∙◌, arith}
+use Rattle.indexset_handle.proofs.WrittenLemmas.{IsRun, length-back, length-written, run_is, written_items}
 use Rattle.indexset_handle.proofs.next.write_elements.Goals as goal
 
 pub loop-count-preserved : goal.loop-count-preserved
 loop-count-preserved c =
-    let i = c.loop-count.invariant in let x = c.in-Some.element.now in let test = c.loop-count-test.true in
-    let n : IsNext c.args.walk c.loop-count.count x c.next.new.self = next_is c.args.walk c.loop-count.count x c.next.new.self (sym i.walked ∙ c.in-Some.ensures.steps) in
-    let inside = n.inside in let kept = length-set c.loop-count.out c.loop-count.count x in let long = i.long in
+    let i = c.loop-count.invariant in let n = c.loop-count.count in let run = c.next_run-run.result.now in
+    let inside = i.inside in let room = i.room in let long = i.long in let m = c.write_elements_of-count.result in
+    let count = c.write_elements_of-count.ensures.count in let back = length-back n c.loop-count.out in let test = c.loop-count-test.true in
+    let taken : IsRun c.args.walk n run c.next_run-run.new.self = run_is c.args.walk n run c.next_run-run.new.self inside (sym (i.walked test) ∙ c.next_run-run.ensures.taken) in
+    let more = taken.inside in let told : m ≡ min (length run) (length c.loop-count.out - n) = omega (arith, count, back) in
+    let done = written_items c.args.walk c.loop-count.out c.args.out.now c.write_elements_of-count.new.out n m run c.next_run-run.new.self i.done long taken (omega (arith, room, long)) (omega (arith, told)) (omega (arith, told, room)) c.write_elements_of-count.ensures.written in
+    let wide = ap (λ l. length l) done ∙ length-written (n + m) c.args.walk c.args.out.now (omega (arith, told, more)) (omega (arith, told, room, long)) in
     record {
-      inside = omega (arith, inside);
-      room = omega (arith, test, kept);
-      long = kept ∙ long;
-      walked = n.left;
-      done = ap (λ l. slice_set l c.loop-count.count x) i.done ∙ written_more c.args.walk c.args.out.now c.loop-count.count x n.there (omega (arith, test, long));
+      inside = omega (arith, told, more);
+      room = omega (arith, told, room, long, wide);
+      long = wide;
+      walked = λ less. taken.left m (omega (arith, told, less, long, wide));
+      done = done;
     }
-
-pub returns-in_default-clause-count : goal.returns-in_default-clause-count
-returns-in_default-clause-count c =
-    let i = c.loop-count.invariant in let few = none_left c.args.walk c.loop-count.count (sym i.walked ∙ c.in_default.ensures.steps.0) in
-    let inside = i.inside in let room = i.room in let long = i.long in omega (arith, few, inside, room, long)
