@@ -121,10 +121,10 @@ shortened cells ls k is = record {
       get_or-take k cells (i - 1) 0 (omega arith) ∙ (is.each i p (omega (arith, length-take k cells)) ∙ sym kept);
 }
 
-prefix-set-below : (ls : List ℕ) (i v k : ℕ) → k ≤ i → prefix_sum (set ls i v) k ≡ prefix_sum ls k
+pub prefix-set-below : (ls : List ℕ) (i v k : ℕ) → k ≤ i → prefix_sum (set ls i v) k ≡ prefix_sum ls k
 prefix-set-below ls i v k h = ap sum (take-set-le k ls i v h)
 
-prefix-set-above : (ls : List ℕ) (i v k : ℕ) → i < length ls → i < k → prefix_sum (set ls i v) k + get_or ls i 0 ≡ prefix_sum ls k + v
+pub prefix-set-above : (ls : List ℕ) (i v k : ℕ) → i < length ls → i < k → prefix_sum (set ls i v) k + get_or ls i 0 ≡ prefix_sum ls k + v
 prefix-set-above ls i v k p h =
     let rest : sum (drop k (set ls i v)) ≡ sum (drop k ls) = ap sum (drop-set-lt k ls i v h) in
     omega (arith, rest, sum_by-take-drop (λ x. x) ls k, sum_by-take-drop (λ x. x) (set ls i v) k, sum_by-set (λ x. x) ls i v 0 p)
@@ -199,4 +199,48 @@ none cells e = record {
   count_is = ap length e;
   fits = omega arith;
   each = λ i p q. absurd (omega (arith, ap length e));
+}
+
+-- the cells below i are those of ys, the others those of xs
+pub record IsShifted (xs ys cells : List ℕ) (i : ℕ) : Type 0 where
+  pub count_is : length cells ≡ length xs
+  pub some : 0 < i
+  pub done : (m : ℕ) → 0 < m → m < i → m ≤ length cells → cell_in cells m ≡ cell_of ys m
+  pub ahead : (m : ℕ) → i ≤ m → m ≤ length cells → cell_in cells m ≡ cell_of xs m
+
+pub shift_starts : (xs ys cells : List ℕ) (b : ℕ) → IsFenwickOf (cell_in cells) (length cells) xs → ((k : ℕ) → k ≤ b → k ≤ length cells → prefix_sum ys k ≡ prefix_sum xs k) → IsShifted xs ys cells (b + 1)
+shift_starts xs ys cells b is low = record {
+  count_is = is.count_is;
+  some = omega arith;
+  done = λ m p q r. is.each m p r ∙ cell-same xs ys m (λ k h. sym (low k (omega arith) (omega arith)));
+  ahead = λ m p q. is.each m (omega arith) q;
+}
+
+pub shift_goes_on : (xs ys cells : List ℕ) (i w : ℕ) → IsShifted xs ys cells i → i ≤ length cells → w ≡ cell_of ys i → IsShifted xs ys (set cells (i - 1) w) (i + 1)
+shift_goes_on xs ys cells i w at q is =
+    let size = length-set cells (i - 1) w in
+    let some = at.some in
+    record {
+      count_is = omega (arith, at.count_is, size);
+      some = omega arith;
+      done = λ m a b r.
+          elim (eq-zero-or-pos (i - m)) [
+            | inl ge ↦
+                let here : m ≡ i = omega arith in
+                let place : m - 1 ≡ i - 1 = omega arith in
+                ap (λ k. get_or (set cells (i - 1) w) k 0) place ∙ (get_or-set_same cells (i - 1) w 0 (omega arith) ∙ (is ∙ ap (cell_of ys) (sym here)))
+            | inr lt ↦
+                let off : m - 1 ≢ i - 1 = omega arith in
+                get_or-set_other cells (i - 1) (m - 1) w 0 off ∙ at.done m a (omega arith) (omega arith)
+          ];
+      ahead = λ m a r.
+          let off : m - 1 ≢ i - 1 = omega arith in
+          get_or-set_other cells (i - 1) (m - 1) w 0 off ∙ at.ahead m (omega arith) (omega arith);
+    }
+
+pub shift_ends : (xs ys cells : List ℕ) (i : ℕ) → IsShifted xs ys cells i → length cells < i → length ys ≡ length xs → sum ys < 2 ^ 64 → IsFenwickOf (cell_in cells) (length cells) ys
+shift_ends xs ys cells i at p long fits = record {
+  count_is = omega (arith, at.count_is);
+  fits = fits;
+  each = λ m a b. at.done m a (omega arith) b;
 }

@@ -1,8 +1,11 @@
+pub mod BlockLemmas
 pub mod CallerLemmas
 pub mod CellExamples
 pub mod CellLemmas
 pub mod FindLemmas
+pub mod IndexLemmas
 pub mod LengthLemmas
 pub mod LowbitLemmas
+pub mod NodeLemmas
 pub mod PlaceLemmas
 pub mod PrefixLemmas

@@ -5,6 +5,7 @@ ghost use Rattle.indexset_core.specs.Nodes.{node_lengths};
 pub mod cells;
 pub mod laws;
 pub mod places;
+mod shift;
 pub mod sums;
 mod table;
 
@@ -210,8 +211,8 @@ impl Fenwick {
     }
 }
 
-// Returns the length of a node.
-fn length_at<T, Node, R: ReadNode<T, Node>>(nodes: &[Node], i: usize) -> usize
+/// Returns the length of a node.
+pub(crate) fn length_at<T, Node, R: ReadNode<T, Node>>(nodes: &[Node], i: usize) -> usize
     requires { i < length nodes.now }
     ensures { result ≡ slice_index (node_lengths (map R.list nodes.now)) i }
 {

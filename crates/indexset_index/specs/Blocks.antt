@@ -1,0 +1,16 @@
+-- Sums of blocks of 32 neighbouring lengths.
+use Rattle.std.specs.Prelude.{ℕ, ◌+◌, ◌*◌, ◌/◌, List, length, sum, map}
+use Rattle.std.specs.List.{between, range_with_len}
+
+-- the sums, and how many there is room for: what a contract sees of them
+pub record Sums : Type 0 where
+  pub sums : List ℕ
+  pub room : ℕ
+
+-- how many blocks so many lengths make: the last may be short
+abbrev pub block_count : ℕ → ℕ
+block_count n = (n + 31) / 32
+
+-- the sum of each block: lengths 32j up to 32j + 31
+unfoldable pub block_sums : List ℕ → List ℕ
+block_sums lengths = map (λ j. sum (between (32 * j) (32 * (j + 1)) lengths)) (range_with_len 0 (block_count (length lengths)))
