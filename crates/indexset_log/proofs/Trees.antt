@@ -11,6 +11,7 @@ use Rattle.indexset_events.specs.Edits.{with_put, with_taken}
 use Rattle.std.proofs.lemmas.Bool.Decides.{nat_tests}
 use Rattle.std.below.core.specs.declared.int.u64.TheConstants.{MAX}
 use Rattle.indexset_core.specs.declared.refusal.Refusal.TheVariants.{Numbers}
+use Rattle.indexset_index.specs.Blocks.{block_sums}
 use Rattle.indexset_log.specs.Tree.{Tree, IsIndexed, IsTree, refusal_for}
 use Rattle.indexset_events.proofs.CallerLemmas.{added, length_view, node_is, put_counted, put_lawful, taken_counted, taken_lawful}
 
@@ -36,7 +37,7 @@ pub record Held {T N : Type 0} (cmp : T → T → Ordering) (most : ℕ) (f : N 
   pub sized : size ≡ t.size
   pub numbered : next ≡ t.next
   pub rule : IsTree cmp most t.nodes t.size len
-  pub indexed : index ≡ node_lengths t.nodes
+  pub indexed : index ≡ block_sums (node_lengths t.nodes)
 
 module _ {T N : Type 0} {cmp : T → T → Ordering} {most size len next : ℕ} {index : List ℕ} {t : Tree T} where
   pub held : (f : N → List T) (items : List N) → (let seen : Tree T = record { nodes = map f items; size = size; next = next } in seen) ≡ t → IsIndexed cmp most (map f items) size len index → Held cmp most f items size len next index t
@@ -46,7 +47,7 @@ module _ {T N : Type 0} {cmp : T → T → Ordering} {most size len next : ℕ} 
     sized = ap (λ t. t.size) seen;
     numbered = ap (λ t. t.next) seen;
     rule = subst (λ t. IsTree cmp most t.nodes t.size len) seen rule.tree;
-    indexed = subst (λ t. index ≡ node_lengths t.nodes) seen rule.index_is;
+    indexed = subst (λ t. index ≡ block_sums (node_lengths t.nodes)) seen rule.index_is;
   }
 
   -- the node at a place, as the code reads it

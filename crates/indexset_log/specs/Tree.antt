@@ -5,6 +5,7 @@ use Rattle.indexset_core.specs.declared.refusal.Refusal.{Refusal}
 use Rattle.indexset_core.specs.declared.refusal.Refusal.TheVariants.{Memory, Numbers}
 use Rattle.std.specs.declared.cmp.Ordering.{Ordering}
 use Rattle.indexset_core.specs.Nodes.{joined, node_lengths, IsLawful}
+use Rattle.indexset_index.specs.Blocks.{block_sums}
 
 -- its nodes, their greatest size, and the number of the next event
 pub record Tree (T : Type 0) : Type 0 where
@@ -23,10 +24,10 @@ pub record IsTree {T : Type 0} (cmp : T → T → Ordering) (most : ℕ) (nodes 
   pub within : size ≤ most
   pub counted : len ≡ length (joined nodes)
 
--- the same, with the lengths that the index holds
+-- the same, with the sums that the index holds
 pub record IsIndexed {T : Type 0} (cmp : T → T → Ordering) (most : ℕ) (nodes : List (List T)) (size len : ℕ) (index : List ℕ) : Type 0 where
   pub tree : IsTree cmp most nodes size len
-  pub index_is : index ≡ node_lengths nodes
+  pub index_is : index ≡ block_sums (node_lengths nodes)
 
 -- why a call that would give so many events is refused, if it is
 abbrev pub refusal_for : ℕ → ℕ → Refusal

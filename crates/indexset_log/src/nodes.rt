@@ -6,12 +6,13 @@ ghost use Rattle.indexset_core.specs.Order.{IsAscending, IsFoundAt, IsGapFor, pu
 ghost use Rattle.indexset_events.specs.Edits.{with_halved};
 ghost use Rattle.indexset_events.specs.Joining.{item_removed, with_joined};
 ghost use Rattle.indexset_events.specs.Table.{half_of};
+ghost use Rattle.indexset_index.specs.Blocks.{block_sums};
 
 use crate::aim::Aim;
+use indexset_index::blocks::Blocks;
 use indexset_core::node::NodeLike;
 use indexset_core::refusal::{Refusal, Refused};
 use indexset_core::walk::ReadAny;
-use indexset_index::fenwick::Fenwick;
 use std::alloc::Global;
 
 /// A node that stays whole, or the half of one that is full.
@@ -32,12 +33,12 @@ pub(crate) fn part_of<T>(items: &[T], full: bool, right: bool) -> &[T]
 /// Halves a node. A failed call leaves the items as they are.
 pub(crate) fn halve_at<T: Ord + Drop, Node: NodeLike<T>>(
     nodes: &mut Vec<Node>,
-    index: &mut Fenwick,
+    index: &mut Blocks,
     place: usize,
 ) -> Result<(), Refusal>
     requires place { place < length nodes.old.items }
     requires two { 2 ≤ length (node_at (map Node.list nodes.old.items) place) }
-    requires index { index.old.lengths ≡ node_lengths (map Node.list nodes.old.items) }
+    requires index { index.old.sums ≡ block_sums (node_lengths (map Node.list nodes.old.items)) }
     requires fits { length (joined (map Node.list nodes.old.items)) ≤ usize.MAX }
     ensures nodes { OnOk result (map Node.list nodes.new.items
         ≡ with_halved (map Node.list nodes.old.items) place) }
@@ -45,7 +46,7 @@ pub(crate) fn halve_at<T: Ord + Drop, Node: NodeLike<T>>(
         < Node.room n) nodes.new.items place) }
     ensures right_room { OnOk result (HoldsAt (λ n. length (Node.list n)
         < Node.room n) nodes.new.items (place + 1)) }
-    ensures index { index.new.lengths ≡ node_lengths (map Node.list nodes.new.items) }
+    ensures index { index.new.sums ≡ block_sums (node_lengths (map Node.list nodes.new.items)) }
     ensures refusal { IfErr result (λ e. e ≡ Refusal.Memory) }
     ensures unchanged { OnErr result (map Node.list nodes.new.items
         ≡ map Node.list nodes.old.items) }
@@ -54,9 +55,11 @@ pub(crate) fn halve_at<T: Ord + Drop, Node: NodeLike<T>>(
     index.reserve_one()?;
     let node = &mut nodes[place];
     let right = node.halve()?;
+    let moved = right.len();
     match nodes.insert(place + 1, right) {
         Ok(()) => {
-            index.rebuild_from::<T, Node, ReadAny>(place, nodes.as_slice());
+            index.sub(place, moved);
+            index.insert::<T, Node, ReadAny>(place + 1, nodes.as_slice());
             Ok(())
         }
         Err(_) => unreachable!(),
@@ -67,7 +70,7 @@ pub(crate) fn halve_at<T: Ord + Drop, Node: NodeLike<T>>(
 /// the items as they are.
 pub(crate) fn make_room<T: Ord + Drop, Node: NodeLike<T>>(
     nodes: &mut Vec<Node>,
-    index: &mut Fenwick,
+    index: &mut Blocks,
     aim: &Aim,
 ) -> Result<usize, Refusal>
     requires place { aim.now.node < length nodes.old.items }
@@ -76,7 +79,7 @@ pub(crate) fn make_room<T: Ord + Drop, Node: NodeLike<T>>(
     requires most { (aim.now.full ≡ false) → length (node_at
         (map Node.list nodes.old.items) aim.now.node) < Node.most }
     requires right { (aim.now.full ≡ false) → aim.now.right ≡ false }
-    requires index { index.old.lengths ≡ node_lengths (map Node.list nodes.old.items) }
+    requires index { index.old.sums ≡ block_sums (node_lengths (map Node.list nodes.old.items)) }
     requires fits { length (joined (map Node.list nodes.old.items)) ≤ usize.MAX }
     ensures nodes { OnOk result (map Node.list nodes.new.items
         ≡ (if aim.now.full then with_halved
@@ -84,7 +87,7 @@ pub(crate) fn make_room<T: Ord + Drop, Node: NodeLike<T>>(
     ensures place { IfOk result (λ place. place ≡ aim.now.node + cond aim.now.right 1 0) }
     ensures room { IfOk result (λ place. is_err aim.now.at ≡ true
         → HoldsAt (λ n. length (Node.list n) < Node.room n) nodes.new.items place) }
-    ensures index { index.new.lengths ≡ node_lengths (map Node.list nodes.new.items) }
+    ensures index { index.new.sums ≡ block_sums (node_lengths (map Node.list nodes.new.items)) }
     ensures refusal { IfErr result (λ e. e ≡ Refusal.Memory) }
     ensures unchanged { OnErr result (map Node.list nodes.new.items
         ≡ map Node.list nodes.old.items) }
@@ -104,7 +107,7 @@ pub(crate) fn make_room<T: Ord + Drop, Node: NodeLike<T>>(
 /// replaces.
 pub(crate) fn put_in<T: Ord + Drop, Node: NodeLike<T>>(
     nodes: &mut Vec<Node>,
-    index: &mut Fenwick,
+    index: &mut Blocks,
     place: usize,
     at: Result<usize, usize>,
     value: T,
@@ -117,14 +120,14 @@ pub(crate) fn put_in<T: Ord + Drop, Node: NodeLike<T>>(
         value) }
     requires room { is_err at ≡ true → HoldsAt (λ n. length (Node.list n)
         < Node.room n) nodes.old.items place }
-    requires index { index.old.lengths ≡ node_lengths (map Node.list nodes.old.items) }
+    requires index { index.old.sums ≡ block_sums (node_lengths (map Node.list nodes.old.items)) }
     requires fits { is_err at ≡ true → length (joined (map Node.list nodes.old.items))
         < usize.MAX }
     ensures answer { result ≡ equal_element T.cmp
         (node_at (map Node.list nodes.old.items) place) value }
     ensures nodes { map Node.list nodes.new.items ≡ set (map Node.list nodes.old.items) place
         (put T.cmp (node_at (map Node.list nodes.old.items) place) value) }
-    ensures index { index.new.lengths ≡ node_lengths (map Node.list nodes.new.items) }
+    ensures index { index.new.sums ≡ block_sums (node_lengths (map Node.list nodes.new.items)) }
 {
     let node = &mut nodes[place];
     match at {
@@ -140,15 +143,15 @@ pub(crate) fn put_in<T: Ord + Drop, Node: NodeLike<T>>(
 /// Returns an empty node with room for one item, and makes room for it in the list and the index.
 pub(crate) fn first_node<T: Ord + Drop, Node: NodeLike<T>>(
     nodes: &mut Vec<Node>,
-    index: &mut Fenwick,
+    index: &mut Blocks,
 ) -> Result<Node, Refusal>
     requires { 1 ≤ Node.most }
     ensures empty { IfOk result (λ node. Node.list node ≡ []) }
     ensures room { IfOk result (λ node. 1 ≤ Node.room node) }
     ensures nodes { nodes.new.items ≡ nodes.old.items }
     ensures capacity { OnOk result (vec_len nodes.new < vec_capacity nodes.new) }
-    ensures index { index.new.lengths ≡ index.old.lengths }
-    ensures index_room { OnOk result (length index.new.lengths < index.new.room) }
+    ensures index { index.new.sums ≡ index.old.sums }
+    ensures index_room { OnOk result (length index.new.sums < index.new.room) }
     ensures refusal { IfErr result (λ e. e ≡ Refusal.Memory) }
 {
     nodes.reserve(1)?;
@@ -166,17 +169,17 @@ pub(crate) fn fit_together(left: usize, right: usize, most: usize) -> bool
 /// Inserts a whole node at a place. A failed call returns it in the error and changes nothing.
 pub(crate) fn insert_node<T: Ord + Drop, Node: NodeLike<T>>(
     nodes: &mut Vec<Node>,
-    index: &mut Fenwick,
+    index: &mut Blocks,
     place: usize,
     node: Node,
 ) -> Result<(), Refused<Node>>
     requires place { place ≤ length nodes.old.items }
-    requires index { index.old.lengths ≡ node_lengths (map Node.list nodes.old.items) }
+    requires index { index.old.sums ≡ block_sums (node_lengths (map Node.list nodes.old.items)) }
     requires fits { length (joined (map Node.list nodes.old.items)) + length (Node.list node)
         ≤ usize.MAX }
     ensures nodes { OnOk result (map Node.list nodes.new.items
         ≡ insert (map Node.list nodes.old.items) place (Node.list node)) }
-    ensures index { index.new.lengths ≡ node_lengths (map Node.list nodes.new.items) }
+    ensures index { index.new.sums ≡ block_sums (node_lengths (map Node.list nodes.new.items)) }
     ensures refusal { IfErr result (λ e. e.cause ≡ Refusal.Memory) }
     ensures given_back { IfErr result (λ e. e.value ≡ node) }
     ensures unchanged { OnErr result (nodes.new.items ≡ nodes.old.items) }
@@ -189,7 +192,7 @@ pub(crate) fn insert_node<T: Ord + Drop, Node: NodeLike<T>>(
     }
     match nodes.insert(place, node) {
         Ok(()) => {
-            index.rebuild_from::<T, Node, ReadAny>(place, nodes.as_slice());
+            index.insert::<T, Node, ReadAny>(place, nodes.as_slice());
             Ok(())
         }
         Err(refused) => Err(Refused {
@@ -202,23 +205,21 @@ pub(crate) fn insert_node<T: Ord + Drop, Node: NodeLike<T>>(
 /// Removes the item at a place, and a node that it leaves empty.
 pub(crate) fn take_out<T: Ord + Drop, Node: NodeLike<T>>(
     nodes: &mut Vec<Node>,
-    index: &mut Fenwick,
+    index: &mut Blocks,
     node: usize,
     offset: usize,
 ) -> T
     requires node { node < length nodes.old.items }
     requires offset { offset < length (node_at (map Node.list nodes.old.items) node) }
-    requires index { index.old.lengths ≡ node_lengths (map Node.list nodes.old.items) }
+    requires index { index.old.sums ≡ block_sums (node_lengths (map Node.list nodes.old.items)) }
     ensures item { slice_get (node_at (map Node.list nodes.old.items) node) offset ≡ Some result }
     ensures nodes { map Node.list nodes.new.items
         ≡ item_removed (map Node.list nodes.old.items) node offset }
-    ensures index { index.new.lengths ≡ node_lengths (map Node.list nodes.new.items) }
+    ensures index { index.new.sums ≡ block_sums (node_lengths (map Node.list nodes.new.items)) }
 {
     if nodes[node].len() == 1 {
         let mut emptied = nodes.remove(node);
-        // There is room for as many lengths as there were, and their sum fits.
-        let _count = index.len();
-        index.rebuild_from::<T, Node, ReadAny>(node, nodes.as_slice());
+        index.remove::<T, Node, ReadAny>(node, 1, nodes.as_slice());
         return emptied.remove_at(offset);
     }
     index.sub(node, 1);
@@ -229,7 +230,7 @@ pub(crate) fn take_out<T: Ord + Drop, Node: NodeLike<T>>(
 /// either. Room is reserved first. A failed call leaves the items as they are.
 pub(crate) fn take_and_join<T: Ord + Drop, Node: NodeLike<T>>(
     nodes: &mut Vec<Node>,
-    index: &mut Fenwick,
+    index: &mut Blocks,
     node: usize,
     offset: usize,
     left: usize,
@@ -243,13 +244,13 @@ pub(crate) fn take_and_join<T: Ord + Drop, Node: NodeLike<T>>(
         (remove (node_at (map Node.list nodes.old.items) node) offset)) left
         ++ node_at (set (map Node.list nodes.old.items) node
         (remove (node_at (map Node.list nodes.old.items) node) offset)) (left + 1)) }
-    requires index { index.old.lengths ≡ node_lengths (map Node.list nodes.old.items) }
+    requires index { index.old.sums ≡ block_sums (node_lengths (map Node.list nodes.old.items)) }
     ensures item { IfOk result (λ item. slice_get (node_at
         (map Node.list nodes.old.items) node) offset ≡ Some item) }
     ensures nodes { OnOk result (map Node.list nodes.new.items
         ≡ with_joined (set (map Node.list nodes.old.items) node
         (remove (node_at (map Node.list nodes.old.items) node) offset)) left) }
-    ensures index { index.new.lengths ≡ node_lengths (map Node.list nodes.new.items) }
+    ensures index { index.new.sums ≡ block_sums (node_lengths (map Node.list nodes.new.items)) }
     ensures refusal { IfErr result (λ e. e ≡ Refusal.Memory) }
     ensures never { Node.allocates ≡ false → IsOk result }
     ensures unchanged { OnErr result (map Node.list nodes.new.items
@@ -259,6 +260,11 @@ pub(crate) fn take_and_join<T: Ord + Drop, Node: NodeLike<T>>(
     let first = &mut nodes[left];
     first.reserve(more)?;
     let mut next = nodes.remove(left + 1);
+    // The sum of all lengths fits.
+    let _count = index.len();
+    index.remove::<T, Node, ReadAny>(left + 1, more, nodes.as_slice());
+    index.add(left, more);
+    index.sub(left, 1);
     let first = &mut nodes[left];
     let item = if node == left {
         first.remove_at(offset)
@@ -266,9 +272,6 @@ pub(crate) fn take_and_join<T: Ord + Drop, Node: NodeLike<T>>(
         next.remove_at(offset)
     };
     first.absorb(next);
-    // There is room for as many lengths as there were, and their sum fits.
-    let _count = index.len();
-    index.rebuild_from::<T, Node, ReadAny>(left, nodes.as_slice());
     Ok(item)
 }
 
@@ -276,15 +279,13 @@ pub(crate) fn take_and_join<T: Ord + Drop, Node: NodeLike<T>>(
 pub(crate) fn index_of<T: Ord + Drop, Node: NodeLike<T>>(
     alloc: Global,
     nodes: &[Node],
-) -> Result<Fenwick, Refusal>
+) -> Result<Blocks, Refusal>
     requires { length (joined (map Node.list nodes.now)) ≤ usize.MAX }
-    ensures index { IfOk result (λ index. index.lengths ≡ node_lengths
-        (map Node.list nodes.now)) }
+    ensures index { IfOk result (λ index. index.sums ≡ block_sums (node_lengths
+        (map Node.list nodes.now))) }
     ensures refusal { IfErr result (λ e. e ≡ Refusal.Memory) }
 {
-    let mut index = Fenwick::with_capacity(alloc, nodes.len())?;
-    index.rebuild::<T, Node, ReadAny>(nodes);
-    Ok(index)
+    Blocks::from_nodes::<T, Node, ReadAny>(alloc, nodes)
 }
 
 /// Returns how many items the nodes have room for, up to `usize::MAX`.

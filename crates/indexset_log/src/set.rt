@@ -24,12 +24,12 @@ mod remove;
 mod remove_range;
 mod traits;
 
+use indexset_index::blocks::Blocks;
 use indexset_core::constants::DEFAULT_INNER_SIZE;
 use indexset_core::locate::locate_by;
 use indexset_core::node::NodeLike;
 use indexset_core::probe::{ByItem, Probe};
 use indexset_core::walk::ReadAny;
-use indexset_index::fenwick::Fenwick;
 use std::alloc::Global;
 use std::marker::{Model, PhantomData};
 
@@ -51,8 +51,8 @@ pub struct BTreeSet<T: Ord + Clone + Drop, Node: NodeLike<T>> {
     size: usize,
     // How many items there are.
     len: usize,
-    // The lengths of the nodes.
-    index: Fenwick,
+    // The lengths of the nodes, summed by blocks of 32.
+    index: Blocks,
     // The number of the next event.
     next: u64,
     items: PhantomData<T>,
@@ -71,7 +71,7 @@ impl<T: Ord + Clone + Drop, Node: NodeLike<T>> Model for BTreeSet<T, Node> {
     } };
 
     ghost invariant = { λ s. IsIndexed T.cmp Node.most (map Node.list s.nodes.items) s.size s.len
-        s.index.lengths };
+        s.index.sums };
 }
 
 impl<T: Ord + Clone + Drop, Node: NodeLike<T>> BTreeSet<T, Node> {
@@ -90,7 +90,7 @@ impl<T: Ord + Clone + Drop, Node: NodeLike<T>> BTreeSet<T, Node> {
             nodes: Vec::new(alloc),
             size,
             len: 0,
-            index: Fenwick::new(alloc),
+            index: Blocks::new(alloc),
             next,
             items: PhantomData,
         }

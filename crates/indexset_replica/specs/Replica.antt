@@ -8,6 +8,7 @@ use Rattle.std.specs.declared.cmp.Ordering.TheVariants.{Equal}
 use Rattle.indexset_core.specs.Nodes.{joined, node_at, node_lengths, IsNodeList}
 use Rattle.indexset_core.specs.declared.refusal.Refusal.{Refusal}
 use Rattle.indexset_core.specs.declared.refusal.Refusal.TheVariants.{Numbers, Gap, NoSuchNode, IndexOutside, ValueDiffers, WouldBeEmpty, OutOfOrder, BadSplit, NotNeighbours}
+use Rattle.indexset_index.specs.Blocks.{block_sums}
 use Rattle.indexset_events.specs.Nodes.{is_ascending}
 use Rattle.indexset_events.specs.Replay.{edit, event_number, node_named, step_plain, unassigned}
 use Rattle.indexset_events.specs.declared.change.ChangeEvent.{ChangeEvent}
@@ -26,10 +27,10 @@ pub record ReplicaState (T : Type 0) : Type 0 where
   pub nodes : List (List T)
   pub next : ℕ
 
--- the nodes are lawful, and these are their lengths
-pub record IsIndexed {T : Type 0} (cmp : T → T → Ordering) (ns : List (List T)) (lengths : List ℕ) : Type 0 where
+-- the nodes are lawful, and these are the sums of their lengths by blocks
+pub record IsIndexed {T : Type 0} (cmp : T → T → Ordering) (ns : List (List T)) (sums : List ℕ) : Type 0 where
   pub nodes : IsNodeList cmp ns
-  pub index : lengths ≡ node_lengths ns
+  pub index : sums ≡ block_sums (node_lengths ns)
 
 module _ {T : Type 0} (cmp : T → T → Ordering) where
   -- the nodes that an edit leads to would not be ascending as a whole

@@ -1,6 +1,7 @@
 //! The change that an event makes to a replica's nodes, and to their index.
 ghost use Rattle.std.specs.Prelude.{◌≡◌, ◌<◌, [], ◌∷◌, IfOk, OnOk, IfErr, OnErr, unwrap_or, vec_len, vec_capacity};
 ghost use Rattle.indexset_core.specs.Nodes.{node_lengths, IsNodeList, vec_items};
+ghost use Rattle.indexset_index.specs.Blocks.{block_sums};
 ghost use Rattle.indexset_replica.specs.Replica.{IsClonedEdit, IsEdit, IsEqualClone, misfit};
 ghost use Rattle.indexset_events.specs.Replay.{unassigned};
 ghost use Rattle.indexset_events.specs.declared.change.ChangeEventUnassigned.TheVariants.{InsertAt, RemoveAt, CreateNode, RemoveNode, SplitNode, MergeNodes};
@@ -18,14 +19,14 @@ pub(super) fn carry_out<T: Ord + Clone + Drop>(
     event: &ChangeEvent<T>,
 ) -> Result<(), Refusal>
     requires nodes { IsNodeList T.cmp (vec_items nodes.old.items) }
-    requires lengths { lengths.old.lengths ≡ node_lengths (vec_items nodes.old.items) }
+    requires lengths { lengths.old.sums ≡ block_sums (node_lengths (vec_items nodes.old.items)) }
     ensures done { OnOk result (IsClonedEdit T.cmp T.is_clone (vec_items nodes.old.items)
         (unassigned event.now) (vec_items nodes.new.items)) }
     ensures refusal { IfErr result (λ e. e
         ≡ unwrap_or (misfit T.cmp (vec_items nodes.old.items) (unassigned event.now))
         Refusal.Memory) }
     ensures unchanged { OnErr result (vec_items nodes.new.items ≡ vec_items nodes.old.items) }
-    ensures lengths { lengths.new.lengths ≡ node_lengths (vec_items nodes.new.items) }
+    ensures lengths { lengths.new.sums ≡ block_sums (node_lengths (vec_items nodes.new.items)) }
 {
     match event {
         ChangeEvent::InsertAt {
@@ -64,14 +65,14 @@ fn insert_item<T: Ord + Clone + Drop>(
     index: usize,
 ) -> Result<(), Refusal>
     requires nodes { IsNodeList T.cmp (vec_items nodes.old.items) }
-    requires lengths { lengths.old.lengths ≡ node_lengths (vec_items nodes.old.items) }
+    requires lengths { lengths.old.sums ≡ block_sums (node_lengths (vec_items nodes.old.items)) }
     ensures done { OnOk result (IsClonedEdit T.cmp T.is_clone (vec_items nodes.old.items)
         (InsertAt name.now value.now index) (vec_items nodes.new.items)) }
     ensures refusal { IfErr result (λ e. e
         ≡ unwrap_or (misfit T.cmp (vec_items nodes.old.items) (InsertAt name.now value.now index))
         Refusal.Memory) }
     ensures unchanged { OnErr result (vec_items nodes.new.items ≡ vec_items nodes.old.items) }
-    ensures lengths { lengths.new.lengths ≡ node_lengths (vec_items nodes.new.items) }
+    ensures lengths { lengths.new.sums ≡ block_sums (node_lengths (vec_items nodes.new.items)) }
 {
     let place = place_named(nodes.as_slice(), name)?;
     if index > nodes[place].len() {
@@ -85,7 +86,7 @@ fn insert_item<T: Ord + Clone + Drop>(
     let node = &mut nodes[place];
     node.reserve(1)?;
     moves::insert_item(node, index, item);
-    lengths.add_item(place);
+    lengths.add_items(place, 1);
     Ok(())
 }
 
@@ -98,14 +99,14 @@ fn remove_item<T: Ord + Clone + Drop>(
     index: usize,
 ) -> Result<(), Refusal>
     requires nodes { IsNodeList T.cmp (vec_items nodes.old.items) }
-    requires lengths { lengths.old.lengths ≡ node_lengths (vec_items nodes.old.items) }
+    requires lengths { lengths.old.sums ≡ block_sums (node_lengths (vec_items nodes.old.items)) }
     ensures done { OnOk result (IsEdit T.cmp (vec_items nodes.old.items)
         (RemoveAt name.now value.now index) (vec_items nodes.new.items)) }
     ensures refusal { IfErr result (λ e. e
         ≡ unwrap_or (misfit T.cmp (vec_items nodes.old.items) (RemoveAt name.now value.now index))
         Refusal.Memory) }
     ensures unchanged { OnErr result (vec_items nodes.new.items ≡ vec_items nodes.old.items) }
-    ensures lengths { lengths.new.lengths ≡ node_lengths (vec_items nodes.new.items) }
+    ensures lengths { lengths.new.sums ≡ block_sums (node_lengths (vec_items nodes.new.items)) }
 {
     let place = place_named(nodes.as_slice(), name)?;
     let node = &mut nodes[place];
@@ -119,7 +120,7 @@ fn remove_item<T: Ord + Clone + Drop>(
         return Err(Refusal::WouldBeEmpty);
     }
     moves::remove_item(node, index);
-    lengths.take_item(place);
+    lengths.take_items(place, 1);
     Ok(())
 }
 
@@ -130,14 +131,14 @@ fn create_node<T: Ord + Clone + Drop>(
     value: &T,
 ) -> Result<(), Refusal>
     requires nodes { IsNodeList T.cmp (vec_items nodes.old.items) }
-    requires lengths { lengths.old.lengths ≡ node_lengths (vec_items nodes.old.items) }
+    requires lengths { lengths.old.sums ≡ block_sums (node_lengths (vec_items nodes.old.items)) }
     ensures done { OnOk result (IsClonedEdit T.cmp T.is_clone (vec_items nodes.old.items)
         (CreateNode value.now) (vec_items nodes.new.items)) }
     ensures refusal { IfErr result (λ e. e
         ≡ unwrap_or (misfit T.cmp (vec_items nodes.old.items) (CreateNode value.now))
         Refusal.Memory) }
     ensures unchanged { OnErr result (vec_items nodes.new.items ≡ vec_items nodes.old.items) }
-    ensures lengths { lengths.new.lengths ≡ node_lengths (vec_items nodes.new.items) }
+    ensures lengths { lengths.new.sums ≡ block_sums (node_lengths (vec_items nodes.new.items)) }
 {
     let place = first_reaching(nodes.as_slice(), value);
     if !fits_before(nodes.as_slice(), place, value) {
@@ -146,7 +147,7 @@ fn create_node<T: Ord + Clone + Drop>(
     lengths.reserve_node(1)?;
     let node = room_for_node_of(nodes, value)?;
     moves::insert_item(nodes, place, node);
-    lengths.rebuild_from(place, nodes.as_slice());
+    lengths.insert_node(place, nodes.as_slice());
     Ok(())
 }
 
@@ -186,20 +187,18 @@ fn remove_node<T: Ord + Clone + Drop>(
     name: &T,
 ) -> Result<(), Refusal>
     requires nodes { IsNodeList T.cmp (vec_items nodes.old.items) }
-    requires lengths { lengths.old.lengths ≡ node_lengths (vec_items nodes.old.items) }
+    requires lengths { lengths.old.sums ≡ block_sums (node_lengths (vec_items nodes.old.items)) }
     ensures done { OnOk result (IsEdit T.cmp (vec_items nodes.old.items) (RemoveNode name.now)
         (vec_items nodes.new.items)) }
     ensures refusal { IfErr result (λ e. e
         ≡ unwrap_or (misfit T.cmp (vec_items nodes.old.items) (RemoveNode name.now))
         Refusal.Memory) }
     ensures unchanged { OnErr result (vec_items nodes.new.items ≡ vec_items nodes.old.items) }
-    ensures lengths { lengths.new.lengths ≡ node_lengths (vec_items nodes.new.items) }
+    ensures lengths { lengths.new.sums ≡ block_sums (node_lengths (vec_items nodes.new.items)) }
 {
     let place = place_named(nodes.as_slice(), name)?;
-    // There is room for as many lengths as there were, and their sum fits.
-    let _total = lengths.total();
-    moves::remove_item(nodes, place);
-    lengths.rebuild_from(place, nodes.as_slice());
+    let removed = moves::remove_item(nodes, place);
+    lengths.remove_node(place, removed.len(), nodes.as_slice());
     Ok(())
 }
 
@@ -211,14 +210,14 @@ fn split_node<T: Ord + Clone + Drop>(
     split_index: usize,
 ) -> Result<(), Refusal>
     requires nodes { IsNodeList T.cmp (vec_items nodes.old.items) }
-    requires lengths { lengths.old.lengths ≡ node_lengths (vec_items nodes.old.items) }
+    requires lengths { lengths.old.sums ≡ block_sums (node_lengths (vec_items nodes.old.items)) }
     ensures done { OnOk result (IsEdit T.cmp (vec_items nodes.old.items)
         (SplitNode name.now split_index) (vec_items nodes.new.items)) }
     ensures refusal { IfErr result (λ e. e
         ≡ unwrap_or (misfit T.cmp (vec_items nodes.old.items) (SplitNode name.now split_index))
         Refusal.Memory) }
     ensures unchanged { OnErr result (vec_items nodes.new.items ≡ vec_items nodes.old.items) }
-    ensures lengths { lengths.new.lengths ≡ node_lengths (vec_items nodes.new.items) }
+    ensures lengths { lengths.new.sums ≡ block_sums (node_lengths (vec_items nodes.new.items)) }
 {
     let place = place_named(nodes.as_slice(), name)?;
     if split_index == 0 || split_index >= nodes[place].len() {
@@ -228,8 +227,9 @@ fn split_node<T: Ord + Clone + Drop>(
     lengths.reserve_node(0)?;
     let node = &mut nodes[place];
     let rest = node.split_off(split_index)?;
+    lengths.take_items(place, rest.len());
     moves::insert_item(nodes, place + 1, rest);
-    lengths.rebuild_from(place, nodes.as_slice());
+    lengths.insert_node(place + 1, nodes.as_slice());
     Ok(())
 }
 
@@ -241,14 +241,14 @@ fn merge_nodes<T: Ord + Clone + Drop>(
     next_name: &T,
 ) -> Result<(), Refusal>
     requires nodes { IsNodeList T.cmp (vec_items nodes.old.items) }
-    requires lengths { lengths.old.lengths ≡ node_lengths (vec_items nodes.old.items) }
+    requires lengths { lengths.old.sums ≡ block_sums (node_lengths (vec_items nodes.old.items)) }
     ensures done { OnOk result (IsEdit T.cmp (vec_items nodes.old.items)
         (MergeNodes name.now next_name.now) (vec_items nodes.new.items)) }
     ensures refusal { IfErr result (λ e. e
         ≡ unwrap_or (misfit T.cmp (vec_items nodes.old.items) (MergeNodes name.now next_name.now))
         Refusal.Memory) }
     ensures unchanged { OnErr result (vec_items nodes.new.items ≡ vec_items nodes.old.items) }
-    ensures lengths { lengths.new.lengths ≡ node_lengths (vec_items nodes.new.items) }
+    ensures lengths { lengths.new.sums ≡ block_sums (node_lengths (vec_items nodes.new.items)) }
 {
     let place = place_named(nodes.as_slice(), name)?;
     let next = place_named(nodes.as_slice(), next_name)?;
@@ -258,10 +258,11 @@ fn merge_nodes<T: Ord + Clone + Drop>(
     let count = nodes[next].len();
     let node = &mut nodes[place];
     node.reserve(count)?;
-    // There is room for as many lengths as there were, and their sum fits.
+    // The sum of all lengths fits.
     let _total = lengths.total();
     let mut rest = moves::remove_item(nodes, next);
+    lengths.remove_node(next, count, nodes.as_slice());
+    lengths.add_items(place, count);
     moves::move_tail(&mut rest, 0, &mut nodes[place]);
-    lengths.rebuild_from(place, nodes.as_slice());
     Ok(())
 }

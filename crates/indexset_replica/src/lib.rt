@@ -54,7 +54,7 @@ use std::marker::Model;
 #[derive(Drop)]
 pub struct Replica<T: Ord + Clone + Drop> {
     nodes: Vec<Vec<T>>,
-    // The lengths of the nodes.
+    // The lengths of the nodes, summed by blocks of 32.
     lengths: NodeIndex,
     // The number of the next event.
     next: u64,
@@ -68,7 +68,7 @@ impl<T: Ord + Clone + Drop> Model for Replica<T> {
 
     ghost view = { λ r. record { nodes = vec_items r.nodes.items; next = r.next } };
 
-    ghost invariant = { λ r. IsIndexed T.cmp (vec_items r.nodes.items) r.lengths.lengths };
+    ghost invariant = { λ r. IsIndexed T.cmp (vec_items r.nodes.items) r.lengths.sums };
 }
 
 impl<T: Ord + Clone + Drop> Replica<T> {
@@ -158,7 +158,7 @@ impl<T: Ord + Clone + Drop> Replica<T> {
         }
         match self.nodes.insert(place, node) {
             Ok(()) => {
-                self.lengths.rebuild_from(place, self.nodes.as_slice());
+                self.lengths.insert_node(place, self.nodes.as_slice());
                 Ok(())
             }
             Err(failed) => Err(Refused {

@@ -3,20 +3,21 @@ ghost use Rattle.std.specs.Prelude.{◌≡◌, ◌≤◌, ◌<◌, length, map, 
 ghost use Rattle.std.specs.Option.{unwrap_or};
 ghost use Rattle.indexset_core.specs.Nodes.{joined, node_lengths};
 ghost use Rattle.indexset_events.specs.Attach.{nodes_refusal};
+ghost use Rattle.indexset_index.specs.Blocks.{block_sums};
 
 use super::BTreeSet;
 use crate::nodes::index_of;
+use indexset_index::blocks::Blocks;
 use indexset_core::node::NodeLike;
 use indexset_core::refusal::{Refusal, Refused};
 use indexset_events::nodes::test_nodes;
-use indexset_index::fenwick::Fenwick;
 use std::alloc::Global;
 use std::marker::PhantomData;
 
 impl<T: Ord + Clone + Drop, Node: NodeLike<T>> BTreeSet<T, Node> {
     /// Returns the tree of these nodes, whose events are numbered from `next`: it continues where
     /// another stopped. The nodes are taken as they are, no item is copied, and no event number is
-    /// consumed; neighbouring nodes are compared once, and one number for each node is allocated.
+    /// consumed; neighbouring nodes are compared once, and one number for 32 nodes is allocated.
     /// Fails at the first node that is `Empty`, `TooLarge`, `Unsorted`, or `Overlaps` the one
     /// before, by the first of these that holds; where none is, with `Memory`, also where there are
     /// more items than `usize::MAX`. A failed call returns the nodes in the error.
@@ -58,10 +59,11 @@ fn test_and_count<T: Ord + Drop, Node: NodeLike<T>>(
     alloc: Global,
     nodes: &[Node],
     size: usize,
-) -> Result<(usize, Fenwick), Refusal>
+) -> Result<(usize, Blocks), Refusal>
     ensures good { OnOk result (nodes_refusal T.cmp size (map Node.list nodes.now) ≡ None) }
     ensures len { IfOk result (λ r. r.0 ≡ length (joined (map Node.list nodes.now))) }
-    ensures index { IfOk result (λ r. r.1.lengths ≡ node_lengths (map Node.list nodes.now)) }
+    ensures index { IfOk result (λ r. r.1.sums ≡ block_sums (node_lengths
+        (map Node.list nodes.now))) }
     ensures refusal { IfErr result (λ e. e ≡ unwrap_or (nodes_refusal T.cmp size
         (map Node.list nodes.now)) Refusal.Memory) }
 {

@@ -17,6 +17,7 @@ use super::range::Range;
 use indexset_core::node::NodeLike;
 use indexset_core::positions::{end_position, first_position};
 use indexset_core::probe::Probe;
+use indexset_core::walk::ReadAny;
 use indexset_set::Positions;
 use std::ops::Bound;
 
@@ -176,7 +177,9 @@ impl<T: Ord + Clone + Drop, Node: NodeLike<T>> BTreeSet<T, Node> {
         // The number of items fits, so each sum of some lengths does.
         let _len = self.len;
         let (node, offset) = place;
-        self.index.prefix(node) + offset
+        self.index
+            .prefix::<T, Node, ReadAny>(node, self.nodes.as_slice())
+            + offset
     }
 
     /// Returns the place of the item at a position, counted from 0, or `None` past the end. It
@@ -192,7 +195,8 @@ impl<T: Ord + Clone + Drop, Node: NodeLike<T>> BTreeSet<T, Node> {
             (λ p. (p.0 < length self.now.nodes) × (p.1 < length (node_at self.now.nodes p.0))
             × (items_before self.now.nodes p ≡ i)) }
     {
-        self.index.find(i)
+        self.index
+            .find::<T, Node, ReadAny>(i, self.nodes.as_slice())
     }
 
     // Returns the place after the first `i` items.

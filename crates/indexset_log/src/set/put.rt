@@ -334,7 +334,8 @@ impl<T: Ord + Clone + Drop, Node: NodeLike<T>> BTreeSet<T, Node> {
             Ok(mut node) => {
                 node.insert_at(0, value);
                 self.nodes.push_reserved(node);
-                self.index.push(1);
+                self.index
+                    .insert::<T, Node, ReadAny>(0, self.nodes.as_slice());
                 self.len = 1;
                 self.next = next;
                 Ok(None)

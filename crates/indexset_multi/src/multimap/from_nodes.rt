@@ -20,7 +20,7 @@ impl<K: Ord + Clone + Drop, V: Eq + Clone + Drop, Node: NodeLike<MultiPair<K, V>
     /// where another stopped. The number of the next new pair is one above the greatest number
     /// among all pairs, and 0 where there are none. The nodes are taken as they are, no pair is
     /// copied, and no event number is consumed; each pair's number is read once, neighbouring nodes
-    /// are compared once, and one number for each node is allocated. Fails with `PairNumber` where
+    /// are compared once, and one number for 32 nodes is allocated. Fails with `PairNumber` where
     /// a pair has the greatest number, before all reasons of the set's `from_nodes`. A failed call
     /// returns the nodes in the error.
     ///

@@ -1,12 +1,13 @@
-use Rattle.std.proofs.Common.{◌≡◌, ◌/◌, length, map, set, get_or, take, drop, refl, arith, ap, sym, ◌∙◌}
+use Rattle.std.proofs.Common.{◌≡◌, ◌+◌, ◌/◌, length, map, set, get_or, take, drop, refl, arith, ap, sym, ◌∙◌, length-drop}
 use Rattle.std.proofs.lemmas.List.{length-map}
 use Rattle.std.proofs.lemmas.Option.{slice_get-get_or}
 use Rattle.std.proofs.Math.Seq.{map-set_same}
 use Rattle.indexset_core.specs.Nodes.{node_at}
-use Rattle.indexset_core.proofs.CallerLemmas.{on_err}
+use Rattle.indexset_core.proofs.CallerLemmas.{length-joined, on_err}
 use Rattle.indexset_events.proofs.CallerLemmas.{halved_view, node_is}
 use Rattle.indexset_events.specs.Edits.{with_halved}
-use Rattle.indexset_log.proofs.Indexes.{Rewrites, halved}
+use Rattle.indexset_index.proofs.CallerLemmas.{block_there, node_in_block}
+use Rattle.indexset_log.proofs.Indexes.{halved, halved_sum}
 use Rattle.indexset_log.proofs.nodes.halve_at.Given.{Over}
 use Rattle.indexset_log.proofs.nodes.halve_at.Goals.{After-as_slice, After-from_residual-in_err-right}
 use Rattle.indexset_log.proofs.nodes.halve_at.Goals as goal
@@ -21,7 +22,7 @@ pub returns-in_err-right-clause-unchanged : goal.returns-in_err-right-clause-unc
 returns-in_err-right-clause-unchanged g c = on_err _ (kept g c)
 
 pub returns-in_err-right-clause-index : goal.returns-in_err-right-clause-index
-returns-in_err-right-clause-index g c = rw (kept g c) (c.reserve_one.ensures.lengths ∙ c.requires.index)
+returns-in_err-right-clause-index g c = rw (kept g c) (c.reserve_one.ensures.sums ∙ c.requires.index)
 
 -- the nodes with the right half in its place
 made : (g : Over) (c : After-as_slice g) → map g.Node.NodeLike.list c.as_slice.result.now ≡ with_halved (map g.Node.NodeLike.list c.args.nodes.now.items) c.args.place
@@ -37,16 +38,36 @@ made g c =
     let right : list r ≡ drop (length n / 2) n = rw node at c.in_ok-right.ensures.right in
     rw (c.as_slice.ensures.value, c.in-Ok.ensures.items, c.reserve.ensures.items) (halved_view list old k (get_or old k l) l r (slice_get-get_or old k l c.requires.place) ∙ rw (left, right) refl)
 
-written : (g : Over) (c : After-as_slice g) → Rewrites c.reserve_one.new.self.lengths c.args.place (map g.Node.NodeLike.list c.as_slice.result.now)
-written g c =
-    let ns = map g.Node.NodeLike.list c.args.nodes.now.items in
-    halved ns c.args.place (made g c) (c.reserve_one.ensures.lengths ∙ c.requires.index) (omega (arith, c.requires.place, length-map c.args.nodes.now.items g.Node.NodeLike.list)) (omega (arith, c.requires.fits))
+pub sub-requires-clause-inside : goal.sub-requires-clause-inside
+sub-requires-clause-inside g c =
+    let list = g.Node.NodeLike.list in
+    let old = c.args.nodes.now.items in
+    block_there (map list old) c.args.place (c.reserve_one.ensures.sums ∙ c.requires.index) (omega (arith, c.requires.place, length-map old list))
 
-pub rebuild_from-requires-clause-same : goal.rebuild_from-requires-clause-same
-rebuild_from-requires-clause-same g c = (written g c).same
+pub sub-requires-clause-enough : goal.sub-requires-clause-enough
+sub-requires-clause-enough g c =
+    let list = g.Node.NodeLike.list in
+    let old = c.args.nodes.now.items in
+    let node = node_is list old (map list old) c.args.place c.index_mut-node.result.now refl c.requires.place (rw c.reserve.ensures.items at c.index_mut-node.ensures.value) in
+    let n = node_at (map list old) c.args.place in
+    let cut : c.len-moved.result + length n / 2 ≡ length n = omega (arith, c.len-moved.ensures.value, ap (λ l. length l) (rw node at c.in_ok-right.ensures.right), length-drop (length n / 2) n) in
+    omega (arith, cut, node_in_block (map list old) c.args.place (c.reserve_one.ensures.sums ∙ c.requires.index) (omega (arith, c.requires.place, length-map old list)))
 
-pub rebuild_from-requires-clause-fits : goal.rebuild_from-requires-clause-fits
-rebuild_from-requires-clause-fits g c = (written g c).fits
+pub insert-requires-in-Ok-clause-before : goal.insert-requires-in-Ok-clause-before
+insert-requires-in-Ok-clause-before g c =
+    let list = g.Node.NodeLike.list in
+    let old = c.args.nodes.now.items in
+    let node = node_is list old (map list old) c.args.place c.index_mut-node.result.now refl c.requires.place (rw c.reserve.ensures.items at c.index_mut-node.ensures.value) in
+    let n = node_at (map list old) c.args.place in
+    let cut : c.len-moved.result + length n / 2 ≡ length n = omega (arith, c.len-moved.ensures.value, ap (λ l. length l) (rw node at c.in_ok-right.ensures.right), length-drop (length n / 2) n) in
+    c.sub.ensures.sums ∙ halved (map list old) c.args.place c.len-moved.result (made g c) (c.reserve_one.ensures.sums ∙ c.requires.index) (omega (arith, c.requires.place, length-map old list)) cut
+
+pub insert-requires-in-Ok-clause-fits : goal.insert-requires-in-Ok-clause-fits
+insert-requires-in-Ok-clause-fits g c =
+    let list = g.Node.NodeLike.list in
+    let old = c.args.nodes.now.items in
+    let ns = map list old in
+    rw (made g c) (omega (arith, halved_sum ns c.args.place (omega (arith, c.requires.place, length-map old list)), length-joined ns, c.requires.fits))
 
 pub returns-clause-nodes : goal.returns-clause-nodes
 returns-clause-nodes g c =

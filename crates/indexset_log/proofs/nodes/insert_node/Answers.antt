@@ -1,23 +1,28 @@
-use Rattle.std.proofs.Common.{◌≡◌, insert, map, arith, ap, ◌∙◌}
+use Rattle.std.proofs.Common.{◌≡◌, insert, length, map, arith, ap, ◌∙◌}
 use Rattle.std.proofs.lemmas.List.{length-map}
+use Rattle.std.proofs.lemmas.List.Sums.{sum_by-insert}
+use Rattle.indexset_core.specs.Nodes.{node_lengths}
+use Rattle.indexset_core.proofs.CallerLemmas.{length-joined}
 use Rattle.indexset_events.proofs.CallerLemmas.{map_insert}
-use Rattle.indexset_log.proofs.Indexes.{Rewrites, inserted}
+use Rattle.indexset_index.proofs.CallerLemmas.{inserted, lengths-insert}
 use Rattle.indexset_log.proofs.nodes.insert_node.Given.{Over}
 use Rattle.indexset_log.proofs.nodes.insert_node.Goals.{After-as_slice}
 use Rattle.indexset_log.proofs.nodes.insert_node.Goals as goal
 
-written : (g : Over) (c : After-as_slice g) → Rewrites c.reserve_one.new.self.lengths c.args.place (map g.Node.NodeLike.list c.as_slice.result.now)
-written g c =
+made : (g : Over) (c : After-as_slice g) → map g.Node.NodeLike.list c.as_slice.result.now ≡ insert (map g.Node.NodeLike.list c.args.nodes.now.items) c.args.place (g.Node.NodeLike.list c.args.node)
+made g c = rw (c.as_slice.ensures.value, c.in-Ok.ensures.items) (map_insert g.Node.NodeLike.list c.args.nodes.now.items c.args.place c.args.node)
+
+pub insert-requires-in-Ok-clause-before : goal.insert-requires-in-Ok-clause-before
+insert-requires-in-Ok-clause-before g c =
     let list = g.Node.NodeLike.list in
     let old = c.args.nodes.now.items in
-    let made : map list c.as_slice.result.now ≡ insert (map list old) c.args.place (list c.args.node) = rw (c.as_slice.ensures.value, c.in-Ok.ensures.items) (map_insert list old c.args.place c.args.node) in
-    inserted (map list old) c.args.place (list c.args.node) made (c.reserve_one.ensures.lengths ∙ c.requires.index) (omega (arith, c.requires.place, length-map old list)) (omega (arith, c.requires.fits))
+    inserted (map list old) c.args.place (list c.args.node) (made g c) (c.reserve_one.ensures.sums ∙ c.requires.index) (omega (arith, c.requires.place, length-map old list))
 
-pub rebuild_from-requires-clause-same : goal.rebuild_from-requires-clause-same
-rebuild_from-requires-clause-same g c = (written g c).same
-
-pub rebuild_from-requires-clause-fits : goal.rebuild_from-requires-clause-fits
-rebuild_from-requires-clause-fits g c = (written g c).fits
+pub insert-requires-in-Ok-clause-fits : goal.insert-requires-in-Ok-clause-fits
+insert-requires-in-Ok-clause-fits g c =
+    let list = g.Node.NodeLike.list in
+    let ns = map list c.args.nodes.now.items in
+    rw (made g c, lengths-insert ns c.args.place (list c.args.node)) (omega (arith, c.requires.fits, length-joined ns, sum_by-insert (λ x. x) (node_lengths ns) c.args.place (length (list c.args.node))))
 
 pub returns-in-Ok-clause-nodes : goal.returns-in-Ok-clause-nodes
 returns-in-Ok-clause-nodes g c =

@@ -1,13 +1,14 @@
-use Rattle.std.proofs.Common.{◌≡◌, ◌+◌, ◌<◌, ◌≤◌, ◌⊎◌, ℕ, length, map, set, sum, remove, inl, inr, refl, ap, sym, ◌∙◌, subst, arith}
+use Rattle.std.proofs.Common.{◌≡◌, ◌+◌, ◌<◌, ◌⊎◌, ℕ, length, map, set, sum, insert, remove, inl, inr, refl, ap, sym, ◌∙◌, subst, arith}
 use Rattle.std.proofs.Math.Seq.{map-set_same}
 use Rattle.std.proofs.lemmas.List.{length-map}
 use Rattle.std.proofs.lemmas.List.Edits.{length-remove}
-use Rattle.indexset_core.specs.Nodes.{node_at}
+use Rattle.std.proofs.lemmas.List.Sums.{sum_by-insert}
+use Rattle.indexset_core.specs.Nodes.{node_at, node_lengths}
 use Rattle.indexset_core.specs.Order.{IsAscending}
-use Rattle.indexset_core.proofs.CallerLemmas.{length-joined, on_err}
-use Rattle.indexset_events.proofs.CallerLemmas.{first_list, left_joined, next_list, node_is, right_joined, two_seen}
-use Rattle.indexset_events.specs.Joining.{with_joined}
-use Rattle.indexset_log.proofs.Indexes.{Rewrites, merged}
+use Rattle.indexset_core.proofs.CallerLemmas.{on_err}
+use Rattle.indexset_events.proofs.CallerLemmas.{first_list, left_joined, map_remove, next_list, node_is, right_joined, two_seen}
+use Rattle.indexset_index.proofs.CallerLemmas.{block_there, both, both_inside, emptied, fewer, gathered, node_in_block, sum-blocks}
+use Rattle.indexset_log.proofs.Indexes.{merged, some_items}
 use Rattle.indexset_log.proofs.nodes.take_and_join.Given.{Over}
 use Rattle.indexset_log.proofs.nodes.take_and_join.Goals.{After-as_slice, After-from_residual, then-node-left, else-node-left}
 use Rattle.indexset_log.proofs.nodes.take_and_join.Goals as goal
@@ -95,9 +96,80 @@ absorb-requires-clause-order g c =
           rw (w.first-is, w.next-is) (subst (IsAscending g.T.Ord.cmp) (sym made) c.requires.order)
     ]
 
--- the nodes once the two are one
-made : (g : Over) (c : After-as_slice g) → map g.Node.NodeLike.list c.as_slice.result.now ≡ with_joined (set (map g.Node.NodeLike.list c.args.nodes.now.items) c.args.node (remove (node_at (map g.Node.NodeLike.list c.args.nodes.now.items) c.args.node) c.args.offset)) c.args.left
-made g c =
+-- the two nodes, as they were before
+seen : (g : Over) (c : After-as_slice g) → map g.Node.NodeLike.list c.as_slice.result.now ≡ remove (map g.Node.NodeLike.list c.args.nodes.now.items) (c.args.left + 1)
+seen g c =
+    let list = g.Node.NodeLike.list in
+    let items = c.args.nodes.now.items in
+    let same : map list (set items c.args.left c.reserve.new.self) ≡ map list items = map-set_same list items c.args.left c.reserve.new.self c.index_mut-first.result.now (c.in_ok-reserve.ensures.list ∙ ap list c.index_mut-first.ensures.value) in
+    rw (c.as_slice.ensures.value, c.remove-next.ensures.items) (map_remove list (set items c.args.left c.reserve.new.self) (c.args.left + 1) ∙ ap (λ l. remove l (c.args.left + 1)) same)
+
+-- how many items the second has
+next_long : (g : Over) (c : After-as_slice g) → c.len-more.result ≡ length (node_at (map g.Node.NodeLike.list c.args.nodes.now.items) (c.args.left + 1))
+next_long g c =
+    let list = g.Node.NodeLike.list in
+    let items = c.args.nodes.now.items in
+    c.len-more.ensures.value ∙ ap (λ l. length l) (node_is list items (map list items) (c.args.left + 1) c.index.result.now refl c.requires.place c.index.ensures)
+
+pub remove-requires-clause-inside : goal.remove-requires-clause-inside
+remove-requires-clause-inside g c =
+    let list = g.Node.NodeLike.list in
+    let ns = map list c.args.nodes.now.items in
+    let inside : c.args.left + 1 < length ns = omega (arith, c.requires.place, length-map c.args.nodes.now.items list) in
+    omega (arith, inside, ap (λ l. length l) (seen g c), length-map c.as_slice.result.now list, fewer ns c.args.left inside)
+
+pub remove-requires-clause-before : goal.remove-requires-clause-before
+remove-requires-clause-before g c =
+    let ns = map g.Node.NodeLike.list c.args.nodes.now.items in
+    emptied ns (c.args.left + 1) c.len-more.result (seen g c) c.requires.index (omega (arith, c.requires.place, length-map c.args.nodes.now.items g.Node.NodeLike.list)) (next_long g c)
+
+pub add-requires-clause-inside : goal.add-requires-clause-inside
+add-requires-clause-inside g c =
+    let list = g.Node.NodeLike.list in
+    let ns = map list c.args.nodes.now.items in
+    let j = c.args.left in
+    let inside : j + 1 < length ns = omega (arith, c.requires.place, length-map c.args.nodes.now.items list) in
+    let before = (goal.at.add-requires-clause-inside g c).After-as_slice in
+    let gone = rw (seen g before) at c.remove.ensures.sums in
+    block_there (remove ns (j + 1)) j gone (omega (arith, fewer ns j inside, inside))
+
+pub add-requires-clause-fits : goal.add-requires-clause-fits
+add-requires-clause-fits g c =
+    let list = g.Node.NodeLike.list in
+    let ns = map list c.args.nodes.now.items in
+    let j = c.args.left in
+    let inside : j + 1 < length ns = omega (arith, c.requires.place, length-map c.args.nodes.now.items list) in
+    let before = (goal.at.add-requires-clause-fits g c).After-as_slice in
+    let gone = rw (seen g before) at c.remove.ensures.sums in
+    let less = node_lengths (remove ns (j + 1)) in
+    let all = emptied ns (j + 1) c.len-more.result refl c.requires.index inside (next_long g before) in
+    omega (arith, ap sum gone, sum-blocks less, ap sum all, sum-blocks (insert less (j + 1) c.len-more.result), sum_by-insert (λ x. x) less (j + 1) c.len-more.result, c.len-count.ensures.fits)
+
+pub sub-requires-clause-inside : goal.sub-requires-clause-inside
+sub-requires-clause-inside g c =
+    let list = g.Node.NodeLike.list in
+    let ns = map list c.args.nodes.now.items in
+    let j = c.args.left in
+    let inside : j + 1 < length ns = omega (arith, c.requires.place, length-map c.args.nodes.now.items list) in
+    let before = (goal.at.sub-requires-clause-inside g c).After-as_slice in
+    let gone = rw (seen g before) at c.remove.ensures.sums in
+    let two = c.add.ensures.sums ∙ gathered ns j inside c.len-more.result gone (next_long g before) in
+    block_there (both ns j inside) j two (both_inside ns j inside)
+
+pub sub-requires-clause-enough : goal.sub-requires-clause-enough
+sub-requires-clause-enough g c =
+    let list = g.Node.NodeLike.list in
+    let ns = map list c.args.nodes.now.items in
+    let j = c.args.left in
+    let inside : j + 1 < length ns = omega (arith, c.requires.place, length-map c.args.nodes.now.items list) in
+    let before = (goal.at.sub-requires-clause-enough g c).After-as_slice in
+    let gone = rw (seen g before) at c.remove.ensures.sums in
+    let two = c.add.ensures.sums ∙ gathered ns j inside c.len-more.result gone (next_long g before) in
+    let item = node_at ns c.args.node in
+    omega (arith, node_in_block (both ns j inside) j two (both_inside ns j inside), some_items ns j inside c.args.node (remove item c.args.offset) c.requires.node (length-remove item c.args.offset c.requires.offset))
+
+pub returns-clause-nodes : goal.returns-clause-nodes
+returns-clause-nodes g c =
     let list = g.Node.NodeLike.list in
     let items = c.args.nodes.now.items in
     let ns = map list items in
@@ -107,36 +179,23 @@ made g c =
     let next = next_list list items j c.requires.place c.index_mut-first.ensures.value c.in_ok-reserve.ensures.list c.remove-next.ensures.value in
     elim c.if-node-left.branch [
       | then-node-left w ↦
-          rw (c.as_slice.ensures.value, c.remove-next.ensures.items, w.if-node-left.true) (two.first_made c.absorb.new.self (remove (node_at ns j) c.args.offset) (c.absorb.ensures.list ∙ rw (w.first-is, w.next-is, w.remove_at-item.ensures.list, first.1, next) refl))
+          rw (c.remove-next.ensures.items, w.if-node-left.true) (two.first_made c.absorb.new.self (remove (node_at ns j) c.args.offset) (c.absorb.ensures.list ∙ rw (w.first-is, w.next-is, w.remove_at-item.ensures.list, first.1, next) refl))
       | else-node-left w ↦
           let place = one_after c.args.node j c.requires.node w.if-node-left.false in
-          rw (c.as_slice.ensures.value, c.remove-next.ensures.items, place) (two.next_made c.absorb.new.self (remove (node_at ns (j + 1)) c.args.offset) (c.absorb.ensures.list ∙ rw (w.first-is, w.next-is, w.remove_at-item-else-node-left.ensures.list, first.1, next) refl))
+          rw (c.remove-next.ensures.items, place) (two.next_made c.absorb.new.self (remove (node_at ns (j + 1)) c.args.offset) (c.absorb.ensures.list ∙ rw (w.first-is, w.next-is, w.remove_at-item-else-node-left.ensures.list, first.1, next) refl))
     ]
 
--- one of the two nodes, or the other
-in_two : (k j : ℕ) → (k ≡ j) ⊎ (k ≡ j + 1) → (j ≤ k) × (k ≤ j + 1)
-in_two k j (inl same) = (omega (arith, same), omega (arith, same))
-in_two k j (inr next) = (omega (arith, next), omega (arith, next))
-
-written : (g : Over) (c : After-as_slice g) → Rewrites c.args.index.now.lengths c.args.left (map g.Node.NodeLike.list c.as_slice.result.now)
-written g c =
+pub returns-clause-index : goal.returns-clause-index
+returns-clause-index g c =
     let list = g.Node.NodeLike.list in
-    let items = c.args.nodes.now.items in
-    let ns = map list items in
-    let at = in_two c.args.node c.args.left c.requires.node in
-    let many = length-map items list in
-    let less = length-remove (node_at ns c.args.node) c.args.offset c.requires.offset in
-    merged ns c.args.node _ c.args.left (made g c) c.requires.index (omega (arith, c.requires.place, many)) (omega (arith, c.requires.place, many, at.1)) at.0 (omega (arith, less)) (omega (arith, c.len-count.ensures.fits, ap sum c.requires.index, length-joined ns))
-
-pub rebuild_from-requires-clause-same : goal.rebuild_from-requires-clause-same
-rebuild_from-requires-clause-same g c = (written g c).same
-
-pub rebuild_from-requires-clause-fits : goal.rebuild_from-requires-clause-fits
-rebuild_from-requires-clause-fits g c = (written g c).fits
-
-pub returns-clause-nodes : goal.returns-clause-nodes
-returns-clause-nodes g c =
-    ap (map g.Node.NodeLike.list) (sym c.as_slice.ensures.value) ∙ made g (goal.at.returns-clause-nodes g c).After-as_slice
+    let ns = map list c.args.nodes.now.items in
+    let j = c.args.left in
+    let inside : j + 1 < length ns = omega (arith, c.requires.place, length-map c.args.nodes.now.items list) in
+    let before = (goal.at.returns-clause-index g c).After-as_slice in
+    let gone = rw (seen g before) at c.remove.ensures.sums in
+    let two = c.add.ensures.sums ∙ gathered ns j inside c.len-more.result gone (next_long g before) in
+    let item = node_at ns c.args.node in
+    c.sub.ensures.sums ∙ merged ns j inside c.args.node (remove item c.args.offset) c.requires.node (length-remove item c.args.offset c.requires.offset) (returns-clause-nodes g c) two
 
 pub returns-clause-item : goal.returns-clause-item
 returns-clause-item g c =

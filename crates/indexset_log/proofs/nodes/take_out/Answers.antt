@@ -1,27 +1,32 @@
-use Rattle.std.proofs.Common.{◌≡◌, ◌-◌, length, map, remove, sum, arith, refl, ap, sym, ◌∙◌}
+use Rattle.std.proofs.Common.{◌≡◌, ◌-◌, length, map, remove, arith, refl, ap, sym, ◌∙◌}
 use Rattle.std.proofs.lemmas.Bool.{eq-eqb, ne_eqb}
 use Rattle.std.proofs.lemmas.List.{length-map}
 use Rattle.std.proofs.lemmas.List.Edits.{length-remove}
 use Rattle.indexset_core.specs.Nodes.{node_at, node_lengths}
-use Rattle.indexset_core.proofs.CallerLemmas.{length-joined}
+use Rattle.indexset_index.specs.Blocks.{block_sums}
 use Rattle.indexset_events.proofs.CallerLemmas.{map_remove, node_is, set_view}
-use Rattle.indexset_log.proofs.Indexes.{Rewrites, emptied, lowered}
-use Rattle.indexset_log.proofs.nodes.take_out.Given.{Over}
-use Rattle.indexset_log.proofs.nodes.take_out.Goals.{After-as_slice}
+use Rattle.indexset_index.proofs.CallerLemmas.{block_there, emptied, lowered, node_in_block}
 use Rattle.indexset_log.proofs.nodes.take_out.Goals as goal
 
-written : (g : Over) (c : After-as_slice g) → Rewrites c.args.index.now.lengths c.args.node (map g.Node.NodeLike.list c.as_slice.result.now)
-written g c =
+pub remove-requires-clause-before : goal.remove-requires-clause-before
+remove-requires-clause-before g c =
     let list = g.Node.NodeLike.list in
     let old = c.args.nodes.now.items in
+    let node = node_is list old (map list old) c.args.node c.index.result.now refl c.requires.node c.index.ensures in
     let made : map list c.as_slice.result.now ≡ remove (map list old) c.args.node = rw (c.as_slice.ensures.value, c.remove-emptied.ensures.items) (map_remove list old c.args.node) in
-    emptied (map list old) c.args.node made c.requires.index (omega (arith, c.requires.node, length-map old list)) (omega (arith, c.len-count.ensures.fits, ap sum c.requires.index, length-joined (map list old)))
+    emptied (map list old) c.args.node 1 made c.requires.index (omega (arith, c.requires.node, length-map old list)) (omega (arith, c.len.ensures.value, ap (λ l. length l) node, c.if-len-eq1.true))
 
-pub rebuild_from-requires-clause-same : goal.rebuild_from-requires-clause-same
-rebuild_from-requires-clause-same g c = (written g c).same
+pub sub-requires-clause-inside : goal.sub-requires-clause-inside
+sub-requires-clause-inside g c =
+    let list = g.Node.NodeLike.list in
+    let old = c.args.nodes.now.items in
+    block_there (map list old) c.args.node c.requires.index (omega (arith, c.requires.node, length-map old list))
 
-pub rebuild_from-requires-clause-fits : goal.rebuild_from-requires-clause-fits
-rebuild_from-requires-clause-fits g c = (written g c).fits
+pub sub-requires-clause-enough : goal.sub-requires-clause-enough
+sub-requires-clause-enough g c =
+    let list = g.Node.NodeLike.list in
+    let old = c.args.nodes.now.items in
+    omega (arith, c.requires.offset, node_in_block (map list old) c.args.node c.requires.index (omega (arith, c.requires.node, length-map old list)))
 
 pub returns-then-len-eq1-clause-nodes : goal.returns-then-len-eq1-clause-nodes
 returns-then-len-eq1-clause-nodes g c =
@@ -45,4 +50,4 @@ returns-clause-index g c =
     let ns = map list old in
     let same = node_is list old ns c.args.node c.index_mut.result.now refl c.requires.node c.index_mut.ensures.value in
     let less : length (list c.remove_at-2.new.self) ≡ length (node_at ns c.args.node) - 1 = omega (arith, ap (λ l. length l) (c.remove_at-2.ensures.list ∙ ap (λ q. remove q c.args.offset) same), length-remove (node_at ns c.args.node) c.args.offset c.requires.offset) in
-    c.sub.ensures.lengths ∙ (lowered ns c.args.node (list c.remove_at-2.new.self) c.requires.index (omega (arith, c.requires.node, length-map old list)) less ∙ sym (ap (λ ls. node_lengths ls) (set_view list old ns c.args.node c.remove_at-2.new.self _ refl refl)))
+    c.sub.ensures.sums ∙ (lowered ns c.args.node c.requires.index (omega (arith, c.requires.node, length-map old list)) (list c.remove_at-2.new.self) 1 (omega (arith, c.requires.offset)) less ∙ sym (ap (λ ls. block_sums (node_lengths ls)) (set_view list old ns c.args.node c.remove_at-2.new.self _ refl refl)))

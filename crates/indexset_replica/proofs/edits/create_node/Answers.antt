@@ -1,11 +1,12 @@
-use Rattle.std.proofs.Common.{◌≤◌, [], ◌∷◌, length, map, sum, insert, refl, ap, sym, ◌∙◌, arith}
+use Rattle.std.proofs.Common.{◌≡◌, ◌≤◌, [], ◌∷◌, length, map, insert, refl, ap, sym, ◌∙◌, arith}
 use Rattle.std.proofs.lemmas.List.{length-map}
 use Rattle.std.proofs.lemmas.Result.{err_from_is_err_and}
 use Rattle.indexset_events.specs.declared.change.ChangeEventUnassigned.TheVariants.{CreateNode}
 use Rattle.indexset_events.proofs.CallerLemmas.{map_insert, nodes_ruled}
 use Rattle.indexset_replica.proofs.Clones.{created_same, reaching_same}
 use Rattle.indexset_replica.specs.Replica.{IsEdit}
-use Rattle.indexset_replica.proofs.LengthLemmas.{Rebuilds, insert_rebuilds}
+use Rattle.indexset_index.proofs.CallerLemmas.{inserted}
+use Rattle.indexset_replica.proofs.LengthLemmas.{insert_sum}
 use Rattle.indexset_replica.proofs.ReplicaEdits.{create_disorder, create_edit}
 use Rattle.indexset_replica.proofs.edits.create_node.Given.{Over}
 use Rattle.indexset_replica.proofs.edits.create_node.Goals as goal
@@ -48,20 +49,19 @@ returns-clause-done g c =
     rw (c.insert_item.ensures.items, c.room_for_node_of.ensures.nodes, map_insert (λ v. v.items) c.args.nodes.now.items p c.in_ok-node.node, node.2)
     (record { fits = (created g (goal.at.returns-clause-done g c).Else-not-fits_before).fits; event = CreateNode w; adds = (w, node.1, refl); done = create_edit cmp ns w p reach fine })
 
--- the lengths of the nodes with the new one
-rebuilt : (g : Over) (c : After-as_slice-3 g) → Rebuilds (λ v. v.items) c.first_reaching-place.result 1 (length c.in_ok-node.node.items) c.args.lengths.now.lengths c.as_slice-3.result.now
-rebuilt g c =
+-- the nodes with the new one
+added : (g : Over) (c : After-as_slice-3 g) → map (λ v. v.items) c.as_slice-3.result.now ≡ insert (map (λ v. v.items) c.args.nodes.now.items) c.first_reaching-place.result c.in_ok-node.node.items
+added g c = rw (c.as_slice-3.ensures.value, c.insert_item.ensures.items, c.room_for_node_of.ensures.nodes) (map_insert (λ v. v.items) c.args.nodes.now.items c.first_reaching-place.result c.in_ok-node.node)
+
+pub insert_node-requires-clause-before : goal.insert_node-requires-clause-before
+insert_node-requires-clause-before g c =
     let vs = c.args.nodes.now.items in
     let ns = map (λ v. v.items) vs in
     let p = c.first_reaching-place.result in
     let inside : p ≤ length ns = omega (arith, c.first_reaching-place.ensures.within, ap (λ l. length l) c.as_slice.ensures.value, length-map vs (λ v. v.items)) in
-    insert_rebuilds (λ v. v.items) ns c.args.lengths.now.lengths c.requires.lengths p c.as_slice-3.result.now c.in_ok-node.node.items inside
-    (rw (c.as_slice-3.ensures.value, c.insert_item.ensures.items, c.room_for_node_of.ensures.nodes) (map_insert (λ v. v.items) vs p c.in_ok-node.node))
+    inserted ns p c.in_ok-node.node.items (added g c) (c.reserve_node.ensures.sums ∙ c.requires.lengths) inside
 
-pub rebuild_from-requires-clause-same : goal.rebuild_from-requires-clause-same
-rebuild_from-requires-clause-same g c = let r = rebuilt g c in rw c.reserve_node.ensures.lengths r.same
-
-pub rebuild_from-requires-clause-fits : goal.rebuild_from-requires-clause-fits
-rebuild_from-requires-clause-fits g c =
-    let r = rebuilt g c in
-    omega (arith, r.total, c.in_ok-reserve_node.ensures.fits, ap sum c.reserve_node.ensures.lengths, ap (λ l. length l) c.in_ok-node.ensures.node.2)
+pub insert_node-requires-clause-fits : goal.insert_node-requires-clause-fits
+insert_node-requires-clause-fits g c =
+    let ns = map (λ v. v.items) c.args.nodes.now.items in
+    rw (added g c) (omega (arith, insert_sum ns c.first_reaching-place.result c.in_ok-node.node.items (c.reserve_node.ensures.sums ∙ c.requires.lengths), c.in_ok-reserve_node.ensures.fits, ap (λ l. length l) c.in_ok-node.ensures.node.2))

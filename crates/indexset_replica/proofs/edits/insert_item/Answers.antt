@@ -1,9 +1,9 @@
-use Rattle.std.proofs.Common.{◌≡◌, ◌+◌, ◌<◌, length, map, get_or, set, insert, refl, arith, sym, ap, ◌∙◌}
+use Rattle.std.proofs.Common.{◌≡◌, ◌+◌, ◌<◌, length, map, set, insert, refl, arith, sym, ap, ◌∙◌}
 use Rattle.std.proofs.lemmas.List.{map-set}
 use Rattle.std.proofs.lemmas.List.Edits.{length-insert}
 use Rattle.indexset_core.specs.Nodes.{node_at, node_lengths}
-use Rattle.indexset_index.proofs.CallerLemmas.{length-at}
-use Rattle.indexset_replica.proofs.LengthLemmas.{lengths-set}
+use Rattle.indexset_index.specs.Blocks.{block_sums}
+use Rattle.indexset_index.proofs.CallerLemmas.{block_there, raised}
 use Rattle.std.proofs.Math.Seq.{map-set_same}
 use Rattle.std.proofs.lemmas.Result.{err_from_is_err_and}
 use Rattle.indexset_events.specs.declared.change.ChangeEventUnassigned.TheVariants.{InsertAt}
@@ -85,7 +85,7 @@ pub returns-in_err-reserve-clause-lengths : goal.returns-in_err-reserve-clause-l
 returns-in_err-reserve-clause-lengths g c =
     let m = c.index_mut-node.result.now in
     c.requires.lengths
-    ∙ ap (λ l. node_lengths l) (sym (map-set_same (λ v. v.items) c.args.nodes.now.items c.in_ok-place.place c.reserve.new.self m (c.in_err-reserve.ensures.items ∙ ap (λ v. v.items) c.index_mut-node.ensures.value)))
+    ∙ ap (λ l. block_sums (node_lengths l)) (sym (map-set_same (λ v. v.items) c.args.nodes.now.items c.in_ok-place.place c.reserve.new.self m (c.in_err-reserve.ensures.items ∙ ap (λ v. v.items) c.index_mut-node.ensures.value)))
 
 pub returns-clause-lengths : goal.returns-clause-lengths
 returns-clause-lengths g c =
@@ -99,7 +99,13 @@ returns-clause-lengths g c =
     let m = c.index_mut-node.result.now in
     let here : node_at ns k ≡ n.items = held cmp (λ v. v.items) vs c.args.name.now k named n c.index.ensures in
     let long : length c.reserve.new.self.items ≡ length n.items = ap (λ l. length l) (c.in_ok-reserve.ensures.items ∙ (sym (held cmp (λ v. v.items) vs c.args.name.now k named m c.index_mut-node.ensures.value) ∙ here)) in
-    let more : length c.insert_item.new.items.items ≡ get_or (node_lengths ns) k 0 + 1 =
-    omega (arith, ap (λ l. length l) c.insert_item.ensures.items, length-insert c.reserve.new.self.items c.args.index c.in_ok-item.item (omega (arith, long, n.ok.0)), long, length-at ns k inside, ap (λ l. length l) here) in
+    let more : length c.insert_item.new.items.items ≡ length (node_at ns k) + 1 =
+    omega (arith, ap (λ l. length l) c.insert_item.ensures.items, length-insert c.reserve.new.self.items c.args.index c.in_ok-item.item (omega (arith, long, n.ok.0)), long, ap (λ l. length l) here) in
     rw (map-set (λ v. v.items) vs k c.insert_item.new.items)
-    (c.add_item.ensures ∙ (ap (λ l. set l k (get_or l k 0 + 1)) c.requires.lengths ∙ sym (lengths-set ns k (get_or (node_lengths ns) k 0 + 1) c.insert_item.new.items.items inside more)))
+    (c.add_items.ensures.sums ∙ raised ns k c.requires.lengths inside c.insert_item.new.items.items 1 more)
+
+pub add_items-requires-clause-inside : goal.add_items-requires-clause-inside
+add_items-requires-clause-inside g c =
+    let ns = map (λ v. v.items) c.args.nodes.now.items in
+    let named = rw c.as_slice.ensures.value at c.in_ok-place.ensures.named in
+    block_there ns c.in_ok-place.place c.requires.lengths (named_inside g.T.Ord.cmp ns c.args.name.now c.in_ok-place.place named)

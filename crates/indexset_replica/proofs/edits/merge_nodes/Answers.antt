@@ -1,17 +1,20 @@
-use Rattle.std.proofs.Common.{◌≡◌, ◌+◌, ◌<◌, [], length, map, refl, arith, ap, sym, ◌∙◌}
+use Rattle.std.proofs.Common.{◌≡◌, ◌+◌, ◌<◌, [], length, map, set, sum, insert, remove, refl, arith, ap, sym, ◌∙◌}
 use Rattle.std.proofs.lemmas.List.{length-map, set-get_or}
 use Rattle.std.proofs.lemmas.Result.{err_from_is_err_and}
 use Rattle.std.proofs.Math.Seq.{map-set_same}
 use Rattle.indexset_core.specs.Nodes.{node_at, node_lengths}
 use Rattle.indexset_events.specs.Joining.{with_joined}
 use Rattle.indexset_events.specs.declared.change.ChangeEventUnassigned.TheVariants.{MergeNodes}
-use Rattle.indexset_events.proofs.CallerLemmas.{first_list, next_list, two_seen}
+use Rattle.indexset_events.proofs.CallerLemmas.{first_list, map_remove, next_list, two_seen}
 use Rattle.indexset_replica.specs.Replica.{IsEdit}
-use Rattle.indexset_replica.proofs.LengthLemmas.{Rebuilds, merge_rebuilds}
-use Rattle.indexset_replica.proofs.ReplicaEdits.{absent_first, absent_next, held_inside, merge_apart, merge_edit}
+use Rattle.indexset_index.specs.Blocks.{block_sums}
+use Rattle.std.proofs.lemmas.List.Sums.{sum_by-insert}
+use Rattle.indexset_index.proofs.CallerLemmas.{block_there, emptied, fewer, gathered, sum-blocks}
+use Rattle.indexset_replica.proofs.LengthLemmas.{merged_lengths}
+use Rattle.indexset_replica.proofs.ReplicaEdits.{absent_first, absent_next, held, held_inside, merge_apart, merge_edit, named_inside}
 use Rattle.indexset_replica.proofs.edits.merge_nodes.Given.{Over}
 use Rattle.indexset_replica.proofs.edits.merge_nodes.Goals as goal
-use Rattle.indexset_replica.proofs.edits.merge_nodes.Goals.{After-as_slice-3, After-reserve}
+use Rattle.indexset_replica.proofs.edits.merge_nodes.Goals.{After-reserve}
 
 -- what the joining makes of the nodes
 merged : (g : Over) (c : After-reserve g) → let ns = map (λ v. v.items) c.args.nodes.now.items in IsEdit g.T.Ord.cmp ns (MergeNodes c.args.name.now c.args.next_name.now) (with_joined ns c.in_ok-place.place)
@@ -69,30 +72,71 @@ pub returns-in_err-reserve-clause-lengths : goal.returns-in_err-reserve-clause-l
 returns-in_err-reserve-clause-lengths g c =
     let m = c.index_mut-node.result.now in
     c.requires.lengths
-    ∙ ap (λ l. node_lengths l) (sym (map-set_same (λ v. v.items) c.args.nodes.now.items c.in_ok-place.place c.reserve.new.self m (c.in_err-reserve.ensures.items ∙ ap (λ v. v.items) c.index_mut-node.ensures.value)))
+    ∙ ap (λ l. block_sums (node_lengths l)) (sym (map-set_same (λ v. v.items) c.args.nodes.now.items c.in_ok-place.place c.reserve.new.self m (c.in_err-reserve.ensures.items ∙ ap (λ v. v.items) c.index_mut-node.ensures.value)))
 
--- the lengths of the nodes with the merged one
-rebuilt : (g : Over) (c : After-as_slice-3 g) → Rebuilds (λ v. v.items) c.in_ok-place.place 0 0 c.args.lengths.now.lengths c.as_slice-3.result.now
-rebuilt g c =
+pub remove_node-requires-clause-before : goal.remove_node-requires-clause-before
+remove_node-requires-clause-before g c =
+    let cmp = g.T.Ord.cmp in
     let vs = c.args.nodes.now.items in
     let ns = map (λ v. v.items) vs in
     let p = c.in_ok-place.place in
     let next = rw c.as_slice-2.ensures.value at c.in_ok-next.ensures.named in
     let follows : c.in_ok-next.next ≡ p + 1 = c.if-next-place.false in
-    let inside : p + 1 < length vs = omega (arith, follows, held_inside g.T.Ord.cmp (λ v. v.items) vs c.args.next_name.now c.in_ok-next.next next) in
-    let gone = rw follows at c.remove_item-rest.ensures.items in
-    let first = first_list (λ v. v.items) vs p inside c.index_mut-node.ensures.value c.in_ok-reserve.ensures.items gone c.index_mut.ensures.value in
-    let rest = next_list (λ v. v.items) vs p inside c.index_mut-node.ensures.value c.in_ok-reserve.ensures.items (rw follows at c.remove_item-rest.ensures.value) in
-    let two = two_seen (λ v. v.items) c.reserve.new.self vs p inside in
-    let made = two.first_made c.move_tail.new.other (node_at ns p) (c.move_tail.ensures.moved ∙ rw (first.1, rest) refl) in
-    merge_rebuilds (λ v. v.items) ns c.args.lengths.now.lengths c.requires.lengths p c.as_slice-3.result.now (omega (arith, inside, length-map vs (λ v. v.items)))
-    (rw (c.as_slice-3.ensures.value, gone, made, set-get_or ns p []) refl)
+    let inside : p + 1 < length ns = omega (arith, follows, named_inside cmp ns c.args.next_name.now c.in_ok-next.next next) in
+    let long : c.len-count.result ≡ length (node_at ns (p + 1)) = omega (arith, c.len-count.ensures, c.index.result.now.ok.0, ap (λ l. length l) (rw follows at (held cmp (λ v. v.items) vs c.args.next_name.now c.in_ok-next.next next c.index.result.now c.index.ensures))) in
+    let same : map (λ v. v.items) (set vs p c.reserve.new.self) ≡ ns = map-set_same (λ v. v.items) vs p c.reserve.new.self c.index_mut-node.result.now (c.in_ok-reserve.ensures.items ∙ ap (λ v. v.items) c.index_mut-node.ensures.value) in
+    let seen : map (λ v. v.items) c.as_slice-3.result.now ≡ remove ns (p + 1) = rw (c.as_slice-3.ensures.value, c.remove_item-rest.ensures.items, follows) (map_remove (λ v. v.items) (set vs p c.reserve.new.self) (p + 1) ∙ ap (λ l. remove l (p + 1)) same) in
+    rw follows (emptied ns (p + 1) c.len-count.result seen c.requires.lengths inside long)
 
-pub rebuild_from-requires-clause-same : goal.rebuild_from-requires-clause-same
-rebuild_from-requires-clause-same g c = let r = rebuilt g c in r.same
+pub add_items-requires-clause-inside : goal.add_items-requires-clause-inside
+add_items-requires-clause-inside g c =
+    let cmp = g.T.Ord.cmp in
+    let vs = c.args.nodes.now.items in
+    let ns = map (λ v. v.items) vs in
+    let p = c.in_ok-place.place in
+    let next = rw c.as_slice-2.ensures.value at c.in_ok-next.ensures.named in
+    let follows : c.in_ok-next.next ≡ p + 1 = c.if-next-place.false in
+    let inside : p + 1 < length ns = omega (arith, follows, named_inside cmp ns c.args.next_name.now c.in_ok-next.next next) in
+    let long : c.len-count.result ≡ length (node_at ns (p + 1)) = omega (arith, c.len-count.ensures, c.index.result.now.ok.0, ap (λ l. length l) (rw follows at (held cmp (λ v. v.items) vs c.args.next_name.now c.in_ok-next.next next c.index.result.now c.index.ensures))) in
+    let same : map (λ v. v.items) (set vs p c.reserve.new.self) ≡ ns = map-set_same (λ v. v.items) vs p c.reserve.new.self c.index_mut-node.result.now (c.in_ok-reserve.ensures.items ∙ ap (λ v. v.items) c.index_mut-node.ensures.value) in
+    let seen : map (λ v. v.items) c.as_slice-3.result.now ≡ remove ns (p + 1) = rw (c.as_slice-3.ensures.value, c.remove_item-rest.ensures.items, follows) (map_remove (λ v. v.items) (set vs p c.reserve.new.self) (p + 1) ∙ ap (λ l. remove l (p + 1)) same) in
+    let gone : c.remove_node.new.self.sums ≡ block_sums (node_lengths (remove ns (p + 1))) = c.remove_node.ensures ∙ ap (λ l. block_sums (node_lengths l)) seen in
+    block_there (remove ns (p + 1)) p gone (omega (arith, fewer ns p inside, inside))
 
-pub rebuild_from-requires-clause-room : goal.rebuild_from-requires-clause-room
-rebuild_from-requires-clause-room g c = let r = rebuilt g c in omega (arith, r.few, c.total-total.ensures.within)
+pub add_items-requires-clause-fits : goal.add_items-requires-clause-fits
+add_items-requires-clause-fits g c =
+    let cmp = g.T.Ord.cmp in
+    let vs = c.args.nodes.now.items in
+    let ns = map (λ v. v.items) vs in
+    let p = c.in_ok-place.place in
+    let next = rw c.as_slice-2.ensures.value at c.in_ok-next.ensures.named in
+    let follows : c.in_ok-next.next ≡ p + 1 = c.if-next-place.false in
+    let inside : p + 1 < length ns = omega (arith, follows, named_inside cmp ns c.args.next_name.now c.in_ok-next.next next) in
+    let long : c.len-count.result ≡ length (node_at ns (p + 1)) = omega (arith, c.len-count.ensures, c.index.result.now.ok.0, ap (λ l. length l) (rw follows at (held cmp (λ v. v.items) vs c.args.next_name.now c.in_ok-next.next next c.index.result.now c.index.ensures))) in
+    let same : map (λ v. v.items) (set vs p c.reserve.new.self) ≡ ns = map-set_same (λ v. v.items) vs p c.reserve.new.self c.index_mut-node.result.now (c.in_ok-reserve.ensures.items ∙ ap (λ v. v.items) c.index_mut-node.ensures.value) in
+    let seen : map (λ v. v.items) c.as_slice-3.result.now ≡ remove ns (p + 1) = rw (c.as_slice-3.ensures.value, c.remove_item-rest.ensures.items, follows) (map_remove (λ v. v.items) (set vs p c.reserve.new.self) (p + 1) ∙ ap (λ l. remove l (p + 1)) same) in
+    let gone : c.remove_node.new.self.sums ≡ block_sums (node_lengths (remove ns (p + 1))) = c.remove_node.ensures ∙ ap (λ l. block_sums (node_lengths l)) seen in
+    let less = node_lengths (remove ns (p + 1)) in
+    let all = emptied ns (p + 1) c.len-count.result refl c.requires.lengths inside long in
+    omega (arith, ap sum gone, sum-blocks less, ap sum all, sum-blocks (insert less (p + 1) c.len-count.result), sum_by-insert (λ x. x) less (p + 1) c.len-count.result, c.total-total.ensures, c.total-total.type_inv)
 
-pub rebuild_from-requires-clause-fits : goal.rebuild_from-requires-clause-fits
-rebuild_from-requires-clause-fits g c = let r = rebuilt g c in omega (arith, r.total, c.total-total.ensures.value, c.total-total.type_inv)
+pub returns-clause-lengths : goal.returns-clause-lengths
+returns-clause-lengths g c =
+    let cmp = g.T.Ord.cmp in
+    let vs = c.args.nodes.now.items in
+    let ns = map (λ v. v.items) vs in
+    let p = c.in_ok-place.place in
+    let next = rw c.as_slice-2.ensures.value at c.in_ok-next.ensures.named in
+    let follows : c.in_ok-next.next ≡ p + 1 = c.if-next-place.false in
+    let inside : p + 1 < length ns = omega (arith, follows, named_inside cmp ns c.args.next_name.now c.in_ok-next.next next) in
+    let long : c.len-count.result ≡ length (node_at ns (p + 1)) = omega (arith, c.len-count.ensures, c.index.result.now.ok.0, ap (λ l. length l) (rw follows at (held cmp (λ v. v.items) vs c.args.next_name.now c.in_ok-next.next next c.index.result.now c.index.ensures))) in
+    let same : map (λ v. v.items) (set vs p c.reserve.new.self) ≡ ns = map-set_same (λ v. v.items) vs p c.reserve.new.self c.index_mut-node.result.now (c.in_ok-reserve.ensures.items ∙ ap (λ v. v.items) c.index_mut-node.ensures.value) in
+    let seen : map (λ v. v.items) c.as_slice-3.result.now ≡ remove ns (p + 1) = rw (c.as_slice-3.ensures.value, c.remove_item-rest.ensures.items, follows) (map_remove (λ v. v.items) (set vs p c.reserve.new.self) (p + 1) ∙ ap (λ l. remove l (p + 1)) same) in
+    let gone : c.remove_node.new.self.sums ≡ block_sums (node_lengths (remove ns (p + 1))) = c.remove_node.ensures ∙ ap (λ l. block_sums (node_lengths l)) seen in
+    let within : p + 1 < length vs = omega (arith, inside, length-map vs (λ v. v.items)) in
+    let rest = rw follows at c.remove_item-rest.ensures.items in
+    let first = first_list (λ v. v.items) vs p within c.index_mut-node.ensures.value c.in_ok-reserve.ensures.items rest c.index_mut.ensures.value in
+    let second = next_list (λ v. v.items) vs p within c.index_mut-node.ensures.value c.in_ok-reserve.ensures.items (rw follows at c.remove_item-rest.ensures.value) in
+    let two = two_seen (λ v. v.items) c.reserve.new.self vs p within in
+    let made = two.first_made c.move_tail.new.other (node_at ns p) (c.move_tail.ensures.moved ∙ rw (first.1, second) refl) in
+    c.add_items.ensures.sums ∙ (gathered ns p inside c.len-count.result gone long ∙ ap block_sums (merged_lengths ns p inside ∙ rw (rest, made, set-get_or ns p []) refl))

@@ -1,9 +1,8 @@
-use Rattle.std.proofs.Common.{◌≡◌, ◌-◌, ◌<◌, length, map, get_or, set, refl, ap, arith, sym, ◌∙◌}
+use Rattle.std.proofs.Common.{◌≡◌, ◌-◌, ◌<◌, length, map, refl, ap, arith, sym, ◌∙◌}
 use Rattle.std.proofs.lemmas.List.{map-set}
 use Rattle.std.proofs.lemmas.List.Edits.{length-remove}
-use Rattle.indexset_core.specs.Nodes.{node_at, node_lengths}
-use Rattle.indexset_index.proofs.CallerLemmas.{length-at}
-use Rattle.indexset_replica.proofs.LengthLemmas.{lengths-set}
+use Rattle.indexset_core.specs.Nodes.{node_at}
+use Rattle.indexset_index.proofs.CallerLemmas.{block_there, lowered, node_in_block}
 use Rattle.std.proofs.lemmas.Result.{err_from_is_err_and}
 use Rattle.indexset_replica.proofs.ReplicaEdits.{absent_remove, held, named_inside, remove_differs, remove_edit, remove_empty, remove_outside}
 use Rattle.indexset_replica.proofs.edits.remove_item.Goals as goal
@@ -55,7 +54,24 @@ returns-clause-lengths g c =
     let inside : k < length ns = named_inside cmp ns c.args.name.now k named in
     let n = c.index_mut-node.result.now in
     let here : node_at ns k ≡ n.items = held cmp (λ v. v.items) vs c.args.name.now k named n c.index_mut-node.ensures.value in
-    let less : length c.remove_item.new.items.items ≡ get_or (node_lengths ns) k 0 - 1 =
-    omega (arith, ap (λ l. length l) c.remove_item.ensures.items, length-remove n.items c.args.index (omega (arith, n.ok.0)), length-at ns k inside, ap (λ l. length l) here) in
+    let less : length c.remove_item.new.items.items ≡ length (node_at ns k) - 1 =
+    omega (arith, ap (λ l. length l) c.remove_item.ensures.items, length-remove n.items c.args.index (omega (arith, n.ok.0)), ap (λ l. length l) here) in
     rw (map-set (λ v. v.items) vs k c.remove_item.new.items)
-    (c.take_item.ensures ∙ (ap (λ l. set l k (get_or l k 0 - 1)) c.requires.lengths ∙ sym (lengths-set ns k (get_or (node_lengths ns) k 0 - 1) c.remove_item.new.items.items inside less)))
+    (c.take_items.ensures.sums ∙ lowered ns k c.requires.lengths inside c.remove_item.new.items.items 1 (omega (arith, n.ok.0, ap (λ l. length l) here)) less)
+
+pub take_items-requires-clause-inside : goal.take_items-requires-clause-inside
+take_items-requires-clause-inside g c =
+    let ns = map (λ v. v.items) c.args.nodes.now.items in
+    let named = rw c.as_slice.ensures.value at c.in_ok-place.ensures.named in
+    block_there ns c.in_ok-place.place c.requires.lengths (named_inside g.T.Ord.cmp ns c.args.name.now c.in_ok-place.place named)
+
+pub take_items-requires-clause-enough : goal.take_items-requires-clause-enough
+take_items-requires-clause-enough g c =
+    let cmp = g.T.Ord.cmp in
+    let vs = c.args.nodes.now.items in
+    let ns = map (λ v. v.items) vs in
+    let k = c.in_ok-place.place in
+    let named = rw c.as_slice.ensures.value at c.in_ok-place.ensures.named in
+    let n = c.index_mut-node.result.now in
+    let here : node_at ns k ≡ n.items = held cmp (λ v. v.items) vs c.args.name.now k named n c.index_mut-node.ensures.value in
+    omega (arith, n.ok.0, ap (λ l. length l) here, node_in_block ns k c.requires.lengths (named_inside cmp ns c.args.name.now k named))

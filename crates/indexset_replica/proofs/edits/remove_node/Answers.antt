@@ -1,10 +1,9 @@
-use Rattle.std.proofs.Common.{map, ◌∙◌, arith}
+use Rattle.std.proofs.Common.{◌≡◌, length, map, ap, ◌∙◌, arith}
 use Rattle.std.proofs.lemmas.Result.{err_from_is_err_and}
+use Rattle.indexset_core.specs.Nodes.{node_at}
 use Rattle.indexset_events.proofs.CallerLemmas.{map_remove}
-use Rattle.indexset_replica.proofs.LengthLemmas.{Rebuilds, remove_rebuilds}
-use Rattle.indexset_replica.proofs.ReplicaEdits.{absent_remove_node, named_inside, remove_node_edit}
-use Rattle.indexset_replica.proofs.edits.remove_node.Given.{Over}
-use Rattle.indexset_replica.proofs.edits.remove_node.Goals.{After-as_slice-2}
+use Rattle.indexset_index.proofs.CallerLemmas.{emptied}
+use Rattle.indexset_replica.proofs.ReplicaEdits.{absent_remove_node, held, named_inside, remove_node_edit}
 use Rattle.indexset_replica.proofs.edits.remove_node.Goals as goal
 
 pub returns-in_err-place-clause-refusal : goal.returns-in_err-place-clause-refusal
@@ -16,20 +15,14 @@ returns-in_err-place-clause-refusal g c =
 pub returns-clause-done : goal.returns-clause-done
 returns-clause-done g c =
     let named = rw c.as_slice.ensures.value at c.in_ok-place.ensures.named in
-    rw (c.remove_item.ensures.items, map_remove (λ v. v.items) c.args.nodes.now.items c.in_ok-place.place) (remove_node_edit g.T.Ord.cmp _ c.args.name.now c.in_ok-place.place named)
+    rw (c.remove_item-removed.ensures.items, map_remove (λ v. v.items) c.args.nodes.now.items c.in_ok-place.place) (remove_node_edit g.T.Ord.cmp _ c.args.name.now c.in_ok-place.place named)
 
--- the lengths of the nodes without it
-rebuilt : (g : Over) (c : After-as_slice-2 g) → Rebuilds (λ v. v.items) c.in_ok-place.place 0 0 c.args.lengths.now.lengths c.as_slice-2.result.now
-rebuilt g c =
+pub remove_node-requires-clause-before : goal.remove_node-requires-clause-before
+remove_node-requires-clause-before g c =
     let vs = c.args.nodes.now.items in
     let ns = map (λ v. v.items) vs in
     let p = c.in_ok-place.place in
     let named = rw c.as_slice.ensures.value at c.in_ok-place.ensures.named in
-    remove_rebuilds (λ v. v.items) ns c.args.lengths.now.lengths c.requires.lengths p c.as_slice-2.result.now (named_inside g.T.Ord.cmp ns c.args.name.now p named)
-    (rw (c.as_slice-2.ensures.value, c.remove_item.ensures.items) (map_remove (λ v. v.items) vs p))
-
-pub rebuild_from-requires-clause-same : goal.rebuild_from-requires-clause-same
-rebuild_from-requires-clause-same g c = let r = rebuilt g c in r.same
-
-pub rebuild_from-requires-clause-fits : goal.rebuild_from-requires-clause-fits
-rebuild_from-requires-clause-fits g c = let r = rebuilt g c in omega (arith, r.total, c.total-total.ensures.value, c.total-total.type_inv)
+    let n = c.remove_item-removed.result in
+    let long : c.len.result ≡ length (node_at ns p) = omega (arith, c.len.ensures, n.ok.0, ap (λ l. length l) (held g.T.Ord.cmp (λ v. v.items) vs c.args.name.now p named n c.remove_item-removed.ensures.value)) in
+    emptied ns p c.len.result (rw (c.as_slice-2.ensures.value, c.remove_item-removed.ensures.items) (map_remove (λ v. v.items) vs p)) c.requires.lengths (named_inside g.T.Ord.cmp ns c.args.name.now p named) long

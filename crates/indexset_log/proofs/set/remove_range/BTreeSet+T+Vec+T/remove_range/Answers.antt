@@ -1,9 +1,10 @@
-use Rattle.std.proofs.Common.{◌≡◌, ◌==◌, Bool, not, map, filter, length, sum, vec_len, Vec, Global, rules, arith, ap, sym, ◌∙◌}
+use Rattle.std.proofs.Common.{◌≡◌, ◌≤◌, ◌==◌, Bool, not, map, filter, length, sum, vec_len, Vec, Global, rules, arith, ap, sym, ◌∙◌}
 use Rattle.std.proofs.lemmas.Fn.{filter_same}
-use Rattle.std.proofs.lemmas.List.{with_items_is}
+use Rattle.std.proofs.lemmas.List.{length-map, with_items_is}
 use Rattle.std.proofs.lemmas.List.Sums.{count_by-le-length, length-filter}
 use Rattle.indexset_core.specs.Bounds.{is_within}
-use Rattle.indexset_core.specs.Nodes.{joined}
+use Rattle.indexset_core.specs.Nodes.{joined, node_lengths}
+use Rattle.indexset_index.proofs.CallerLemmas.{count-blocks, count-lengths, sum-blocks}
 use Rattle.indexset_core.proofs.CallerLemmas.{length-joined}
 use Rattle.indexset_log.specs.Made.{outside, without_range}
 use Rattle.indexset_log.specs.Tree.{IsTree}
@@ -37,7 +38,7 @@ invariant_of-self g c =
       within = c.self.invariant.tree.within;
       counted = asked.ensures.count ∙ ap (λ q. length q) (ap joined (rw (c.as_mut_slice.ensures.value, c.start_bound.ensures, c.end_bound.ensures) at asked.ensures.nodes) ∙ sym (joined_filled (map (outside g.T.Ord.cmp start end) held)));
     } in
-    record { tree = rw (left g (goal.at.invariant_of-self g c).After-retain) tree; index_is = rw c.as_slice.ensures.value at c.rebuild.ensures.lengths }
+    record { tree = rw (left g (goal.at.invariant_of-self g c).After-retain) tree; index_is = rw c.as_slice.ensures.value at c.rebuild.ensures.sums }
 
 pub rebuild-requires-clause-fits : goal.rebuild-requires-clause-fits
 rebuild-requires-clause-fits g c =
@@ -46,7 +47,7 @@ rebuild-requires-clause-fits g c =
     let end = g.R.Bounds.end c.args.range in
     let keep : g.row.T.Denot → Bool = λ x. not (is_within g.T.Ord.cmp start end x) in
     let kept = ap joined (left g (goal.at.rebuild-requires-clause-fits g c).After-retain) ∙ (joined_filled (map (outside g.T.Ord.cmp start end) held) ∙ joined-filter keep held) in
-    rw c.as_slice.ensures.value (omega (arith, ap (λ l. length l) kept, length-filter keep (joined held), count_by-le-length keep (joined held), c.len-count.ensures.fits, ap sum c.self.invariant.index_is, length-joined held, length-joined (map (λ (v : Vec g.row.T.Denot Global). v.items) c.retain.new.self.items)))
+    rw c.as_slice.ensures.value (omega (arith, ap (λ l. length l) kept, length-filter keep (joined held), count_by-le-length keep (joined held), c.len-count.ensures.fits, ap sum c.self.invariant.index_is, sum-blocks (node_lengths held), length-joined held, length-joined (map (λ (v : Vec g.row.T.Denot Global). v.items) c.retain.new.self.items)))
 
 pub returns-clause-nodes : goal.returns-clause-nodes
 returns-clause-nodes g c =
@@ -58,3 +59,11 @@ returns-clause-contents g c =
     let end = g.R.Bounds.end c.args.range in
     let keep : g.row.T.Denot → Bool = λ x. not (is_within g.T.Ord.cmp start end x) in
     ap joined (returns-clause-nodes g c) ∙ (joined_filled (map (outside g.T.Ord.cmp start end) c.args.self.now.nodes) ∙ joined-filter keep c.args.self.now.nodes)
+
+pub rebuild-requires-clause-room : goal.rebuild-requires-clause-room
+rebuild-requires-clause-room g c =
+    let held = map (λ (v : Vec g.row.T.Denot Global). v.items) c.self.inside.nodes.items in
+    let after = map (λ (v : Vec g.row.T.Denot Global). v.items) c.retain.new.self.items in
+    let cut = outside g.T.Ord.cmp (g.R.Bounds.start c.args.range) (g.R.Bounds.end c.args.range) in
+    let few : length after ≤ length held = omega (arith, ap (λ l. length l) (left g (goal.at.rebuild-requires-clause-room g c).After-retain), length-filter is_filled (map cut held), count_by-le-length is_filled (map cut held), length-map held cut) in
+    rw c.as_slice.ensures.value (omega (arith, few, count-blocks (node_lengths after), count-lengths after, count-blocks (node_lengths held), count-lengths held, ap (λ l. length l) c.self.invariant.index_is, c.len-count.ensures.within))
