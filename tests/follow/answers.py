@@ -17,8 +17,9 @@ EVENT = re.compile(
     ).replace(b"NUM", NUMBER)
 )
 NODE = re.compile(rb"node (PAIR(?: PAIR)*)".replace(b"PAIR", PAIR))
-START = re.compile(rb"start " + NUMBER)
+START = re.compile(rb"start " + NUMBER + rb"(?: ([1-9][0-9]*))?")
 END = re.compile(rb"end " + NUMBER + rb" " + NUMBER)
+DONE = re.compile(rb"done " + NUMBER + rb" " + NUMBER)
 
 Pair = tuple[int, int]
 Node = list[Pair]
@@ -72,9 +73,14 @@ def is_lawful(nodes: list[Node]) -> bool:
     return all(nodes) and all(a < b for a, b in zip(keys, keys[1:]))
 
 
-def snapshot(nodes: list[Node], awaited: int) -> list[bytes]:
-    """The lines that make a follower hold these nodes."""
-    lines = [b"start %d" % awaited] + [b"node " + shown(node) for node in nodes]
+def behind(done: int) -> bytes:
+    """What stands behind a line that tells the greatest number of a command."""
+    return b" %d" % done if done else b""
+
+
+def snapshot(nodes: list[Node], awaited: int, done: int = 0) -> list[bytes]:
+    """The lines that make a follower hold these nodes, and the greatest number of a command."""
+    lines = [b"start %d%b" % (awaited, behind(done))] + [b"node " + shown(node) for node in nodes]
     return [*lines, b"end %d %d" % (len(nodes), told_sum(lines))]
 
 
@@ -98,8 +104,10 @@ class Model:
         self.is_quiet = is_quiet
         self.nodes: list[Node] = []
         self.next = 0
+        self.done = 0
         self.coming: list[Node] | None = None
         self.coming_next = 0
+        self.coming_done = 0
         self.window = window
         self.early: dict[int, Event] = {}
 
@@ -173,8 +181,8 @@ class Model:
         self.coming = nodes
         return b"held"
 
-    def start(self, at: int) -> bytes:
-        self.coming, self.coming_next = [], at
+    def start(self, at: int, done: int) -> bytes:
+        self.coming, self.coming_next, self.coming_done = [], at, done
         return b"held"
 
     def end(self, count: int, told: int) -> bytes:
@@ -183,9 +191,15 @@ class Model:
         came, self.coming = self.coming, None
         if len(came) != count:
             return self.unfit("count")
-        if told_sum(snapshot(came, self.coming_next)[:-1]) != told:
+        if told_sum(snapshot(came, self.coming_next, self.coming_done)[:-1]) != told:
             return self.unfit("sum")
-        self.nodes, self.next, self.early = came, self.coming_next, {}
+        self.nodes, self.next, self.done, self.early = came, self.coming_next, self.coming_done, {}
+        return b"next %d" % self.next
+
+    def told_done(self, done: int, end: int) -> bytes:
+        if self.next < end:
+            return b"gap %d" % self.next
+        self.done = max(self.done, done)
         return b"next %d" % self.next
 
     def asked(self, line: bytes) -> bytes | None:
@@ -226,10 +240,10 @@ class Model:
             case [b"head", end] if is_number(end):
                 return b"%b %d" % (b"gap" if self.next < number(end) else b"next", self.next)
             case [b"snapshot"]:
-                return b"\n".join(snapshot(self.nodes, self.next))
+                return b"\n".join(snapshot(self.nodes, self.next, self.done))
             case [b"sum"]:
-                told = told_sum(snapshot(self.nodes, self.next)[:-1])
-                return b"sum %d %d %d" % (self.next, len(self.nodes), told)
+                told = told_sum(snapshot(self.nodes, self.next, self.done)[:-1])
+                return b"sum %d %d %d%b" % (self.next, len(self.nodes), told, behind(self.done))
             case [b"len"]:
                 return b"%d" % len(items)
             case [b"first"]:
@@ -265,9 +279,11 @@ class Model:
             if node := NODE.fullmatch(line):
                 return self.node([pair(part) for part in node[1].split(b" ")])
             if start := START.fullmatch(line):
-                return self.start(number(start[1]))
+                return self.start(number(start[1]), number(start[2] or b"0"))
             if end := END.fullmatch(line):
                 return self.end(number(end[1]), number(end[2]))
+            if done := DONE.fullmatch(line):
+                return self.told_done(number(done[1]), number(done[2]))
         except OverflowError:
             return b"bad"
         return self.cut(line)

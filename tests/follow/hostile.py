@@ -115,8 +115,14 @@ class Hostile:
 
     def end(self) -> bytes:
         """The end of a snapshot, most often the right one."""
-        came = snapshot(self.model.coming or [], self.model.coming_next)[-1]
+        came = snapshot(self.model.coming or [], self.model.coming_next, self.model.coming_done)[-1]
         return came if self.random.random() < 0.7 else self.altered(came)
+
+    def done(self) -> bytes:
+        """Which commands were done, most often by events that are held."""
+        end = self.model.next + self.random.randrange(-3, 3) if self.random.random() < 0.9 else self.some_number()
+        done = self.model.done + self.random.randrange(-3, 4) if self.random.random() < 0.98 else self.some_number()
+        return b"done %d %d" % (max(done, 0), max(end, 0))
 
     def read(self) -> bytes:
         number = self.some_number
@@ -152,9 +158,11 @@ class Hostile:
         if kind < 0.82:
             return self.altered(self.whole_node())
         if kind < 0.83:
-            return b"start %d" % random.choice([0] * 9 + [5, MOST - 3, MOST])
+            return b"start %d" % random.choice([0] * 9 + [5, MOST - 3, MOST]) + random.choice([b"", b"", b" 7", b" 0", b" %d" % self.some_number()])
         if kind < 0.84:
             return self.end()
+        if kind < 0.86:
+            return random.choice([self.done(), self.done(), self.altered(self.done())])
         if kind < 0.92:
             return self.request()
         if kind < 0.95:

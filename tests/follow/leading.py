@@ -22,7 +22,7 @@ from collections.abc import Sequence
 sys.dont_write_bytecode = True
 HERE = pathlib.Path(__file__).resolve().parent
 sys.path[:0] = [str(HERE.parent.parent / "tools"), str(HERE.parent / "model")]
-from answers import EVENT, MOST, START, Model, is_number, number, snapshot  # noqa: E402
+from answers import DONE, EVENT, MOST, START, Model, is_number, number, snapshot  # noqa: E402
 from hostile import Counts, Hostile, agreed, cuts, joined  # noqa: E402
 from items import PAIRS, Item  # noqa: E402
 from logged import Tree, texts  # noqa: E402
@@ -50,8 +50,10 @@ class Store(Model):
         return b"next %d" % self.next
 
     def command(self, line: bytes) -> bytes | None:
-        """The answer to a command, or None where the line is none."""
-        match line.split(b" "):
+        """The answer to a command, with a number before it or without one, or None where the line is none."""
+        word, *words = line.split(b" ")
+        echo = number(word[1:]) if word[:1] == b"#" and is_number(word[1:]) else None
+        match [word, *words] if echo is None else words:
             case [b"put", key, value] if is_number(key) and is_number(value):
                 old, events = self.tree.put(Item(number(key), 0, str(number(value))))
                 reply = "new" if old is None else f"old {old.value}"
@@ -62,7 +64,10 @@ class Store(Model):
                 return None
         self.nodes = [[(item.key, int(item.value)) for item in node] for node in self.tree.nodes]
         self.next = self.tree.next
-        return "\n".join([reply, *texts(events, PAIRS), f"next {self.next}"]).encode()
+        if echo is None:
+            return "\n".join([reply, *texts(events, PAIRS), f"next {self.next}"]).encode()
+        self.done = max(self.done, echo)
+        return "\n".join([f"#{echo} {reply}", *texts(events, PAIRS), f"done {self.done} {self.next}", f"next {self.next}"]).encode()
 
     def led(self, line: bytes) -> bytes:
         """The answer of a leader."""
@@ -78,11 +83,16 @@ class Store(Model):
             self.leads = False
             return b"next %d" % self.next
         try:
-            if not self.nodes and (started := START.fullmatch(line)) and number(started[1]) >= 0:
+            if not self.nodes and (started := START.fullmatch(line)) and number(started[1]) + number(started[2] or b"0") >= 0:
                 self.leads = False
             return self.led(line) if self.leads else super().told(line)
         except OverflowError:
             return b"bad"
+
+
+def random_echo(chance: random.Random, done: int) -> bytes:
+    """A number before a command, most often the one after the greatest, and what looks like one."""
+    return chance.choice([b"#%d " % (done % MOST + 1)] * 6 + [b"#0 ", b"#%d " % chance.randrange(99), b"#%d " % (MOST if chance.random() < 0.01 else 7), b"# ", b"#01 ", b"#%d " % (MOST + 1), b"##1 ", b"#1  "])
 
 
 class Commands(Hostile):
@@ -93,6 +103,9 @@ class Commands(Hostile):
         self.keys = keys
 
     def command(self) -> bytes:
+        return random_echo(self.random, self.model.done) + self.plain() if self.random.random() < 0.3 else self.plain()
+
+    def plain(self) -> bytes:
         key = self.random.randrange(self.keys) if self.random.random() < 0.95 else min(self.some_number(), MOST)
         if self.random.random() < 0.55:
             return b"put %d %d" % (key, self.random.randrange(9))
@@ -112,7 +125,7 @@ class Commands(Hostile):
         if kind < 0.96:
             return self.altered(random.choice([self.command(), self.read()]))
         if kind < 0.98:
-            given = [b"start %d" % random.choice([0, 3, 60, MOST + 1]), self.end(), self.whole_node(), b"0 create 1:1"]
+            given = [b"start %d" % random.choice([0, 3, 60, MOST + 1]), b"start 3 17", self.end(), self.whole_node(), b"0 create 1:1", self.done()]
             return random.choice([b"lead", b"lead", b"follow", b"snapshot", *given])
         return bytes(random.choices(range(256), k=random.randrange(40))).replace(b"\n", b"")
 
@@ -162,8 +175,11 @@ def take_over(program: pathlib.Path, size: int, seed: int) -> Counts:
     whole = run(program, ["--lead", "--node-size", str(size)], lines)
     at = chance.randrange(len(lines))
     before = b"\n".join(answers[:at]).split(b"\n")
-    told = [line for line in before if EVENT.fullmatch(line)]
-    goes_on = [b"next %d" % len(told), *answers[at:]]
+    told = [line for line in before if EVENT.fullmatch(line) or DONE.fullmatch(line)]
+    following = Store(size, leads=False)
+    for line in told:
+        following.answer(line)
+    goes_on = [b"next %d" % following.next, *answers[at:]]
     done = run(program, ["--node-size", str(size)], [*told, b"lead", *lines[at:]])
     replies = done.stdout.split(b"\n")[len(told) :]
     if whole.stdout != joined(answers) or joined(goes_on) != b"\n".join(replies):
@@ -179,7 +195,7 @@ def begins_late(program: pathlib.Path, size: int, seed: int) -> Counts:
     lines = [author.command() for _ in range(300)]
     for line in lines:
         leader.answer(line)
-    given = snapshot(leader.nodes, leader.next)
+    given = snapshot(leader.nodes, leader.next, leader.done)
     whole = run(program, ["--lead", "--node-size", str(size)], [*lines, b"snapshot"])
     more = [b"start 9", b"sum", b"lead", b"end 0 0", b"sum", *(author.command() for _ in range(300))]
     answers = [*[b"held"] * (len(given) - 1), b"next %d" % leader.next, b"held", *(leader.answer(line) for line in more[1:])]
@@ -192,7 +208,7 @@ def begins_late(program: pathlib.Path, size: int, seed: int) -> Counts:
 
 def cut_lines(program: pathlib.Path) -> Counts:
     """The counts for commands, reads and `lead` to a leader and a follower that end at each byte."""
-    lines = [b"put 3 30", b"put 12 120\r", b"lead\r", b"cut 3", b"range 1 20", b"sum\r", b"start 5", b"lead", b"put 4 40", b"follow", b"head 12"]
+    lines = [b"put 3 30", b"#17 put 12 120\r", b"done 21 1", b"start 5 17", b"lead\r", b"cut 3", b"range 1 20", b"sum\r", b"start 5", b"lead", b"put 4 40", b"follow", b"head 12"]
     leading = cuts(program, joined(lines), ["--lead"], lambda: Store(256))
     following = cuts(program, joined(lines), [], lambda: Store(256, leads=False))
     silent = cuts(program, joined([b"start 0", b"node 1:1", b"0 create 1:1", *lines]), ["--quiet"], lambda: Store(256, leads=False, is_quiet=True))

@@ -1,5 +1,6 @@
 -- What a command does to the map, told by its events, and what is written to it.
-use Rattle.std.specs.Prelude.{ℕ, if◌then◌else◌, List, [], ◌++◌}
+use Rattle.std.specs.Prelude.{ℕ, if◌then◌else◌, List, [], ◌++◌, Option, None, Some, codes}
+use Rattle.std.specs.Fmt.{decimal}
 use Rattle.std.specs.Option.{option_map_or}
 use Rattle.std.specs.Ordering.{nat_cmp}
 use Rattle.indexset_core.specs.Nodes.{joined}
@@ -47,6 +48,11 @@ abbrev pub change_reply : PairTree → PairCommand → Reply
 change_reply t (Put k v) = option_map_or OldValue (value_of nat_cmp (joined t.nodes) k) New
 change_reply t (Cut k) = option_map_or GoneValue (value_of nat_cmp (joined t.nodes) k) Nothing
 change_reply t Nodes = Empty
+
+-- the number that a caller gave the command, where it gave one, stands before the reply
+abbrev pub echo_text : Option ℕ → List ℕ
+echo_text None = []
+echo_text (Some n) = codes "#" ++ decimal n ++ codes " "
 
 -- the lines of the reply: those of a change and of its events, or one for each node
 abbrev pub pair_reply : PairTree → PairCommand → List ℕ

@@ -1,14 +1,14 @@
 //! What a line does to the map, and the reply and the events that are written to it, or the nodes.
 
-ghost use Rattle.std.specs.Prelude.{◌≡◌, ◌≢◌, ◌+◌, ◌<◌, [], length, Err, OnOk};
+ghost use Rattle.std.specs.Prelude.{◌≡◌, ◌≢◌, ◌+◌, ◌++◌, ◌<◌, [], length, Err, OnOk};
 ghost use Rattle.std.specs.Option.{option_map_or};
 ghost use Rattle.std.specs.Io.KnownBytes.{Appends, Keeps};
-ghost use Rattle.indexset_bench.specs.Pairs.{pair_events, pair_reply, pairs_after};
+ghost use Rattle.indexset_bench.specs.Pairs.{echo_text, pair_events, pair_reply, pairs_after};
 ghost use Rattle.std.below.core.specs.declared.int.u64.TheConstants.{MAX};
 
 use crate::pair_command::PairCommand;
 use crate::reply::Reply;
-use crate::write::{write_events, write_line, write_nodes};
+use crate::write::{write_change, write_echo, write_line, write_nodes};
 use indexset_core::pair::Pair;
 use indexset_lines::RunFault;
 use indexset_log::map::BTreeMap;
@@ -17,16 +17,17 @@ use std::io::Write;
 /// A map of numbers, which returns its changes as events.
 pub type Pairs = BTreeMap<u64, u64, Vec<Pair<u64, u64>>>;
 
-/// Carries out a line's command to the map, and writes the reply to it. A failed call changes
-/// nothing, and nothing is written.
+/// Carries out a line's command to the map, and writes the reply to it, behind the number that the
+/// caller gave the command. A failed call changes nothing, and nothing is written.
 pub fn answer_pairs<W: Write>(
     writer: &mut W,
+    echo: Option<u64>,
     pairs: &mut Pairs,
     command: PairCommand,
 ) -> Result<(), RunFault>
     ensures pairs { OnOk result (pairs.new ≡ pairs_after pairs.old command) }
     ensures told { OnOk result (Appends (W.contents writer.old) (W.contents writer.new)
-        (pair_reply pairs.old command)) }
+        (echo_text echo ++ pair_reply pairs.old command)) }
     ensures memory_refused { result ≡ Err RunFault.Memory
         → Keeps (W.contents writer.old) (W.contents writer.new) }
     ensures numbers_refused { result ≡ Err RunFault.Numbers
@@ -40,15 +41,14 @@ pub fn answer_pairs<W: Write>(
         PairCommand::Put(key, value) => {
             let done = pairs.insert_cdc(key, value);
             let (old, events) = done.map_err(|refused| refused.cause)?;
-            write_line(writer, reply_to_put(old))?;
-            write_events(writer, &events)
+            write_change(writer, echo, reply_to_put(old), &events)
         }
         PairCommand::Cut(key) => {
             let (out, events) = pairs.remove_cdc(&key)?;
-            write_line(writer, reply_to_cut(out))?;
-            write_events(writer, &events)
+            write_change(writer, echo, reply_to_cut(out), &events)
         }
         PairCommand::Nodes => {
+            write_echo(writer, echo)?;
             if pairs.node_count() == 0 {
                 write_line(writer, Reply::Empty)
             } else {

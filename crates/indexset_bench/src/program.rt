@@ -148,7 +148,7 @@ fn answer_line<W: Write>(
         return answer_numbers(writer, set, command);
     }
     match parse_pairs(line) {
-        Some(command) => answer_pairs(writer, pairs, command),
+        Some(command) => answer_pairs(writer, None, pairs, command),
         None => write_line(writer, Reply::Bad),
     }
 }

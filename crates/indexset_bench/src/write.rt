@@ -1,8 +1,8 @@
 //! What is written: lines of a reply, of events and of nodes.
 
-ghost use Rattle.std.specs.Prelude.{◌≡◌, OnOk, IfErr};
+ghost use Rattle.std.specs.Prelude.{◌≡◌, ◌++◌, OnOk, IfErr};
 ghost use Rattle.std.specs.Io.KnownBytes.{Appends};
-ghost use Rattle.indexset_bench.specs.Pairs.{reply_ended};
+ghost use Rattle.indexset_bench.specs.Pairs.{echo_text, reply_ended};
 ghost use Rattle.indexset_bench.specs.PairText.{ended, event_text, lines_for, node_text};
 
 use crate::pair_text::{EventText, PairText};
@@ -20,6 +20,34 @@ pub fn write_line<W: Write>(writer: &mut W, reply: Reply) -> Result<(), RunFault
     ensures fault { IfErr result (λ fault. fault ≡ RunFault.Write) }
 {
     writer.writeln(reply).map_err(|_| RunFault::Write)
+}
+
+/// Writes the number that a caller gave a command, where it gave one, as `#17` and a space.
+pub fn write_echo<W: Write>(writer: &mut W, echo: Option<u64>) -> Result<(), RunFault>
+    ensures told { OnOk result (Appends (W.contents writer.old) (W.contents writer.new)
+        (echo_text echo)) }
+    ensures fault { IfErr result (λ fault. fault ≡ RunFault.Write) }
+{
+    match echo {
+        Some(number) => write!(writer, "#{number} ").map_err(|_| RunFault::Write),
+        None => Ok(()),
+    }
+}
+
+/// Writes the reply to a command behind its number, and each event as a line.
+pub(crate) fn write_change<W: Write>(
+    writer: &mut W,
+    echo: Option<u64>,
+    reply: Reply,
+    events: &[ChangeEvent<Pair<u64, u64>>],
+) -> Result<(), RunFault>
+    ensures told { OnOk result (Appends (W.contents writer.old) (W.contents writer.new)
+        (echo_text echo ++ (reply_ended reply ++ lines_for event_text events.now))) }
+    ensures fault { IfErr result (λ fault. fault ≡ RunFault.Write) }
+{
+    write_echo(writer, echo)?;
+    write_line(writer, reply)?;
+    write_events(writer, events)
 }
 
 /// Writes each event as a line.

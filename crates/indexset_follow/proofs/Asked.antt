@@ -1,7 +1,6 @@
 -- A read is answered alike in both roles, and changes nothing.
 use Rattle.std.proofs.Common.{None, ◌≡◌, ℕ, false, refl, arith}
 use lib.Chars.{codes}
-use Rattle.indexset_bench.specs.Pairs.{PairTree}
 use Rattle.indexset_follow.specs.EventLine.{event_of}
 use Rattle.indexset_follow.specs.Follow.{State}
 use Rattle.indexset_follow.specs.Mark.{mark_of}
@@ -9,6 +8,7 @@ use Rattle.indexset_follow.specs.NodeLine.{node_of}
 use Rattle.indexset_follow.specs.Query.{QueryFits, query_line}
 use Rattle.indexset_follow.specs.Reads.{query_text}
 use Rattle.indexset_follow.specs.Store.{after_held, held, held_reply, is_follow, is_lead}
+use Rattle.indexset_follow.specs.declared.leader.Leader.{Leader}
 use Rattle.indexset_follow.specs.declared.others.Voice.{Voice}
 use Rattle.indexset_follow.specs.declared.reads.query.Query.{Query}
 use Rattle.indexset_follow.specs.declared.reads.query.Query.TheVariants.{Get, Len, First, Last, Range, Rank, At, Page, Nodes, Next, Head, Snapshot, Sum}
@@ -98,12 +98,12 @@ no_follow Snapshot = refl
 no_follow Sum = refl
 
 module _ (q : Query) (fit : QueryFits q) where
-  pub follower_answers : (v : Voice) (size w : ℕ) (s : State) → held_reply v (held size w (Following s)) (query_line q) ≡ query_text s.held.nodes s.held.next q
+  pub follower_answers : (v : Voice) (size w : ℕ) (s : State) → held_reply v (held size w (Following s)) (query_line q) ≡ query_text s.held.nodes s.held.next s.done q
   follower_answers v size w s = rw (no_lead q, no_follow q, no_event q, no_node q, no_mark q, query_told q fit) refl
 
-  pub leader_answers : (v : Voice) (size w : ℕ) (t : PairTree) → held_reply v (held size w (Leading t)) (query_line q) ≡ query_text t.nodes t.next q
-  leader_answers v size w t = rw (no_lead q, no_follow q, no_mark q) (rw (query_told q fit) refl)
+  pub leader_answers : (v : Voice) (size w : ℕ) (l : Leader) → held_reply v (held size w (Leading l)) (query_line q) ≡ query_text l.pairs.nodes l.pairs.next l.done q
+  leader_answers v size w l = rw (no_lead q, no_follow q, no_mark q) (rw (query_told q fit) refl)
 
   pub nothing_changed : (size w : ℕ) (r : Role) → after_held (held size w r) (query_line q) ≡ held size w r
   nothing_changed size w (Following s) = rw (no_lead q, no_follow q, no_event q, no_node q, no_mark q) refl
-  nothing_changed size w (Leading t) = rw (no_lead q, no_follow q, no_mark q) (rw (query_told q fit) refl)
+  nothing_changed size w (Leading l) = rw (no_lead q, no_follow q, no_mark q) (rw (query_told q fit) refl)

@@ -10,8 +10,6 @@ use Rattle.std.specs.Ordering.{nat_cmp}
 use Rattle.indexset_lines.specs.Run.{left_by, replies_to}
 use Rattle.indexset_bench.specs.PairCommand.{PairFitsU64, pair_meaning}
 use Rattle.indexset_bench.specs.Pairs.{PairTree, pairs_after, told_events}
-use Rattle.indexset_bench.specs.declared.pair_command.PairCommand.{PairCommand}
-use Rattle.indexset_bench.proofs.CallerLemmas.{pair_sound}
 use Rattle.indexset_core.specs.Pairs.{by_key}
 use Rattle.indexset_events.specs.Attach.{nodes_refusal}
 use Rattle.indexset_events.specs.Nodes.{is_filled}
@@ -21,28 +19,32 @@ use Rattle.indexset_events.proofs.CallerLemmas.{lawful_taken, none_lawful}
 use Rattle.indexset_log.specs.Tree.{fresh}
 use Rattle.indexset_follow.specs.Copy.{copy}
 use Rattle.indexset_follow.specs.Drawn.{HoldsFirst}
+use Rattle.indexset_follow.specs.Echo.{command_of}
 use Rattle.indexset_follow.specs.EventLine.{Event}
 use Rattle.indexset_follow.specs.Follow.{State, holding}
-use Rattle.indexset_follow.specs.Leading.{after_leading, events_led, leading_events, tree_of}
+use Rattle.indexset_follow.specs.Leading.{after_leading, done_of, events_led, leader_after, leader_of, leading_events, tree_of}
 use Rattle.indexset_follow.specs.Query.{query_of}
 use Rattle.indexset_follow.specs.Reply.{reply_ended}
 use Rattle.indexset_follow.specs.Store.{after_held, held, held_after, held_replies, after_in_role, is_follow, is_lead, lead_reply, promoted, starts}
+use Rattle.indexset_follow.specs.declared.echo.Command.{Command}
+use Rattle.indexset_follow.specs.declared.leader.Leader.{Leader}
 use Rattle.indexset_follow.specs.declared.others.Voice.{Voice}
 use Rattle.indexset_follow.specs.declared.reads.query.Query.{Query}
 use Rattle.indexset_follow.specs.declared.reply.Reply.TheVariants as reply
 use Rattle.indexset_follow.specs.declared.role.Role.TheVariants as role
+use Rattle.indexset_follow.proofs.Echoes.{command_fits}
 use Rattle.indexset_follow.proofs.Programs.{Good, Onward, both_onward, command_onward, order, still}
 
 -- ---- lines of a leader
 
 leading_onward : (t : PairTree) → Good t → (line : List ℕ) → Onward t (after_leading t line) (leading_events t line)
-leading_onward t g line = at (query_of line) (pair_meaning line) (λ c told. (pair_sound line c told).1)
+leading_onward t g line = at (query_of line) (command_of line) (command_fits line)
   where
-    at : (q : Option Query) (o : Option PairCommand) → ((c : PairCommand) → o ≡ Some c → PairFitsU64 c)
-        → Onward t (option_map_or {U = PairTree} (λ q. t) q (option_map_or {U = PairTree} (pairs_after t) o t)) (option_map_or {U = List Event} (λ q. []) q (option_map_or {U = List Event} (told_events t) o []))
+    at : (q : Option Query) (o : Option Command) → ((c : Command) → o ≡ Some c → PairFitsU64 c.change)
+        → Onward t (option_map_or {U = PairTree} (λ q. t) q (option_map_or {U = PairTree} (λ c. pairs_after t c.change) o t)) (option_map_or {U = List Event} (λ q. []) q (option_map_or {U = List Event} (λ c. told_events t c.change) o []))
     at (Some q) o fit = still t g
     at None None fit = still t g
-    at None (Some c) fit = command_onward t g c (fit c refl)
+    at None (Some c) fit = command_onward t g c.change (fit c refl)
 
 lines_led : (t : PairTree) → Good t → (lines : List (List ℕ)) → Onward t (tree_of t lines) (events_led t lines)
 unfolding left_by events_led
@@ -53,9 +55,9 @@ lines_led t g (line ∷ lines) =
 
 -- a line leaves the node size
 size_kept : (t : PairTree) (line : List ℕ) → (after_leading t line).size ≡ t.size
-size_kept t line = at (query_of line) (pair_meaning line)
+size_kept t line = at (query_of line) (command_of line)
   where
-    at : (q : Option Query) (o : Option PairCommand) → (option_map_or {U = PairTree} (λ q. t) q (option_map_or {U = PairTree} (pairs_after t) o t)).size ≡ t.size
+    at : (q : Option Query) (o : Option Command) → (option_map_or {U = PairTree} (λ q. t) q (option_map_or {U = PairTree} (λ c. pairs_after t c.change) o t)).size ≡ t.size
     at (Some q) o = refl
     at None None = refl
     at None (Some c) = refl
@@ -75,58 +77,58 @@ module _ (size : ℕ) (two : 2 ≤ size) (few : size < 2 ^ 64) where
 -- ---- the roles
 
 -- a leader that is told to lead goes on
-word_still : (t : PairTree) (line : List ℕ) → line ≡ codes "lead" → t ≡ after_leading t line
+word_still : (l : Leader) (line : List ℕ) → line ≡ codes "lead" → l ≡ leader_after l line
 unfolding pair_meaning
-word_still t line is = subst (λ l. t ≡ after_leading t l) (sym is) refl
+word_still l line is = subst (λ text. l ≡ leader_after l text) (sym is) refl
 
 -- the line leaves a leader one
 abbrev stays : List ℕ → Type 0
 stays line = (starts line || is_follow line) ≡ false
 
-leader_line : (size w : ℕ) (t : PairTree) (line : List ℕ) → stays line → after_held (held size w (role.Leading t)) line ≡ held size w (role.Leading (after_leading t line))
-leader_line size w t line stay = at (is_lead line) (starts line) (is_follow line) (not (is_filled t.nodes)) refl stay
+leader_line : (size w : ℕ) (l : Leader) (line : List ℕ) → stays line → after_held (held size w (role.Leading l)) line ≡ held size w (role.Leading (leader_after l line))
+leader_line size w l line stay = at (is_lead line) (starts line) (is_follow line) (not (is_filled l.pairs.nodes)) refl stay
   where
     at : (b c d e : Bool) → is_lead line ≡ b → (c || d) ≡ false
-        → held size w (cond b (role.Leading t) (cond d (role.Following (holding w (copy t.nodes t.next))) (after_in_role (cond (c && e) (role.Following (holding w (copy [] t.next))) (role.Leading t)) line))) ≡ held size w (role.Leading (after_leading t line))
-    at true c d e is none = ap (λ r. held size w (role.Leading r)) (word_still t line ((bytes_eq-Decides line (codes "lead")).0 is))
+        → held size w (cond b (role.Leading l) (cond d (role.Following (holding w (copy l.pairs.nodes l.pairs.next) l.done)) (after_in_role (cond (c && e) (role.Following (holding w (copy [] l.pairs.next) l.done)) (role.Leading l)) line))) ≡ held size w (role.Leading (leader_after l line))
+    at true c d e is none = ap (λ r. held size w (role.Leading r)) (word_still l line ((bytes_eq-Decides line (codes "lead")).0 is))
     at false false false e is none = refl
     at false true d e is none = absurd (cc)
     at false false true e is none = absurd (cc)
 
-pub leader_lines : (size w : ℕ) (t : PairTree) (lines : List (List ℕ)) → All stays lines → held_after (held size w (role.Leading t)) lines ≡ held size w (role.Leading (tree_of t lines))
+pub leader_lines : (size w : ℕ) (l : Leader) (lines : List (List ℕ)) → All stays lines → held_after (held size w (role.Leading l)) lines ≡ held size w (role.Leading (leader_of (tree_of l.pairs lines) (done_of l.done lines)))
 unfolding left_by
-leader_lines size w t [] none = refl
-leader_lines size w t (line ∷ lines) none =
-    ap (λ h. held_after h lines) (leader_line size w t line (All-head stays line lines none)) ∙ leader_lines size w (after_leading t line) lines (All-tail stays line lines none)
+leader_lines size w l [] none = refl
+leader_lines size w l (line ∷ lines) none =
+    ap (λ h. held_after h lines) (leader_line size w l line (All-head stays line lines none)) ∙ leader_lines size w (leader_after l line) lines (All-tail stays line lines none)
 
 -- a follower becomes the leader of its nodes
 module _ (size w : ℕ) (s : State) (fits : nodes_refusal (by_key nat_cmp) size s.held.nodes ≡ None) where
-  pub takes_over : after_held (held size w (role.Following s)) (codes "lead") ≡ held size w (role.Leading (promoted size s.held))
+  pub takes_over : after_held (held size w (role.Following s)) (codes "lead") ≡ held size w (role.Leading (leader_of (promoted size s.held) s.done))
   takes_over = rw fits refl
 
   pub told_so : lead_reply size (role.Following s) ≡ reply_ended (reply.Next s.held.next)
   told_so = rw fits refl
 
-  pub answers_on : (v : Voice) (lines : List (List ℕ)) → held_replies v (held size w (role.Following s)) (codes "lead" ∷ lines) ≡ reply_ended (reply.Next s.held.next) ++ held_replies v (held size w (role.Leading (promoted size s.held))) lines
+  pub answers_on : (v : Voice) (lines : List (List ℕ)) → held_replies v (held size w (role.Following s)) (codes "lead" ∷ lines) ≡ reply_ended (reply.Next s.held.next) ++ held_replies v (held size w (role.Leading (leader_of (promoted size s.held) s.done))) lines
   unfolding replies_to
   answers_on v lines = λ i. told_so i ++ held_replies v (takes_over i) lines
 
--- and so the leader of which it holds the nodes
-module _ (w : ℕ) (t : PairTree) (s : State) (holds : s.held ≡ copy t.nodes t.next) (fits : nodes_refusal (by_key nat_cmp) t.size t.nodes ≡ None) where
-  fit_held : nodes_refusal (by_key nat_cmp) t.size s.held.nodes ≡ None
-  fit_held = subst (λ c. nodes_refusal (by_key nat_cmp) t.size c.nodes ≡ None) (sym holds) fits
+-- and so the leader of which it holds the nodes and the greatest number of a command
+module _ (w : ℕ) (l : Leader) (s : State) (holds : s.held ≡ copy l.pairs.nodes l.pairs.next) (knows : s.done ≡ l.done) (fits : nodes_refusal (by_key nat_cmp) l.pairs.size l.pairs.nodes ≡ None) where
+  fit_held : nodes_refusal (by_key nat_cmp) l.pairs.size s.held.nodes ≡ None
+  fit_held = subst (λ c. nodes_refusal (by_key nat_cmp) l.pairs.size c.nodes ≡ None) (sym holds) fits
 
-  same_leader : promoted t.size s.held ≡ t
-  same_leader = ap (promoted t.size) holds
+  same_leader : leader_of (promoted l.pairs.size s.held) s.done ≡ l
+  same_leader = λ i. leader_of (promoted l.pairs.size (holds i)) (knows i)
 
-  pub leads_as : after_held (held t.size w (role.Following s)) (codes "lead") ≡ held t.size w (role.Leading t)
-  leads_as = takes_over t.size w s fit_held ∙ ap (λ t'. held t.size w (role.Leading t')) same_leader
+  pub leads_as : after_held (held l.pairs.size w (role.Following s)) (codes "lead") ≡ held l.pairs.size w (role.Leading l)
+  leads_as = takes_over l.pairs.size w s fit_held ∙ ap (λ l'. held l.pairs.size w (role.Leading l')) same_leader
 
-  pub answers_as : (v : Voice) (lines : List (List ℕ)) → held_replies v (held t.size w (role.Following s)) (codes "lead" ∷ lines) ≡ reply_ended (reply.Next t.next) ++ held_replies v (held t.size w (role.Leading t)) lines
-  answers_as v lines = answers_on t.size w s fit_held v lines ∙ (λ i. reply_ended (reply.Next (holds i).next) ++ held_replies v (held t.size w (role.Leading (same_leader i))) lines)
+  pub answers_as : (v : Voice) (lines : List (List ℕ)) → held_replies v (held l.pairs.size w (role.Following s)) (codes "lead" ∷ lines) ≡ reply_ended (reply.Next l.pairs.next) ++ held_replies v (held l.pairs.size w (role.Leading l)) lines
+  answers_as v lines = answers_on l.pairs.size w s fit_held v lines ∙ (λ i. reply_ended (reply.Next (holds i).next) ++ held_replies v (held l.pairs.size w (role.Leading (same_leader i))) lines)
 
--- a follower that holds what all events of a leader lead to
-module _ (size : ℕ) (two : 2 ≤ size) (few : size < 2 ^ 64) (lines : List (List ℕ)) (s : State) (holds : HoldsFirst 0 [] (events_led (fresh size) lines) (length (events_led (fresh size) lines)) s) where
+-- a follower that holds what all events of a leader lead to, and its greatest number of a command
+module _ (size : ℕ) (two : 2 ≤ size) (few : size < 2 ^ 64) (lines : List (List ℕ)) (s : State) (holds : HoldsFirst 0 [] (events_led (fresh size) lines) (length (events_led (fresh size) lines)) s) (knows : s.done ≡ done_of 0 lines) where
   abbrev tree : PairTree
   tree = tree_of (fresh size) lines
 
@@ -151,8 +153,11 @@ module _ (size : ℕ) (two : 2 ≤ size) (few : size < 2 ^ 64) (lines : List (Li
   same_tree : promoted size s.held ≡ tree
   same_tree = λ i. record { nodes = same_nodes i; size = sym same_size i; next = same_next i }
 
-  pub goes_on : (w : ℕ) → after_held (held size w (role.Following s)) (codes "lead") ≡ held size w (role.Leading tree)
-  goes_on w = takes_over size w s can ∙ ap (λ t. held size w (role.Leading t)) same_tree
+  same_lead : leader_of (promoted size s.held) s.done ≡ leader_of tree (done_of 0 lines)
+  same_lead = λ i. leader_of (same_tree i) (knows i)
 
-  pub goes_on_answering : (w : ℕ) (v : Voice) (more : List (List ℕ)) → held_replies v (held size w (role.Following s)) (codes "lead" ∷ more) ≡ reply_ended (reply.Next s.held.next) ++ held_replies v (held size w (role.Leading tree)) more
-  goes_on_answering w v more = answers_on size w s can v more ∙ ap (λ t. reply_ended (reply.Next s.held.next) ++ held_replies v (held size w (role.Leading t)) more) same_tree
+  pub goes_on : (w : ℕ) → after_held (held size w (role.Following s)) (codes "lead") ≡ held size w (role.Leading (leader_of tree (done_of 0 lines)))
+  goes_on w = takes_over size w s can ∙ ap (λ l. held size w (role.Leading l)) same_lead
+
+  pub goes_on_answering : (w : ℕ) (v : Voice) (more : List (List ℕ)) → held_replies v (held size w (role.Following s)) (codes "lead" ∷ more) ≡ reply_ended (reply.Next s.held.next) ++ held_replies v (held size w (role.Leading (leader_of tree (done_of 0 lines)))) more
+  goes_on_answering w v more = answers_on size w s can v more ∙ ap (λ l. reply_ended (reply.Next s.held.next) ++ held_replies v (held size w (role.Leading l)) more) same_lead

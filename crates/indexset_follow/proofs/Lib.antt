@@ -3,9 +3,11 @@ pub mod Asked
 pub mod Cut
 pub mod Delivered
 pub mod Drawing
-pub mod EventLines
+pub mod Echoes
+mod EventLines
 pub mod Fits
-pub mod Leads
+pub mod Knowing
+mod Leads
 pub mod MarkLines
 pub mod Near
 pub mod NoWindow

@@ -18,8 +18,8 @@ use Rattle.indexset_follow.specs.EventLine.{Event, event_of}
 use Rattle.indexset_follow.specs.Mark.{mark_of}
 use Rattle.indexset_follow.specs.NodeLine.{node_of}
 use Rattle.indexset_follow.specs.declared.mark.Mark.{Mark}
-use Rattle.indexset_follow.specs.declared.mark.Mark.TheVariants.{Start, End}
-use Rattle.indexset_follow.specs.Follow.{HoldsNear, State, after_event, after_line, after_mark, after_node, end_reason, event_taken, holding, put_in_place, state_after, with_coming}
+use Rattle.indexset_follow.specs.declared.mark.Mark.TheVariants.{Start, End, Done}
+use Rattle.indexset_follow.specs.Follow.{HoldsNear, State, after_event, after_line, after_mark, after_node, end_reason, event_taken, holding, put_in_place, state_after, with_coming, with_done}
 use Rattle.indexset_follow.specs.declared.reason.Reason.TheVariants.{Refused}
 use Rattle.indexset_follow.specs.declared.reply.Reply.{Reply}
 use Rattle.indexset_follow.specs.declared.reply.Reply.TheVariants as reply
@@ -69,6 +69,28 @@ caught_between m c (p ∷ early) h =
     by true is (Some cause) more = record { on = omega arith; between = ascend_weaker (λ q. q.key ≤ m) (p.key + 1) (c.next + 1) early (omega (arith, eqb-true p.key c.next is)) h.2 }
     by false other o more = record { on = omega arith; between = (let ne = eqb-false p.key c.next other in omega (arith, h.0, ne), h.1, h.2) }
 
+-- the awaited number does not fall
+caught_on : (c : Copy) (early : EarlyEvents) → c.next ≤ (caught_up c early).held.next
+unfolding caught_up
+caught_on c [] = omega arith
+caught_on c (p ∷ early) = by (p.key == c.next) (apply_refusal (by_key nat_cmp) c.nodes c.next p.value) (caught_on (copy_after c p.value) early)
+  where
+    by : (b : Bool) (o : Option Refusal) → (copy_after c p.value).next ≤ (caught_up (copy_after c p.value) early).held.next
+        → c.next ≤ (if b then option_map_or (λ cause. taken c early (reply.Unfit c.next (Refused cause))) o (caught_up (copy_after c p.value) early) else taken c (p ∷ early) (reply.Next c.next)).held.next
+    by true None more = omega (arith, (next_after c p.value).0, more)
+    by true (Some cause) more = omega arith
+    by false o more = omega arith
+
+pub awaits_on : (s : State) (e : Event) → s.held.next ≤ (after_event s e).held.next
+awaits_on s e = at (event_number e == s.held.next) (nat_lt (event_number e) s.held.next) (nat_le (event_number e) (s.held.next + s.window))
+  where
+    at : (a b d : Bool)
+        → s.held.next ≤ (if a then caught_up s.held (pair (event_number e) e ∷ s.early) else if b then taken s.held s.early (reply.Had s.held.next) else if d then taken s.held (with_early s.early e) (reply.Missing s.held.next (first_number (with_early s.early e) (event_number e))) else taken s.held s.early (reply.Gap s.held.next)).held.next
+    at true b d = caught_on s.held (pair (event_number e) e ∷ s.early)
+    at false true d = omega arith
+    at false false true = omega arith
+    at false false false = omega arith
+
 module _ (s : State) (e : Event) (h : HoldsNear s) where
   same_behind : (answer : Reply) → Behind s.held.next (s.held.next + s.window) (taken s.held s.early answer)
   same_behind answer = record { on = omega arith; between = h }
@@ -94,21 +116,26 @@ module _ (s : State) (e : Event) (h : HoldsNear s) where
 line_near : (s : State) (line : List ℕ) → HoldsNear s → HoldsNear (after_line s line)
 line_near s line h = at (event_of line) (node_of line) (mark_of line)
   where
-    whole : (count sum : ℕ) (c : Copy) (b : Bool) → HoldsNear (if b then holding s.window c else with_coming s None)
+    whole : (count sum : ℕ) (c : Copy) (b : Bool) → HoldsNear (if b then holding s.window c s.coming_done else with_coming s None 0)
     whole count sum c true = tt
     whole count sum c false = h
 
     ended : (count sum : ℕ) (o : Option Copy) → HoldsNear (option_map_or (put_in_place count sum s) o s)
     ended count sum None = h
-    ended count sum (Some c) = whole count sum c (is_none (end_reason count sum c))
+    ended count sum (Some c) = whole count sum c (is_none (end_reason count sum c s.coming_done))
+
+    told : (d : ℕ) (b : Bool) → HoldsNear (if b then s else with_done s d)
+    told d true = h
+    told d false = h
 
     at : (e : Option Event) (n : Option (List (Pair ℕ ℕ))) (m : Option Mark)
         → HoldsNear (option_map_or {U = State} (after_event s) e (option_map_or (after_node s) n (option_map_or (after_mark s) m s)))
     at (Some e) n m = near_after s e h
     at None (Some n) m = h
     at None None None = h
-    at None None (Some (Start n)) = h
+    at None None (Some (Start n d)) = h
     at None None (Some (End count sum)) = ended count sum s.coming
+    at None None (Some (Done d n)) = told d (nat_lt s.held.next n)
 
 pub near : (s : State) (lines : List (List ℕ)) → HoldsNear s → HoldsNear (state_after s lines)
 unfolding left_by

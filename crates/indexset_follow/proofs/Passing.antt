@@ -153,10 +153,11 @@ node_passed (p ∷ q ∷ ps) fit =
     let node : bytes_eq (pair_text p) (codes "node") ≡ false = pair_no_word p fit.0 110 (codes "ode") (omega arith, omega arith) in
     let start : bytes_eq (pair_text p) (codes "start") ≡ false = pair_no_word p fit.0 115 (codes "tart") (omega arith, omega arith) in
     let end : bytes_eq (pair_text p) (codes "end") ≡ false = pair_no_word p fit.0 101 (codes "nd") (omega arith, omega arith) in
+    let done : bytes_eq (pair_text p) (codes "done") ≡ false = pair_no_word p fit.0 100 (codes "one") (omega arith, omega arith) in
     let get : bytes_eq (pair_text p) (codes "get") ≡ false = pair_no_word p fit.0 103 (codes "et") (omega arith, omega arith) in
     let rank : bytes_eq (pair_text p) (codes "rank") ≡ false = pair_no_word p fit.0 114 (codes "ank") (omega arith, omega arith) in
     let at : bytes_eq (pair_text p) (codes "at") ≡ false = pair_no_word p fit.0 97 (codes "t") (omega arith, omega arith) in
     let head : bytes_eq (pair_text p) (codes "head") ≡ false = pair_no_word p fit.0 104 (codes "ead") (omega arith, omega arith) in
     let range : bytes_eq (pair_text p) (codes "range") ≡ false = pair_no_word p fit.0 114 (codes "ange") (omega arith, omega arith) in
     let page : bytes_eq (pair_text p) (codes "page") ≡ false = pair_no_word p fit.0 112 (codes "age") (omega arith, omega arith) in
-    says_nothing (node_text (p ∷ q ∷ ps)) (node_alone (p ∷ q ∷ ps) fit) (rw (cut, node) refl) (rw (cut, start, end) refl) (rw (cut, get, rank, at, head, range, page) refl)
+    says_nothing (node_text (p ∷ q ∷ ps)) (node_alone (p ∷ q ∷ ps) fit) (rw (cut, node) refl) (rw (cut, start, end, done) refl) (rw (cut, get, rank, at, head, range, page) refl)

@@ -6,14 +6,15 @@ use Rattle.std.specs.Fmt.{decimal}
 use Rattle.std.specs.Option.{option_and_then, option_map, option_map_or}
 use Rattle.std.specs.Str.{bytes_eq}
 use Rattle.indexset_events.specs.Spelling.{cut_at, number_of}
-use Rattle.indexset_follow.specs.Query.{QueryFits, numbered_query, query_line, query_of, two_numbers, word_query}
+use Rattle.indexset_follow.specs.Numbers.{two_numbers}
+use Rattle.indexset_follow.specs.Query.{QueryFits, numbered_query, query_line, query_of, word_query}
 use Rattle.indexset_follow.specs.declared.reads.query.Query.{Query}
 use Rattle.indexset_follow.specs.declared.reads.query.Query.TheVariants.{Get, Len, First, Last, Range, Rank, At, Page, Nodes, Next, Head, Snapshot, Sum}
 use Rattle.indexset_events.specs.Spelling.Laws.{cut_sound, cut_told, lacks_tested, map_some, none_some, number_lacks, number_sound, number_told, some_inj, then_some}
 
 -- ---- what is spelled is read
 
-two_told : (a b : ℕ) → a < 2 ^ 64 → b < 2 ^ 64 → two_numbers (decimal a ++ 32 ∷ decimal b) ≡ Some (a, b)
+pub two_told : (a b : ℕ) → a < 2 ^ 64 → b < 2 ^ 64 → two_numbers (decimal a ++ 32 ∷ decimal b) ≡ Some (a, b)
 two_told a b first second =
     let cut : cut_at 32 (decimal a ++ 32 ∷ decimal b) ≡ Some (decimal a, decimal b) = cut_told 32 (decimal a) (decimal b) (number_lacks 32 (omega arith) a first) in
     rw (cut, number_told a first, number_told b second) refl
@@ -91,7 +92,7 @@ word_sound word q h = at (bytes_eq word (codes "len")) (bytes_eq word (codes "fi
     at false false false false false false true _ _ _ _ _ _ is h = is_word Sum tt (same word (codes "sum") is) h
     at false false false false false false false _ _ _ _ _ _ _ h = none_some q h
 
-two_sound : (text : List ℕ) (p : ℕ × ℕ) → two_numbers text ≡ Some p → (text ≡ decimal p.0 ++ 32 ∷ decimal p.1) × (p.0 < 2 ^ 64) × (p.1 < 2 ^ 64)
+pub two_sound : (text : List ℕ) (p : ℕ × ℕ) → two_numbers text ≡ Some p → (text ≡ decimal p.0 ++ 32 ∷ decimal p.1) × (p.0 < 2 ^ 64) × (p.1 < 2 ^ 64)
 two_sound text p h =
     let cut = then_some (cut_at 32 text) (λ cut. option_and_then (λ a. option_map (λ b. (a, b)) (number_of cut.1)) (number_of cut.0)) p h in
     let first = then_some (number_of cut.0.0) (λ a. option_map (λ b. (a, b)) (number_of cut.0.1)) p cut.2 in

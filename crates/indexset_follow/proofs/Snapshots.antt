@@ -1,5 +1,6 @@
 -- A snapshot makes another follower the same.
 use Rattle.std.specs.Option.{option_map_or}
+use Rattle.std.specs.Prelude.{nat_lt}
 use Rattle.std.proofs.Common.{◌≡◌, ◌≢◌, ◌⊎◌, ◌==◌, inl, inr, Option, Bool, false, None, Some, ℕ, ◌<◌, ◌^◌, true, if◌then◌else◌, List, [], ◌∷◌, ◌++◌, length, map, insert, Ordering, refl, sym, ap, subst, ◌∙◌, arith, append_assoc, append-nil}
 use lib.Chars.{codes}
 use Rattle.std.specs.declared.cmp.Ordering.TheVariants.{Less}
@@ -23,14 +24,14 @@ use Rattle.indexset_events.specs.Attach.{attach_index, attach_refusal, attached,
 use Rattle.indexset_events.specs.Nodes.{is_filled}
 use Rattle.indexset_follow.specs.EventLine.{Event, event_of}
 use Rattle.indexset_follow.specs.Copy.{Copy, copy, end_line, snapshot_text, sum_of}
-use Rattle.indexset_follow.specs.Follow.{State, after_event, after_line, after_mark, after_node, holding, put_in_place, state_after, with_coming}
+use Rattle.indexset_follow.specs.Follow.{State, after_event, after_line, after_mark, after_node, holding, put_in_place, state_after, with_coming, with_done}
 use Rattle.indexset_follow.specs.NodeLine.{NodeFits, node_line, node_of}
 use Rattle.indexset_events.specs.Spelling.{cut_at}
-use Rattle.indexset_follow.specs.Numbers.{PairFits}
+use Rattle.indexset_follow.specs.Numbers.{PairFits, tail_text}
 use Rattle.indexset_follow.specs.Mark.{LacksEnd, MarkFits, mark_line, mark_of}
-use Rattle.indexset_follow.specs.declared.mark.Mark.TheVariants.{Start, End}
+use Rattle.indexset_follow.specs.declared.mark.Mark.TheVariants.{Start, End, Done}
 use Rattle.indexset_follow.specs.declared.mark.Mark.{Mark}
-use Rattle.indexset_follow.proofs.MarkLines.{mark_told}
+use Rattle.indexset_follow.proofs.MarkLines.{end_cut, mark_told, start_cut}
 use Rattle.indexset_follow.proofs.NodeLines.{node_told}
 use Rattle.indexset_follow.proofs.Sums.{sum_small}
 use Rattle.indexset_events.specs.Spelling.Laws.{Lacks, cut_told, lacks_tested, number_lacks}
@@ -85,27 +86,25 @@ module _ {T : Type 0} (cmp : T → T → Ordering) where
 -- ---- lines
 
 -- a snapshot is coming
-abbrev coming : State → Copy → State
-coming s came = with_coming s (Some came)
+abbrev coming : State → Copy → ℕ → State
+coming s came d = with_coming s (Some came) d
 
 mark_line_told : (s : State) (m : Mark) → MarkFits m → event_of (mark_line m) ≡ None → node_of (mark_line m) ≡ None → after_line s (mark_line m) ≡ after_mark s m
 mark_line_told s m fit event node = rw (event, node, mark_told m fit) refl
 
-start_told : (s : State) (n : ℕ) → n < 2 ^ 64 → after_line s (mark_line (Start n)) ≡ coming s (copy [] n)
-start_told s n small =
-    let cut : cut_at 32 (mark_line (Start n)) ≡ Some (codes "start", decimal n) = cut_told 32 (codes "start") (decimal n) (lacks_tested 32 (codes "start") refl) in
+start_told : (s : State) (n d : ℕ) → n < 2 ^ 64 → d < 2 ^ 64 → after_line s (mark_line (Start n d)) ≡ coming s (copy [] n) d
+start_told s n d small less =
     let word = no_number 115 (codes "tart") (omega arith) in
-    mark_line_told s (Start n) small (rw (cut, word) refl) (rw cut refl)
+    mark_line_told s (Start n d) (small, less) (rw (start_cut n d, word) refl) (rw (start_cut n d) refl)
 
 end_told : (s : State) (count sum : ℕ) → count < 2 ^ 64 → sum < 2 ^ 64 → after_line s (mark_line (End count sum)) ≡ after_mark s (End count sum)
 end_told s count sum few small =
-    let cut : cut_at 32 (mark_line (End count sum)) ≡ Some (codes "end", decimal count ++ 32 ∷ decimal sum) = cut_told 32 (codes "end") (decimal count ++ 32 ∷ decimal sum) (lacks_tested 32 (codes "end") refl) in
     let word = no_number 101 (codes "nd") (omega arith) in
-    mark_line_told s (End count sum) (few, small) (rw (cut, word) refl) (rw cut refl)
+    mark_line_told s (End count sum) (few, small) (rw (end_cut count sum, word) refl) (rw (end_cut count sum) refl)
 
 -- what came whole takes the place of what is held
-whole_put : (s : State) (came : Copy) → after_mark (coming s came) (End (length came.nodes) (sum_of came)) ≡ holding s.window came
-whole_put s came = rw (eq-eqb (length came.nodes) (length came.nodes) refl, eq-eqb (sum_of came) (sum_of came) refl) refl
+whole_put : (s : State) (came : Copy) (d : ℕ) → after_mark (coming s came d) (End (length came.nodes) (sum_of came d)) ≡ holding s.window came d
+whole_put s came d = rw (eq-eqb (length came.nodes) (length came.nodes) refl, eq-eqb (sum_of came d) (sum_of came d) refl) refl
 
 node_line_told : (s : State) (n : List (Pair ℕ ℕ)) → NodeFits n → after_line s (node_line n) ≡ after_node s n
 node_line_told s n fit =
@@ -115,16 +114,16 @@ node_line_told s n fit =
     rw (event, node_told n fit) refl
 
 -- the nodes, one line after the other
-filled_up : (s : State) (next : ℕ) (done rest : List (List (Pair ℕ ℕ))) → Ruled (by_key nat_cmp) (done ++ rest) → All NodeFits rest → state_after (coming s (copy done next)) (map node_line rest) ≡ coming s (copy (done ++ rest) next)
+filled_up : (s : State) (next d : ℕ) (done rest : List (List (Pair ℕ ℕ))) → Ruled (by_key nat_cmp) (done ++ rest) → All NodeFits rest → state_after (coming s (copy done next) d) (map node_line rest) ≡ coming s (copy (done ++ rest) next) d
 unfolding left_by
-filled_up s next done [] rule fit = ap (λ ns. coming s (copy ns next)) (sym (append-nil done))
-filled_up s next done (n ∷ rest) rule fit =
-    let one = node_line_told (coming s (copy done next)) n (All-head NodeFits n rest fit) in
-    let held : after_node (coming s (copy done next)) n ≡ coming s (copy (done ++ n ∷ []) next) = rw (fits_behind (by_key nat_cmp) done rest n rule, goes_behind (by_key nat_cmp) done rest n rule) refl in
+filled_up s next d done [] rule fit = ap (λ ns. coming s (copy ns next) d) (sym (append-nil done))
+filled_up s next d done (n ∷ rest) rule fit =
+    let one = node_line_told (coming s (copy done next) d) n (All-head NodeFits n rest fit) in
+    let held : after_node (coming s (copy done next) d) n ≡ coming s (copy (done ++ n ∷ []) next) d = rw (fits_behind (by_key nat_cmp) done rest n rule, goes_behind (by_key nat_cmp) done rest n rule) refl in
     let more : (done ++ n ∷ []) ++ rest ≡ done ++ n ∷ rest = append_assoc done (n ∷ []) rest in
     ap (λ r. state_after r (map node_line rest)) (one ∙ held)
-    ∙ filled_up s next (done ++ n ∷ []) rest (subst (Ruled (by_key nat_cmp)) (sym more) rule) (All-tail NodeFits n rest fit)
-    ∙ ap (λ ns. coming s (copy ns next)) more
+    ∙ filled_up s next d (done ++ n ∷ []) rest (subst (Ruled (by_key nat_cmp)) (sym more) rule) (All-tail NodeFits n rest fit)
+    ∙ ap (λ ns. coming s (copy ns next) d) more
 
 -- ---- the text of a snapshot is cut into its lines
 
@@ -148,58 +147,73 @@ node_lines (n ∷ ns) rest fit =
     ∙ first_line (node_line n) (lines_for node_line ns ++ rest) (node_line_lacks n (All-head NodeFits n ns fit))
     ∙ ap (λ ls. node_line n ∷ ls) (node_lines ns rest (All-tail NodeFits n ns fit))
 
+tail_lacks : (d : ℕ) → d < 2 ^ 64 → (b : Bool) → HasNoEnd (if b then [] else 32 ∷ decimal d)
+tail_lacks d less true = All-nil (λ x. x ≢ 10)
+tail_lacks d less false = All-cons (λ x. x ≢ 10) 32 (decimal d) (omega arith) (number_lacks 10 (omega arith) d less)
+
 mark_lacks : (m : Mark) → MarkFits m → HasNoEnd (mark_line m)
-mark_lacks (Start n) fit = All-append (λ x. x ≢ 10) (codes "start ") (decimal n) (lacks_tested 10 (codes "start ") refl) (number_lacks 10 (omega arith) n fit)
+mark_lacks (Start n d) fit =
+    All-append (λ x. x ≢ 10) (codes "start ") (decimal n ++ tail_text d) (lacks_tested 10 (codes "start ") refl)
+    (All-append (λ x. x ≢ 10) (decimal n) (tail_text d) (number_lacks 10 (omega arith) n fit.0) (tail_lacks d fit.1 (d == 0)))
 mark_lacks (End count sum) fit =
     All-append (λ x. x ≢ 10) (codes "end ") (decimal count ++ 32 ∷ decimal sum) (lacks_tested 10 (codes "end ") refl)
     (All-append (λ x. x ≢ 10) (decimal count) (32 ∷ decimal sum) (number_lacks 10 (omega arith) count fit.0)
     (All-cons (λ x. x ≢ 10) 32 (decimal sum) (omega arith) (number_lacks 10 (omega arith) sum fit.1)))
+mark_lacks (Done d n) fit =
+    All-append (λ x. x ≢ 10) (codes "done ") (decimal d ++ 32 ∷ decimal n) (lacks_tested 10 (codes "done ") refl)
+    (All-append (λ x. x ≢ 10) (decimal d) (32 ∷ decimal n) (number_lacks 10 (omega arith) d fit.0)
+    (All-cons (λ x. x ≢ 10) 32 (decimal n) (omega arith) (number_lacks 10 (omega arith) n fit.1)))
 
-module _ (c : Copy) (small : c.next < 2 ^ 64) (few : length c.nodes < 2 ^ 64) (fit : All NodeFits c.nodes) where
-  snapshot_lines : lines_of (snapshot_text c) ≡ mark_line (Start c.next) ∷ (map node_line c.nodes ++ end_line c ∷ [])
+module _ (c : Copy) (d : ℕ) (small : c.next < 2 ^ 64) (less : d < 2 ^ 64) (few : length c.nodes < 2 ^ 64) (fit : All NodeFits c.nodes) where
+  snapshot_lines : lines_of (snapshot_text c d) ≡ mark_line (Start c.next d) ∷ (map node_line c.nodes ++ end_line c d ∷ [])
   unfolding lines_of
   snapshot_lines =
-      ap lines_of (append_assoc (ended (mark_line (Start c.next))) (lines_for node_line c.nodes) (ended (end_line c)))
-      ∙ first_line (mark_line (Start c.next)) (lines_for node_line c.nodes ++ ended (end_line c)) (mark_lacks (Start c.next) small)
-      ∙ ap (λ ls. mark_line (Start c.next) ∷ ls)
-      (node_lines c.nodes (ended (end_line c)) fit ∙ ap (λ ls. map node_line c.nodes ++ ls) (lines_of-line (end_line c) [] (mark_lacks (End (length c.nodes) (sum_of c)) (few, sum_small c))))
+      ap lines_of (append_assoc (ended (mark_line (Start c.next d))) (lines_for node_line c.nodes) (ended (end_line c d)))
+      ∙ first_line (mark_line (Start c.next d)) (lines_for node_line c.nodes ++ ended (end_line c d)) (mark_lacks (Start c.next d) (small, less))
+      ∙ ap (λ ls. mark_line (Start c.next d) ∷ ls)
+      (node_lines c.nodes (ended (end_line c d)) fit ∙ ap (λ ls. map node_line c.nodes ++ ls) (lines_of-line (end_line c d) [] (mark_lacks (End (length c.nodes) (sum_of c d)) (few, sum_small c d))))
 
-  pub snapshot_taken : (t : State) → IsNodeList (by_key nat_cmp) c.nodes → state_after t (lines_of (snapshot_text c)) ≡ holding t.window c
+  pub snapshot_taken : (t : State) → IsNodeList (by_key nat_cmp) c.nodes → state_after t (lines_of (snapshot_text c d)) ≡ holding t.window c d
   unfolding left_by
   snapshot_taken t lawful =
       ap (state_after t) snapshot_lines
-      ∙ ap (λ r. state_after r (map node_line c.nodes ++ end_line c ∷ [])) (start_told t c.next small)
-      ∙ left_by-append after_line (coming t (copy [] c.next)) (map node_line c.nodes) (end_line c ∷ [])
-      ∙ ap (λ r. after_line r (end_line c)) (filled_up t c.next [] c.nodes (nodes_ruled (by_key nat_cmp) c.nodes lawful) fit)
-      ∙ end_told (coming t c) (length c.nodes) (sum_of c) few (sum_small c)
-      ∙ whole_put t c
+      ∙ ap (λ r. state_after r (map node_line c.nodes ++ end_line c d ∷ [])) (start_told t c.next d small less)
+      ∙ left_by-append after_line (coming t (copy [] c.next) d) (map node_line c.nodes) (end_line c d ∷ [])
+      ∙ ap (λ r. after_line r (end_line c d)) (filled_up t c.next d [] c.nodes (nodes_ruled (by_key nat_cmp) c.nodes lawful) fit)
+      ∙ end_told (coming t c d) (length c.nodes) (sum_of c d) few (sum_small c d)
+      ∙ whole_put t c d
 
 -- ---- until the end
 
 held_still : (s : State) (line : List ℕ) → LacksEnd line → (after_line s line).held ≡ s.held
 held_still s line lacks = at (event_of line) lacks.0 (node_of line) (mark_of line) lacks.1
   where
+    told : (d : ℕ) (b : Bool) → (if b then s else with_done s d).held ≡ s.held
+    told d true = refl
+    told d false = refl
+
     at : (e : Option Event) → e ≡ None → (n : Option (List (Pair ℕ ℕ))) (m : Option Mark) → ((count sum : ℕ) → m ≢ Some (End count sum))
         → (option_map_or {U = State} (after_event s) e (option_map_or (after_node s) n (option_map_or (after_mark s) m s))).held ≡ s.held
     at (Some e) none n m no_end = absurd (cc)
     at None none (Some n) m no_end = refl
     at None none None None no_end = refl
-    at None none None (Some (Start n)) no_end = refl
+    at None none None (Some (Start n d)) no_end = refl
     at None none None (Some (End count sum)) no_end = absurd (no_end count sum refl)
+    at None none None (Some (Done d n)) no_end = told d (nat_lt s.held.next n)
 
 pub held_before : (s : State) (lines : List (List ℕ)) → All LacksEnd lines → (state_after s lines).held ≡ s.held
 unfolding left_by
 held_before s [] lack = refl
 held_before s (line ∷ lines) lack = held_before (after_line s line) lines (All-tail LacksEnd line lines lack) ∙ held_still s line (All-head LacksEnd line lines lack)
 
-pub wrong_end : (s : State) (came : Copy) (count sum : ℕ) → s.coming ≡ Some came → (length came.nodes ≢ count) ⊎ (sum_of came ≢ sum) → after_mark s (End count sum) ≡ with_coming s None
-wrong_end s came count sum is other = rw is (at (length came.nodes == count) refl (sum_of came == sum) refl)
+pub wrong_end : (s : State) (came : Copy) (count sum : ℕ) → s.coming ≡ Some came → (length came.nodes ≢ count) ⊎ (sum_of came s.coming_done ≢ sum) → after_mark s (End count sum) ≡ with_coming s None 0
+wrong_end s came count sum is other = rw is (at (length came.nodes == count) refl (sum_of came s.coming_done == sum) refl)
   where
-    at : (a : Bool) → (length came.nodes == count) ≡ a → (b : Bool) → (sum_of came == sum) ≡ b → put_in_place count sum s came ≡ with_coming s None
+    at : (a : Bool) → (length came.nodes == count) ≡ a → (b : Bool) → (sum_of came s.coming_done == sum) ≡ b → put_in_place count sum s came ≡ with_coming s None 0
     at false few b same = rw few refl
     at true few false same = rw (few, same) refl
     at true few true same =
         elim other [
           | inl many ↦ absurd (many (eqb-true (length came.nodes) count few))
-          | inr apart ↦ absurd (apart (eqb-true (sum_of came) sum same))
+          | inr apart ↦ absurd (apart (eqb-true (sum_of came s.coming_done) sum same))
         ]

@@ -41,9 +41,9 @@ eight_small : (bs : List ℕ) → All IsByte bs → from_be_bytes w64 bs < 2 ^ 6
 eight_small bs small =
     omega (arith, at_small bs small 0, at_small bs small 1, at_small bs small 2, at_small bs small 3, at_small bs small 4, at_small bs small 5, at_small bs small 6, at_small bs small 7)
 
-pub sum_small : (c : Copy) → sum_of c < 2 ^ 64
+pub sum_small : (c : Copy) (d : ℕ) → sum_of c d < 2 ^ 64
 unfolding sum_of sha256
-sum_small c = eight_small (take 8 (sha256 (body_text c))) (take_small 8 (sha256 (body_text c)) (digest_small _ 8))
+sum_small c d = eight_small (take 8 (sha256 (body_text c d))) (take_small 8 (sha256 (body_text c d)) (digest_small _ 8))
 
 -- ---- the first bytes of the digest
 

@@ -16,18 +16,18 @@ Copy = ReplicaState (Pair ℕ ℕ)
 abbrev pub copy : List (List (Pair ℕ ℕ)) → ℕ → Copy
 copy ns n = record { nodes = ns; next = n }
 
--- the lines of a snapshot before its last
-abbrev pub body_text : Copy → List ℕ
-body_text c = ended (mark_line (Start c.next)) ++ lines_for node_line c.nodes
+-- the lines of a snapshot before its last, where d is the greatest number of a command
+abbrev pub body_text : Copy → ℕ → List ℕ
+body_text c d = ended (mark_line (Start c.next d)) ++ lines_for node_line c.nodes
 
 -- the first 64 bits of the SHA-256 of these
-unfoldable pub sum_of : Copy → ℕ
-sum_of c = from_be_bytes w64 (take 8 (sha256 (body_text c)))
+unfoldable pub sum_of : Copy → ℕ → ℕ
+sum_of c d = from_be_bytes w64 (take 8 (sha256 (body_text c d)))
 
 -- the line that ends a snapshot: how many nodes it has, and its sum
-abbrev pub end_line : Copy → List ℕ
-end_line c = mark_line (End (length c.nodes) (sum_of c))
+abbrev pub end_line : Copy → ℕ → List ℕ
+end_line c d = mark_line (End (length c.nodes) (sum_of c d))
 
 -- the lines that make another follower the same
-abbrev pub snapshot_text : Copy → List ℕ
-snapshot_text c = body_text c ++ ended (end_line c)
+abbrev pub snapshot_text : Copy → ℕ → List ℕ
+snapshot_text c d = body_text c d ++ ended (end_line c d)

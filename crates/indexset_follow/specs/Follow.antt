@@ -1,5 +1,5 @@
 -- What a line does to a follower, and the text that answers it.
-use Rattle.std.specs.Prelude.{ℕ, ◌+◌, ◌≤◌, ◌==◌, is_none, not, if◌then◌else◌, nat_le, nat_lt, List, [], ◌∷◌, length, Option, Some, None}
+use Rattle.std.specs.Prelude.{ℕ, ◌+◌, ◌≤◌, ◌==◌, is_none, not, if◌then◌else◌, nat_le, nat_lt, List, [], ◌∷◌, length, max, Option, Some, None}
 use Rattle.std.specs.Option.{option_map, option_map_or}
 use Rattle.std.specs.Ordering.{nat_cmp}
 use Rattle.indexset_lines.specs.Run.{left_by}
@@ -12,12 +12,12 @@ use Rattle.indexset_follow.specs.Early.{AscendFrom, Taken, caught_up, first_numb
 use Rattle.indexset_follow.specs.EventLine.{Event, event_of}
 use Rattle.indexset_follow.specs.Mark.{mark_of}
 use Rattle.indexset_follow.specs.NodeLine.{node_of}
-use Rattle.indexset_follow.specs.Reads.{read_reply}
+use Rattle.indexset_follow.specs.Reads.{head_reply, read_reply}
 use Rattle.indexset_follow.specs.Reply.{follower_others, voiced}
 use Rattle.indexset_core.specs.declared.refusal.Refusal.{Refusal}
 use Rattle.indexset_follow.specs.declared.follower.Follower.{Follower}
 use Rattle.indexset_follow.specs.declared.mark.Mark.{Mark}
-use Rattle.indexset_follow.specs.declared.mark.Mark.TheVariants.{Start, End}
+use Rattle.indexset_follow.specs.declared.mark.Mark.TheVariants.{Start, End, Done}
 use Rattle.indexset_follow.specs.declared.others.Voice.{Voice}
 use Rattle.indexset_follow.specs.declared.reason.Reason.{Reason}
 use Rattle.indexset_follow.specs.declared.reason.Reason.TheVariants.{Refused, NotBegun, Count, Sum}
@@ -28,13 +28,17 @@ use Rattle.indexset_follow.specs.declared.reply.Reply.TheVariants as reply
 abbrev pub State : Type 0
 State = Follower
 
--- a copy is held with a window, no snapshot has begun, and no event is early
-abbrev pub holding : ℕ → Copy → State
-holding window c = record { held = c; coming = None; window = window; early = [] }
+-- a copy and the greatest number of a command are held with a window, no snapshot has begun, and no event is early
+abbrev pub holding : ℕ → Copy → ℕ → State
+holding window c d = record { held = c; done = d; coming = None; coming_done = 0; window = window; early = [] }
 
--- another snapshot comes, or none
-abbrev pub with_coming : State → Option Copy → State
-with_coming s c = record { held = s.held; coming = c; window = s.window; early = s.early }
+-- another snapshot comes with its greatest number of a command, or none
+abbrev pub with_coming : State → Option Copy → ℕ → State
+with_coming s c d = record { held = s.held; done = s.done; coming = c; coming_done = d; window = s.window; early = s.early }
+
+-- the commands up to a number are done
+abbrev pub with_done : State → ℕ → State
+with_done s d = record { held = s.held; done = max s.done d; coming = s.coming; coming_done = s.coming_done; window = s.window; early = s.early }
 
 -- ---- an event
 
@@ -54,7 +58,7 @@ event_taken s e =
 
 -- what was taken is held
 abbrev pub with_taken : State → Taken → State
-with_taken s t = record { held = t.held; coming = s.coming; window = s.window; early = t.early }
+with_taken s t = record { held = t.held; done = s.done; coming = s.coming; coming_done = s.coming_done; window = s.window; early = t.early }
 
 abbrev pub after_event : State → Event → State
 after_event s e = with_taken s (event_taken s e)
@@ -73,32 +77,34 @@ abbrev pub with_node : List (Pair ℕ ℕ) → Copy → Copy
 with_node n c = if is_none (node_refusal c n) then copy (attached (by_key nat_cmp) c.nodes n) c.next else c
 
 abbrev pub after_node : State → List (Pair ℕ ℕ) → State
-after_node s n = with_coming s (option_map (with_node n) s.coming)
+after_node s n = with_coming s (option_map (with_node n) s.coming) s.coming_done
 
 abbrev pub node_reply : State → List (Pair ℕ ℕ) → Reply
 node_reply s n = option_map_or (λ c. option_map_or (λ cause. reply.Unfit s.held.next (Refused cause)) (node_refusal c n) reply.Held) s.coming (reply.Unfit s.held.next NotBegun)
 
--- ---- the beginning and the end of a snapshot
+-- ---- the beginning and the end of a snapshot, and commands that are done
 
 -- why the numbers at the end of a snapshot are not those of what came
-abbrev pub end_reason : ℕ → ℕ → Copy → Option Reason
-end_reason count sum c =
+abbrev pub end_reason : ℕ → ℕ → Copy → ℕ → Option Reason
+end_reason count sum c d =
     if not (length c.nodes == count) then Some Count
-    else if not (sum_of c == sum) then Some Sum
+    else if not (sum_of c d == sum) then Some Sum
     else None
 
 -- the snapshot takes the place of all that is held, where it is whole
 abbrev pub put_in_place : ℕ → ℕ → State → Copy → State
-put_in_place count sum s c = if is_none (end_reason count sum c) then holding s.window c else with_coming s None
+put_in_place count sum s c = if is_none (end_reason count sum c s.coming_done) then holding s.window c s.coming_done else with_coming s None 0
 
 abbrev pub after_mark : State → Mark → State
-after_mark s (Start n) = with_coming s (Some (copy [] n))
+after_mark s (Start n d) = with_coming s (Some (copy [] n)) d
 after_mark s (End count sum) = option_map_or (put_in_place count sum s) s.coming s
+after_mark s (Done d n) = if nat_lt s.held.next n then s else with_done s d
 
 abbrev pub mark_reply : State → Mark → Reply
-mark_reply s (Start n) = reply.Held
+mark_reply s (Start n d) = reply.Held
 mark_reply s (End count sum) =
-    option_map_or (λ c. option_map_or (reply.Unfit s.held.next) (end_reason count sum c) (reply.Next c.next)) s.coming (reply.Unfit s.held.next NotBegun)
+    option_map_or (λ c. option_map_or (reply.Unfit s.held.next) (end_reason count sum c s.coming_done) (reply.Next c.next)) s.coming (reply.Unfit s.held.next NotBegun)
+mark_reply s (Done d n) = head_reply s.held.next n
 
 -- ---- a line
 
@@ -109,7 +115,7 @@ abbrev pub reply_line : Voice → State → List ℕ → List ℕ
 reply_line v s line =
     option_map_or (λ e. voiced v (event_reply s e)) (event_of line)
     (option_map_or (λ n. voiced v (node_reply s n)) (node_of line)
-    (option_map_or (λ m. voiced v (mark_reply s m)) (mark_of line) (read_reply (follower_others v) s.held.nodes s.held.next line)))
+    (option_map_or (λ m. voiced v (mark_reply s m)) (mark_of line) (read_reply (follower_others v) s.held.nodes s.held.next s.done line)))
 
 -- the state after the lines
 abbrev pub state_after : State → List (List ℕ) → State
@@ -117,7 +123,7 @@ state_after = left_by after_line
 
 -- at first: no nodes, and event 0 is awaited
 abbrev pub start_state : ℕ → State
-start_state window = holding window (copy [] 0)
+start_state window = holding window (copy [] 0) 0
 
 -- the events that are early are ahead of the awaited one by no more than the window
 abbrev pub HoldsNear : State → Type 0

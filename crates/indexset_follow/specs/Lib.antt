@@ -1,8 +1,10 @@
 pub mod Copy
 pub mod Drawn
 pub mod Early
+pub mod Echo
 pub mod EventLine
 pub mod Follow
+pub mod Known
 pub mod Leading
 pub mod Mark
 pub mod NodeLine

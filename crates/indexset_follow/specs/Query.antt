@@ -1,9 +1,10 @@
 -- What a line asks to read, and how it is written.
 use Rattle.std.specs.Prelude.{ℕ, ◌<◌, ◌^◌, if◌then◌else◌, List, ◌∷◌, ◌++◌, Option, None, Some, codes}
 use Rattle.std.specs.Fmt.{decimal}
-use Rattle.std.specs.Option.{option_map, option_and_then, option_map_or}
+use Rattle.std.specs.Option.{option_map, option_map_or}
 use Rattle.std.specs.Str.{bytes_eq}
 use Rattle.indexset_events.specs.Spelling.{cut_at, number_of}
+use Rattle.indexset_follow.specs.Numbers.{two_numbers}
 use Rattle.indexset_follow.specs.declared.reads.query.Query.{Query}
 use Rattle.indexset_follow.specs.declared.reads.query.Query.TheVariants.{Get, Len, First, Last, Range, Rank, At, Page, Nodes, Next, Head, Snapshot, Sum}
 
@@ -50,10 +51,6 @@ word_query word =
     else if bytes_eq word (codes "snapshot") then Some Snapshot
     else if bytes_eq word (codes "sum") then Some Sum
     else None
-
--- two numbers with a space between them
-abbrev pub two_numbers : List ℕ → Option (ℕ × ℕ)
-two_numbers text = option_and_then (λ cut. option_and_then (λ a. option_map (λ b. (a, b)) (number_of cut.1)) (number_of cut.0)) (cut_at 32 text)
 
 -- the read of a word and what stands behind it
 abbrev pub numbered_query : List ℕ → List ℕ → Option Query

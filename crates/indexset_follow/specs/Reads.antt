@@ -50,22 +50,22 @@ nodes_text ns next = lines_for node_text ns ++ reply_ended (reply.Next next)
 abbrev pub head_reply : ℕ → ℕ → Reply
 head_reply next m = if nat_lt next m then reply.Gap next else reply.Next next
 
--- the answer to a read
-abbrev pub query_text : PairNodes → ℕ → Query → List ℕ
-query_text ns next (Get k) = reply_ended (item_reply (pair_of nat_cmp (joined ns) k))
-query_text ns next Len = reply_ended (reply.Count (length (joined ns)))
-query_text ns next First = reply_ended (item_reply (first_item (joined ns)))
-query_text ns next Last = reply_ended (item_reply (last_item (joined ns)))
-query_text ns next (Range a b) = row_text (keys_from (joined ns) a b)
-query_text ns next (Rank k) = reply_ended (reply.Count (key_rank nat_cmp (joined ns) k))
-query_text ns next (At i) = reply_ended (item_reply (slice_get (joined ns) i))
-query_text ns next (Page i n) = row_text (page (joined ns) i n)
-query_text ns next Nodes = nodes_text ns next
-query_text ns next Next = reply_ended (reply.Next next)
-query_text ns next (Head m) = reply_ended (head_reply next m)
-query_text ns next Snapshot = snapshot_text (copy ns next)
-query_text ns next Sum = reply_ended (reply.Sum next (length ns) (sum_of (copy ns next)))
+-- the answer to a read, where d is the greatest number of a command
+abbrev pub query_text : PairNodes → ℕ → ℕ → Query → List ℕ
+query_text ns next d (Get k) = reply_ended (item_reply (pair_of nat_cmp (joined ns) k))
+query_text ns next d Len = reply_ended (reply.Count (length (joined ns)))
+query_text ns next d First = reply_ended (item_reply (first_item (joined ns)))
+query_text ns next d Last = reply_ended (item_reply (last_item (joined ns)))
+query_text ns next d (Range a b) = row_text (keys_from (joined ns) a b)
+query_text ns next d (Rank k) = reply_ended (reply.Count (key_rank nat_cmp (joined ns) k))
+query_text ns next d (At i) = reply_ended (item_reply (slice_get (joined ns) i))
+query_text ns next d (Page i n) = row_text (page (joined ns) i n)
+query_text ns next d Nodes = nodes_text ns next
+query_text ns next d Next = reply_ended (reply.Next next)
+query_text ns next d (Head m) = reply_ended (head_reply next m)
+query_text ns next d Snapshot = snapshot_text (copy ns next) d
+query_text ns next d Sum = reply_ended (reply.Sum next (length ns) (sum_of (copy ns next) d) d)
 
 -- the answer to a line that may ask for a read, and is nothing else
-abbrev pub read_reply : Others → PairNodes → ℕ → List ℕ → List ℕ
-read_reply o ns next line = option_map_or (query_text ns next) (query_of line) (others_text o)
+abbrev pub read_reply : Others → PairNodes → ℕ → ℕ → List ℕ → List ℕ
+read_reply o ns next d line = option_map_or (query_text ns next d) (query_of line) (others_text o)

@@ -2,6 +2,7 @@
 use Rattle.std.specs.Prelude.{ℕ, Bool, true, false, ◌&&◌, not, if◌then◌else◌, List, [], ◌++◌, codes}
 use Rattle.std.specs.Fmt.{decimal}
 use Rattle.indexset_bench.specs.PairText.{ended}
+use Rattle.indexset_follow.specs.Numbers.{tail_text}
 use Rattle.indexset_follow.specs.Reason.{word_of}
 use Rattle.indexset_follow.specs.declared.others.Others.{Others}
 use Rattle.indexset_follow.specs.declared.others.Others.TheVariants.{Tell, Pass}
@@ -16,7 +17,7 @@ reply_text (Gap n) = codes "gap " ++ decimal n
 reply_text (Missing n first) = codes "gap " ++ decimal n ++ codes " " ++ decimal first
 reply_text (Unfit n reason) = codes "unfit " ++ decimal n ++ codes " " ++ word_of reason
 reply_text Held = codes "held"
-reply_text (Sum n count sum) = codes "sum " ++ decimal n ++ codes " " ++ decimal count ++ codes " " ++ decimal sum
+reply_text (Sum n count sum d) = codes "sum " ++ decimal n ++ codes " " ++ decimal count ++ codes " " ++ decimal sum ++ tail_text d
 reply_text (Item k v) = decimal k ++ codes ":" ++ decimal v
 reply_text (Count n) = decimal n
 reply_text Nothing = codes "none"

@@ -11,12 +11,12 @@ use Rattle.indexset_lines.specs.Run.{left_by, replies_to}
 use Rattle.indexset_core.specs.declared.refusal.Refusal.TheVariants.{TooLarge}
 use Rattle.indexset_follow.specs.Copy.{Copy, copy}
 use Rattle.indexset_follow.specs.Follow.{after_line, holding, reply_line, start_state}
-use Rattle.indexset_follow.specs.Leading.{after_leading, lacks, leading_reply}
+use Rattle.indexset_follow.specs.Leading.{leader_after, lacks, leader_of, leading_reply}
 use Rattle.indexset_follow.specs.Mark.{mark_of}
 use Rattle.indexset_follow.specs.Reads.{read_reply}
 use Rattle.indexset_follow.specs.Reply.{follower_others, reply_ended}
 use Rattle.indexset_follow.specs.declared.mark.Mark.{Mark}
-use Rattle.indexset_follow.specs.declared.mark.Mark.TheVariants.{Start, End}
+use Rattle.indexset_follow.specs.declared.mark.Mark.TheVariants.{Start, End, Done}
 use Rattle.indexset_follow.specs.declared.others.Voice.{Voice}
 use Rattle.indexset_follow.specs.declared.reason.Reason.TheVariants.{Refused}
 use Rattle.indexset_follow.specs.declared.reply.Reply.TheVariants as reply
@@ -43,30 +43,31 @@ abbrev pub can_lead : ℕ → Copy → Bool
 can_lead size c = is_none (nodes_refusal (by_key nat_cmp) size c.nodes)
 
 abbrev pub after_lead : ℕ → Role → Role
-after_lead size (Following s) = if can_lead size s.held then Leading (promoted size s.held) else Following s
-after_lead size (Leading t) = Leading t
+after_lead size (Following s) = if can_lead size s.held then Leading (leader_of (promoted size s.held) s.done) else Following s
+after_lead size (Leading l) = Leading l
 
 abbrev pub lead_reply : ℕ → Role → List ℕ
 lead_reply size (Following s) = reply_ended (if can_lead size s.held then reply.Next s.held.next else reply.Unfit s.held.next (Refused TooLarge))
-lead_reply size (Leading t) = reply_ended (reply.Next t.next)
+lead_reply size (Leading l) = reply_ended (reply.Next l.pairs.next)
 
 -- ---- a leader follows
 
 -- a follower of the leader's nodes, which awaits the number that it would have given next
 abbrev pub after_follow : ℕ → Role → Role
 after_follow window (Following s) = Following s
-after_follow window (Leading t) = Following (holding window (copy t.nodes t.next))
+after_follow window (Leading l) = Following (holding window (copy l.pairs.nodes l.pairs.next) l.done)
 
 abbrev pub follow_reply : Role → List ℕ
 follow_reply (Following s) = reply_ended (reply.Next s.held.next)
-follow_reply (Leading t) = reply_ended (reply.Next t.next)
+follow_reply (Leading l) = reply_ended (reply.Next l.pairs.next)
 
 -- ---- a snapshot begins a leader without nodes
 
 abbrev pub is_start : Option Mark → Bool
 is_start None = false
-is_start (Some (Start n)) = true
+is_start (Some (Start n d)) = true
 is_start (Some (End count sum)) = false
+is_start (Some (Done d n)) = false
 
 -- the line begins a snapshot
 abbrev pub starts : List ℕ → Bool
@@ -75,7 +76,7 @@ starts line = is_start (mark_of line)
 -- it finds a leader without nodes, which then follows
 abbrev pub begun : ℕ → Role → List ℕ → Role
 begun window (Following s) line = Following s
-begun window (Leading t) line = if starts line && not (is_filled t.nodes) then Following (holding window (copy [] t.next)) else Leading t
+begun window (Leading l) line = if starts line && not (is_filled l.pairs.nodes) then Following (holding window (copy [] l.pairs.next) l.done) else Leading l
 
 -- ---- a line, by the role
 
@@ -87,11 +88,11 @@ is_follow line = bytes_eq line (codes "follow")
 
 abbrev pub after_in_role : Role → List ℕ → Role
 after_in_role (Following s) line = Following (after_line s line)
-after_in_role (Leading t) line = Leading (after_leading t line)
+after_in_role (Leading l) line = Leading (leader_after l line)
 
 abbrev pub reply_in_role : Voice → Role → List ℕ → List ℕ
 reply_in_role v (Following s) line = reply_line v s line
-reply_in_role v (Leading t) line = leading_reply v.others t line
+reply_in_role v (Leading l) line = leading_reply v.others l line
 
 abbrev pub role_after : Held → List ℕ → Role
 role_after h line =
@@ -110,8 +111,8 @@ held_reply v h line =
 
 -- a last line that lacks its end is answered where it asks for a read, and changes nothing
 abbrev pub cut_in_role : Voice → Role → List ℕ → List ℕ
-cut_in_role v (Following s) line = read_reply (follower_others v) s.held.nodes s.held.next line
-cut_in_role v (Leading t) line = read_reply v.others t.nodes t.next line
+cut_in_role v (Following s) line = read_reply (follower_others v) s.held.nodes s.held.next s.done line
+cut_in_role v (Leading l) line = read_reply v.others l.pairs.nodes l.pairs.next l.done line
 
 abbrev pub held_cut : Voice → Held → List ℕ → List ℕ
 held_cut v h line = cut_in_role v h.role line
@@ -131,7 +132,7 @@ input_reply v h line = held_reply v h (without_return line)
 -- the role tells events, and more of them than there are numbers
 abbrev pub role_lacks : Role → Type 0
 role_lacks (Following s) = ⊥
-role_lacks (Leading t) = lacks t
+role_lacks (Leading l) = lacks l.pairs
 
 abbrev pub held_lacks : Held → Type 0
 held_lacks h = role_lacks h.role
@@ -148,4 +149,4 @@ held_after = left_by after_held
 
 -- at first: no nodes, and event 0 is awaited, or to be told
 abbrev pub first_held : ℕ → ℕ → Bool → Held
-first_held size window leads = held size window (if leads then Leading (record { nodes = []; size = size; next = 0 }) else Following (start_state window))
+first_held size window leads = held size window (if leads then Leading (leader_of (record { nodes = []; size = size; next = 0 }) 0) else Following (start_state window))

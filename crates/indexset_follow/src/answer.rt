@@ -51,7 +51,14 @@ pub fn answer_line<W: Write>(
             let reply = take_mark(alloc, follower, mark)?;
             write_voiced(writer, voice, reply)
         }
-        None => answer_read(alloc, voice.follower_others(), writer, &follower.held, line),
+        None => answer_read(
+            alloc,
+            voice.follower_others(),
+            writer,
+            &follower.held,
+            follower.done,
+            line,
+        ),
     }
 }
 

@@ -8,8 +8,12 @@ use crate::write::Nodes;
 pub struct Follower {
     /// The nodes that are held, and the number of the awaited event.
     pub held: Nodes,
+    /// The greatest number of a command whose events are held, 0 while there is none.
+    pub done: u64,
     /// The snapshot that has begun and not ended.
     pub coming: Option<Nodes>,
+    /// The greatest number of a command that this snapshot tells.
+    pub coming_done: u64,
     /// How far ahead of the awaited event another is held.
     pub window: u64,
     /// The events that came before their turn.

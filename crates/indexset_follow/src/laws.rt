@@ -50,7 +50,7 @@ pub fn query_meaning_is_spelling()
     ensures fits { (line : List ℕ) (q : Query) → query_of line ≡ Some q → QueryFits q }
 {}
 
-/// The same of the line that begins a snapshot or ends it.
+/// The same of the line that begins a snapshot or ends it, or tells which commands were done.
 pub fn mark_meaning_is_spelling()
     ensures spelled { (line : List ℕ) (m : Mark) → MarkFits m
         → (mark_of line ≡ Some m) ↔ (line ≡ mark_line m) }
@@ -74,8 +74,9 @@ pub fn deliveries_lead_to_a_beginning()
         → IsFeedOfPairs s ns es → All EventFits es → HoldsFirst s ns es j r → HoldsAhead s es r
         → All (IsDrawn es) lines → IsSubsequence (map event_text (drop j es)) lines
         → HoldsFirst s ns es (length es) (state_after r lines) }
-    ensures none { (s w : ℕ) (ns : List (List (Pair ℕ ℕ))) (es : List Event)
-        → HoldsFirst s ns es 0 (holding w (copy ns s)) × HoldsAhead s es (holding w (copy ns s)) }
+    ensures none { (s w d : ℕ) (ns : List (List (Pair ℕ ℕ))) (es : List Event)
+        → HoldsFirst s ns es 0 (holding w (copy ns s) d)
+        × HoldsAhead s es (holding w (copy ns s) d) }
 {}
 
 /// Let a follower hold what the first j of such events lead to, and none early, and let each event
@@ -102,7 +103,7 @@ pub fn early_events_are_few()
     ensures near { (r : State) (lines : List (List ℕ)) → HoldsNear r
         → HoldsNear (state_after r lines) }
     ensures few { (r : State) → HoldsNear r → length r.early ≤ r.window }
-    ensures none { (w : ℕ) (c : Copy) → HoldsNear (holding w c) }
+    ensures none { (w d : ℕ) (c : Copy) → HoldsNear (holding w c d) }
 {}
 
 /// Without a window no event is held early: the awaited event makes its step or is refused, and any
@@ -120,12 +121,13 @@ pub fn without_a_window_only_the_awaited_event_is_taken()
         → event_reply r e ≡ reply.Gap r.held.next }
 {}
 
-/// The lines of a snapshot, sent to any follower, make it what its source is: the nodes, and the
-/// expected number. Where the source holds what the first k events lead to, the other does.
+/// The lines of a snapshot, sent to any follower, make it what its source is: the nodes, the
+/// expected number, and the greatest number of a command. Where the source holds what the first k
+/// events lead to, the other does.
 pub fn snapshot_gives_the_follower()
-    ensures { (giver : Copy) (taker : State) → IsNodeList (by_key nat_cmp) giver.nodes
-        → giver.next < 2 ^ 64 → length giver.nodes < 2 ^ 64 → All NodeFits giver.nodes
-        → state_after taker (lines_of (snapshot_text giver)) ≡ holding taker.window giver }
+    ensures { (giver : Copy) (d : ℕ) (taker : State) → IsNodeList (by_key nat_cmp) giver.nodes
+        → giver.next < 2 ^ 64 → d < 2 ^ 64 → length giver.nodes < 2 ^ 64 → All NodeFits giver.nodes
+        → state_after taker (lines_of (snapshot_text giver d)) ≡ holding taker.window giver d }
 {}
 
 /// Nothing of a snapshot is held before its end: lines that are neither events nor such an end
@@ -135,8 +137,8 @@ pub fn snapshots_are_held_whole()
     ensures before { (s : State) (lines : List (List ℕ)) → All LacksEnd lines
         → (state_after s lines).held ≡ s.held }
     ensures wrong { (s : State) (came : Copy) (count sum : ℕ) → s.coming ≡ Some came
-        → ((length came.nodes ≢ count) ⊎ (sum_of came ≢ sum))
-        → after_mark s (Mark.End count sum) ≡ with_coming s None }
+        → ((length came.nodes ≢ count) ⊎ (sum_of came s.coming_done ≢ sum))
+        → after_mark s (Mark.End count sum) ≡ with_coming s None 0 }
 {}
 
 /// A follower that passes over other lines writes nothing for a reply of the first program, nor for

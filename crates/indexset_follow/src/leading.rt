@@ -1,18 +1,21 @@
 //! A map of numbers that leads: commands change it, and their events are told.
 
-ghost use Rattle.std.specs.Prelude.{◌≡◌, ◌≢◌, Err, OnOk};
+ghost use Rattle.std.specs.Prelude.{◌≡◌, ◌≢◌, Err, IfErr, OnOk};
 ghost use Rattle.std.specs.Io.KnownBytes.{Appends, Keeps};
 ghost use Rattle.indexset_bench.specs.Pairs.{pairs_after};
-ghost use Rattle.indexset_follow.specs.Leading.{after_leading, command_text, lacks, leading_reply};
+ghost use Rattle.indexset_follow.specs.Echo.{done_by};
+ghost use Rattle.indexset_follow.specs.Leading.{command_text, done_text, lacks, leader_of, leader_after, leading_reply};
 
+use crate::echo::{Command, read_command};
+use crate::leader::Leader;
+use crate::mark::Mark;
 use crate::others::Others;
 use crate::reads::query::read_query;
 use crate::reads::{answer_other, answer_query};
 use crate::reply::Reply;
-use crate::write::write_reply;
+use crate::write::{write_mark, write_reply};
 use indexset_bench::RunFault;
-use indexset_bench::pair_command::{PairCommand, parse_pairs};
-use indexset_bench::pairs::{Pairs, answer_pairs};
+use indexset_bench::pairs::answer_pairs;
 use std::alloc::Global;
 use std::io::Write;
 
@@ -22,46 +25,69 @@ pub fn answer_leading<W: Write>(
     alloc: Global,
     others: Others,
     writer: &mut W,
-    pairs: &mut Pairs,
+    leader: &mut Leader,
     line: &[u8],
 ) -> Result<(), RunFault>
-    ensures held { OnOk result (pairs.new ≡ after_leading pairs.old line.now) }
+    ensures held { OnOk result (leader.new ≡ leader_after leader.old line.now) }
     ensures told { OnOk result (Appends (W.contents writer.old) (W.contents writer.new)
-        (leading_reply others pairs.old line.now)) }
+        (leading_reply others leader.old line.now)) }
     ensures memory_refused { result ≡ Err RunFault.Memory
         → Keeps (W.contents writer.old) (W.contents writer.new) }
     ensures numbers_refused { result ≡ Err RunFault.Numbers
         → Keeps (W.contents writer.old) (W.contents writer.new) }
     ensures no_numbers { result ≡ Err RunFault.Numbers
-        → lacks (after_leading pairs.old line.now) }
+        → lacks (leader_after leader.old line.now).pairs }
     ensures no_read { result ≢ Err RunFault.Read }
 {
     if let Some(query) = read_query(line) {
-        return answer_query(alloc, writer, pairs, query);
+        return answer_query(alloc, writer, &leader.pairs, leader.done, query);
     }
-    match parse_pairs(line) {
-        Some(command) => answer_command(writer, pairs, command),
+    match read_command(line) {
+        Some(command) => answer_command(writer, leader, command),
         None => answer_other(others, writer),
     }
 }
 
-/// Carries out a command, and writes the reply, the events of its change and the next number. A
-/// failed call changes nothing, and nothing is written.
+/// Carries out a command, and writes the reply, the events of its change, the commands that are
+/// done and the next number. A failed call changes nothing, and nothing is written.
 fn answer_command<W: Write>(
     writer: &mut W,
-    pairs: &mut Pairs,
-    command: PairCommand,
+    leader: &mut Leader,
+    command: Command,
 ) -> Result<(), RunFault>
-    ensures pairs { OnOk result (pairs.new ≡ pairs_after pairs.old command) }
+    ensures held { OnOk result (leader.new
+        ≡ leader_of (pairs_after leader.old.pairs command.change)
+        (done_by leader.old.done command)) }
     ensures told { OnOk result (Appends (W.contents writer.old) (W.contents writer.new)
-        (command_text pairs.old command)) }
+        (command_text leader.old command)) }
     ensures memory_refused { result ≡ Err RunFault.Memory
         → Keeps (W.contents writer.old) (W.contents writer.new) }
     ensures numbers_refused { result ≡ Err RunFault.Numbers
         → Keeps (W.contents writer.old) (W.contents writer.new) }
-    ensures no_numbers { result ≡ Err RunFault.Numbers → lacks (pairs_after pairs.old command) }
+    ensures no_numbers { result ≡ Err RunFault.Numbers
+        → lacks (pairs_after leader.old.pairs command.change) }
     ensures no_read { result ≢ Err RunFault.Read }
 {
-    answer_pairs(writer, pairs, command)?;
-    write_reply(writer, Reply::Next(pairs.events_issued()))
+    answer_pairs(writer, command.echo, &mut leader.pairs, command.change)?;
+    leader.done = command.done(leader.done);
+    let next = leader.pairs.events_issued();
+    write_done(writer, command.echo, leader.done, next)?;
+    write_reply(writer, Reply::Next(next))
+}
+
+/// Writes the line that tells followers which commands were done, where the command has a number.
+fn write_done<W: Write>(
+    writer: &mut W,
+    echo: Option<u64>,
+    done: u64,
+    next: u64,
+) -> Result<(), RunFault>
+    ensures told { OnOk result (Appends (W.contents writer.old) (W.contents writer.new)
+        (done_text echo done next)) }
+    ensures fault { IfErr result (λ fault. fault ≡ RunFault.Write) }
+{
+    match echo {
+        Some(_) => write_mark(writer, Mark::Done(done, next)),
+        None => Ok(()),
+    }
 }

@@ -2,18 +2,20 @@
 //!
 //! [`serve`] reads lines of a reader and writes the answer to each. A line is an event, as
 //! `indexset_bench` writes it, one of a snapshot, a read, or a command to a map that leads.
-//! `numbers`, `event`, `node`, `mark` and [`reads`] read a line, `answer` and `snapshot` change what
-//! a `follower` holds, `early` holds its events ahead, `leading` changes what leads, `step_down`
-//! makes a follower of it, `sum` and `write` tell it, and `store` has both roles. The text that it
-//! writes is defined in `specs/Store.antt`, and [`laws`] and [`takeover`] say what the definitions
-//! mean.
+//! `numbers`, `event`, `node`, `mark`, `echo` and [`reads`] read a line, `answer` and `snapshot`
+//! change what a `follower` holds, `early` holds its events ahead, `leading` changes what a
+//! `leader` holds, `step_down` makes a follower of it, `sum` and `write` tell it, and `store` has
+//! both roles. The text that it writes is defined in `specs/Store.antt`, and [`laws`] and
+//! [`takeover`] say what the definitions mean.
 #![tactic(auto)]
 
 mod answer;
 mod early;
+mod echo;
 mod event;
 mod follower;
 pub mod laws;
+mod leader;
 mod leading;
 mod mark;
 mod node;

@@ -1,18 +1,22 @@
-//! The lines that begin and end a snapshot.
+//! The lines that begin and end a snapshot, and the line that tells which commands were done.
 
 ghost use Rattle.std.specs.Prelude.{◌≡◌, Some};
-ghost use Rattle.indexset_follow.specs.Mark.{end_of, mark_line, mark_of, word_mark};
+ghost use Rattle.indexset_follow.specs.Mark.{mark_line, mark_of, start_of, word_mark};
 
+use crate::numbers::{Tail, read_two};
 use indexset_events::parts::{cut, read_number};
 use std::fmt;
 
-/// The beginning or the end of a snapshot.
+/// The beginning or the end of a snapshot, or which commands were done.
 #[derive(Clone, Copy, Debug, PartialEq, Eq)]
 pub enum Mark {
-    /// A snapshot begins, before the event of this number.
-    Start(u64),
+    /// A snapshot begins, before the event of the first number. The second is the greatest number
+    /// of a command, 0 where there is none.
+    Start(u64, u64),
     /// It ends: how many nodes it has, and its sum.
     End(u64, u64),
+    /// The greatest number of a command, and the number of the event after those of the commands.
+    Done(u64, u64),
 }
 
 impl fmt::Display for Mark {
@@ -20,8 +24,12 @@ impl fmt::Display for Mark {
 
     fn fmt<W: fmt::Write>(&self, f: &mut fmt::Formatter<W>) -> fmt::Result {
         match self {
-            Mark::Start(next) => write!(f, "start {next}"),
+            Mark::Start(next, done) => {
+                let tail = Tail(*done);
+                write!(f, "start {next}{tail}")
+            }
             Mark::End(count, sum) => write!(f, "end {count} {sum}"),
+            Mark::Done(done, next) => write!(f, "done {done} {next}"),
         }
     }
 }
@@ -39,20 +47,27 @@ fn read_word_mark(word: &[u8], rest: &[u8]) -> Option<Mark>
     ensures { result ≡ word_mark word.now rest.now }
 {
     if word == b"start".as_slice() {
-        read_number(rest).map(Mark::Start)
+        read_start(rest)
     } else if word == b"end".as_slice() {
-        read_end(rest)
+        read_two(rest).map(|end| Mark::End(end.0, end.1))
+    } else if word == b"done".as_slice() {
+        read_two(rest).map(|told| Mark::Done(told.0, told.1))
     } else {
         None
     }
 }
 
-/// Returns the end of a snapshot, by its two numbers.
-fn read_end(text: &[u8]) -> Option<Mark>
-    ensures { result ≡ end_of text.now }
+/// Returns the beginning of a snapshot, by its number, or by two of which the second is not 0.
+fn read_start(text: &[u8]) -> Option<Mark>
+    ensures { result ≡ start_of text.now }
 {
-    let (count, sum) = cut(text, b' ')?;
-    let count = read_number(count)?;
-    let sum = read_number(sum)?;
-    Some(Mark::End(count, sum))
+    if let Some(next) = read_number(text) {
+        return Some(Mark::Start(next, 0));
+    }
+    let (next, done) = read_two(text)?;
+    if done == 0 {
+        None
+    } else {
+        Some(Mark::Start(next, done))
+    }
 }

@@ -1,14 +1,43 @@
-//! Pairs of numbers within a line.
+//! Numbers within a line.
 
-ghost use Rattle.std.specs.Prelude.{◌≡◌};
-ghost use Rattle.indexset_follow.specs.Numbers.{pair_of};
+ghost use Rattle.std.specs.Prelude.{◌≡◌, Some};
+ghost use Rattle.indexset_follow.specs.Numbers.{pair_of, tail_text, two_numbers};
 
 use indexset_core::pair::Pair;
+use indexset_events::parts::{cut, read_number};
 use indexset_events::spelling::Spelled;
+use std::fmt;
 
 /// Returns the pair of two numbers with a colon between them.
 pub fn read_pair(text: &[u8]) -> Option<Pair<u64, u64>>
     ensures { result ≡ pair_of text.now }
 {
     Pair::read(text)
+}
+
+/// Returns two numbers with a space between them.
+pub fn read_two(text: &[u8]) -> Option<(u64, u64)>
+    ensures { result ≡ two_numbers text.now }
+{
+    let (first, second) = cut(text, b' ')?;
+    let first = read_number(first)?;
+    let second = read_number(second)?;
+    Some((first, second))
+}
+
+/// A number behind others in a line, which is left out where it is 0.
+#[derive(Clone, Copy, Debug, PartialEq, Eq)]
+pub struct Tail(pub u64);
+
+impl fmt::Display for Tail {
+    ghost output = { λ tail. Some (tail_text tail.0) };
+
+    fn fmt<W: fmt::Write>(&self, f: &mut fmt::Formatter<W>) -> fmt::Result {
+        let number = self.0;
+        if number == 0 {
+            Ok(())
+        } else {
+            write!(f, " {number}")
+        }
+    }
 }

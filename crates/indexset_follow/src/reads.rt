@@ -60,15 +60,17 @@ pub trait Reads {
     fn node_total(&self) -> usize
         ensures { result ≡ length (nodes self.now) };
 
-    /// Returns the sum of the nodes and the next number.
-    fn sum_of_nodes(&self, alloc: Global) -> Result<u64, RunFault>
-        ensures sum { IfOk result (λ sum. sum ≡ sum_of (copy (nodes self.now) (next self.now))) }
+    /// Returns the sum of the nodes, the next number and the greatest number of a command.
+    fn sum_of_nodes(&self, alloc: Global, done: u64) -> Result<u64, RunFault>
+        ensures sum { IfOk result (λ sum. sum
+            ≡ sum_of (copy (nodes self.now) (next self.now)) done) }
         ensures fault { IfErr result (λ fault. fault ≡ RunFault.Memory) };
 
-    /// Writes the lines of a snapshot before its last.
-    fn write_snapshot_body<W: Write>(&self, writer: &mut W) -> Result<(), RunFault>
+    /// Writes the lines of a snapshot before its last, where `done` is the greatest number of a
+    /// command.
+    fn write_snapshot_body<W: Write>(&self, writer: &mut W, done: u64) -> Result<(), RunFault>
         ensures told { OnOk result (Appends (W.contents writer.old) (W.contents writer.new)
-            (body_text (copy (nodes self.now) (next self.now)))) }
+            (body_text (copy (nodes self.now) (next self.now)) done)) }
         ensures fault { IfErr result (λ fault. fault ≡ RunFault.Write) };
 
     /// Writes the pairs from one key to another, both included, in one line.
@@ -103,17 +105,18 @@ pub fn answer_read<R: Reads, W: Write>(
     others: Others,
     writer: &mut W,
     map: &R,
+    done: u64,
     line: &[u8],
 ) -> Result<(), RunFault>
     ensures told { OnOk result (Appends (W.contents writer.old) (W.contents writer.new)
-        (read_reply others (R.nodes map.now) (R.next map.now) line.now)) }
+        (read_reply others (R.nodes map.now) (R.next map.now) done line.now)) }
     ensures memory_refused { result ≡ Err RunFault.Memory
         → Keeps (W.contents writer.old) (W.contents writer.new) }
     ensures no_read { result ≢ Err RunFault.Read }
     ensures no_numbers { result ≢ Err RunFault.Numbers }
 {
     match read_query(line) {
-        Some(query) => answer_query(alloc, writer, map, query),
+        Some(query) => answer_query(alloc, writer, map, done, query),
         None => answer_other(others, writer),
     }
 }
@@ -135,10 +138,11 @@ pub fn answer_query<R: Reads, W: Write>(
     alloc: Global,
     writer: &mut W,
     map: &R,
+    done: u64,
     query: Query,
 ) -> Result<(), RunFault>
     ensures told { OnOk result (Appends (W.contents writer.old) (W.contents writer.new)
-        (query_text (R.nodes map.now) (R.next map.now) query)) }
+        (query_text (R.nodes map.now) (R.next map.now) done query)) }
     ensures memory_refused { result ≡ Err RunFault.Memory
         → Keeps (W.contents writer.old) (W.contents writer.new) }
     ensures no_read { result ≢ Err RunFault.Read }
@@ -156,13 +160,13 @@ pub fn answer_query<R: Reads, W: Write>(
         Query::Nodes => map.write_all(writer),
         Query::Next => write_reply(writer, Reply::Next(map.next_number())),
         Query::Head(end) => write_reply(writer, reply_to_head(map.next_number(), end)),
-        Query::Snapshot => write_snapshot(alloc, writer, map),
-        Query::Sum => write_sum(alloc, writer, map),
+        Query::Snapshot => write_snapshot(alloc, writer, map, done),
+        Query::Sum => write_sum(alloc, writer, map, done),
     }
 }
 
 /// Returns the reply where the events before the number `end` were told.
-fn reply_to_head(next: u64, end: u64) -> Reply
+pub fn reply_to_head(next: u64, end: u64) -> Reply
     ensures { result ≡ head_reply next end }
 {
     if next < end {
@@ -218,19 +222,24 @@ fn write_page<R: Reads, W: Write>(
     map.write_positions(writer, position, end)
 }
 
-/// Writes the next number, how many nodes there are, and the sum of both.
-fn write_sum<R: Reads, W: Write>(alloc: Global, writer: &mut W, map: &R) -> Result<(), RunFault>
+/// Writes the next number, how many nodes there are, the sum, and the greatest number of a command.
+fn write_sum<R: Reads, W: Write>(
+    alloc: Global,
+    writer: &mut W,
+    map: &R,
+    done: u64,
+) -> Result<(), RunFault>
     ensures told { OnOk result (Appends (W.contents writer.old) (W.contents writer.new)
-        (query_text (R.nodes map.now) (R.next map.now) Query.Sum)) }
+        (query_text (R.nodes map.now) (R.next map.now) done Query.Sum)) }
     ensures memory_refused { result ≡ Err RunFault.Memory
         → Keeps (W.contents writer.old) (W.contents writer.new) }
     ensures no_read { result ≢ Err RunFault.Read }
     ensures no_numbers { result ≢ Err RunFault.Numbers }
 {
-    let sum = map.sum_of_nodes(alloc)?;
+    let sum = map.sum_of_nodes(alloc, done)?;
     write_reply(
         writer,
-        Reply::Sum(map.next_number(), map.node_total() as u64, sum),
+        Reply::Sum(map.next_number(), map.node_total() as u64, sum, done),
     )
 }
 
@@ -239,15 +248,16 @@ fn write_snapshot<R: Reads, W: Write>(
     alloc: Global,
     writer: &mut W,
     map: &R,
+    done: u64,
 ) -> Result<(), RunFault>
     ensures told { OnOk result (Appends (W.contents writer.old) (W.contents writer.new)
-        (snapshot_text (copy (R.nodes map.now) (R.next map.now)))) }
+        (snapshot_text (copy (R.nodes map.now) (R.next map.now)) done)) }
     ensures memory_refused { result ≡ Err RunFault.Memory
         → Keeps (W.contents writer.old) (W.contents writer.new) }
     ensures no_read { result ≢ Err RunFault.Read }
     ensures no_numbers { result ≢ Err RunFault.Numbers }
 {
-    let sum = map.sum_of_nodes(alloc)?;
-    map.write_snapshot_body(writer)?;
+    let sum = map.sum_of_nodes(alloc, done)?;
+    map.write_snapshot_body(writer, done)?;
     write_mark(writer, Mark::End(map.node_total() as u64, sum))
 }

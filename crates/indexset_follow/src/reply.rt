@@ -3,6 +3,7 @@
 ghost use Rattle.std.specs.Prelude.{Some};
 ghost use Rattle.indexset_follow.specs.Reply.{reply_text};
 
+use crate::numbers::Tail;
 use crate::reason::Reason;
 use std::fmt;
 
@@ -21,8 +22,8 @@ pub enum Reply {
     Unfit(u64, Reason),
     /// The line of a snapshot is held.
     Held,
-    /// The awaited number, how many nodes there are, and the sum of both.
-    Sum(u64, u64, u64),
+    /// The awaited number, how many nodes there are, the sum, and the greatest number of a command.
+    Sum(u64, u64, u64, u64),
     /// A key and its value.
     Item(u64, u64),
     /// How many there are.
@@ -59,7 +60,10 @@ impl fmt::Display for Reply {
             Reply::Missing(number, first) => write!(f, "gap {number} {first}"),
             Reply::Unfit(number, reason) => write!(f, "unfit {number} {reason}"),
             Reply::Held => f.write_str("held"),
-            Reply::Sum(next, count, sum) => write!(f, "sum {next} {count} {sum}"),
+            Reply::Sum(next, count, sum, done) => {
+                let tail = Tail(*done);
+                write!(f, "sum {next} {count} {sum}{tail}")
+            }
             Reply::Item(key, value) => write!(f, "{key}:{value}"),
             Reply::Count(count) => fmt::Display::fmt(count, f),
             Reply::Nothing => f.write_str("none"),

@@ -1,7 +1,7 @@
 //! The two roles of a map.
 
 use crate::follower::Follower;
-use indexset_bench::pairs::Pairs;
+use crate::leader::Leader;
 
 /// A map in its role.
 #[derive(Drop)]
@@ -9,5 +9,5 @@ pub enum Role {
     /// It holds what the events of another lead to.
     Following(Follower),
     /// It is changed by commands, and tells events.
-    Leading(Pairs),
+    Leading(Leader),
 }

@@ -1,4 +1,4 @@
-//! What the lines of a snapshot change, and the replies to them.
+//! What the lines of a snapshot and of commands that were done change, and the replies to them.
 
 ghost use Rattle.std.specs.Prelude.{◌≡◌, OnOk, OnErr, IfOk, IfErr};
 ghost use Rattle.indexset_follow.specs.Follow.{after_mark, after_node, end_reason, mark_reply, node_reply};
@@ -8,12 +8,13 @@ use crate::early::Early;
 use crate::follower::Follower;
 use crate::mark::Mark;
 use crate::node::Node;
-use crate::reads::Reads;
+use crate::reads::{Reads, reply_to_head};
 use crate::reason::Reason;
 use crate::reply::Reply;
 use crate::write::Nodes;
 use indexset_bench::RunFault;
 use std::alloc::Global;
+use std::mem;
 
 /// Inserts a whole node into the snapshot that is coming, and returns the reply.
 pub fn take_node(follower: &mut Follower, node: Node) -> Result<Reply, RunFault>
@@ -31,7 +32,8 @@ pub fn take_node(follower: &mut Follower, node: Node) -> Result<Reply, RunFault>
     }
 }
 
-/// Begins a snapshot or ends it, and returns the reply.
+/// Begins a snapshot or ends it, or takes the greatest number of a command whose events are held,
+/// and returns the reply.
 pub fn take_mark(alloc: Global, follower: &mut Follower, mark: Mark) -> Result<Reply, RunFault>
     ensures held { OnOk result (follower.new ≡ after_mark follower.old mark) }
     ensures reply { IfOk result (λ reply. reply ≡ mark_reply follower.old mark) }
@@ -39,12 +41,27 @@ pub fn take_mark(alloc: Global, follower: &mut Follower, mark: Mark) -> Result<R
     ensures unchanged { OnErr result (follower.new ≡ follower.old) }
 {
     match mark {
-        Mark::Start(next) => {
+        Mark::Start(next, done) => {
             follower.coming = Some(Nodes::new(alloc, next));
+            follower.coming_done = done;
             Ok(Reply::Held)
         }
         Mark::End(count, sum) => take_end(alloc, follower, count, sum),
+        Mark::Done(done, end) => Ok(take_done(follower, done, end)),
     }
+}
+
+/// Takes the greatest number of a command where the events before the number `end` are held, and
+/// returns the reply.
+fn take_done(follower: &mut Follower, done: u64, end: u64) -> Reply
+    ensures held { follower.new ≡ after_mark follower.old (Mark.Done done end) }
+    ensures reply { result ≡ mark_reply follower.old (Mark.Done done end) }
+{
+    let next = follower.held.next();
+    if next >= end {
+        follower.done = follower.done.max(done);
+    }
+    reply_to_head(next, end)
 }
 
 /// Puts the snapshot that came in place of all that is held, early events among it, where it is
@@ -59,13 +76,15 @@ fn take_end(alloc: Global, follower: &mut Follower, count: u64, sum: u64) -> Res
     let Some(coming) = &follower.coming else {
         return Ok(Reply::Unfit(next, Reason::NotBegun));
     };
-    if let Some(reason) = wrong_end(alloc, coming, count, sum)? {
+    if let Some(reason) = wrong_end(alloc, coming, follower.coming_done, count, sum)? {
         follower.coming = None;
+        follower.coming_done = 0;
         return Ok(Reply::Unfit(next, reason));
     }
     let next = coming.next();
     if let Some(came) = follower.coming.take() {
         follower.held = came;
+        follower.done = mem::replace(&mut follower.coming_done, 0);
         follower.early = Early::new();
     }
     Ok(Reply::Next(next))
@@ -75,16 +94,17 @@ fn take_end(alloc: Global, follower: &mut Follower, count: u64, sum: u64) -> Res
 fn wrong_end(
     alloc: Global,
     coming: &Nodes,
+    done: u64,
     nodes: u64,
     sum_told: u64,
 ) -> Result<Option<Reason>, RunFault>
-    ensures reason { IfOk result (λ reason. reason ≡ end_reason nodes sum_told coming.now) }
+    ensures reason { IfOk result (λ reason. reason ≡ end_reason nodes sum_told coming.now done) }
     ensures fault { IfErr result (λ fault. fault ≡ RunFault.Memory) }
 {
     if coming.node_total() as u64 != nodes {
         return Ok(Some(Reason::Count));
     }
-    let sum_came = coming.sum_of_nodes(alloc)?;
+    let sum_came = coming.sum_of_nodes(alloc, done)?;
     if sum_came != sum_told {
         return Ok(Some(Reason::Sum));
     }

@@ -8,6 +8,7 @@ ghost use Rattle.indexset_follow.specs.Store.{after_follow, after_in_role, after
 use crate::answer::answer_line;
 use crate::early::Early;
 use crate::follower::Follower;
+use crate::leader::Leader;
 use crate::leading::answer_leading;
 use crate::mark::{Mark, read_mark};
 use crate::others::Voice;
@@ -47,9 +48,10 @@ impl Store {
         ensures held { held result.size result.window result.role ≡ first_held size window leads }
     {
         let role = if leads {
-            Role::Leading(Pairs::with_maximum_node_size(alloc, size))
+            let pairs = Pairs::with_maximum_node_size(alloc, size);
+            Role::Leading(Leader { pairs, done: 0 })
         } else {
-            Role::Following(holding(window, Nodes::new(alloc, 0)))
+            Role::Following(holding(window, Nodes::new(alloc, 0), 0))
         };
         Store {
             alloc,
@@ -77,10 +79,10 @@ impl Store {
     {
         match &mut self.role {
             Role::Following(follower) => {
-                let next = follower.held.next();
+                let (next, done) = (follower.held.next(), follower.done);
                 match promote(self.alloc, &mut follower.held, self.size)? {
                     Some(pairs) => {
-                        self.role = Role::Leading(pairs);
+                        self.role = Role::Leading(Leader { pairs, done });
                         write_reply(writer, Reply::Next(next))
                     }
                     None => {
@@ -89,7 +91,9 @@ impl Store {
                     }
                 }
             }
-            Role::Leading(pairs) => write_reply(writer, Reply::Next(pairs.events_issued())),
+            Role::Leading(leader) => {
+                write_reply(writer, Reply::Next(leader.pairs.events_issued()))
+            }
         }
     }
 
@@ -109,10 +113,11 @@ impl Store {
     {
         match &self.role {
             Role::Following(follower) => write_reply(writer, Reply::Next(follower.held.next())),
-            Role::Leading(pairs) => {
-                let nodes = follower_of(self.alloc, pairs)?;
+            Role::Leading(leader) => {
+                let done = leader.done;
+                let nodes = follower_of(self.alloc, &leader.pairs)?;
                 let next = nodes.next();
-                self.role = Role::Following(holding(self.window, nodes));
+                self.role = Role::Following(holding(self.window, nodes, done));
                 write_reply(writer, Reply::Next(next))
             }
         }
@@ -125,10 +130,10 @@ impl Store {
         ensures window { self.new.window ≡ self.old.window }
         ensures voice { self.new.voice ≡ self.old.voice }
     {
-        if let Role::Leading(pairs) = &self.role {
-            if starts(line) && pairs.node_count() == 0 {
-                let next = pairs.events_issued();
-                self.role = Role::Following(holding(self.window, Nodes::new(self.alloc, next)));
+        if let Role::Leading(leader) = &self.role {
+            if starts(line) && leader.pairs.node_count() == 0 {
+                let nodes = Nodes::new(self.alloc, leader.pairs.events_issued());
+                self.role = Role::Following(holding(self.window, nodes, leader.done));
             }
         }
     }
@@ -153,11 +158,11 @@ impl Store {
             Role::Following(follower) => {
                 answer_line(self.alloc, self.voice, writer, follower, line)
             }
-            Role::Leading(pairs) => answer_leading(
+            Role::Leading(leader) => answer_leading(
                 self.alloc,
                 self.voice.others,
                 writer,
-                pairs,
+                leader,
                 line,
             ),
         }
@@ -176,20 +181,27 @@ impl Store {
         match &self.role {
             Role::Following(follower) => {
                 let others = self.voice.follower_others();
-                answer_read(self.alloc, others, writer, &follower.held, line)
+                let done = follower.done;
+                answer_read(self.alloc, others, writer, &follower.held, done, line)
             }
-            Role::Leading(pairs) => answer_read(self.alloc, self.voice.others, writer, pairs, line),
+            Role::Leading(leader) => {
+                let (others, done) = (self.voice.others, leader.done);
+                answer_read(self.alloc, others, writer, &leader.pairs, done, line)
+            }
         }
     }
 }
 
-/// Returns a follower that holds these nodes, where no snapshot has begun and no event is early.
-fn holding(window: u64, held: Nodes) -> Follower
-    ensures { result ≡ holding window held }
+/// Returns a follower that holds these nodes and the greatest number of a command, where no
+/// snapshot has begun and no event is early.
+fn holding(window: u64, held: Nodes, done: u64) -> Follower
+    ensures { result ≡ holding window held done }
 {
     Follower {
         held,
+        done,
         coming: None,
+        coming_done: 0,
         window,
         early: Early::new(),
     }
@@ -200,7 +212,7 @@ fn starts(line: &[u8]) -> bool
     ensures { result ≡ starts line.now }
 {
     match read_mark(line) {
-        Some(Mark::Start(_)) => true,
+        Some(Mark::Start(_, _)) => true,
         _ => false,
     }
 }

@@ -11,14 +11,19 @@ use sha2::{Digest, Sha256};
 use std::alloc::Global;
 
 /// Returns the first 64 bits of the SHA-256 of the lines of a snapshot before its last.
-pub fn sum<'a, N: WalkNodes<'a> + Drop>(alloc: Global, next: u64, nodes: N) -> Result<u64, RunFault>
-    ensures sum { IfOk result (λ sum. sum ≡ sum_of (copy (N.rest nodes) next)) }
+pub fn sum<'a, N: WalkNodes<'a> + Drop>(
+    alloc: Global,
+    next: u64,
+    done: u64,
+    nodes: N,
+) -> Result<u64, RunFault>
+    ensures sum { IfOk result (λ sum. sum ≡ sum_of (copy (N.rest nodes) next) done) }
     ensures fault { IfErr result (λ fault. fault ≡ RunFault.Memory) }
 {
     let mut walk = nodes;
     let mut text = Vec::new(alloc);
     let mut hasher = Sha256::new();
-    write_mark(&mut text, Mark::Start(next)).map_err(|_| RunFault::Memory)?;
+    write_mark(&mut text, Mark::Start(next, done)).map_err(|_| RunFault::Memory)?;
     hasher.update(text.as_slice());
     while let Some(node) = walk.next_node() {
         text.clear();

@@ -6,20 +6,21 @@ ghost use Rattle.std.specs.Io.BufRead.{ends_with_byte};
 ghost use Rattle.std.specs.List.{All};
 ghost use Rattle.std.specs.Ordering.{nat_cmp};
 ghost use Rattle.indexset_lines.specs.Lines.{HasNoEnd, IsWhole, lines_of};
-ghost use Rattle.indexset_bench.specs.Pairs.{PairTree};
 ghost use Rattle.indexset_core.specs.Pairs.{by_key};
 ghost use Rattle.indexset_events.specs.Attach.{nodes_refusal};
 ghost use Rattle.indexset_events.specs.Replay.{IsNumberedFrom, replay};
 ghost use Rattle.indexset_log.specs.Tree.{fresh};
 ghost use Rattle.indexset_follow.specs.Copy.{copy};
 ghost use Rattle.indexset_follow.specs.Drawn.{HoldsFirst};
-ghost use Rattle.indexset_follow.specs.Follow.{State};
-ghost use Rattle.indexset_follow.specs.Leading.{events_led, tree_of};
+ghost use Rattle.indexset_follow.specs.Follow.{State, start_state, state_after};
+ghost use Rattle.indexset_follow.specs.Known.{KnowsDone, TellsDone};
+ghost use Rattle.indexset_follow.specs.Leading.{done_of, events_led, leader_of, tree_of};
 ghost use Rattle.indexset_follow.specs.Query.{QueryFits, query_line, query_of};
 ghost use Rattle.indexset_follow.specs.Reads.{query_text};
 ghost use Rattle.indexset_follow.specs.Reply.{reply_ended};
 ghost use Rattle.indexset_follow.specs.Store.{Held, after_held, after_input, first_held, held, held_after, held_cut, held_replies, held_reply, input_reply, is_follow, starts, without_return};
 ghost use Rattle.indexset_follow.specs.StoreRun.{store_after, store_text};
+ghost use Rattle.indexset_follow.specs.declared.leader.Leader.{Leader};
 ghost use Rattle.indexset_follow.specs.declared.others.Others.{Others};
 ghost use Rattle.indexset_follow.specs.declared.others.Voice.{Voice};
 ghost use Rattle.indexset_follow.specs.declared.reads.query.Query.{Query};
@@ -28,17 +29,20 @@ ghost use Rattle.indexset_follow.specs.declared.role.Role.{Role};
 ghost use Rattle.indexset_follow.specs.declared.role.Role.TheVariants as role;
 
 /// A follower that is told to lead is the leader of the same nodes that goes on with the same
-/// number, whether a snapshot is coming or not. So it answers all further lines, and tells the
-/// events of them, as that leader does.
+/// number and the same greatest number of a command, whether a snapshot is coming or not. So it
+/// answers all further lines, and tells the events of them, as that leader does.
 pub fn follower_takes_over()
-    ensures held { (t : PairTree) (w : ℕ) (s : State) → s.held ≡ copy t.nodes t.next
-        → nodes_refusal (by_key nat_cmp) t.size t.nodes ≡ None
-        → after_held (held t.size w (role.Following s)) (codes "lead")
-        ≡ held t.size w (role.Leading t) }
-    ensures answers { (v : Voice) (t : PairTree) (w : ℕ) (s : State) (lines : List (List ℕ))
-        → s.held ≡ copy t.nodes t.next → nodes_refusal (by_key nat_cmp) t.size t.nodes ≡ None
-        → held_replies v (held t.size w (role.Following s)) (codes "lead" ∷ lines)
-        ≡ reply_ended (reply.Next t.next) ++ held_replies v (held t.size w (role.Leading t)) lines }
+    ensures held { (l : Leader) (w : ℕ) (s : State)
+        → s.held ≡ copy l.pairs.nodes l.pairs.next → s.done ≡ l.done
+        → nodes_refusal (by_key nat_cmp) l.pairs.size l.pairs.nodes ≡ None
+        → after_held (held l.pairs.size w (role.Following s)) (codes "lead")
+        ≡ held l.pairs.size w (role.Leading l) }
+    ensures answers { (v : Voice) (l : Leader) (w : ℕ) (s : State) (lines : List (List ℕ))
+        → s.held ≡ copy l.pairs.nodes l.pairs.next → s.done ≡ l.done
+        → nodes_refusal (by_key nat_cmp) l.pairs.size l.pairs.nodes ≡ None
+        → held_replies v (held l.pairs.size w (role.Following s)) (codes "lead" ∷ lines)
+        ≡ reply_ended (reply.Next l.pairs.next)
+        ++ held_replies v (held l.pairs.size w (role.Leading l)) lines }
 {}
 
 /// The events that a leader tells, whatever lines it reads, are numbered from 0 without a gap. They
@@ -53,36 +57,54 @@ pub fn led_events_lead_to_the_nodes()
         ≡ Some (tree_of (fresh size) lines).nodes }
     ensures count { (size : ℕ) (lines : List (List ℕ)) → 2 ≤ size → size < 2 ^ 64
         → (tree_of (fresh size) lines).next ≡ length (events_led (fresh size) lines) }
-    ensures role { (size w : ℕ) (t : PairTree) (lines : List (List ℕ))
+    ensures role { (size w : ℕ) (l : Leader) (lines : List (List ℕ))
         → All (λ line. (starts line || is_follow line) ≡ false) lines
-        → held_after (held size w (role.Leading t)) lines
-        ≡ held size w (role.Leading (tree_of t lines)) }
+        → held_after (held size w (role.Leading l)) lines
+        ≡ held size w (role.Leading (leader_of (tree_of l.pairs lines) (done_of l.done lines))) }
 {}
 
 /// Let a leader begin without nodes and read some lines, and let a follower hold what all events
-/// lead to that it told. The follower that is told to lead is what the leader is, and answers all
-/// further lines, and tells the events of them, as the leader that goes on.
+/// lead to that it told, and the greatest number of its commands. The follower that is told to lead
+/// is what the leader is, and answers all further lines, and tells the events of them, as the
+/// leader that goes on.
 pub fn follower_goes_on_as_the_leader()
     ensures held { (size w : ℕ) (lines : List (List ℕ)) (s : State) → 2 ≤ size → size < 2 ^ 64
         → HoldsFirst 0 [] (events_led (fresh size) lines) (length (events_led (fresh size) lines)) s
+        → s.done ≡ done_of 0 lines
         → after_held (held size w (role.Following s)) (codes "lead")
-        ≡ held size w (role.Leading (tree_of (fresh size) lines)) }
+        ≡ held size w (role.Leading (leader_of (tree_of (fresh size) lines) (done_of 0 lines))) }
     ensures answers { (v : Voice) (size w : ℕ) (lines more : List (List ℕ)) (s : State)
         → 2 ≤ size → size < 2 ^ 64
         → HoldsFirst 0 [] (events_led (fresh size) lines) (length (events_led (fresh size) lines)) s
+        → s.done ≡ done_of 0 lines
         → held_replies v (held size w (role.Following s)) (codes "lead" ∷ more)
-        ≡ reply_ended (reply.Next s.held.next)
-        ++ held_replies v (held size w (role.Leading (tree_of (fresh size) lines))) more }
+        ≡ reply_ended (reply.Next s.held.next) ++ held_replies v (held size w
+        (role.Leading (leader_of (tree_of (fresh size) lines) (done_of 0 lines)))) more }
 {}
 
-/// A read is answered by the nodes and the next number alone, whatever the role, and changes
-/// nothing.
+/// Let a leader begin without nodes and read some lines, and let a follower get any lines, with
+/// losses, repeats and in any order, of which none ends a snapshot, and those that tell which
+/// commands were done are the leader's. The greatest number of a command that it then holds is what
+/// the leader held after the first k of its lines, for some k, and it took the events of all these.
+/// So it holds no greater one than the leader.
+pub fn followers_know_what_was_done()
+    ensures known { (size : ℕ) (lines delivered : List (List ℕ)) (s : State)
+        → All (TellsDone size lines) delivered → KnowsDone size lines s
+        → KnowsDone size lines (state_after s delivered) }
+    ensures none { (size w : ℕ) (lines : List (List ℕ)) → KnowsDone size lines (start_state w) }
+    ensures less { (size : ℕ) (lines : List (List ℕ)) (s : State)
+        → KnowsDone size lines s → s.done ≤ done_of 0 lines }
+{}
+
+/// A read is answered by the nodes, the next number and the greatest number of a command alone,
+/// whatever the role, and changes nothing.
 pub fn reads_agree()
     ensures follows { (v : Voice) (size w : ℕ) (s : State) (q : Query) → QueryFits q
         → held_reply v (held size w (role.Following s)) (query_line q)
-        ≡ query_text s.held.nodes s.held.next q }
-    ensures leads { (v : Voice) (size w : ℕ) (t : PairTree) (q : Query) → QueryFits q
-        → held_reply v (held size w (role.Leading t)) (query_line q) ≡ query_text t.nodes t.next q }
+        ≡ query_text s.held.nodes s.held.next s.done q }
+    ensures leads { (v : Voice) (size w : ℕ) (l : Leader) (q : Query) → QueryFits q
+        → held_reply v (held size w (role.Leading l)) (query_line q)
+        ≡ query_text l.pairs.nodes l.pairs.next l.done q }
     ensures still { (size w : ℕ) (r : Role) (q : Query) → QueryFits q
         → after_held (held size w r) (query_line q) ≡ held size w r }
 {}
@@ -97,10 +119,10 @@ pub fn returns_belong_to_line_ends()
         → without_return line ≡ line }
 {}
 
-/// A last line that lacks its end changes nothing in either role, whatever it would be with its end:
-/// what is held after whole lines and a cut one is what is held after the whole lines. The answer to
-/// the cut line stands behind those to the whole ones. It is none where lines that say nothing are
-/// passed over and the cut one asks for no read.
+/// A last line that lacks its end changes nothing in either role, whatever it would be with its
+/// end: what is held after whole lines and a cut one is what is held after the whole lines. The
+/// answer to the cut line stands behind those to the whole ones. It is none where lines that say
+/// nothing are passed over and the cut one asks for no read.
 pub fn cut_lines_change_nothing()
     ensures held { (size w : ℕ) (leads : Bool) (whole rest : List ℕ) → IsWhole whole → HasNoEnd rest
         → store_after size w leads (whole ++ rest) ≡ store_after size w leads whole }

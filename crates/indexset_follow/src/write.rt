@@ -60,7 +60,7 @@ pub fn write_nodes<'a, N: WalkNodes<'a> + Drop, W: Write>(
     write_reply(writer, Reply::Next(next))
 }
 
-/// Writes the beginning or the end of a snapshot as a line.
+/// Writes the beginning or the end of a snapshot, or which commands were done, as a line.
 pub fn write_mark<W: Write>(writer: &mut W, mark: Mark) -> Result<(), RunFault>
     ensures told { OnOk result (Appends (W.contents writer.old) (W.contents writer.new)
         (ended (mark_line mark))) }
@@ -83,14 +83,15 @@ pub fn write_node_line<W: Write>(writer: &mut W, node: &[Pair<u64, u64>]) -> Res
 pub fn write_body<'a, N: WalkNodes<'a> + Drop, W: Write>(
     writer: &mut W,
     next: u64,
+    done: u64,
     nodes: N,
 ) -> Result<(), RunFault>
     ensures told { OnOk result (Appends (W.contents writer.old) (W.contents writer.new)
-        (body_text (copy (N.rest nodes) next))) }
+        (body_text (copy (N.rest nodes) next) done)) }
     ensures fault { IfErr result (λ fault. fault ≡ RunFault.Write) }
 {
     let mut walk = nodes;
-    write_mark(writer, Mark::Start(next))?;
+    write_mark(writer, Mark::Start(next, done))?;
     while let Some(node) = walk.next_node() {
         write_node_line(writer, node)?;
     }

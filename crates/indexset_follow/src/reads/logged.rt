@@ -45,12 +45,12 @@ impl Reads for Pairs {
         self.node_count()
     }
 
-    fn sum_of_nodes(&self, alloc: Global) -> Result<u64, RunFault> {
-        sum(alloc, self.events_issued(), self.iter_nodes())
+    fn sum_of_nodes(&self, alloc: Global, done: u64) -> Result<u64, RunFault> {
+        sum(alloc, self.events_issued(), done, self.iter_nodes())
     }
 
-    fn write_snapshot_body<W: Write>(&self, writer: &mut W) -> Result<(), RunFault> {
-        write_body(writer, self.events_issued(), self.iter_nodes())
+    fn write_snapshot_body<W: Write>(&self, writer: &mut W, done: u64) -> Result<(), RunFault> {
+        write_body(writer, self.events_issued(), done, self.iter_nodes())
     }
 
     fn write_keys<W: Write>(&self, writer: &mut W, low: u64, high: u64) -> Result<(), RunFault> {

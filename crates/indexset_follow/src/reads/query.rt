@@ -1,8 +1,9 @@
 //! What a line asks to read.
 
 ghost use Rattle.std.specs.Prelude.{◌≡◌};
-ghost use Rattle.indexset_follow.specs.Query.{numbered_query, query_of, two_numbers, word_query};
+ghost use Rattle.indexset_follow.specs.Query.{numbered_query, query_of, word_query};
 
+use crate::numbers::read_two;
 use indexset_events::parts::{cut, read_number};
 
 /// A read of a map of numbers. Positions are counted from 0, in the order of the keys.
@@ -32,7 +33,7 @@ pub enum Query {
     Head(u64),
     /// The lines that make another map the same.
     Snapshot,
-    /// The next number, how many nodes there are, and the sum of both.
+    /// The next number, how many nodes there are, the sum, and the greatest number of a command.
     Sum,
 }
 
@@ -88,14 +89,4 @@ fn read_numbered(word: &[u8], rest: &[u8]) -> Option<Query>
     } else {
         None
     }
-}
-
-/// Returns two numbers with a space between them.
-fn read_two(text: &[u8]) -> Option<(u64, u64)>
-    ensures { result ≡ two_numbers text.now }
-{
-    let (first, second) = cut(text, b' ')?;
-    let first = read_number(first)?;
-    let second = read_number(second)?;
-    Some((first, second))
 }

@@ -44,12 +44,12 @@ impl Reads for Nodes {
         self.nodes().len()
     }
 
-    fn sum_of_nodes(&self, alloc: Global) -> Result<u64, RunFault> {
-        sum(alloc, self.next(), self.nodes().iter())
+    fn sum_of_nodes(&self, alloc: Global, done: u64) -> Result<u64, RunFault> {
+        sum(alloc, self.next(), done, self.nodes().iter())
     }
 
-    fn write_snapshot_body<W: Write>(&self, writer: &mut W) -> Result<(), RunFault> {
-        write_body(writer, self.next(), self.nodes().iter())
+    fn write_snapshot_body<W: Write>(&self, writer: &mut W, done: u64) -> Result<(), RunFault> {
+        write_body(writer, self.next(), done, self.nodes().iter())
     }
 
     fn write_keys<W: Write>(&self, writer: &mut W, low: u64, high: u64) -> Result<(), RunFault> {

@@ -9,4 +9,4 @@ pub returns-clause-whole : goal.returns-clause-whole
 returns-clause-whole c = λ s j ns es r lines feed fit at ahead drawn came. whole s ns es feed fit j r lines at ahead drawn came
 
 pub returns-clause-none : goal.returns-clause-none
-returns-clause-none c = λ s w ns es. (record { within = omega arith; nodes = refl; next = omega arith }, tt)
+returns-clause-none c = λ s w d ns es. (record { within = omega arith; nodes = refl; next = omega arith }, tt)

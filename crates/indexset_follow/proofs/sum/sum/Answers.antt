@@ -14,7 +14,7 @@ use Rattle.indexset_follow.proofs.sum.sum.Goals as goal
 
 pub loop-node-init : goal.loop-node-init
 loop-node-init g c =
-    let front = ended (mark_line (Start c.args.next)) in
+    let front = ended (mark_line (Start c.args.next c.args.done)) in
     let told = on_ok_given _ c.write_mark.result _ c.write_mark.ensures.told (search rules) in
     let text : c.as_slice.result.now ≡ front = c.as_slice.ensures.value ∙ appended_alone _ _ _ told c.new-text.ensures.items in
     ([], refl, subst (Holds256 c.update.new.self) (text ∙ sym (append-nil front)) (c.update.ensures [] c.new-hasher.ensures))
@@ -23,7 +23,7 @@ pub loop-node-preserved : goal.loop-node-preserved
 loop-node-preserved g c =
     let before = c.loop-node.invariant in
     let node = c.in-Some.node.now in
-    let front = ended (mark_line (Start c.args.next)) in
+    let front = ended (mark_line (Start c.args.next c.args.done)) in
     let told = on_ok_given _ c.write_node_line.result _ c.write_node_line.ensures.told (search rules) in
     let text : c.as_slice-in-Some.result.now ≡ ended (node_line node) = c.as_slice-in-Some.ensures.value ∙ appended_alone _ _ _ told c.clear.ensures.items in
     let next : g.N.WalkNodes.rest c.loop-node.walk ≡ node ∷ g.N.WalkNodes.rest c.next_node.new.self = search rules in
@@ -34,9 +34,9 @@ pub returns-clause-sum : goal.returns-clause-sum
 unfolding sum_of
 returns-clause-sum g c =
     let before = c.loop-node.invariant in
-    let front = ended (mark_line (Start c.args.next)) in
+    let front = ended (mark_line (Start c.args.next c.args.done)) in
     let none : g.N.WalkNodes.rest c.loop-node.walk ≡ [] = search rules in
     let all : before.0 ≡ g.N.WalkNodes.rest c.args.nodes = sym (append-nil before.0) ∙ ap (λ l. before.0 ++ l) (sym none) ∙ before.1 in
-    let whole : front ++ lines_for node_line before.0 ≡ body_text (copy (g.N.WalkNodes.rest c.args.nodes) c.args.next) = ap (λ ns. front ++ lines_for node_line ns) all in
-    let digest : c.finalize-digest.result ≡ sha256 (body_text (copy (g.N.WalkNodes.rest c.args.nodes) c.args.next)) = c.finalize-digest.ensures _ before.2 ∙ ap sha256 whole in
+    let whole : front ++ lines_for node_line before.0 ≡ body_text (copy (g.N.WalkNodes.rest c.args.nodes) c.args.next) c.args.done = ap (λ ns. front ++ lines_for node_line ns) all in
+    let digest : c.finalize-digest.result ≡ sha256 (body_text (copy (g.N.WalkNodes.rest c.args.nodes) c.args.next) c.args.done) = c.finalize-digest.ensures _ before.2 ∙ ap sha256 whole in
     c.from_be_bytes.ensures ∙ first_eight c.finalize-digest.result ∙ ap (λ d. from_be_bytes w64 (take 8 d)) digest

@@ -15,7 +15,7 @@ silent v (Following s) rest pass none = rw (none, pass) (silent_at v.is_quiet)
     silent_at : (quiet : Bool) → others_text (cond quiet Pass Pass) ≡ []
     silent_at true = refl
     silent_at false = refl
-silent v (Leading t) rest pass none = rw (none, pass) refl
+silent v (Leading l) rest pass none = rw (none, pass) refl
 
 pub returns-clause-held : goal.returns-clause-held
 returns-clause-held c = λ size w leads whole rest is_whole none. held_whole size w leads whole is_whole rest none

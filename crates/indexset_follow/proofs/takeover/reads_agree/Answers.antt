@@ -5,7 +5,7 @@ pub returns-clause-follows : goal.returns-clause-follows
 returns-clause-follows c = λ o size w s q fit. follower_answers q fit o size w s
 
 pub returns-clause-leads : goal.returns-clause-leads
-returns-clause-leads c = λ o size w t q fit. leader_answers q fit o size w t
+returns-clause-leads c = λ o size w l q fit. leader_answers q fit o size w l
 
 pub returns-clause-still : goal.returns-clause-still
 returns-clause-still c = λ size w r q fit. nothing_changed q fit size w r

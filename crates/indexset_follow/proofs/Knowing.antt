@@ -1,0 +1,112 @@
+-- What a follower holds as done was done by events that it took.
+use Rattle.std.proofs.Common.{Option, None, Some, ◌≡◌, ◌≢◌, ℕ, zero, suc, ◌≤◌, Bool, true, false, if◌then◌else◌, List, [], ◌∷◌, take, max, refl, sym, subst, arith}
+use Rattle.std.proofs.Math.Nat.{le-max_left, max-eq_left, max-eq_right}
+use Rattle.std.proofs.lemmas.Bool.{leb-false, leb-true, ltb-false}
+use Rattle.std.proofs.lemmas.List.Elements.{All-head, All-tail}
+use Rattle.std.specs.List.{All}
+use Rattle.std.specs.Option.{option_map_or}
+use Rattle.std.specs.Prelude.{nat_le, nat_lt}
+use Rattle.indexset_lines.specs.Run.{left_by}
+use Rattle.indexset_core.specs.declared.pair.Pair.{Pair}
+use Rattle.indexset_follow.specs.Echo.{command_of, done_by}
+use Rattle.indexset_follow.specs.EventLine.{Event, event_of}
+use Rattle.indexset_follow.specs.Follow.{State, after_event, after_line, after_mark, after_node, start_state, state_after, with_done}
+use Rattle.indexset_follow.specs.Known.{IsDoneBy, KnowsDone, TellsDone}
+use Rattle.indexset_follow.specs.Leading.{done_after, done_of}
+use Rattle.indexset_follow.specs.Mark.{mark_of}
+use Rattle.indexset_follow.specs.NodeLine.{node_of}
+use Rattle.indexset_follow.specs.Query.{query_of}
+use Rattle.indexset_follow.specs.declared.echo.Command.{Command}
+use Rattle.indexset_follow.specs.declared.mark.Mark.{Mark}
+use Rattle.indexset_follow.specs.declared.mark.Mark.TheVariants.{Start, End, Done}
+use Rattle.indexset_follow.specs.declared.reads.query.Query.{Query}
+use Rattle.indexset_follow.proofs.Near.{awaits_on}
+
+-- ---- the greatest number
+
+-- it does not fall
+number_kept : (d : ℕ) (o : Option ℕ) → d ≤ option_map_or (max d) o d
+number_kept d None = omega arith
+number_kept d (Some n) = le-max_left d n
+
+one_kept : (d : ℕ) (line : List ℕ) → d ≤ done_after d line
+one_kept d line = at (query_of line) (command_of line)
+  where
+    at : (q : Option Query) (o : Option Command) → d ≤ option_map_or (λ q. d) q (option_map_or (done_by d) o d)
+    at (Some q) o = omega arith
+    at None None = omega arith
+    at None (Some c) = number_kept d c.echo
+
+all_kept : (d : ℕ) (lines : List (List ℕ)) → d ≤ done_of d lines
+unfolding left_by
+all_kept d [] = omega arith
+all_kept d (line ∷ lines) = omega (arith, one_kept d line, all_kept (done_after d line) lines)
+
+-- a beginning of the lines has no greater one
+pub beginning_less : (k d : ℕ) (lines : List (List ℕ)) → done_of d (take k lines) ≤ done_of d lines
+unfolding left_by
+beginning_less zero d lines = all_kept d lines
+beginning_less (suc k) d [] = omega arith
+beginning_less (suc k) d (line ∷ lines) = beginning_less k (done_after d line) lines
+
+-- ---- a follower
+
+module _ (size : ℕ) (lines : List (List ℕ)) where
+  abbrev Knows : State → Type 0
+  Knows = KnowsDone size lines
+
+  -- more events were taken
+  further : (s after : State) → after.done ≡ s.done → s.held.next ≤ after.held.next → Knows s → Knows after
+  further s after same more known = record {
+    place = known.place;
+    next = known.next;
+    done = subst (λ d. IsDoneBy size lines known.place d known.next) (sym same) known.done;
+    taken = omega (arith, more, known.taken);
+  }
+
+  -- the greater of two such numbers is one
+  greater : (s : State) (d n : ℕ) → (k : ℕ) × IsDoneBy size lines k d n → n ≤ s.held.next → Knows s → Knows (with_done s d)
+  greater s d n told near known = at (nat_le d s.done) refl
+    where
+      at : (b : Bool) → nat_le d s.done ≡ b → Knows (with_done s d)
+      at true le = record {
+        place = known.place;
+        next = known.next;
+        done = subst (λ x. IsDoneBy size lines known.place x known.next) (sym (max-eq_left (leb-true d s.done le))) known.done;
+        taken = known.taken;
+      }
+      at false gt = record {
+        place = told.0;
+        next = n;
+        done = subst (λ x. IsDoneBy size lines told.0 x n) (sym (max-eq_right (let lt = leb-false d s.done gt in omega (arith, lt)))) told.1;
+        taken = near;
+      }
+
+  line_known : (s : State) (line : List ℕ) → TellsDone size lines line → Knows s → Knows (after_line s line)
+  line_known s line tells known = at (event_of line) (node_of line) (mark_of line) tells.no_end tells.told
+    where
+      taken : (d n : ℕ) → (k : ℕ) × IsDoneBy size lines k d n → (b : Bool) → nat_lt s.held.next n ≡ b → Knows (if b then s else with_done s d)
+      taken d n told true missing = known
+      taken d n told false near = greater s d n told (ltb-false s.held.next n near) known
+
+      at : (e : Option Event) (n : Option (List (Pair ℕ ℕ))) (m : Option Mark) → ((count sum : ℕ) → m ≢ Some (End count sum)) → ((d n : ℕ) → m ≡ Some (Done d n) → (k : ℕ) × IsDoneBy size lines k d n)
+          → Knows (option_map_or {U = State} (after_event s) e (option_map_or (after_node s) n (option_map_or (after_mark s) m s)))
+      at (Some e) n m no_end told = further s (after_event s e) refl (awaits_on s e) known
+      at None (Some n) m no_end told = further s (after_node s n) refl (omega arith) known
+      at None None None no_end told = known
+      at None None (Some (Start n d)) no_end told = further s (after_mark s (Start n d)) refl (omega arith) known
+      at None None (Some (End count sum)) no_end told = absurd (no_end count sum refl)
+      at None None (Some (Done d n)) no_end told = taken d n (told d n refl) (nat_lt s.held.next n) refl
+
+  pub lines_known : (s : State) (delivered : List (List ℕ)) → All (TellsDone size lines) delivered → Knows s → Knows (state_after s delivered)
+  unfolding left_by
+  lines_known s [] tell known = known
+  lines_known s (line ∷ delivered) tell known =
+      lines_known (after_line s line) delivered (All-tail (TellsDone size lines) line delivered tell) (line_known s line (All-head (TellsDone size lines) line delivered tell) known)
+
+  pub none_known : (w : ℕ) → Knows (start_state w)
+  unfolding left_by
+  none_known w = record { place = 0; next = 0; done = record { done = refl; next = refl }; taken = omega arith }
+
+  pub known_less : (s : State) → Knows s → s.done ≤ done_of 0 lines
+  known_less s known = omega (arith, known.done.done, beginning_less known.place 0 lines)

@@ -1,0 +1,24 @@
+-- What a follower knows of the commands that a leader has done.
+use Rattle.std.specs.Prelude.{◌≡◌, ◌≢◌, ℕ, ◌≤◌, Some, List, take}
+use Rattle.indexset_log.specs.Tree.{fresh}
+use Rattle.indexset_follow.specs.Follow.{State}
+use Rattle.indexset_follow.specs.Leading.{done_of, tree_of}
+use Rattle.indexset_follow.specs.Mark.{mark_of}
+use Rattle.indexset_follow.specs.declared.mark.Mark.TheVariants.{End, Done}
+
+-- after the first k of its lines a leader held d as the greatest number of a command, and n as the number of the next event
+pub record IsDoneBy (size : ℕ) (lines : List (List ℕ)) (k d n : ℕ) : Type 0 where
+  pub done : d ≡ done_of 0 (take k lines)
+  pub next : n ≡ (tree_of (fresh size) (take k lines)).next
+
+-- the line does not end a snapshot, and tells only such numbers as done
+pub record TellsDone (size : ℕ) (lines : List (List ℕ)) (line : List ℕ) : Type 0 where
+  pub no_end : (count sum : ℕ) → mark_of line ≢ Some (End count sum)
+  pub told : (d n : ℕ) → mark_of line ≡ Some (Done d n) → (k : ℕ) × IsDoneBy size lines k d n
+
+-- the greatest number that is held is such a number, and the events before n were taken
+pub record KnowsDone (size : ℕ) (lines : List (List ℕ)) (s : State) : Type 0 where
+  pub place : ℕ
+  pub next : ℕ
+  pub done : IsDoneBy size lines place s.done next
+  pub taken : next ≤ s.held.next
