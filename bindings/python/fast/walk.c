@@ -4,6 +4,9 @@
 /* How many objects are fetched before they are handed out. */
 #define AHEAD 32
 
+/* From how many items on a part is read by a cursor, so that it needs no search: a walk reads 1, 8, 64 .. at a time. */
+#define WALKED 64
+
 /* ---- parts */
 
 size_t length_of(PyObject *owner) {
@@ -24,6 +27,11 @@ static inline void fetch(const Part *part, size_t i) {
         __builtin_prefetch(OBJECT(part->objects[i]), 1);
 }
 
+static inline void fetch_first(const Part *part) {
+    for (size_t i = 0; i < AHEAD && i < part->count; i++)
+        fetch(part, i);
+}
+
 /* No change is noted here. */
 void read_part(PyObject *owner, size_t from, size_t size, Part *part) {
     if (Py_TYPE(owner) == &NumbersType)
@@ -32,8 +40,29 @@ void read_part(PyObject *owner, size_t from, size_t size, Part *part) {
         part->count = indexset_multi_range_by_position(&((Multi *)owner)->pairs, from, part->codes, size, part->objects, size);
     else
         part->count = indexset_text_map_range_by_position(((Coded *)owner)->map, from, part->objects, size);
-    for (size_t i = 0; i < AHEAD && i < part->count; i++)
-        fetch(part, i);
+    fetch_first(part);
+}
+
+/* A cursor at a position. */
+static indexset_cursor cursor_at(PyObject *owner, size_t position) {
+    indexset_cursor cursor = INDEXSET_CURSOR;
+    if (position > 0 && Py_TYPE(owner) == &NumbersType)
+        indexset_map_cursor_at(&((Numbers *)owner)->map, position, &cursor);
+    else if (position > 0 && IS_MULTI(owner))
+        indexset_multi_cursor_at(&((Multi *)owner)->pairs, position, &cursor);
+    return cursor;
+}
+
+/* Reads the items from a position on, where the cursor is, and moves that past them. Those at byte strings are read
+ * by their position, which writes no lengths. */
+static void read_on(PyObject *owner, indexset_cursor *cursor, size_t from, size_t size, Part *part) {
+    if (Py_TYPE(owner) == &NumbersType)
+        part->count = indexset_map_cursor_next(&((Numbers *)owner)->map, cursor, part->codes, size, part->objects, size);
+    else if (IS_MULTI(owner))
+        part->count = indexset_multi_cursor_next(&((Multi *)owner)->pairs, cursor, part->codes, size, part->objects, size);
+    else
+        part->count = indexset_text_map_range_by_position(((Coded *)owner)->map, from, part->objects, size);
+    fetch_first(part);
 }
 
 /* An item of a part, as a new reference. */
@@ -65,8 +94,11 @@ static PyObject *chunk_of_held(PyObject *owner, size_t first, size_t past) {
     Part part;
     if (made != NULL && !is_ready(owner))
         Py_CLEAR(made);
+    indexset_cursor cursor = INDEXSET_CURSOR;
+    if (made != NULL && first < past)
+        cursor = cursor_at(owner, first);
     for (size_t at = first; made != NULL && at < past; at += part.count) {
-        read_part(owner, at, past - at < CHUNK ? past - at : CHUNK, &part);
+        read_on(owner, &cursor, at, past - at < CHUNK ? past - at : CHUNK, &part);
         if (part.count == 0) /* the list was made, and a `__del__` ran */
             PyErr_SetString(PyExc_RuntimeError, "it changed meanwhile");
         if (part.count == 0 || !put_part(owner, &part, made, at - first))
@@ -121,6 +153,7 @@ typedef struct {
     unsigned long long *counter, changes; /* of the owner, now and at the start */
     int reverse;
     size_t at, next; /* in `part`, and how many are read next */
+    indexset_cursor cursor; /* at `first`, once there were several parts and where it goes forward */
     Part part;
 } Walk;
 
@@ -171,11 +204,17 @@ static int read_more(Walk *self) {
     size_t left = self->past - self->first, size = left < self->next ? left : self->next;
     if (size == 0)
         return 0;
-    read_part(self->owner, self->reverse ? self->past - size : self->first, size, &self->part);
-    if (self->reverse)
-        self->past -= size;
-    else
+    if (self->reverse) {
+        read_part(self->owner, self->past -= size, size, &self->part);
+    } else {
+        if (self->next == WALKED)
+            self->cursor = cursor_at(self->owner, self->first);
+        if (self->next < WALKED)
+            read_part(self->owner, self->first, size, &self->part);
+        else
+            read_on(self->owner, &self->cursor, self->first, size, &self->part);
         self->first += size;
+    }
     for (size_t i = AHEAD; self->reverse && i < self->part.count; i++)
         fetch(&self->part, i);
     self->at = 0;
