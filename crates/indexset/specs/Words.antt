@@ -7,7 +7,7 @@
 -- | item, element, pair | what a node holds: an element of a set, or a key with its value |
 -- | node | an ascending list of items, at most the node size of them. It is a type with the trait `NodeLike`: `Vec<T>`, which allocates, or `ArrayNode<T, N>`, which holds up to N items in place and never allocates |
 -- | node list | the nodes in order; their concatenation is the collection's list. No node is empty, except the only one of an empty plain collection |
--- | index | the Fenwick tree of the node lengths, by which positions are found |
+-- | index | the Fenwick tree of the node lengths, in logged trees and replicas of their sums over 32 nodes, by which positions are found |
 -- | plain family, logged family | set and map; set, map and multimap that return their changes as events |
 -- | position, offset, place | an index in the whole list, counted from 0; an index in a node; a node with an offset in it |
 -- | equal, identical | the order returns Equal, as it may for two different items; the same value |
