@@ -9,10 +9,10 @@ ghost use Rattle.indexset_events.specs.Table.{half_of};
 ghost use Rattle.indexset_index.specs.Blocks.{block_sums};
 
 use crate::aim::Aim;
-use indexset_index::blocks::Blocks;
 use indexset_core::node::NodeLike;
 use indexset_core::refusal::{Refusal, Refused};
 use indexset_core::walk::ReadAny;
+use indexset_index::blocks::Blocks;
 use std::alloc::Global;
 
 /// A node that stays whole, or the half of one that is full.

@@ -24,12 +24,12 @@ mod remove;
 mod remove_range;
 mod traits;
 
-use indexset_index::blocks::Blocks;
 use indexset_core::constants::DEFAULT_INNER_SIZE;
 use indexset_core::locate::locate_by;
 use indexset_core::node::NodeLike;
 use indexset_core::probe::{ByItem, Probe};
 use indexset_core::walk::ReadAny;
+use indexset_index::blocks::Blocks;
 use std::alloc::Global;
 use std::marker::{Model, PhantomData};
 

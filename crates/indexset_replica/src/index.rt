@@ -4,9 +4,9 @@ ghost use Rattle.indexset_core.specs.Nodes.{joined, node_at, node_lengths, vec_i
 ghost use Rattle.indexset_core.specs.Places.{IsPlace, items_before};
 ghost use Rattle.indexset_index.specs.Blocks.{block_sums};
 
-use indexset_index::blocks::Blocks;
 use indexset_core::refusal::Refusal;
 use indexset_core::walk::ReadVec;
+use indexset_index::blocks::Blocks;
 use std::alloc::Global;
 use std::marker::Model;
 

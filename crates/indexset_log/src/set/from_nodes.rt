@@ -7,10 +7,10 @@ ghost use Rattle.indexset_index.specs.Blocks.{block_sums};
 
 use super::BTreeSet;
 use crate::nodes::index_of;
-use indexset_index::blocks::Blocks;
 use indexset_core::node::NodeLike;
 use indexset_core::refusal::{Refusal, Refused};
 use indexset_events::nodes::test_nodes;
+use indexset_index::blocks::Blocks;
 use std::alloc::Global;
 use std::marker::PhantomData;
 
