@@ -4,7 +4,7 @@
     bench/versions.py BEFORE AFTER [--minutes 5] [--processor 3] [--most 1.1]
 
 BEFORE and AFTER are programs that bench/build.py built from two commits. It prints each row's median over all
-rounds, of nodes of a `Vec` at 1,000 to 1,000,000 keys, and by how much the second differs, the slowest first.
+rounds, of nodes of a `Vec` at 1,000 to 1,000,000 keys, where both have it, and by how much the second differs, the slowest first.
 """
 
 from __future__ import annotations
@@ -36,7 +36,7 @@ def rounds(programs: list[str], keys: int, seconds: float, processor: int) -> li
 
 def compared(keys: int, runs: list[list[Rows]]) -> list[tuple[float, list[str]]]:
     lines = []
-    for row in runs[0][0]:
+    for row in (it for it in runs[0][0] if it in runs[1][0]):
         before, after = (statistics.median(it[row] for it in found) for found in runs)
         ratio = after / before if before else 1.0
         lines.append((ratio, [f"{keys:,}", row, shown(before), shown(after), f"{ratio:.2f}"]))
