@@ -37,7 +37,7 @@ use Rattle.indexset_follow.proofs.Programs.{Good, Onward, both_onward, command_o
 
 -- ---- lines of a leader
 
-leading_onward : (t : PairTree) → Good t → (line : List ℕ) → Onward t (after_leading t line) (leading_events t line)
+pub leading_onward : (t : PairTree) → Good t → (line : List ℕ) → Onward t (after_leading t line) (leading_events t line)
 leading_onward t g line = at (query_of line) (command_of line) (command_fits line)
   where
     at : (q : Option Query) (o : Option Command) → ((c : Command) → o ≡ Some c → PairFitsU64 c.change)
@@ -46,7 +46,7 @@ leading_onward t g line = at (query_of line) (command_of line) (command_fits lin
     at None None fit = still t g
     at None (Some c) fit = command_onward t g c.change (fit c refl)
 
-lines_led : (t : PairTree) → Good t → (lines : List (List ℕ)) → Onward t (tree_of t lines) (events_led t lines)
+pub lines_led : (t : PairTree) → Good t → (lines : List (List ℕ)) → Onward t (tree_of t lines) (events_led t lines)
 unfolding left_by events_led
 lines_led t g [] = still t g
 lines_led t g (line ∷ lines) =

@@ -66,7 +66,7 @@ head_whole id word max small lacks fit = join (decimal id.0 ++ word) (pair_text 
 more_whole : (a rest : List ℕ) → Lacks 10 a → Lacks 10 rest → Lacks 10 (a ++ codes " " ++ rest)
 more_whole a rest first second = join (a ++ codes " ") rest (join a (codes " ") first space) second
 
-event_whole : (e : Event) → EventFits e → HasNoEnd (event_text e)
+pub event_whole : (e : Event) → EventFits e → HasNoEnd (event_text e)
 event_whole (change.CreateNode id max) h = head_whole id (codes " create ") max h.0 (lacks_tested 10 (codes " create ") refl) h.1
 event_whole (change.RemoveNode id max) h = head_whole id (codes " drop ") max h.0 (lacks_tested 10 (codes " drop ") refl) h.1
 event_whole (change.InsertAt id max p i) h =
@@ -78,7 +78,7 @@ event_whole (change.RemoveAt id max p i) h =
 event_whole (change.SplitNode id max k) h = more_whole (event_head id (codes " split ") max) (decimal k) (head_whole id (codes " split ") max h.0 (lacks_tested 10 (codes " split ") refl) h.1) (number_whole k h.2)
 event_whole (change.MergeNodes id max next) h = more_whole (event_head id (codes " merge ") max) (pair_text next) (head_whole id (codes " merge ") max h.0 (lacks_tested 10 (codes " merge ") refl) h.1) (pair_whole next h.2)
 
-reply_whole : (r : Reply) → ReplyFits r → HasNoEnd (reply_text r)
+pub reply_whole : (r : Reply) → ReplyFits r → HasNoEnd (reply_text r)
 reply_whole New fit = lacks_tested 10 (codes "new") refl
 reply_whole Old fit = lacks_tested 10 (codes "old") refl
 reply_whole (OldValue v) fit = join (codes "old ") (decimal v) (lacks_tested 10 (codes "old ") refl) (number_whole v fit)
@@ -97,7 +97,7 @@ reply_whole Bad fit = lacks_tested 10 (codes "bad") refl
 word_alone : (word : List ℕ) → Lacks 32 word → event_of word ≡ None
 word_alone word lacks = let one = uncut 32 word lacks in rw one refl
 
-reply_alone : (r : Reply) → ReplyFits r → event_of (reply_text r) ≡ None
+pub reply_alone : (r : Reply) → ReplyFits r → event_of (reply_text r) ≡ None
 reply_alone New fit = word_alone (codes "new") (lacks_tested 32 (codes "new") refl)
 reply_alone Old fit = word_alone (codes "old") (lacks_tested 32 (codes "old") refl)
 reply_alone (OldValue v) fit =
@@ -163,7 +163,7 @@ tells_reply r fit = tells_nothing (reply_text r) (reply_whole r fit) (reply_alon
 
 -- ---- a command to the map
 
-change_fits : (t : PairTree) → Good t → (c : PairCommand) → ReplyFits (change_reply t c)
+pub change_fits : (t : PairTree) → Good t → (c : PairCommand) → ReplyFits (change_reply t c)
 change_fits t g (Put k v) = at (pair_of nat_cmp (joined t.nodes) k) (each_found PairFits _ (joined t.nodes) g.held)
   where
     at : (o : Option (Pair ℕ ℕ)) → IfSome o PairFits → ReplyFits (option_map_or OldValue (option_map (λ (p : Pair ℕ ℕ). p.value) o) New)

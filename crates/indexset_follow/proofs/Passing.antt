@@ -129,7 +129,7 @@ node_alone (p ∷ q ∷ ps) fit =
     rw (cut, pair_no_number p) refl
 
 -- a pair is no word that begins with another byte than a digit and a colon
-pair_no_word : (p : Pair ℕ ℕ) → PairFits p → (c : ℕ) (word : List ℕ) → IsApart c → bytes_eq (pair_text p) (c ∷ word) ≡ false
+pub pair_no_word : (p : Pair ℕ ℕ) → PairFits p → (c : ℕ) (word : List ℕ) → IsApart c → bytes_eq (pair_text p) (c ∷ word) ≡ false
 pair_no_word p fit c word apart = at (bytes_eq (pair_text p) (c ∷ word)) refl
   where
     at : (b : Bool) → bytes_eq (pair_text p) (c ∷ word) ≡ b → b ≡ false

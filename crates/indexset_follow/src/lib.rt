@@ -9,15 +9,15 @@
 //! [`takeover`] say what the definitions mean.
 #![tactic(auto)]
 
-mod answer;
+pub mod answer;
 mod early;
-mod echo;
-mod event;
-mod follower;
+pub mod echo;
+pub mod event;
+pub mod follower;
 pub mod laws;
-mod leader;
-mod leading;
-mod mark;
+pub mod leader;
+pub mod leading;
+pub mod mark;
 mod node;
 mod numbers;
 pub mod others;
@@ -28,9 +28,9 @@ mod role;
 mod serving;
 mod snapshot;
 mod step_down;
-mod store;
+pub mod store;
 mod sum;
 pub mod takeover;
-mod write;
+pub mod write;
 
 pub use serving::serve;

@@ -194,7 +194,7 @@ impl Store {
 
 /// Returns a follower that holds these nodes and the greatest number of a command, where no
 /// snapshot has begun and no event is early.
-fn holding(window: u64, held: Nodes, done: u64) -> Follower
+pub fn holding(window: u64, held: Nodes, done: u64) -> Follower
     ensures { result ≡ holding window held done }
 {
     Follower {
@@ -219,7 +219,7 @@ fn starts(line: &[u8]) -> bool
 
 /// Takes the nodes for a leader of the same nodes, which goes on with the next number. Returns
 /// `None`, and takes nothing, where a node has more than `size` pairs.
-fn promote(alloc: Global, nodes: &mut Nodes, size: usize) -> Result<Option<Pairs>, RunFault>
+pub fn promote(alloc: Global, nodes: &mut Nodes, size: usize) -> Result<Option<Pairs>, RunFault>
     requires { 2 ≤ size }
     ensures leader { IfOk result (λ leader. leader
         ≡ (if can_lead size nodes.old then Some (promoted size nodes.old) else None)) }
@@ -238,7 +238,7 @@ fn promote(alloc: Global, nodes: &mut Nodes, size: usize) -> Result<Option<Pairs
 }
 
 /// Returns the line without a byte 13 at its end.
-fn without_return(line: &[u8]) -> &[u8]
+pub fn without_return(line: &[u8]) -> &[u8]
     ensures { result.now ≡ without_return line.now }
 {
     match line.split_last() {
