@@ -4,10 +4,10 @@ pub mod Cut
 pub mod Delivered
 pub mod Drawing
 pub mod Echoes
-mod EventLines
+pub mod EventLines
 pub mod Fits
 pub mod Knowing
-mod Leads
+pub mod Leads
 pub mod MarkLines
 pub mod Near
 pub mod NoWindow
