@@ -1,0 +1,5 @@
+mod Cuts
+mod Kept
+mod Onward
+mod Runs
+mod Told

@@ -1,0 +1,262 @@
+-- What more lines tell, behind lines that lead to what a leader has.
+use Rattle.std.proofs.Common.{None, Some, Option, ◌≡◌, ℕ, zero, suc, ◌<◌, ◌≤◌, ◌^◌, Bool, true, false, max, List, [], ◌∷◌, ◌++◌, length, map, get_or, refl, ap, sym, subst, ◌∙◌, arith, inl, append_assoc, append-nil}
+use Rattle.std.proofs.Math.Nat.{le-max_left, max-eq_left, max-eq_right}
+use Rattle.std.proofs.lemmas.Bool.{le-ltb, leb-false, leb-true}
+use Rattle.std.proofs.lemmas.List.{take_all}
+use Rattle.std.specs.List.{All}
+use Rattle.std.specs.Option.{option_map_or}
+use Rattle.std.specs.Prelude.{is_some, nat_le, slice_get}
+use Rattle.indexset_lines.specs.Run.{left_by}
+use Rattle.indexset_lines.specs.Lines.{lines_of, whole_lines}
+use Rattle.indexset_lines.proofs.CallerLemmas.{left_by-append}
+use Rattle.indexset_bench.specs.PairCommand.{PairFitsU64}
+use Rattle.indexset_bench.specs.PairText.{event_text}
+use Rattle.indexset_bench.specs.Pairs.{PairTree, pairs_after, told_events}
+use Rattle.indexset_core.specs.Nodes.{joined}
+use Rattle.indexset_core.specs.declared.pair.Pair.{Pair}
+use Rattle.indexset_events.specs.Replay.{replay}
+use Rattle.indexset_events.specs.Spelling.Laws.{some_inj}
+use Rattle.indexset_events.proofs.CallerLemmas.{Each, all_each, each_all, nodes_each, none_lawful}
+use Rattle.indexset_log.specs.Tree.{fresh}
+use Rattle.indexset_replica.specs.Delivery.{IsSubsequence}
+use Rattle.indexset_follow.specs.Copy.{Copy, copy, snapshot_text}
+use Rattle.indexset_follow.specs.Drawn.{HoldsFirst, IsDrawn, IsFeedOfPairs}
+use Rattle.indexset_follow.specs.Early.{copy_after}
+use Rattle.indexset_follow.specs.Echo.{command_of, done_by}
+use Rattle.indexset_follow.specs.EventLine.{Event, EventFits}
+use Rattle.indexset_follow.specs.Follow.{State, after_line, event_taken, holding, start_state, state_after, with_taken}
+use Rattle.indexset_follow.specs.Leading.{after_leading, command_text, done_after, events_led, leader_after, leader_of, leading_events, tree_of}
+use Rattle.indexset_follow.specs.Mark.{mark_line}
+use Rattle.indexset_follow.specs.NodeLine.{NodeFits, node_of}
+use Rattle.indexset_follow.specs.Numbers.{PairFits}
+use Rattle.indexset_follow.specs.Query.{query_of}
+use Rattle.indexset_follow.specs.Reply.{others_text}
+use Rattle.indexset_follow.specs.Told.{event_lines}
+use Rattle.indexset_follow.specs.declared.echo.Command.{Command}
+use Rattle.indexset_follow.specs.declared.leader.Leader.{Leader}
+use Rattle.indexset_follow.specs.declared.mark.Mark.TheVariants.{Done}
+use Rattle.indexset_follow.specs.declared.others.Others.{Others}
+use Rattle.indexset_follow.specs.declared.reads.query.Query.{Query}
+use Rattle.indexset_follow.proofs.Drawing.{whole}
+use Rattle.indexset_follow.proofs.Echoes.{command_fits}
+use Rattle.indexset_follow.proofs.EventLines.{event_told}
+use Rattle.indexset_follow.proofs.Fits.{each_apart}
+use Rattle.indexset_follow.proofs.Leads.{leading_onward, lines_led}
+use Rattle.indexset_follow.proofs.MarkLines.{done_cut, mark_told}
+use Rattle.indexset_follow.proofs.NoWindow.{alone}
+use Rattle.indexset_follow.proofs.Programs.{Good, order}
+use Rattle.indexset_follow.proofs.Snapshots.{snapshot_taken}
+use Rattle.indexset_keep.specs.Keep.{told_by, told_lines}
+use Rattle.indexset_keep.specs.Leads.{IsSound, LeadsTo}
+use Rattle.indexset_keep.proofs.Told.{EchoFits, command_keeps, done_alone, done_lines, number_fits, others_keep}
+
+-- ---- a sound leader
+
+pub good : (l : Leader) → IsSound l → Good l.pairs
+good l s = record { two = s.two; few = s.few; lawful = s.lawful; held = all_each PairFits (joined l.pairs.nodes) s.fits }
+
+sound : (l : Leader) → Good l.pairs → l.done < 2 ^ 64 → IsSound l
+sound l g known = record { two = g.two; few = g.few; lawful = g.lawful; fits = each_all PairFits (joined l.pairs.nodes) g.held; done = known }
+
+pub begins : (size : ℕ) → 2 ≤ size → size < 2 ^ 64 → IsSound (leader_of (fresh size) 0)
+begins size two few = sound (leader_of (fresh size) 0) (record { two = two; few = few; lawful = none_lawful order size; held = tt }) (omega arith)
+
+-- the greater of two numbers of 64 bits is one
+max_fits : (d n : ℕ) → d < 2 ^ 64 → n < 2 ^ 64 → max d n < 2 ^ 64
+max_fits d n first second = at (nat_le n d) refl
+  where
+    at : (b : Bool) → nat_le n d ≡ b → max d n < 2 ^ 64
+    at true le = subst (λ x. x < 2 ^ 64) (sym (max-eq_left (leb-true n d le))) first
+    at false gt = subst (λ x. x < 2 ^ 64) (sym (max-eq_right (let lt = leb-false n d gt in omega (arith, lt)))) second
+
+number_kept : (d : ℕ) → d < 2 ^ 64 → (echo : Option ℕ) → EchoFits echo → option_map_or (max d) echo d < 2 ^ 64
+number_kept d known None fit = known
+number_kept d known (Some n) fit = max_fits d n known fit
+
+done_kept : (d : ℕ) → d < 2 ^ 64 → (line : List ℕ) → done_after d line < 2 ^ 64
+done_kept d known line = at (query_of line) (command_of line) (number_fits line)
+  where
+    at : (q : Option Query) (o : Option Command) → ((c : Command) → o ≡ Some c → EchoFits c.echo) → option_map_or (λ q. d) q (option_map_or (done_by d) o d) < 2 ^ 64
+    at (Some q) o fit = known
+    at None None fit = known
+    at None (Some c) fit = number_kept d known c.echo (fit c refl)
+
+pub line_sound : (l : Leader) (line : List ℕ) → IsSound l → IsSound (leader_after l line)
+line_sound l line s = sound (leader_after l line) (leading_onward l.pairs (good l s) line).good (done_kept l.done s.done line)
+
+-- ---- the lines of events
+
+in_order : {X : Type 0} (xs : List X) → IsSubsequence xs xs
+in_order [] = tt
+in_order (x ∷ xs) = inl (refl, in_order xs)
+
+text_at : (es : List Event) (k : ℕ) (d : List ℕ) → k < length (map event_text es) → (e : Event) × (slice_get es k ≡ Some e) × (get_or (map event_text es) k d ≡ event_text e)
+text_at [] k d lt = absurd (omega (arith, lt))
+text_at (e ∷ es) zero d lt = (e, refl, refl)
+text_at (e ∷ es) (suc k) d lt = text_at es k d (omega (arith, lt))
+
+own_texts : (es : List Event) → All (IsDrawn es) (map event_text es)
+own_texts es k d lt = let it = text_at es k d lt in record { place = k; event = it.0; at = it.1; text = it.2 }
+
+-- a follower without a window takes the line of an event, and holds nothing besides
+one_taken : (c : Copy) (n : ℕ) (e : Event) → EventFits e → after_line (holding 0 c n) (event_text e) ≡ holding 0 (copy_after c e) n
+one_taken c n e fit =
+    let told = event_told e fit in
+    let it = alone (holding 0 c n) e refl refl in
+    rw told (λ i. with_taken (holding 0 c n) (record { held = it.1 i; early = it.0 i; reply = (event_taken (holding 0 c n) e).reply }))
+
+nothing_besides : (c : Copy) (n : ℕ) (es : List Event) → Each EventFits es → state_after (holding 0 c n) (map event_text es) ≡ holding 0 (state_after (holding 0 c n) (map event_text es)).held n
+unfolding left_by
+nothing_besides c n [] fit = refl
+nothing_besides c n (e ∷ es) fit =
+    let one = one_taken c n e fit.0 in
+    ap (λ r. state_after r (map event_text es)) one ∙ nothing_besides (copy_after c e) n es fit.1 ∙ ap (λ r. holding 0 (state_after r (map event_text es)).held n) (sym one)
+
+-- what a follower holds of a tree
+abbrev copied : PairTree → Copy
+copied t = copy t.nodes t.next
+
+module _ (l : Leader) (s : IsSound l) (lines : List (List ℕ)) (less : (tree_of l.pairs lines).next < 2 ^ 64) where
+  abbrev events : List Event
+  events = events_led l.pairs lines
+
+  abbrev begun : State
+  begun = holding 0 (copied l.pairs) l.done
+
+  first_held : (state_after begun (map event_text events)).held ≡ copied (tree_of l.pairs lines)
+  first_held =
+      let on = lines_led l.pairs (good l s) lines in
+      let fit : All EventFits events = each_all EventFits events (on.fits (omega (arith, less))) in
+      let feed : IsFeedOfPairs l.pairs.next l.pairs.nodes events = record { numbered = on.numbered; defined = ap is_some on.replayed; fits = omega (arith, on.next, less) } in
+      let at : HoldsFirst l.pairs.next l.pairs.nodes events 0 begun = record { within = omega arith; nodes = refl; next = omega arith } in
+      let done = whole l.pairs.next l.pairs.nodes events feed fit 0 begun (map event_text events) at tt (own_texts events) (in_order (map event_text events)) in
+      let nodes : (state_after begun (map event_text events)).held.nodes ≡ (tree_of l.pairs lines).nodes = some_inj _ _ (sym done.nodes ∙ ap (replay order l.pairs.nodes) (take_all (length events) events (omega arith)) ∙ on.replayed) in
+      let next : (state_after begun (map event_text events)).held.next ≡ (tree_of l.pairs lines).next = omega (arith, done.next, on.next) in
+      λ i. copy (nodes i) (next i)
+
+  pub onward : (kept : List (List ℕ)) → LeadsTo kept l → LeadsTo (kept ++ map event_text events) (leader_of (tree_of l.pairs lines) l.done)
+  onward kept leads =
+      let fit = (lines_led l.pairs (good l s) lines).fits (omega (arith, less)) in
+      left_by-append after_line (start_state 0) kept (map event_text events)
+      ∙ ap (λ r. state_after r (map event_text events)) leads
+      ∙ nothing_besides (copied l.pairs) l.done events fit
+      ∙ ap (λ c. holding 0 c l.done) first_held
+
+pub none : (size : ℕ) → LeadsTo [] (leader_of (fresh size) 0)
+unfolding left_by
+none size = refl
+
+-- ---- one line
+
+one_led : (l : Leader) (line : List ℕ) → events_led l.pairs (line ∷ []) ≡ leading_events l.pairs line
+unfolding events_led
+one_led l line = append-nil (leading_events l.pairs line)
+
+one_left : (l : Leader) (line : List ℕ) → tree_of l.pairs (line ∷ []) ≡ after_leading l.pairs line
+unfolding left_by
+one_left l line = refl
+
+-- the events of a line alone
+events_onward : (l : Leader) → IsSound l → (line : List ℕ) → (after_leading l.pairs line).next < 2 ^ 64 → (kept : List (List ℕ)) → LeadsTo kept l
+    → LeadsTo (kept ++ map event_text (leading_events l.pairs line)) (leader_of (after_leading l.pairs line) l.done)
+events_onward l s line less kept leads =
+    let left = one_left l line in
+    subst (λ t. LeadsTo (kept ++ map event_text (leading_events l.pairs line)) (leader_of t l.done)) left
+    (subst (λ es. LeadsTo (kept ++ map event_text es) (leader_of (tree_of l.pairs (line ∷ [])) l.done)) (one_led l line)
+    (onward l s (line ∷ []) (subst (λ t. t.next < 2 ^ 64) (sym left) less) kept leads))
+
+-- the greatest number of a command takes the place of a smaller one
+max_twice : (d n : ℕ) → max d (max d n) ≡ max d n
+max_twice d n = max-eq_right (le-max_left d n)
+
+pub one_more : (s : State) (lines : List (List ℕ)) (line : List ℕ) → state_after s (lines ++ line ∷ []) ≡ after_line (state_after s lines) line
+unfolding left_by
+one_more s lines line = left_by-append after_line s lines (line ∷ [])
+
+-- a follower that awaits the number of a done line takes it
+done_taken : (t : PairTree) (d n : ℕ) → max d n < 2 ^ 64 → t.next < 2 ^ 64 → after_line (holding 0 (copied t) d) (mark_line (Done (max d n) t.next)) ≡ holding 0 (copied t) (max d n)
+done_taken t d n small less =
+    let event = done_alone (max d n) t.next in
+    let mark = mark_told (Done (max d n) t.next) (small, less) in
+    let cut = done_cut (max d n) t.next in
+    let node : node_of (mark_line (Done (max d n) t.next)) ≡ None = rw cut refl in
+    let near = le-ltb t.next t.next (omega arith) in
+    rw (event, node, mark, near) (ap (holding 0 (copied t)) (max_twice d n))
+
+done_onward : (t : PairTree) (d : ℕ) (echo : Option ℕ) → EchoFits echo → d < 2 ^ 64 → t.next < 2 ^ 64 → (kept : List (List ℕ)) → LeadsTo kept (leader_of t d)
+    → LeadsTo (kept ++ done_lines echo (option_map_or (max d) echo d) t.next) (leader_of t (option_map_or (max d) echo d))
+done_onward t d None fit small less kept leads = subst (λ ls. LeadsTo ls (leader_of t d)) (sym (append-nil kept)) leads
+done_onward t d (Some n) fit small less kept leads =
+    one_more (start_state 0) kept (mark_line (Done (max d n) t.next)) ∙ ap (λ r. after_line r (mark_line (Done (max d n) t.next))) leads ∙ done_taken t d n (max_fits d n small fit) less
+
+-- the answer to a command
+command_leads : (l : Leader) → IsSound l → (line : List ℕ) (c : Command) → PairFitsU64 c.change → EchoFits c.echo → leading_events l.pairs line ≡ told_events l.pairs c.change → after_leading l.pairs line ≡ pairs_after l.pairs c.change
+    → (pairs_after l.pairs c.change).next < 2 ^ 64 → (kept : List (List ℕ)) → LeadsTo kept l → LeadsTo (kept ++ told_lines (whole_lines (command_text l c))) (leader_of (pairs_after l.pairs c.change) (done_by l.done c))
+command_leads l s line c fit small told after less kept leads =
+    let t = pairs_after l.pairs c.change in
+    let events = map event_text (told_events l.pairs c.change) in
+    let done = done_lines c.echo (done_by l.done c) t.next in
+    let known = number_kept l.done s.done c.echo small in
+    let on : LeadsTo (kept ++ events) (leader_of t l.done)
+        = subst (λ u. LeadsTo (kept ++ events) (leader_of u l.done)) after (subst (λ es. LeadsTo (kept ++ map event_text es) (leader_of (after_leading l.pairs line) l.done)) told (events_onward l s line (subst (λ u. u.next < 2 ^ 64) (sym after) less) kept leads)) in
+    let all : kept ++ told_lines (whole_lines (command_text l c)) ≡ (kept ++ events) ++ done
+        = ap (λ ls. kept ++ ls) (command_keeps l (good l s) c fit small known (omega (arith, less))) ∙ sym (append_assoc kept events done) in
+    subst (λ ls. LeadsTo ls (leader_of t (done_by l.done c))) (sym all) (done_onward t l.done c.echo small s.done less (kept ++ events) on)
+
+pub line_leads : (o : Others) (l : Leader) → IsSound l → (line : List ℕ) → (after_leading l.pairs line).next < 2 ^ 64 → (kept : List (List ℕ)) → LeadsTo kept l → LeadsTo (kept ++ told_by o l line) (leader_after l line)
+line_leads o l s line less kept leads = at (query_of line) refl (command_of line) refl
+  where
+    still : LeadsTo (kept ++ []) l
+    still = subst (λ ls. LeadsTo ls l) (sym (append-nil kept)) leads
+
+    at : (q : Option Query) → query_of line ≡ q → (m : Option Command) → command_of line ≡ m
+        → LeadsTo (kept ++ option_map_or {U = List (List ℕ)} (λ q. []) q (told_lines (whole_lines (option_map_or {U = List ℕ} (command_text l) m (others_text o)))))
+        (leader_of (option_map_or {U = PairTree} (λ q. l.pairs) q (option_map_or {U = PairTree} (λ c. pairs_after l.pairs c.change) m l.pairs)) (option_map_or (λ q. l.done) q (option_map_or (done_by l.done) m l.done)))
+    at (Some q) asked m is = still
+    at None asked None is = subst (λ ls. LeadsTo (kept ++ ls) l) (sym (others_keep o)) still
+    at None asked (Some c) is =
+        let after : after_leading l.pairs line ≡ pairs_after l.pairs c.change = rw (asked, is) refl in
+        let told : leading_events l.pairs line ≡ told_events l.pairs c.change = rw (asked, is) refl in
+        command_leads l s line c (command_fits line c is) (number_fits line c is) told after (subst (λ u. u.next < 2 ^ 64) after less) kept leads
+
+-- ---- the events of a line
+
+-- the texts of events tell these
+texts_tell : (es : List Event) → Each EventFits es → (ls : List (List ℕ)) → event_lines ls ≡ [] → event_lines (map event_text es ++ ls) ≡ map event_text es
+texts_tell [] fit ls none = none
+texts_tell (e ∷ es) fit ls none =
+    let told = event_told e fit.0 in
+    rw told (ap (λ l. event_text e ∷ l) (texts_tell es fit.1 ls none))
+
+done_tells : (echo : Option ℕ) (d n : ℕ) → event_lines (done_lines echo d n) ≡ []
+done_tells None d n = refl
+done_tells (Some _) d n = let event = done_alone d n in rw event refl
+
+pub line_told : (o : Others) (l : Leader) → IsSound l → (line : List ℕ) → (after_leading l.pairs line).next < 2 ^ 64 → event_lines (told_by o l line) ≡ map event_text (leading_events l.pairs line)
+line_told o l s line less = at (query_of line) refl (command_of line) refl
+  where
+    at : (q : Option Query) → query_of line ≡ q → (m : Option Command) → command_of line ≡ m
+        → event_lines (option_map_or {U = List (List ℕ)} (λ q. []) q (told_lines (whole_lines (option_map_or {U = List ℕ} (command_text l) m (others_text o)))))
+        ≡ map event_text (option_map_or {U = List Event} (λ q. []) q (option_map_or {U = List Event} (λ c. told_events l.pairs c.change) m []))
+    at (Some q) asked m is = refl
+    at None asked None is = ap event_lines (others_keep o)
+    at None asked (Some c) is =
+        let after : after_leading l.pairs line ≡ pairs_after l.pairs c.change = rw (asked, is) refl in
+        let told : leading_events l.pairs line ≡ told_events l.pairs c.change = rw (asked, is) refl in
+        let few = subst (λ u. u.next < 2 ^ 64) after less in
+        let known = number_kept l.done s.done c.echo (number_fits line c is) in
+        let fits = subst (Each EventFits) told ((leading_onward l.pairs (good l s) line).fits (omega (arith, less))) in
+        ap event_lines (command_keeps l (good l s) c (command_fits line c is) (number_fits line c is) known (omega (arith, few)))
+        ∙ texts_tell (told_events l.pairs c.change) fits (done_lines c.echo (done_by l.done c) (pairs_after l.pairs c.change).next) (done_tells c.echo (done_by l.done c) (pairs_after l.pairs c.change).next)
+
+-- ---- a snapshot
+
+filled_fit : (ns : List (List (Pair ℕ ℕ))) → Each (Each PairFits) ns → Each (λ n. 1 ≤ length n) ns → Each NodeFits ns
+filled_fit [] fit filled = tt
+filled_fit (n ∷ ns) fit filled = ((omega (arith, filled.0), each_all PairFits n fit.0), filled_fit ns fit.1 filled.1)
+
+pub snapshot_leads : (l : Leader) → IsSound l → l.pairs.next < 2 ^ 64 → length l.pairs.nodes < 2 ^ 64 → LeadsTo (lines_of (snapshot_text (copied l.pairs) l.done)) l
+snapshot_leads l s small few =
+    let apart = each_apart PairFits l.pairs.nodes (all_each PairFits (joined l.pairs.nodes) s.fits) in
+    let filled = nodes_each (λ n. 1 ≤ n) l.pairs.nodes s.lawful.nodes.filled in
+    snapshot_taken (copied l.pairs) l.done small s.done few (each_all NodeFits l.pairs.nodes (filled_fit l.pairs.nodes apart filled)) (start_state 0) s.lawful.nodes

@@ -1,0 +1,62 @@
+//! What ends a run before its input does.
+
+use indexset_journal::JournalError;
+use indexset_lines::RunFault;
+use std::error::Error;
+use std::fmt;
+
+/// What ends a run before its input does.
+#[derive(Clone, Copy, Debug, PartialEq, Eq)]
+pub enum KeepFault {
+    /// Memory or event numbers ran out, or the reader or the writer failed.
+    Run(RunFault),
+    /// The lines could not be kept.
+    Journal(JournalError),
+    /// A node that the kept lines lead to is larger than one of the leader.
+    NodeSize,
+}
+
+impl KeepFault {
+    /// Returns the exit status of this fault: that of a run, 6 of the journal, or 7.
+    pub fn status(self) -> u8 {
+        match self {
+            KeepFault::Run(fault) => fault.status(),
+            KeepFault::Journal(_) => 6,
+            KeepFault::NodeSize => 7,
+        }
+    }
+}
+
+impl fmt::Display for KeepFault {
+    fn fmt<W: fmt::Write>(&self, f: &mut fmt::Formatter<W>) -> fmt::Result {
+        match self {
+            KeepFault::Run(fault) => write!(f, "{fault}"),
+            KeepFault::Journal(error) => write!(f, "{error}"),
+            KeepFault::NodeSize => f.write_str("a kept node is larger than the node size"),
+        }
+    }
+}
+
+impl Error for KeepFault {}
+
+impl From<RunFault> for KeepFault {
+    ghost use Rattle.std.specs.Prelude.{◌≡◌};
+    ghost use Rattle.indexset_keep.specs.declared.fault.KeepFault.TheVariants.{Run};
+
+    ghost from_gives = { λ fault made. made ≡ Run fault };
+
+    fn from(fault: RunFault) -> KeepFault {
+        KeepFault::Run(fault)
+    }
+}
+
+impl From<JournalError> for KeepFault {
+    ghost use Rattle.std.specs.Prelude.{◌≡◌};
+    ghost use Rattle.indexset_keep.specs.declared.fault.KeepFault.TheVariants.{Journal};
+
+    ghost from_gives = { λ error made. made ≡ Journal error };
+
+    fn from(error: JournalError) -> KeepFault {
+        KeepFault::Journal(error)
+    }
+}

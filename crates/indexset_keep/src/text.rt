@@ -1,0 +1,82 @@
+//! The lines of a text.
+
+ghost use Rattle.std.specs.Prelude.{◌≡◌, ◌∷◌, ◌++◌, [], IfErr, IfOk, OnOk};
+ghost use Rattle.indexset_journal.specs.Kept.{texts};
+ghost use Rattle.indexset_lines.specs.Lines.{whole_lines};
+ghost use Rattle.indexset_keep.specs.Keep.{is_done, is_told, told_lines};
+
+use indexset_events::parts::cut;
+use indexset_follow::event::read_event;
+use indexset_follow::mark::{Mark, read_mark};
+use indexset_lines::RunFault;
+use std::alloc::Global;
+
+/// Returns the lines of a text that have their ends.
+pub fn split_lines(alloc: Global, text: &[u8]) -> Result<Vec<Vec<u8>>, RunFault>
+    ensures lines { IfOk result (λ lines. texts lines.items ≡ whole_lines text.now) }
+    ensures fault { IfErr result (λ fault. fault ≡ RunFault.Memory) }
+{
+    let mut lines = Vec::new(alloc);
+    let mut left = text;
+    while let Some((line, rest)) = cut(left, b'\n') {
+        push_line(alloc, &mut lines, line)?;
+        left = rest;
+    }
+    Ok(lines)
+}
+
+/// Appends the lines of a text that have their ends, and tell an event or which commands were done.
+pub fn push_told_lines(
+    alloc: Global,
+    lines: &mut Vec<Vec<u8>>,
+    text: &[u8],
+) -> Result<(), RunFault>
+    ensures lines { OnOk result
+        (texts lines.new.items ≡ texts lines.old.items ++ told_lines (whole_lines text.now)) }
+    ensures fault { IfErr result (λ fault. fault ≡ RunFault.Memory) }
+{
+    let mut left = text;
+    while let Some((line, rest)) = cut(left, b'\n') {
+        push_told_line(alloc, lines, line)?;
+        left = rest;
+    }
+    Ok(())
+}
+
+/// Appends a copy of a line, where it tells an event or which commands were done.
+fn push_told_line(alloc: Global, lines: &mut Vec<Vec<u8>>, line: &[u8]) -> Result<(), RunFault>
+    ensures lines { OnOk result
+        (texts lines.new.items ≡ texts lines.old.items ++ told_lines (line.now ∷ [])) }
+    ensures fault { IfErr result (λ fault. fault ≡ RunFault.Memory) }
+{
+    if is_told(line) {
+        push_line(alloc, lines, line)?;
+    }
+    Ok(())
+}
+
+/// Returns whether a line tells an event, or which commands were done.
+fn is_told(line: &[u8]) -> bool
+    ensures { result ≡ is_told line.now }
+{
+    read_event(line).is_some() || is_done(read_mark(line))
+}
+
+/// Returns whether a mark tells which commands were done.
+fn is_done(mark: Option<Mark>) -> bool
+    ensures { result ≡ is_done mark }
+{
+    match mark {
+        Some(Mark::Done(_, _)) => true,
+        _ => false,
+    }
+}
+
+/// Appends a copy of a line.
+fn push_line(alloc: Global, lines: &mut Vec<Vec<u8>>, line: &[u8]) -> Result<(), RunFault>
+    ensures lines { OnOk result (texts lines.new.items ≡ texts lines.old.items ++ line.now ∷ []) }
+    ensures fault { IfErr result (λ fault. fault ≡ RunFault.Memory) }
+{
+    let line = line.to_vec(alloc).map_err(|_| RunFault::Memory)?;
+    lines.push(line).map_err(|_| RunFault::Memory)
+}
