@@ -198,9 +198,9 @@ command_leads l s line c fit small told after less kept leads =
     let done = done_lines c.echo (done_by l.done c) t.next in
     let known = number_kept l.done s.done c.echo small in
     let on : LeadsTo (kept ++ events) (leader_of t l.done)
-        = subst (λ u. LeadsTo (kept ++ events) (leader_of u l.done)) after (subst (λ es. LeadsTo (kept ++ map event_text es) (leader_of (after_leading l.pairs line) l.done)) told (events_onward l s line (subst (λ u. u.next < 2 ^ 64) (sym after) less) kept leads)) in
+    = subst (λ u. LeadsTo (kept ++ events) (leader_of u l.done)) after (subst (λ es. LeadsTo (kept ++ map event_text es) (leader_of (after_leading l.pairs line) l.done)) told (events_onward l s line (subst (λ u. u.next < 2 ^ 64) (sym after) less) kept leads)) in
     let all : kept ++ told_lines (whole_lines (command_text l c)) ≡ (kept ++ events) ++ done
-        = ap (λ ls. kept ++ ls) (command_keeps l (good l s) c fit small known (omega (arith, less))) ∙ sym (append_assoc kept events done) in
+    = ap (λ ls. kept ++ ls) (command_keeps l (good l s) c fit small known (omega (arith, less))) ∙ sym (append_assoc kept events done) in
     subst (λ ls. LeadsTo ls (leader_of t (done_by l.done c))) (sym all) (done_onward t l.done c.echo small s.done less (kept ++ events) on)
 
 pub line_leads : (o : Others) (l : Leader) → IsSound l → (line : List ℕ) → (after_leading l.pairs line).next < 2 ^ 64 → (kept : List (List ℕ)) → LeadsTo kept l → LeadsTo (kept ++ told_by o l line) (leader_after l line)

@@ -139,7 +139,7 @@ module _ (n : ℕ) (small : n < 2 ^ 64) where
   passes_number : (line more : List ℕ) (ls : List (List ℕ)) → HasNoEnd line → Keeps more ls → Keeps (echo_text (Some n) ++ (ended line ++ more)) ls
   passes_number line more ls none kept =
       let parts : ended (echo_text (Some n) ++ line) ++ more ≡ echo_text (Some n) ++ (ended line ++ more)
-          = ap (λ t. t ++ more) (append_assoc (echo_text (Some n)) line (10 ∷ [])) ∙ append_assoc (echo_text (Some n)) (ended line) more in
+      = ap (λ t. t ++ more) (append_assoc (echo_text (Some n)) line (10 ∷ [])) ∙ append_assoc (echo_text (Some n)) (ended line) more in
       subst (λ t. Keeps t ls) parts (keeps_both (ended (echo_text (Some n) ++ line)) more [] ls (passes_first line none) kept)
 
   passes_alone : (line : List ℕ) → HasNoEnd line → Keeps (echo_text (Some n) ++ ended line) []

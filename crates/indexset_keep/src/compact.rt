@@ -67,6 +67,12 @@ fn lines_of_snapshot(alloc: Global, leader: &Leader) -> Result<Vec<Vec<u8>>, Run
     ensures { IfOk result (λ lines. texts lines.items ≡ snapshot_lines leader.now) }
 {
     let mut text = Vec::new(alloc);
-    answer_query(alloc, &mut text, &leader.pairs, leader.done, Query::Snapshot)?;
+    answer_query(
+        alloc,
+        &mut text,
+        &leader.pairs,
+        leader.done,
+        Query::Snapshot,
+    )?;
     split_lines(alloc, text.as_slice())
 }

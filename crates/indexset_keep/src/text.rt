@@ -26,11 +26,7 @@ pub fn split_lines(alloc: Global, text: &[u8]) -> Result<Vec<Vec<u8>>, RunFault>
 }
 
 /// Appends the lines of a text that have their ends, and tell an event or which commands were done.
-pub fn push_told_lines(
-    alloc: Global,
-    lines: &mut Vec<Vec<u8>>,
-    text: &[u8],
-) -> Result<(), RunFault>
+pub fn push_told_lines(alloc: Global, lines: &mut Vec<Vec<u8>>, text: &[u8]) -> Result<(), RunFault>
     ensures lines { OnOk result
         (texts lines.new.items ≡ texts lines.old.items ++ told_lines (whole_lines text.now)) }
     ensures fault { IfErr result (λ fault. fault ≡ RunFault.Memory) }
