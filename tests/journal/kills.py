@@ -13,6 +13,7 @@ It needs the built `indexset_keeper`.
 from __future__ import annotations
 
 import argparse
+import os
 import pathlib
 import random
 import shutil
@@ -24,6 +25,7 @@ import tempfile
 import threading
 import time
 from collections import Counter
+from typing import BinaryIO
 
 TOP = pathlib.Path(__file__).resolve().parent.parent.parent
 sys.dont_write_bytecode = True
@@ -48,6 +50,12 @@ class Wrong(Exception):
 def pair(text: str) -> Pair:
     key, value = text.split(":")
     return int(key), int(value)
+
+
+def read_all(source: BinaryIO, out: bytearray) -> None:
+    """Adds all that comes, as it comes."""
+    while some := os.read(source.fileno(), 1 << 16):
+        out += some
 
 
 def is_event(line: str) -> bool:
@@ -175,8 +183,7 @@ class Drill:
         run = subprocess.Popen(self.words(), stdin=subprocess.PIPE, stdout=subprocess.PIPE)
         assert run.stdout
         out, sent = bytearray(), list[str]()
-        source = run.stdout
-        reader = threading.Thread(target=lambda: [out.extend(it) for it in iter(lambda: source.read(4096), b"")])
+        reader = threading.Thread(target=read_all, args=[run.stdout, out])
         feeder = threading.Thread(target=self.feed, args=[run, sent])
         wait, is_early = self.chance.random() * LONGEST, self.chance.random() < EARLY
         reader.start()
