@@ -222,7 +222,8 @@ static int read_more(Walk *self) {
     return 1;
 }
 
-static PyObject *walk_next(Walk *self) {
+/* The same at the end of a part, at the end, after a change, or backwards. */
+static PyObject *next_of_any(Walk *self) {
     if (self->owner == NULL)
         return NULL;
     if (*self->counter != self->changes) {
@@ -239,6 +240,21 @@ static PyObject *walk_next(Walk *self) {
         return item_of(self->owner, &self->part, self->part.count - 1 - at);
     fetch(&self->part, at + AHEAD);
     return item_of(self->owner, &self->part, at);
+}
+
+/* The next item of the part that was read, where that is an object. */
+static PyObject *walk_next(Walk *self) {
+    size_t at = self->at;
+    if (self->owner != NULL && at < self->part.count && !self->reverse && *self->counter == self->changes) {
+        PyObject *item = OBJECT(self->part.objects[at]);
+        if (item != NULL) {
+            self->at = at + 1;
+            fetch(&self->part, at + AHEAD);
+            Py_INCREF(item);
+            return item;
+        }
+    }
+    return next_of_any(self);
 }
 
 static PyObject *length_hint(Walk *self, PyObject *nothing) {
