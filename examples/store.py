@@ -68,13 +68,14 @@ class Store:
         return self.answers([line, b""], lambda found: found.endswith(b"\nbad\n"))[:-1]
 
     def events(self, *batches: list[bytes]) -> list[list[bytes]]:
-        """The events of batches of commands to a leader. A line `len` after each shows where its answers end."""
+        """The events of batches of commands to a leader, and the lines `done` of commands with numbers. A line `len`
+        after each batch shows where its answers end."""
         lines = [line for batch in batches for line in (*batch, b"len")]
         found: list[list[bytes]] = [[]]
         for line in self.answers(lines, lambda told: len(COUNT.findall(told)) == len(batches)):
             if line.isdigit():
                 found.append([])
-            elif line[:1].isdigit():
+            elif line[:1].isdigit() or line.startswith(b"done "):
                 found[-1].append(line)
         return found[:-1]
 

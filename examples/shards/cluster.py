@@ -44,7 +44,6 @@ class Cluster:
     port: int = dataclasses.field(default_factory=free_port)
     next: int = 1
     leaders: dict[str, list[Process]] = dataclasses.field(default_factory=dict)
-    ended: set[str] = dataclasses.field(default_factory=set)
 
     def start(self) -> None:
         self.start_server()
@@ -61,23 +60,30 @@ class Cluster:
         words = [sys.executable, str(HERE / "router.py"), str(self.port), *map(str, self.lows)]
         self.router = subprocess.Popen(words, stdin=subprocess.PIPE, stdout=subprocess.PIPE)
 
-    def start_leader(self, shard: str) -> Process:
-        words = [sys.executable, str(HERE / "leader.py"), str(self.port), shard]
-        return subprocess.Popen(words, env={**os.environ, "SNAPSHOT_EVERY": str(self.every)})
+    def machine(self, place: int) -> str:
+        """The folder of a leader's machine."""
+        return f"{self.folder}/machine{place}"
+
+    def start_leader(self, shard: str, place: int) -> Process:
+        words = [sys.executable, str(HERE / "leader.py"), str(self.port), shard, self.machine(place)]
+        with open(f"{self.folder}/log", "ab") as log:
+            return subprocess.Popen(words, env={**os.environ, "SNAPSHOT_EVERY": str(self.every)}, stdout=log)
 
     def mend(self) -> None:
-        """Starts what has ended: the router, and leaders of each shard that has not given its pairs away."""
-        every = {shard for table in self.engine.tables().values() for _, shard in table}
-        for shard in every - self.ended:
-            parts = self.leaders.pop(shard, [])
-            if 0 in [it.poll() for it in parts]:  # (so a leader ends at the end of its shard)
-                end(parts)
-                self.ended.add(shard)
-                continue
-            left = [it for it in parts if it.poll() is None]
-            self.leaders[shard] = left + [self.start_leader(shard) for _ in range(self.leaders_each - len(left))]
+        """Starts what has ended: the router, and leaders, but for those that ended with their shard."""
+        for shard in {shard for table in self.engine.tables().values() for _, shard in table}:
+            parts = self.leaders.setdefault(shard, [])
+            for place, part in enumerate(parts):
+                if part.poll() not in (None, 0):
+                    parts[place] = self.start_leader(shard, place)
+            parts += [self.start_leader(shard, place) for place in range(len(parts), self.leaders_each)]
         if self.router.poll() is not None:
             self.start_router()
+
+    def have_ended(self) -> bool:
+        """Whether the leaders of all shards that gave their pairs away have ended."""
+        lead = {shard for _, shard in self.engine.table()}
+        return all(it.poll() == 0 for shard, parts in self.leaders.items() if shard not in lead for it in parts)
 
     def send(self, lines: list[bytes], is_killed: bool = False) -> None:
         """Sends a batch, again where the router ended before it answered, or is to be killed then."""

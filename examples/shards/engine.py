@@ -1,8 +1,9 @@
 """What router, leaders and readers share: the engine, whose streams they meet in.
 
-    commands:S   the commands of shard S; an entry is named by the number of its last command, and has `lines`, or
-                 at the shard's end `give`: which shards take its pairs
-    events:S     their events: an entry has the name of the commands' entry, and `after`, the name of the one before
+    commands:S   the commands of shard S, with their numbers; an entry is named by the number of the last command of
+                 its batch, and has `lines`, or at the shard's end `give`: which shards take its pairs
+    events:S     their events, and a line `done` with the last number: an entry has the name of the commands' entry,
+                 and `after`, the name of the one before
     snapshots:S  the last two snapshots, each named by the last command that it covers
     gifts:S      the nodes that a shard begins with, by giver
     tables       by the number from which on it holds, the least key and the name of each shard
@@ -44,9 +45,9 @@ def spans(table: Table) -> list[Span]:
     return [Span(low, end, shard) for (low, shard), end in zip(table, ends)]
 
 
-def snapshot_of(nodes: Sequence[bytes]) -> list[bytes]:
-    """The snapshot of some nodes before the first event."""
-    lines = [b"start 0", *nodes]
+def snapshot_of(nodes: Sequence[bytes], number: int = 0) -> list[bytes]:
+    """The snapshot of some nodes after the command of a number, and before the first event."""
+    lines = [b"start 0 %d" % number if number else b"start 0", *nodes]
     told = hashlib.sha256(b"".join(line + b"\n" for line in lines)).digest()
     return [*lines, b"end %d %d" % (len(nodes), int.from_bytes(told[:8], "big"))]
 

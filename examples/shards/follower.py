@@ -18,6 +18,10 @@ class NotFounded(Exception):
     """The shard has no snapshot yet."""
 
 
+class Unfit(Exception):
+    """What is held does not fit what the engine has."""
+
+
 def snapshot_until(engine: Engine, shard: str, until: int) -> Entry:
     """The newest snapshot that covers no command behind a number."""
     name = f"snapshots:{shard}"
@@ -37,20 +41,20 @@ class Follower:
         self.begin(snapshot)
 
     def begin(self, snapshot: Entry) -> None:
-        self.hand(snapshot.lines(), b"held")
+        self.hand(snapshot.lines())
         self.at = snapshot.number
 
-    def hand(self, lines: list[bytes], other: bytes = b"next") -> None:
-        """Hands lines over, which are not to be refused."""
+    def hand(self, lines: list[bytes]) -> None:
+        """Hands lines over, which are to fit: events, some of which it may have, or a snapshot."""
         for answer in self.store.each(lines):
-            if answer.split(b" ", 1)[0] not in (b"next", other):
-                raise SystemExit(f"shard {self.shard}: {answer.decode()}")
+            if answer.split(b" ", 1)[0] not in (b"next", b"had", b"held"):
+                raise Unfit(f"shard {self.shard}: {answer.decode()}")
 
     def catch_up(self, until: int = MOST, wait: int = 0) -> None:
         """Takes the events of commands up to a number, as far as there are any."""
         while self.at < until:
             entries = self.engine.after(f"events:{self.shard}", self.at, COUNT, wait)
-            if entries and int(entries[0].fields[b"after"]) != self.at:
+            if entries and int(entries[0].fields[b"after"]) > self.at:
                 self.begin(snapshot_until(self.engine, self.shard, until))  # (what it awaits was trimmed away)
                 continue
             entries = [it for it in entries if it.number <= until]

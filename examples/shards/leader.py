@@ -1,21 +1,21 @@
 #!/usr/bin/env python3
-"""A shard's leader, or one that stands by. usage: leader.py PORT SHARD
+"""A shard's leader, or one that stands by. usage: leader.py PORT SHARD FOLDER
 
-It follows the shard's events until the lease of the shard is its own. Then it leads: it takes the commands behind
-those that the events cover. So a start, a start after a kill and a promotion are one thing. Two that lead at once, as
-after a lease that ran out under a slow leader, tell the same events of the same commands under the same names, of
-which the engine takes each once.
+It goes on from its file in the folder, and follows the shard's events until the lease of the shard is its own. Then
+it leads: it takes the commands behind those that the events cover. Of those that its file has, as after a kill
+between the two, it tells the kept events. So a start, a start after a kill and a promotion are one thing. Two that
+lead at once, as after a lease that ran out under a slow leader, tell the same events of the same commands under the
+same names, of which the engine takes each once.
 
-Now and then it keeps a snapshot, and trims both streams up to the one before.
+Now and then it gives the engine a snapshot, and trims both streams up to the one before. It removes its file at the
+end of the shard, and where the file does not fit.
 """
 
 from __future__ import annotations
 
 import json
-import math
 import os
 import pathlib
-import socket
 import sys
 import time
 
@@ -23,50 +23,36 @@ HERE = pathlib.Path(__file__).resolve().parent
 sys.dont_write_bytecode = True
 sys.path[:0] = [str(HERE.parent.parent / "tools"), str(HERE.parent)]
 from engine import Engine, entry, nodes_of, snapshot_of  # noqa: E402
-from follower import Follower  # noqa: E402
+from follower import Unfit  # noqa: E402
+from kept import Kept  # noqa: E402
+from lease import Lease  # noqa: E402
 from resp import Entry, Word, listed, text_of  # noqa: E402
 from store import Ended  # noqa: E402
 
-LEASE = 3000  # milliseconds, more than it takes to take as many entries
 COUNT = 5  # entries at a time
 WAIT = 100  # milliseconds for entries to come
 EVERY = int(os.environ.get("SNAPSHOT_EVERY", "1000000"))  # commands of all shards
 
 
-class Lease:
-    """The right to lead a shard, for a while."""
-
-    def __init__(self, engine: Engine, shard: str) -> None:
-        self.engine, self.name, self.held = engine, f"lease:{shard}", -math.inf
-        self.owner = f"{socket.gethostname()} {os.getpid()}"
-
-    def is_held(self) -> bool:
-        """Takes the lease, or keeps it, at most three times in its length."""
-        if time.monotonic() - self.held < LEASE / 3000:
-            return True
-        if self.engine.call("GET", self.name) == self.owner.encode():
-            self.engine.call("PEXPIRE", self.name, LEASE)
-        elif self.engine.call("SET", self.name, self.owner, "NX", "PX", LEASE) is None:
-            return False
-        self.held = time.monotonic()
-        return True
-
-
 class Leader:
-    """A shard from the commands on that its events do not cover."""
+    """A shard from the commands on that its events do not cover: those are told up to `at`."""
 
-    def __init__(self, engine: Engine, follower: Follower) -> None:
-        self.engine, self.shard, self.store, self.at = engine, follower.shard, follower.store, follower.at
+    def __init__(self, engine: Engine, kept: Kept) -> None:
+        self.engine, self.shard, self.store, self.kept = engine, kept.shard, kept.store, kept
         self.snapshot_at = engine.last(f"snapshots:{self.shard}")
+        self.at = kept.told()
         self.store.lead()
+        say(f"{self.shard} leads behind {self.at}, and tells {sum(it > self.at for it in kept.ahead)} from the file")
 
     def take(self, entries: list[Entry]) -> bool:
         """Takes entries of commands, and tells their events; whether the shard goes on."""
         writes: list[list[Word]] = []
-        for it, events in zip(entries, self.store.events(*[it.lines() for it in entries])):
+        parts = [self.kept.parted(it.lines()) for it in entries]
+        for it, (kept, _), events in zip(entries, parts, self.store.events(*[left for _, left in parts])):
             if b"give" in it.fields:
                 writes += self.gifts(json.loads(it.fields[b"give"]))
-            writes.append(entry(f"events:{self.shard}", it.number, lines=b"\n".join(events), after=self.at))
+            text = b"\n".join(with_one_number(kept + events))
+            writes.append(entry(f"events:{self.shard}", it.number, lines=text, after=self.at))
             self.at = it.number
         self.engine.together(writes)
         return b"give" not in entries[-1].fields
@@ -92,8 +78,18 @@ class Leader:
             entries = self.engine.after(f"commands:{self.shard}", self.at, COUNT, WAIT)
             if entries and not self.take(entries):
                 return
-            if self.at - self.snapshot_at >= EVERY:
+            if self.at - self.snapshot_at >= EVERY and self.at >= self.kept.at:
                 self.keep()
+
+
+def with_one_number(lines: list[bytes]) -> list[bytes]:
+    """Events, and the last of the lines with the numbers of their commands."""
+    numbers = [line for line in lines if line.startswith(b"done")]
+    return [line for line in lines if not line.startswith(b"done")] + numbers[-1:]
+
+
+def say(text: str) -> None:
+    print(text, flush=True)
 
 
 def is_founded(engine: Engine, shard: str) -> bool:
@@ -106,7 +102,7 @@ def is_founded(engine: Engine, shard: str) -> bool:
     if len(given) < givers:
         return False
     nodes = [node for _, text in sorted(given.items()) for node in text.split(b"\n") if node]
-    founded: list[Word] = ["XADD", f"snapshots:{shard}", f"{at}-1", "lines", b"\n".join(snapshot_of(nodes))]
+    founded: list[Word] = ["XADD", f"snapshots:{shard}", f"{at}-1", "lines", b"\n".join(snapshot_of(nodes, at))]
     engine.together([founded, ["DEL", f"gifts:{shard}"]])
     return True
 
@@ -117,17 +113,29 @@ def has_ended(engine: Engine, shard: str) -> bool:
     return bool(last) and b"give" in last[0].fields and engine.last(f"events:{shard}") == last[0].number
 
 
+def serve(engine: Engine, kept: Kept, lease: Lease) -> None:
+    """Follows, and then leads, until the shard or the lease ends."""
+    while not has_ended(engine, kept.shard):
+        kept.catch_up(wait=WAIT)
+        if lease.is_held():
+            return Leader(engine, kept).lead(lease)
+
+
 def main() -> None:
-    engine, shard = Engine(int(sys.argv[1])), sys.argv[2]
+    engine, shard, folder = Engine(int(sys.argv[1])), sys.argv[2], pathlib.Path(sys.argv[3])
     while not is_founded(engine, shard):
         time.sleep(0.02)
-    follower, lease = Follower(engine, shard), Lease(engine, shard)
-    while not has_ended(engine, shard):
-        follower.catch_up(wait=WAIT)
-        if lease.is_held():
-            follower.catch_up()
-            Leader(engine, follower).lead(lease)
-            sys.exit(0 if has_ended(engine, shard) else 1)  # (1: the lease is gone)
+    kept, lease = Kept(engine, shard, folder), Lease(engine, shard)
+    say(f"{shard} begins with {'its file' if kept.is_own else 'a snapshot'} behind {kept.at}")
+    try:
+        serve(engine, kept, lease)
+        if not has_ended(engine, shard):
+            sys.exit(1)  # (the lease is gone)
+        kept.drop()
+    except Unfit as error:
+        say(f"{shard} drops its file: {error}")
+        kept.drop()
+        sys.exit(1)
 
 
 if __name__ == "__main__":

@@ -48,9 +48,9 @@ class Router:
 
     def route(self, lines: list[bytes]) -> None:
         lows, parts = [low for low, _ in self.table], [list[bytes]() for _ in self.table]
-        for line in lines:
+        for number, line in enumerate(lines, self.next):
             key = int(line.split(b" ", 2)[1])
-            parts[bisect.bisect_right(lows, key) - 1].append(line)
+            parts[bisect.bisect_right(lows, key) - 1].append(b"#%d %b" % (number, line))
         last = self.next + len(lines) - 1
         shards = [shard for _, shard in self.table]
         self.engine.together([entry(f"commands:{it}", last, lines=b"\n".join(part)) for it, part in zip(shards, parts)])

@@ -239,7 +239,7 @@ def no_number(program: pathlib.Path) -> Counts:
 
 def arguments(program: pathlib.Path) -> Counts:
     """Arguments that the program knows, and others."""
-    usage = b"usage: indexset_store [--follow | --lead] [--node-size N] [--window N] [--pass-others] [--quiet] | --help | --version"
+    usage = b"usage: indexset_store [--follow | --lead] [--keep FILE] [--node-size N] [--window N] [--pass-others] [--quiet] | --help | --version"
     project = (HERE.parent.parent / "bindings/python/pyproject.toml").read_text()
     version = f"indexset_store {project.split('version = ')[1].split()[0].strip(chr(34))}".encode()
     bad: list[Sequence[str | bytes]] = [["--node-size"], ["--lead", "--node-size"], ["--node-size", "1"], ["--node-size", "65536"], ["--node-size", "x"]]

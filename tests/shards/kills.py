@@ -1,10 +1,12 @@
 #!/usr/bin/env python3
 """Kills every part of a map over several shards, by a seed, while commands come, and compares it with a plain map.
 
-usage: kills.py [SEED] [COMMANDS]. The engine, the router, a leader, a leader's program, a reader and a reader's
-follower are killed at random batches; shards are split and merged. At cuts, some of them while later commands are
-on their way, and in the end: how many pairs there are, ranks, positions, pages over the borders, and all pairs. It
-ends with a table, and the last line is 'N passed, M failed'.
+usage: kills.py [SEED] [COMMANDS]. The engine, the router, a leader, one that stands by, a leader's program, a reader
+and a reader's follower are killed at random batches, and engine and leader together; a leader begins again on its machine, with its file, on a new
+one, or with a damaged file. Shards are split and merged while one of their leaders is down. At cuts, some of them
+while later commands are on their way, and in the end: how many pairs there are, ranks, positions, pages over the
+borders, and all pairs; and each event that a file kept beside the one that was told under its number. It ends with a
+table, and the last line is 'N passed, M failed'.
 
 It needs redis-server and the built `indexset_store`.
 """
@@ -18,6 +20,7 @@ import contextlib
 import os
 import pathlib
 import random
+import re
 import signal
 import sys
 import tempfile
@@ -28,17 +31,22 @@ TOP = pathlib.Path(__file__).resolve().parent.parent.parent
 sys.dont_write_bytecode = True
 sys.path[:0] = [str(TOP / "tools"), str(TOP / "examples"), str(TOP / "examples/shards")]
 from cluster import KEYS, Cluster, children, commands, end  # noqa: E402
+from files import FATES, Witness, befall  # noqa: E402
 from follower import Passed  # noqa: E402
 from followers import apply, installed  # noqa: E402
+from kept import read_behind  # noqa: E402
 from reader import Reader  # noqa: E402
 
 SHARDS = 3
 BATCH = 400
 KILL = 0.15  # of the batches
-PARTS = ("engine", "router", "leader", "program of a leader", "reader", "follower of a reader")
+LEADERS = ("leader", "leader that stands by", "program of a leader")
+TOGETHER = "engine and leader"
+PARTS = ("engine", "router", *LEADERS, TOGETHER, "reader", "follower of a reader")
 CUTS = 12  # comparisons on the way
 WIDTH = 900  # keys of a range
 REFITS = ("split", "split", "merge", "split", "merge")
+SAID = ("begins with its file", "begins with a snapshot", "tells [1-9]", "drops its file")
 
 
 class Drill:
@@ -46,7 +54,7 @@ class Drill:
 
     def __init__(self, cluster: Cluster, chance: random.Random) -> None:
         self.cluster, self.chance = cluster, chance
-        self.reader = Reader(cluster.engine)
+        self.reader, self.witness = Reader(cluster.engine), Witness(cluster.engine)
         self.pairs: dict[int, int] = {}
         self.counts: collections.Counter[str] = collections.Counter()
         self.wrong: list[str] = []
@@ -70,8 +78,10 @@ class Drill:
                 killer.join()
             case "router":
                 self.send(is_killed=True)
-            case "leader" | "program of a leader":
-                self.kill_leader(part == "leader")
+            case _ if part in LEADERS:
+                self.kill_leader(part, *self.leading())
+            case _ if part == TOGETHER:
+                self.kill_together()
             case "reader":
                 self.reader.close()
                 self.reader = Reader(self.cluster.engine)
@@ -84,20 +94,50 @@ class Drill:
         end([self.cluster.server])
         self.cluster.start_server()
 
-    def kill_leader(self, is_whole: bool) -> None:
-        """Kills a shard's leader, so that the one that stands by is promoted, or the leader's program."""
-        shard = self.chance.choice(sorted(self.cluster.leaders))
+    def leading(self) -> tuple[str, int]:
+        """A shard, and which of its leaders leads, or the first one."""
+        _, shard = self.chance.choice(self.cluster.engine.table())
         owner = self.cluster.engine.call("GET", f"lease:{shard}")
-        parts = self.cluster.leaders[shard]
-        leads = [it for it in parts if isinstance(owner, bytes) and owner.split(b" ")[-1] == b"%d" % it.pid]
-        for it in leads or parts[:1]:
-            if is_whole:
-                end([it])
-                self.counts["promotions"] += bool(leads)
-            else:
-                for child in children(it.pid):
-                    with contextlib.suppress(ProcessLookupError):
-                        os.kill(child, signal.SIGKILL)
+        numbers = [b"%d" % it.pid for it in self.cluster.leaders[shard]]
+        number = owner.split(b" ")[-1] if isinstance(owner, bytes) else b""
+        self.counts["killed while it led"] += number in numbers
+        return shard, numbers.index(number) if number in numbers else 0
+
+    def kill_together(self) -> None:
+        """Has the engine take no writes, so that what a leader then keeps is not told, and kills both."""
+        shard, place = self.leading()
+        leader = self.cluster.leaders[shard][place]
+        leader.send_signal(signal.SIGSTOP)
+        self.send()
+        self.cluster.engine.call("CLIENT", "PAUSE", 10_000, "WRITE")
+        leader.send_signal(signal.SIGCONT)
+        time.sleep(0.3)
+        end([leader])
+        self.restart_engine(0)
+        self.meet_fate(shard, pathlib.Path(self.cluster.machine(place), f"{shard}.db"))
+
+    def kill_leader(self, part: str, shard: str, place: int) -> None:
+        """Kills a shard's leader, so that the one that stands by is promoted, that one, or the leader's program."""
+        if part == "leader that stands by":
+            place = 1 - place
+        killed = self.cluster.leaders[shard][place]
+        if part == "program of a leader":
+            for child in children(killed.pid):
+                with contextlib.suppress(ProcessLookupError):
+                    os.kill(child, signal.SIGKILL)
+            return
+        end([killed])
+        self.meet_fate(shard, pathlib.Path(self.cluster.machine(place), f"{shard}.db"))
+
+    def meet_fate(self, shard: str, file: pathlib.Path) -> None:
+        """What happens to the file of a leader that was killed, before it begins again. Where nothing does, it may
+        begin again while its program has not ended."""
+        fate = self.chance.choice(FATES)
+        self.counts[f"file: {fate}"] += 1
+        if fate != "stays" or self.chance.random() < 0.7:
+            self.witness.read_kept(shard, file)
+            self.counts["file: ahead of what is told"] += read_behind(file, self.cluster.engine.last(f"events:{shard}")) != {}
+        befall(file, fate, self.chance)
 
     def refit(self, word: str) -> None:
         """Splits the fullest shard in its middle, or merges two shards, while commands are on their way."""
@@ -105,6 +145,8 @@ class Drill:
         if word == "split":
             self.cluster.until_shown(self.reader, self.cluster.head())
         key = self.cluster.middle(self.reader) if word == "split" else self.chance.choice(lows[1:])
+        for parts in self.cluster.leaders.values():
+            end(parts[1:])
         self.cluster.send([b"%b %d" % (word.encode(), key)])
         self.counts[f"{word}s"] += 1
 
@@ -153,20 +195,45 @@ class Drill:
             if step in refits:
                 self.refit(refits[step])
             self.cluster.mend()
+            self.witness.read_told()
             if step in cuts:
                 self.cut()
         self.cluster.until_shown(self.reader, self.cluster.head())
         self.compare(self.pairs, 200)
+        self.compare_files()
+
+    def compare_files(self) -> None:
+        """Compares what the files keep with what was told, once those of shards that ended are removed."""
+        for _ in range(600):
+            self.cluster.mend()
+            if self.cluster.have_ended():
+                break
+            time.sleep(0.1)
+        lead = {shard for _, shard in self.cluster.engine.table()}
+        for parts in self.cluster.leaders.values():
+            end(parts)
+        files = list(pathlib.Path(self.cluster.folder).glob("machine*/*.db"))
+        self.check("files of shards that lead", {it.stem for it in files} == lead)
+        for file in files:
+            self.witness.read_kept(file.stem, file)
+        self.counts["kept events compared"] = self.witness.compare()
+        self.counts["told events"] = sum(map(len, self.witness.told.values()))
+        self.counts["told events trimmed before they were seen"] = self.witness.trimmed
+        self.wrong += self.witness.wrong
+        self.check("events of files", not self.witness.wrong)
 
 
 def table(drill: Drill, seconds: float) -> None:
+    said = pathlib.Path(drill.cluster.folder, "log").read_text(encoding="utf-8")
     rows: dict[str, float] = dict(sorted(drill.counts.items()))
+    rows.update({f"leader {words}": len(re.findall(words, said)) for words in SAID})
+    rows["told from a file"] = sum(map(int, re.findall(r"tells (\d+) from", said)))
     rows["shards in the end"] = len(drill.reader.shown)
     rows["events"] = sum(it.store.next() for it in drill.reader.shown)
     rows["wrong"] = len(drill.wrong)
     rows["seconds"] = seconds
     for name, value in rows.items():
-        print(f"{name:32}{value:12,.0f}")
+        print(f"{name:44}{value:12,.0f}")
 
 
 def main() -> int:

@@ -11,7 +11,7 @@ use Rattle.indexset_follow.specs.Store.{after_held, held, held_reply, is_follow,
 use Rattle.indexset_follow.specs.declared.leader.Leader.{Leader}
 use Rattle.indexset_follow.specs.declared.others.Voice.{Voice}
 use Rattle.indexset_follow.specs.declared.reads.query.Query.{Query}
-use Rattle.indexset_follow.specs.declared.reads.query.Query.TheVariants.{Get, Len, First, Last, Range, Rank, At, Page, Nodes, Next, Head, Snapshot, Sum}
+use Rattle.indexset_follow.specs.declared.reads.query.Query.TheVariants.{Get, Len, First, Last, Range, Rank, At, Page, Nodes, Next, Head, Snapshot, Sum, Compact}
 use Rattle.indexset_follow.specs.declared.role.Role.{Role}
 use Rattle.indexset_follow.specs.declared.role.Role.TheVariants.{Following, Leading}
 use Rattle.indexset_follow.proofs.QueryLines.{query_cut, query_told}
@@ -32,6 +32,7 @@ no_event Next = refl
 no_event (Head m) = rw (query_cut (Head m), no_number 104 (codes "ead") (omega arith)) refl
 no_event Snapshot = refl
 no_event Sum = refl
+no_event Compact = refl
 
 -- nor is it a node
 no_node : (q : Query) → node_of (query_line q) ≡ None
@@ -48,6 +49,7 @@ no_node Next = refl
 no_node (Head m) = rw (query_cut (Head m)) refl
 no_node Snapshot = refl
 no_node Sum = refl
+no_node Compact = refl
 
 -- nor does it begin or end a snapshot
 no_mark : (q : Query) → mark_of (query_line q) ≡ None
@@ -64,6 +66,7 @@ no_mark Next = refl
 no_mark (Head m) = rw (query_cut (Head m)) refl
 no_mark Snapshot = refl
 no_mark Sum = refl
+no_mark Compact = refl
 
 -- nor does it make a follower lead
 no_lead : (q : Query) → is_lead (query_line q) ≡ false
@@ -80,6 +83,7 @@ no_lead Next = refl
 no_lead (Head m) = refl
 no_lead Snapshot = refl
 no_lead Sum = refl
+no_lead Compact = refl
 
 -- nor a leader follow
 no_follow : (q : Query) → is_follow (query_line q) ≡ false
@@ -96,6 +100,7 @@ no_follow Next = refl
 no_follow (Head m) = refl
 no_follow Snapshot = refl
 no_follow Sum = refl
+no_follow Compact = refl
 
 module _ (q : Query) (fit : QueryFits q) where
   pub follower_answers : (v : Voice) (size w : ℕ) (s : State) → held_reply v (held size w (Following s)) (query_line q) ≡ query_text s.held.nodes s.held.next s.done q

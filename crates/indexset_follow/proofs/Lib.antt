@@ -1,5 +1,6 @@
 pub mod Ahead
 pub mod Asked
+pub mod Consecutive
 pub mod Cut
 pub mod Delivered
 pub mod Drawing

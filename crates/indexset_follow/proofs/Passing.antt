@@ -65,11 +65,12 @@ number_passed n small =
     let nodes : bytes_eq (decimal n) (codes "nodes") ≡ false = no_word n small 110 (codes "odes") (omega arith) in
     let snapshot : bytes_eq (decimal n) (codes "snapshot") ≡ false = no_word n small 115 (codes "napshot") (omega arith) in
     let sum : bytes_eq (decimal n) (codes "sum") ≡ false = no_word n small 115 (codes "um") (omega arith) in
+    let compact : bytes_eq (decimal n) (codes "compact") ≡ false = no_word n small 99 (codes "ompact") (omega arith) in
     let len : bytes_eq (decimal n) (codes "len") ≡ false = no_word n small 108 (codes "en") (omega arith) in
     let first : bytes_eq (decimal n) (codes "first") ≡ false = no_word n small 102 (codes "irst") (omega arith) in
     let last : bytes_eq (decimal n) (codes "last") ≡ false = no_word n small 108 (codes "ast") (omega arith) in
     let next : bytes_eq (decimal n) (codes "next") ≡ false = no_word n small 110 (codes "ext") (omega arith) in
-    says_nothing (decimal n) (rw one refl) (rw one refl) (rw one refl) (rw (one, len, first, last, nodes, next, snapshot, sum) refl)
+    says_nothing (decimal n) (rw one refl) (rw one refl) (rw one refl) (rw (one, len, first, last, nodes, next, snapshot, sum, compact) refl)
 
 old_passed : (v : ℕ) → IsPassedOver (codes "old " ++ decimal v)
 old_passed v =
@@ -143,11 +144,12 @@ node_passed (p ∷ []) fit =
     let nodes : bytes_eq (pair_text p) (codes "nodes") ≡ false = pair_no_word p fit.0 110 (codes "odes") (omega arith, omega arith) in
     let snapshot : bytes_eq (pair_text p) (codes "snapshot") ≡ false = pair_no_word p fit.0 115 (codes "napshot") (omega arith, omega arith) in
     let sum : bytes_eq (pair_text p) (codes "sum") ≡ false = pair_no_word p fit.0 115 (codes "um") (omega arith, omega arith) in
+    let compact : bytes_eq (pair_text p) (codes "compact") ≡ false = pair_no_word p fit.0 99 (codes "ompact") (omega arith, omega arith) in
     let len : bytes_eq (pair_text p) (codes "len") ≡ false = pair_no_word p fit.0 108 (codes "en") (omega arith, omega arith) in
     let first : bytes_eq (pair_text p) (codes "first") ≡ false = pair_no_word p fit.0 102 (codes "irst") (omega arith, omega arith) in
     let last : bytes_eq (pair_text p) (codes "last") ≡ false = pair_no_word p fit.0 108 (codes "ast") (omega arith, omega arith) in
     let next : bytes_eq (pair_text p) (codes "next") ≡ false = pair_no_word p fit.0 110 (codes "ext") (omega arith, omega arith) in
-    says_nothing (pair_text p) (rw one refl) (rw one refl) (rw one refl) (rw (one, len, first, last, nodes, next, snapshot, sum) refl)
+    says_nothing (pair_text p) (rw one refl) (rw one refl) (rw one refl) (rw (one, len, first, last, nodes, next, snapshot, sum, compact) refl)
 node_passed (p ∷ q ∷ ps) fit =
     let cut : cut_at 32 (node_text (p ∷ q ∷ ps)) ≡ Some (pair_text p, node_text (q ∷ ps)) = cut_told 32 (pair_text p) (node_text (q ∷ ps)) (pair_lacks 32 space_apart p fit.0) in
     let node : bytes_eq (pair_text p) (codes "node") ≡ false = pair_no_word p fit.0 110 (codes "ode") (omega arith, omega arith) in

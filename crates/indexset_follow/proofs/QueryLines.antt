@@ -9,7 +9,7 @@ use Rattle.indexset_events.specs.Spelling.{cut_at, number_of}
 use Rattle.indexset_follow.specs.Numbers.{two_numbers}
 use Rattle.indexset_follow.specs.Query.{QueryFits, numbered_query, query_line, query_of, word_query}
 use Rattle.indexset_follow.specs.declared.reads.query.Query.{Query}
-use Rattle.indexset_follow.specs.declared.reads.query.Query.TheVariants.{Get, Len, First, Last, Range, Rank, At, Page, Nodes, Next, Head, Snapshot, Sum}
+use Rattle.indexset_follow.specs.declared.reads.query.Query.TheVariants.{Get, Len, First, Last, Range, Rank, At, Page, Nodes, Next, Head, Snapshot, Sum, Compact}
 use Rattle.indexset_events.specs.Spelling.Laws.{cut_sound, cut_told, lacks_tested, map_some, none_some, number_lacks, number_sound, number_told, some_inj, then_some}
 
 -- ---- what is spelled is read
@@ -34,6 +34,7 @@ parts_of Next = None
 parts_of (Head m) = Some (codes "head", decimal m)
 parts_of Snapshot = None
 parts_of Sum = None
+parts_of Compact = None
 
 pub query_cut : (q : Query) → cut_at 32 (query_line q) ≡ parts_of q
 query_cut (Get k) = cut_told 32 (codes "get") (decimal k) (lacks_tested 32 (codes "get") refl)
@@ -49,6 +50,7 @@ query_cut Next = refl
 query_cut (Head m) = cut_told 32 (codes "head") (decimal m) (lacks_tested 32 (codes "head") refl)
 query_cut Snapshot = refl
 query_cut Sum = refl
+query_cut Compact = refl
 
 pub query_told : (q : Query) → QueryFits q → query_of (query_line q) ≡ Some q
 query_told (Get k) fit = rw (query_cut (Get k)) (ap (option_map Get) (number_told k fit))
@@ -64,6 +66,7 @@ query_told Next fit = refl
 query_told (Head m) fit = rw (query_cut (Head m)) (ap (option_map Head) (number_told m fit))
 query_told Snapshot fit = refl
 query_told Sum fit = refl
+query_told Compact fit = refl
 
 -- ---- what is read is spelled
 
@@ -75,22 +78,23 @@ pub same : (word text : List ℕ) → bytes_eq word text ≡ true → word ≡ t
 same word text e = (bytes_eq-Decides word text).0 e
 
 word_sound : (word : List ℕ) (q : Query) → word_query word ≡ Some q → Spells word q
-word_sound word q h = at (bytes_eq word (codes "len")) (bytes_eq word (codes "first")) (bytes_eq word (codes "last")) (bytes_eq word (codes "nodes")) (bytes_eq word (codes "next")) (bytes_eq word (codes "snapshot")) (bytes_eq word (codes "sum")) refl refl refl refl refl refl refl h
+word_sound word q h = at (bytes_eq word (codes "len")) (bytes_eq word (codes "first")) (bytes_eq word (codes "last")) (bytes_eq word (codes "nodes")) (bytes_eq word (codes "next")) (bytes_eq word (codes "snapshot")) (bytes_eq word (codes "sum")) (bytes_eq word (codes "compact")) refl refl refl refl refl refl refl refl h
   where
     -- the word is that of this read
     is_word : (s : Query) → QueryFits s → word ≡ query_line s → Some s ≡ Some q → Spells word q
     is_word s fit text e = subst (Spells word) (some_inj s q e) (text, fit)
 
-    at : (a b c d e f g : Bool) → bytes_eq word (codes "len") ≡ a → bytes_eq word (codes "first") ≡ b → bytes_eq word (codes "last") ≡ c → bytes_eq word (codes "nodes") ≡ d → bytes_eq word (codes "next") ≡ e → bytes_eq word (codes "snapshot") ≡ f → bytes_eq word (codes "sum") ≡ g
-        → cond a (Some Len) (cond b (Some First) (cond c (Some Last) (cond d (Some Nodes) (cond e (Some Next) (cond f (Some Snapshot) (cond g (Some Sum) None)))))) ≡ Some q → Spells word q
-    at true b c d e f g is _ _ _ _ _ _ h = is_word Len tt (same word (codes "len") is) h
-    at false true c d e f g _ is _ _ _ _ _ h = is_word First tt (same word (codes "first") is) h
-    at false false true d e f g _ _ is _ _ _ _ h = is_word Last tt (same word (codes "last") is) h
-    at false false false true e f g _ _ _ is _ _ _ h = is_word Nodes tt (same word (codes "nodes") is) h
-    at false false false false true f g _ _ _ _ is _ _ h = is_word Next tt (same word (codes "next") is) h
-    at false false false false false true g _ _ _ _ _ is _ h = is_word Snapshot tt (same word (codes "snapshot") is) h
-    at false false false false false false true _ _ _ _ _ _ is h = is_word Sum tt (same word (codes "sum") is) h
-    at false false false false false false false _ _ _ _ _ _ _ h = none_some q h
+    at : (a b c d e f g i : Bool) → bytes_eq word (codes "len") ≡ a → bytes_eq word (codes "first") ≡ b → bytes_eq word (codes "last") ≡ c → bytes_eq word (codes "nodes") ≡ d → bytes_eq word (codes "next") ≡ e → bytes_eq word (codes "snapshot") ≡ f → bytes_eq word (codes "sum") ≡ g → bytes_eq word (codes "compact") ≡ i
+        → cond a (Some Len) (cond b (Some First) (cond c (Some Last) (cond d (Some Nodes) (cond e (Some Next) (cond f (Some Snapshot) (cond g (Some Sum) (cond i (Some Compact) None))))))) ≡ Some q → Spells word q
+    at true b c d e f g i is _ _ _ _ _ _ _ h = is_word Len tt (same word (codes "len") is) h
+    at false true c d e f g i _ is _ _ _ _ _ _ h = is_word First tt (same word (codes "first") is) h
+    at false false true d e f g i _ _ is _ _ _ _ _ h = is_word Last tt (same word (codes "last") is) h
+    at false false false true e f g i _ _ _ is _ _ _ _ h = is_word Nodes tt (same word (codes "nodes") is) h
+    at false false false false true f g i _ _ _ _ is _ _ _ h = is_word Next tt (same word (codes "next") is) h
+    at false false false false false true g i _ _ _ _ _ is _ _ h = is_word Snapshot tt (same word (codes "snapshot") is) h
+    at false false false false false false true i _ _ _ _ _ _ is _ h = is_word Sum tt (same word (codes "sum") is) h
+    at false false false false false false false true _ _ _ _ _ _ _ is h = is_word Compact tt (same word (codes "compact") is) h
+    at false false false false false false false false _ _ _ _ _ _ _ _ h = none_some q h
 
 pub two_sound : (text : List ℕ) (p : ℕ × ℕ) → two_numbers text ≡ Some p → (text ≡ decimal p.0 ++ 32 ∷ decimal p.1) × (p.0 < 2 ^ 64) × (p.1 < 2 ^ 64)
 two_sound text p h =

@@ -50,3 +50,8 @@ caught_up c (p ∷ early) =
     if p.key == c.next
     then option_map_or (λ cause. taken c early (reply.Unfit c.next (Refused cause))) (apply_refusal (by_key nat_cmp) c.nodes c.next p.value) (caught_up (copy_after c p.value) early)
     else taken c (p ∷ early) (reply.Next c.next)
+
+-- the events whose numbers go on by one from n, from the first on
+abbrev pub consecutive : ℕ → EarlyEvents → List Event
+consecutive n [] = []
+consecutive n (p ∷ early) = if p.key == n then p.value ∷ consecutive (n + 1) early else []

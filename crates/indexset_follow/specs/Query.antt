@@ -6,7 +6,7 @@ use Rattle.std.specs.Str.{bytes_eq}
 use Rattle.indexset_events.specs.Spelling.{cut_at, number_of}
 use Rattle.indexset_follow.specs.Numbers.{two_numbers}
 use Rattle.indexset_follow.specs.declared.reads.query.Query.{Query}
-use Rattle.indexset_follow.specs.declared.reads.query.Query.TheVariants.{Get, Len, First, Last, Range, Rank, At, Page, Nodes, Next, Head, Snapshot, Sum}
+use Rattle.indexset_follow.specs.declared.reads.query.Query.TheVariants.{Get, Len, First, Last, Range, Rank, At, Page, Nodes, Next, Head, Snapshot, Sum, Compact}
 
 -- the line of a read
 abbrev pub query_line : Query → List ℕ
@@ -23,6 +23,7 @@ query_line Next = codes "next"
 query_line (Head m) = codes "head " ++ decimal m
 query_line Snapshot = codes "snapshot"
 query_line Sum = codes "sum"
+query_line Compact = codes "compact"
 
 -- the numbers of a read are of 64 bits
 abbrev pub QueryFits : Query → Type 0
@@ -39,6 +40,7 @@ QueryFits Next = Unit {0}
 QueryFits (Head m) = m < 2 ^ 64
 QueryFits Snapshot = Unit {0}
 QueryFits Sum = Unit {0}
+QueryFits Compact = Unit {0}
 
 -- the read of one word
 abbrev pub word_query : List ℕ → Option Query
@@ -50,6 +52,7 @@ word_query word =
     else if bytes_eq word (codes "next") then Some Next
     else if bytes_eq word (codes "snapshot") then Some Snapshot
     else if bytes_eq word (codes "sum") then Some Sum
+    else if bytes_eq word (codes "compact") then Some Compact
     else None
 
 -- the read of a word and what stands behind it

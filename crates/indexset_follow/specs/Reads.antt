@@ -14,7 +14,7 @@ use Rattle.indexset_follow.specs.Query.{query_of}
 use Rattle.indexset_follow.specs.Reply.{others_text, reply_ended}
 use Rattle.indexset_follow.specs.declared.others.Others.{Others}
 use Rattle.indexset_follow.specs.declared.reads.query.Query.{Query}
-use Rattle.indexset_follow.specs.declared.reads.query.Query.TheVariants.{Get, Len, First, Last, Range, Rank, At, Page, Nodes, Next, Head, Snapshot, Sum}
+use Rattle.indexset_follow.specs.declared.reads.query.Query.TheVariants.{Get, Len, First, Last, Range, Rank, At, Page, Nodes, Next, Head, Snapshot, Sum, Compact}
 use Rattle.indexset_follow.specs.declared.reply.Reply.{Reply}
 use Rattle.indexset_follow.specs.declared.reply.Reply.TheVariants as reply
 
@@ -65,6 +65,7 @@ query_text ns next d Next = reply_ended (reply.Next next)
 query_text ns next d (Head m) = reply_ended (head_reply next m)
 query_text ns next d Snapshot = snapshot_text (copy ns next) d
 query_text ns next d Sum = reply_ended (reply.Sum next (length ns) (sum_of (copy ns next) d) d)
+query_text ns next d Compact = reply_ended (reply.Next next)
 
 -- the answer to a line that may ask for a read, and is nothing else
 abbrev pub read_reply : Others → PairNodes → ℕ → ℕ → List ℕ → List ℕ

@@ -1,12 +1,14 @@
 //! Events that come before their turn.
 
-ghost use Rattle.std.specs.Prelude.{◌≡◌, ◌≢◌, ◌∷◌, [], IfErr, IfSome, None, OnErr, OnOk, Some, slice_get};
+ghost use Rattle.std.specs.Prelude.{◌≡◌, ◌≢◌, ◌∷◌, [], IfErr, IfOk, IfSome, None, OnErr, OnOk, Some, map, slice_get};
 ghost use Rattle.std.specs.Option.{option_map, option_map_or};
+ghost use Rattle.indexset_bench.specs.PairText.{event_text};
 ghost use Rattle.indexset_core.specs.Pairs.{pair};
-ghost use Rattle.indexset_follow.specs.Early.{first_number, with_early};
+ghost use Rattle.indexset_follow.specs.Early.{consecutive, first_number, with_early};
 
 use crate::event::Event;
 use indexset_bench::RunFault;
+use indexset_bench::pair_text::EventText;
 use indexset_map::BTreeMap;
 use std::alloc::Global;
 use std::marker::Model;
@@ -66,6 +68,19 @@ impl Early {
         }
     }
 
+    /// Returns the lines of the events whose numbers go on by one from `number` on, from the first
+    /// on.
+    pub fn lines_from(&self, alloc: Global, number: u64) -> Result<Vec<Vec<u8>>, RunFault>
+        ensures lines { IfOk result (λ lines. map (λ line. line.items) lines.items
+            ≡ map event_text (consecutive number self.now)) }
+        ensures fault { IfErr result (λ fault. fault ≡ RunFault.Memory) }
+    {
+        match &self.events {
+            Some(events) => consecutive_lines(alloc, events, number),
+            None => Ok(Vec::new(alloc)),
+        }
+    }
+
     /// Removes the first event and returns it, where this is its number.
     pub fn pop(&mut self, number: u64) -> Option<Event>
         ensures first { IfSome result (λ event. self.old ≡ pair number event ∷ self.new) }
@@ -81,4 +96,35 @@ impl Early {
         let (_, event) = events.pop_first()?;
         Some(event)
     }
+}
+
+/// Returns the lines of the events whose numbers go on by one from `number` on, from the first on.
+fn consecutive_lines(
+    alloc: Global,
+    events: &BTreeMap<u64, Event>,
+    number: u64,
+) -> Result<Vec<Vec<u8>>, RunFault>
+    ensures lines { IfOk result (λ lines. map (λ line. line.items) lines.items
+        ≡ map event_text (consecutive number events.now.pairs)) }
+    ensures fault { IfErr result (λ fault. fault ≡ RunFault.Memory) }
+{
+    let mut lines = Vec::new(alloc);
+    for (event_number, event) in events.iter() {
+        if event_number.checked_sub(number) != Some(lines.len() as u64) {
+            break;
+        }
+        let line = event_line(alloc, event)?;
+        lines.push(line).map_err(|_| RunFault::Memory)?;
+    }
+    Ok(lines)
+}
+
+/// Returns the line of an event.
+fn event_line(alloc: Global, event: &Event) -> Result<Vec<u8>, RunFault>
+    ensures line { IfOk result (λ line. line.items ≡ event_text event.now) }
+    ensures fault { IfErr result (λ fault. fault ≡ RunFault.Memory) }
+{
+    let shown = EventText(event);
+    let text = format!(in alloc; "{shown}").map_err(|_| RunFault::Memory)?;
+    Ok(text.into_bytes())
 }

@@ -10,7 +10,7 @@
 #![tactic(auto)]
 
 pub mod answer;
-mod early;
+pub mod early;
 pub mod echo;
 pub mod event;
 pub mod follower;
@@ -24,9 +24,9 @@ pub mod others;
 pub mod reads;
 mod reason;
 mod reply;
-mod role;
+pub mod role;
 mod serving;
-mod snapshot;
+pub mod snapshot;
 mod step_down;
 pub mod store;
 mod sum;

@@ -158,7 +158,7 @@ pub fn answer_query<R: Reads, W: Write>(
         Query::At(position) => write_entry(writer, map.entry_at(position as usize)),
         Query::Page(position, count) => write_page(writer, map, position as usize, count as usize),
         Query::Nodes => map.write_all(writer),
-        Query::Next => write_reply(writer, Reply::Next(map.next_number())),
+        Query::Next | Query::Compact => write_reply(writer, Reply::Next(map.next_number())),
         Query::Head(end) => write_reply(writer, reply_to_head(map.next_number(), end)),
         Query::Snapshot => write_snapshot(alloc, writer, map, done),
         Query::Sum => write_sum(alloc, writer, map, done),

@@ -91,7 +91,7 @@ fn take_end(alloc: Global, follower: &mut Follower, count: u64, sum: u64) -> Res
 }
 
 /// Returns why the numbers at the end of a snapshot are not those of what came.
-fn wrong_end(
+pub fn wrong_end(
     alloc: Global,
     coming: &Nodes,
     done: u64,

@@ -30,13 +30,16 @@ use std::mem;
 /// A map in one of two roles, as a run has lines answered.
 #[derive(Drop)]
 pub struct Store {
-    alloc: Global,
-    voice: Voice,
+    /// What it allocates from.
+    pub alloc: Global,
+    /// Which replies it writes.
+    pub voice: Voice,
     /// How many pairs a node holds at most while it leads.
-    size: usize,
+    pub size: usize,
     /// The window of a follower.
-    window: u64,
-    role: Role,
+    pub window: u64,
+    /// The map in its role.
+    pub role: Role,
     ghost two: { 2 ≤ size },
 }
 
@@ -53,6 +56,15 @@ impl Store {
         } else {
             Role::Following(holding(window, Nodes::new(alloc, 0), 0))
         };
+        Store::in_role(alloc, voice, size, window, role)
+    }
+
+    /// Returns a map in this role.
+    pub fn in_role(alloc: Global, voice: Voice, size: usize, window: u64, role: Role) -> Store
+        requires { 2 ≤ size }
+        ensures voice { result.voice ≡ voice }
+        ensures held { held result.size result.window result.role ≡ held size window role }
+    {
         Store {
             alloc,
             voice,

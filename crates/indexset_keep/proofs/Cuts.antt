@@ -12,7 +12,7 @@ use Rattle.indexset_lines.specs.Lines.{HasNoEnd, IsWhole, before_first, lines_of
 use Rattle.indexset_lines.proofs.Lines.{whole_lines-append}
 use Rattle.indexset_events.specs.Spelling.{cut_at}
 use Rattle.indexset_events.specs.Spelling.Laws.{cut_sound, none_some, some_inj}
-use Rattle.indexset_keep.specs.Keep.{is_told, told_lines}
+use Rattle.indexset_keep.specs.Told.{is_told, told_lines}
 
 -- the place of the first line end, and the length where there is none
 abbrev spot : List ℕ → ℕ

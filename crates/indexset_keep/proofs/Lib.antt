@@ -1,5 +1,15 @@
 mod Cuts
-mod Kept
+mod Edited
+mod FollowedOn
 mod Onward
+mod Reading
+mod Restoring
+mod Roles
 mod Runs
+mod Seals
+mod Soundness
+mod Steps
+mod Started
+mod Starts
+mod States
 mod Told

@@ -1,37 +1,35 @@
--- What more lines tell, behind lines that lead to what a leader has.
-use Rattle.std.proofs.Common.{None, Some, Option, ◌≡◌, ℕ, zero, suc, ◌<◌, ◌≤◌, ◌^◌, Bool, true, false, max, List, [], ◌∷◌, ◌++◌, length, map, get_or, refl, ap, sym, subst, ◌∙◌, arith, inl, append_assoc, append-nil}
-use Rattle.std.proofs.Math.Nat.{le-max_left, max-eq_left, max-eq_right}
-use Rattle.std.proofs.lemmas.Bool.{le-ltb, leb-false, leb-true}
+-- What the answers of a leader tell leads a follower on.
+use Rattle.std.proofs.Common.{None, Some, Option, ◌≡◌, ℕ, zero, suc, ◌<◌, ◌≤◌, ◌^◌, max, List, [], ◌∷◌, length, map, get_or, refl, ap, sym, subst, ◌∙◌, arith, inl, append-nil}
+use Rattle.std.proofs.Math.Nat.{le-max_left, max-eq_right}
+use Rattle.std.proofs.lemmas.Bool.{le-ltb}
 use Rattle.std.proofs.lemmas.List.{take_all}
 use Rattle.std.specs.List.{All}
 use Rattle.std.specs.Option.{option_map_or}
-use Rattle.std.specs.Prelude.{is_some, nat_le, slice_get}
+use Rattle.std.specs.Prelude.{is_some, slice_get}
 use Rattle.indexset_lines.specs.Run.{left_by}
-use Rattle.indexset_lines.specs.Lines.{lines_of, whole_lines}
-use Rattle.indexset_lines.proofs.CallerLemmas.{left_by-append}
+use Rattle.indexset_lines.specs.Lines.{whole_lines}
 use Rattle.indexset_bench.specs.PairCommand.{PairFitsU64}
 use Rattle.indexset_bench.specs.PairText.{event_text}
 use Rattle.indexset_bench.specs.Pairs.{PairTree, pairs_after, told_events}
 use Rattle.indexset_core.specs.Nodes.{joined}
-use Rattle.indexset_core.specs.declared.pair.Pair.{Pair}
 use Rattle.indexset_events.specs.Replay.{replay}
 use Rattle.indexset_events.specs.Spelling.Laws.{some_inj}
-use Rattle.indexset_events.proofs.CallerLemmas.{Each, all_each, each_all, nodes_each, none_lawful}
+use Rattle.indexset_events.proofs.CallerLemmas.{Each, all_each, each_all, none_lawful}
 use Rattle.indexset_log.specs.Tree.{fresh}
 use Rattle.indexset_replica.specs.Delivery.{IsSubsequence}
-use Rattle.indexset_follow.specs.Copy.{Copy, copy, snapshot_text}
+use Rattle.indexset_follow.specs.Copy.{Copy, copy}
 use Rattle.indexset_follow.specs.Drawn.{HoldsFirst, IsDrawn, IsFeedOfPairs}
 use Rattle.indexset_follow.specs.Early.{copy_after}
 use Rattle.indexset_follow.specs.Echo.{command_of, done_by}
 use Rattle.indexset_follow.specs.EventLine.{Event, EventFits}
-use Rattle.indexset_follow.specs.Follow.{State, after_line, event_taken, holding, start_state, state_after, with_taken}
-use Rattle.indexset_follow.specs.Leading.{after_leading, command_text, done_after, events_led, leader_after, leader_of, leading_events, tree_of}
+use Rattle.indexset_follow.specs.Follow.{State, after_line, event_taken, holding, state_after, with_taken}
+use Rattle.indexset_follow.specs.Leading.{after_leading, command_text, done_after, events_led, leader_after, leader_of, leading_events, leading_reply, tree_of}
 use Rattle.indexset_follow.specs.Mark.{mark_line}
-use Rattle.indexset_follow.specs.NodeLine.{NodeFits, node_of}
+use Rattle.indexset_follow.specs.NodeLine.{node_of}
 use Rattle.indexset_follow.specs.Numbers.{PairFits}
 use Rattle.indexset_follow.specs.Query.{query_of}
+use Rattle.indexset_follow.specs.Reads.{query_text}
 use Rattle.indexset_follow.specs.Reply.{others_text}
-use Rattle.indexset_follow.specs.Told.{event_lines}
 use Rattle.indexset_follow.specs.declared.echo.Command.{Command}
 use Rattle.indexset_follow.specs.declared.leader.Leader.{Leader}
 use Rattle.indexset_follow.specs.declared.mark.Mark.TheVariants.{Done}
@@ -40,14 +38,14 @@ use Rattle.indexset_follow.specs.declared.reads.query.Query.{Query}
 use Rattle.indexset_follow.proofs.Drawing.{whole}
 use Rattle.indexset_follow.proofs.Echoes.{command_fits}
 use Rattle.indexset_follow.proofs.EventLines.{event_told}
-use Rattle.indexset_follow.proofs.Fits.{each_apart}
 use Rattle.indexset_follow.proofs.Leads.{leading_onward, lines_led}
 use Rattle.indexset_follow.proofs.MarkLines.{done_cut, mark_told}
 use Rattle.indexset_follow.proofs.NoWindow.{alone}
 use Rattle.indexset_follow.proofs.Programs.{Good, order}
-use Rattle.indexset_follow.proofs.Snapshots.{snapshot_taken}
-use Rattle.indexset_keep.specs.Keep.{told_by, told_lines}
-use Rattle.indexset_keep.specs.Leads.{IsSound, LeadsTo}
+use Rattle.indexset_keep.specs.Leads.{IsSound}
+use Rattle.indexset_keep.specs.Told.{answer_kept, told_lines}
+use Rattle.indexset_keep.proofs.Soundness.{max_fits}
+use Rattle.indexset_keep.proofs.States.{more_lines, nothing_after}
 use Rattle.indexset_keep.proofs.Told.{EchoFits, command_keeps, done_alone, done_lines, number_fits, others_keep}
 
 -- ---- a sound leader
@@ -60,14 +58,6 @@ sound l g known = record { two = g.two; few = g.few; lawful = g.lawful; fits = e
 
 pub begins : (size : ℕ) → 2 ≤ size → size < 2 ^ 64 → IsSound (leader_of (fresh size) 0)
 begins size two few = sound (leader_of (fresh size) 0) (record { two = two; few = few; lawful = none_lawful order size; held = tt }) (omega arith)
-
--- the greater of two numbers of 64 bits is one
-max_fits : (d n : ℕ) → d < 2 ^ 64 → n < 2 ^ 64 → max d n < 2 ^ 64
-max_fits d n first second = at (nat_le n d) refl
-  where
-    at : (b : Bool) → nat_le n d ≡ b → max d n < 2 ^ 64
-    at true le = subst (λ x. x < 2 ^ 64) (sym (max-eq_left (leb-true n d le))) first
-    at false gt = subst (λ x. x < 2 ^ 64) (sym (max-eq_right (let lt = leb-false n d gt in omega (arith, lt)))) second
 
 number_kept : (d : ℕ) → d < 2 ^ 64 → (echo : Option ℕ) → EchoFits echo → option_map_or (max d) echo d < 2 ^ 64
 number_kept d known None fit = known
@@ -99,7 +89,7 @@ own_texts : (es : List Event) → All (IsDrawn es) (map event_text es)
 own_texts es k d lt = let it = text_at es k d lt in record { place = k; event = it.0; at = it.1; text = it.2 }
 
 -- a follower without a window takes the line of an event, and holds nothing besides
-one_taken : (c : Copy) (n : ℕ) (e : Event) → EventFits e → after_line (holding 0 c n) (event_text e) ≡ holding 0 (copy_after c e) n
+pub one_taken : (c : Copy) (n : ℕ) (e : Event) → EventFits e → after_line (holding 0 c n) (event_text e) ≡ holding 0 (copy_after c e) n
 one_taken c n e fit =
     let told = event_told e fit in
     let it = alone (holding 0 c n) e refl refl in
@@ -134,17 +124,10 @@ module _ (l : Leader) (s : IsSound l) (lines : List (List ℕ)) (less : (tree_of
       let next : (state_after begun (map event_text events)).held.next ≡ (tree_of l.pairs lines).next = omega (arith, done.next, on.next) in
       λ i. copy (nodes i) (next i)
 
-  pub onward : (kept : List (List ℕ)) → LeadsTo kept l → LeadsTo (kept ++ map event_text events) (leader_of (tree_of l.pairs lines) l.done)
-  onward kept leads =
+  pub onward : state_after begun (map event_text events) ≡ holding 0 (copied (tree_of l.pairs lines)) l.done
+  onward =
       let fit = (lines_led l.pairs (good l s) lines).fits (omega (arith, less)) in
-      left_by-append after_line (start_state 0) kept (map event_text events)
-      ∙ ap (λ r. state_after r (map event_text events)) leads
-      ∙ nothing_besides (copied l.pairs) l.done events fit
-      ∙ ap (λ c. holding 0 c l.done) first_held
-
-pub none : (size : ℕ) → LeadsTo [] (leader_of (fresh size) 0)
-unfolding left_by
-none size = refl
+      nothing_besides (copied l.pairs) l.done events fit ∙ ap (λ c. holding 0 c l.done) first_held
 
 -- ---- one line
 
@@ -156,22 +139,21 @@ one_left : (l : Leader) (line : List ℕ) → tree_of l.pairs (line ∷ []) ≡ 
 unfolding left_by
 one_left l line = refl
 
+-- what a follower holds that has read all that the leader told
+abbrev followed : Leader → State
+followed l = holding 0 (copied l.pairs) l.done
+
 -- the events of a line alone
-events_onward : (l : Leader) → IsSound l → (line : List ℕ) → (after_leading l.pairs line).next < 2 ^ 64 → (kept : List (List ℕ)) → LeadsTo kept l
-    → LeadsTo (kept ++ map event_text (leading_events l.pairs line)) (leader_of (after_leading l.pairs line) l.done)
-events_onward l s line less kept leads =
+events_onward : (l : Leader) → IsSound l → (line : List ℕ) → (after_leading l.pairs line).next < 2 ^ 64 → state_after (followed l) (map event_text (leading_events l.pairs line)) ≡ holding 0 (copied (after_leading l.pairs line)) l.done
+events_onward l s line less =
     let left = one_left l line in
-    subst (λ t. LeadsTo (kept ++ map event_text (leading_events l.pairs line)) (leader_of t l.done)) left
-    (subst (λ es. LeadsTo (kept ++ map event_text es) (leader_of (tree_of l.pairs (line ∷ [])) l.done)) (one_led l line)
-    (onward l s (line ∷ []) (subst (λ t. t.next < 2 ^ 64) (sym left) less) kept leads))
+    ap (λ es. state_after (followed l) (map event_text es)) (sym (one_led l line))
+    ∙ onward l s (line ∷ []) (subst (λ t. t.next < 2 ^ 64) (sym left) less)
+    ∙ ap (λ t. holding 0 (copied t) l.done) left
 
 -- the greatest number of a command takes the place of a smaller one
 max_twice : (d n : ℕ) → max d (max d n) ≡ max d n
 max_twice d n = max-eq_right (le-max_left d n)
-
-pub one_more : (s : State) (lines : List (List ℕ)) (line : List ℕ) → state_after s (lines ++ line ∷ []) ≡ after_line (state_after s lines) line
-unfolding left_by
-one_more s lines line = left_by-append after_line s lines (line ∷ [])
 
 -- a follower that awaits the number of a done line takes it
 done_taken : (t : PairTree) (d n : ℕ) → max d n < 2 ^ 64 → t.next < 2 ^ 64 → after_line (holding 0 (copied t) d) (mark_line (Done (max d n) t.next)) ≡ holding 0 (copied t) (max d n)
@@ -183,80 +165,36 @@ done_taken t d n small less =
     let near = le-ltb t.next t.next (omega arith) in
     rw (event, node, mark, near) (ap (holding 0 (copied t)) (max_twice d n))
 
-done_onward : (t : PairTree) (d : ℕ) (echo : Option ℕ) → EchoFits echo → d < 2 ^ 64 → t.next < 2 ^ 64 → (kept : List (List ℕ)) → LeadsTo kept (leader_of t d)
-    → LeadsTo (kept ++ done_lines echo (option_map_or (max d) echo d) t.next) (leader_of t (option_map_or (max d) echo d))
-done_onward t d None fit small less kept leads = subst (λ ls. LeadsTo ls (leader_of t d)) (sym (append-nil kept)) leads
-done_onward t d (Some n) fit small less kept leads =
-    one_more (start_state 0) kept (mark_line (Done (max d n) t.next)) ∙ ap (λ r. after_line r (mark_line (Done (max d n) t.next))) leads ∙ done_taken t d n (max_fits d n small fit) less
+done_onward : (t : PairTree) (d : ℕ) (echo : Option ℕ) → EchoFits echo → d < 2 ^ 64 → t.next < 2 ^ 64
+    → state_after (holding 0 (copied t) d) (done_lines echo (option_map_or (max d) echo d) t.next) ≡ holding 0 (copied t) (option_map_or (max d) echo d)
+unfolding left_by
+done_onward t d None fit small less = refl
+done_onward t d (Some n) fit small less = done_taken t d n (max_fits d n small fit) less
 
 -- the answer to a command
 command_leads : (l : Leader) → IsSound l → (line : List ℕ) (c : Command) → PairFitsU64 c.change → EchoFits c.echo → leading_events l.pairs line ≡ told_events l.pairs c.change → after_leading l.pairs line ≡ pairs_after l.pairs c.change
-    → (pairs_after l.pairs c.change).next < 2 ^ 64 → (kept : List (List ℕ)) → LeadsTo kept l → LeadsTo (kept ++ told_lines (whole_lines (command_text l c))) (leader_of (pairs_after l.pairs c.change) (done_by l.done c))
-command_leads l s line c fit small told after less kept leads =
+    → (pairs_after l.pairs c.change).next < 2 ^ 64 → state_after (followed l) (told_lines (whole_lines (command_text l c))) ≡ holding 0 (copied (pairs_after l.pairs c.change)) (done_by l.done c)
+command_leads l s line c fit small told after less =
     let t = pairs_after l.pairs c.change in
     let events = map event_text (told_events l.pairs c.change) in
     let done = done_lines c.echo (done_by l.done c) t.next in
     let known = number_kept l.done s.done c.echo small in
-    let on : LeadsTo (kept ++ events) (leader_of t l.done)
-    = subst (λ u. LeadsTo (kept ++ events) (leader_of u l.done)) after (subst (λ es. LeadsTo (kept ++ map event_text es) (leader_of (after_leading l.pairs line) l.done)) told (events_onward l s line (subst (λ u. u.next < 2 ^ 64) (sym after) less) kept leads)) in
-    let all : kept ++ told_lines (whole_lines (command_text l c)) ≡ (kept ++ events) ++ done
-    = ap (λ ls. kept ++ ls) (command_keeps l (good l s) c fit small known (omega (arith, less))) ∙ sym (append_assoc kept events done) in
-    subst (λ ls. LeadsTo ls (leader_of t (done_by l.done c))) (sym all) (done_onward t l.done c.echo small s.done less (kept ++ events) on)
+    let on : state_after (followed l) events ≡ holding 0 (copied t) l.done
+    = ap (λ es. state_after (followed l) (map event_text es)) (sym told) ∙ events_onward l s line (subst (λ u. u.next < 2 ^ 64) (sym after) less) ∙ ap (λ u. holding 0 (copied u) l.done) after in
+    ap (state_after (followed l)) (command_keeps l (good l s) c fit small known (omega (arith, less)))
+    ∙ more_lines (followed l) events done
+    ∙ ap (λ r. state_after r done) on
+    ∙ done_onward t l.done c.echo small s.done less
 
-pub line_leads : (o : Others) (l : Leader) → IsSound l → (line : List ℕ) → (after_leading l.pairs line).next < 2 ^ 64 → (kept : List (List ℕ)) → LeadsTo kept l → LeadsTo (kept ++ told_by o l line) (leader_after l line)
-line_leads o l s line less kept leads = at (query_of line) refl (command_of line) refl
+pub line_leads : (o : Others) (l : Leader) → IsSound l → (line : List ℕ) → (after_leading l.pairs line).next < 2 ^ 64 → state_after (followed l) (answer_kept line (leading_reply o l line)) ≡ followed (leader_after l line)
+line_leads o l s line less = at (query_of line) refl (command_of line) refl
   where
-    still : LeadsTo (kept ++ []) l
-    still = subst (λ ls. LeadsTo ls l) (sym (append-nil kept)) leads
-
     at : (q : Option Query) → query_of line ≡ q → (m : Option Command) → command_of line ≡ m
-        → LeadsTo (kept ++ option_map_or {U = List (List ℕ)} (λ q. []) q (told_lines (whole_lines (option_map_or {U = List ℕ} (command_text l) m (others_text o)))))
-        (leader_of (option_map_or {U = PairTree} (λ q. l.pairs) q (option_map_or {U = PairTree} (λ c. pairs_after l.pairs c.change) m l.pairs)) (option_map_or (λ q. l.done) q (option_map_or (done_by l.done) m l.done)))
-    at (Some q) asked m is = still
-    at None asked None is = subst (λ ls. LeadsTo (kept ++ ls) l) (sym (others_keep o)) still
+        → state_after (followed l) (option_map_or {U = List (List ℕ)} (λ q. []) q (told_lines (whole_lines (option_map_or {U = List ℕ} (query_text l.pairs.nodes l.pairs.next l.done) q (option_map_or {U = List ℕ} (command_text l) m (others_text o))))))
+        ≡ holding 0 (copied (option_map_or {U = PairTree} (λ q. l.pairs) q (option_map_or {U = PairTree} (λ c. pairs_after l.pairs c.change) m l.pairs))) (option_map_or (λ q. l.done) q (option_map_or (done_by l.done) m l.done))
+    at (Some q) asked m is = nothing_after (followed l)
+    at None asked None is = ap (state_after (followed l)) (others_keep o) ∙ nothing_after (followed l)
     at None asked (Some c) is =
         let after : after_leading l.pairs line ≡ pairs_after l.pairs c.change = rw (asked, is) refl in
         let told : leading_events l.pairs line ≡ told_events l.pairs c.change = rw (asked, is) refl in
-        command_leads l s line c (command_fits line c is) (number_fits line c is) told after (subst (λ u. u.next < 2 ^ 64) after less) kept leads
-
--- ---- the events of a line
-
--- the texts of events tell these
-texts_tell : (es : List Event) → Each EventFits es → (ls : List (List ℕ)) → event_lines ls ≡ [] → event_lines (map event_text es ++ ls) ≡ map event_text es
-texts_tell [] fit ls none = none
-texts_tell (e ∷ es) fit ls none =
-    let told = event_told e fit.0 in
-    rw told (ap (λ l. event_text e ∷ l) (texts_tell es fit.1 ls none))
-
-done_tells : (echo : Option ℕ) (d n : ℕ) → event_lines (done_lines echo d n) ≡ []
-done_tells None d n = refl
-done_tells (Some _) d n = let event = done_alone d n in rw event refl
-
-pub line_told : (o : Others) (l : Leader) → IsSound l → (line : List ℕ) → (after_leading l.pairs line).next < 2 ^ 64 → event_lines (told_by o l line) ≡ map event_text (leading_events l.pairs line)
-line_told o l s line less = at (query_of line) refl (command_of line) refl
-  where
-    at : (q : Option Query) → query_of line ≡ q → (m : Option Command) → command_of line ≡ m
-        → event_lines (option_map_or {U = List (List ℕ)} (λ q. []) q (told_lines (whole_lines (option_map_or {U = List ℕ} (command_text l) m (others_text o)))))
-        ≡ map event_text (option_map_or {U = List Event} (λ q. []) q (option_map_or {U = List Event} (λ c. told_events l.pairs c.change) m []))
-    at (Some q) asked m is = refl
-    at None asked None is = ap event_lines (others_keep o)
-    at None asked (Some c) is =
-        let after : after_leading l.pairs line ≡ pairs_after l.pairs c.change = rw (asked, is) refl in
-        let told : leading_events l.pairs line ≡ told_events l.pairs c.change = rw (asked, is) refl in
-        let few = subst (λ u. u.next < 2 ^ 64) after less in
-        let known = number_kept l.done s.done c.echo (number_fits line c is) in
-        let fits = subst (Each EventFits) told ((leading_onward l.pairs (good l s) line).fits (omega (arith, less))) in
-        ap event_lines (command_keeps l (good l s) c (command_fits line c is) (number_fits line c is) known (omega (arith, few)))
-        ∙ texts_tell (told_events l.pairs c.change) fits (done_lines c.echo (done_by l.done c) (pairs_after l.pairs c.change).next) (done_tells c.echo (done_by l.done c) (pairs_after l.pairs c.change).next)
-
--- ---- a snapshot
-
-filled_fit : (ns : List (List (Pair ℕ ℕ))) → Each (Each PairFits) ns → Each (λ n. 1 ≤ length n) ns → Each NodeFits ns
-filled_fit [] fit filled = tt
-filled_fit (n ∷ ns) fit filled = ((omega (arith, filled.0), each_all PairFits n fit.0), filled_fit ns fit.1 filled.1)
-
-pub snapshot_leads : (l : Leader) → IsSound l → l.pairs.next < 2 ^ 64 → length l.pairs.nodes < 2 ^ 64 → LeadsTo (lines_of (snapshot_text (copied l.pairs) l.done)) l
-snapshot_leads l s small few =
-    let apart = each_apart PairFits l.pairs.nodes (all_each PairFits (joined l.pairs.nodes) s.fits) in
-    let filled = nodes_each (λ n. 1 ≤ n) l.pairs.nodes s.lawful.nodes.filled in
-    snapshot_taken (copied l.pairs) l.done small s.done few (each_all NodeFits l.pairs.nodes (filled_fit l.pairs.nodes apart filled)) (start_state 0) s.lawful.nodes
+        command_leads l s line c (command_fits line c is) (number_fits line c is) told after (subst (λ u. u.next < 2 ^ 64) after less)

@@ -41,7 +41,7 @@ use Rattle.indexset_follow.proofs.Passing.{node_alone, pair_no_word, uncut}
 use Rattle.indexset_follow.proofs.Programs.{Good, command_onward}
 use Rattle.indexset_follow.proofs.Readings.{no_number, pair_lacks, space_apart}
 use Rattle.indexset_follow.proofs.Snapshots.{first_line, row_lacks}
-use Rattle.indexset_keep.specs.Keep.{is_told, told_lines}
+use Rattle.indexset_keep.specs.Told.{is_told, told_lines}
 
 -- ---- what is kept of a text, whatever follows it
 
@@ -197,6 +197,14 @@ next_passes n less =
     let other = no_number 110 (codes "ext") (omega arith) in
     let whole = All-append (λ x. x ≢ 10) (codes "next ") (decimal n) (lacks_tested 10 (codes "next ") refl) (number_lacks 10 (omega arith) n less) in
     passes (codes "next " ++ decimal n) whole (rw (cut, other) refl)
+
+-- the reply that tells the next number
+pub next_keeps : (n : ℕ) → n < 2 ^ 64 → told_lines (whole_lines (ended (codes "next " ++ decimal n))) ≡ []
+unfolding lines_of
+next_keeps n less =
+    let last = codes "next " ++ decimal n in
+    let whole : whole_lines (ended last) ≡ lines_of (ended last) = sym (ap whole_lines (append-nil (ended last))) ∙ whole_lines-append [] (All-nil (λ x. x ≢ 10)) (ended last) (IsWhole-end last) in
+    ap told_lines whole ∙ ap (λ t. told_lines (lines_of t)) (sym (append-nil (ended last))) ∙ next_passes n less []
 
 -- ---- the answer to a command
 

@@ -1,2 +1,10 @@
-pub mod Leads
+pub mod Fault
+pub mod Followed
 pub mod Keep
+pub mod Leads
+pub mod Map
+pub mod Roles
+pub mod Seal
+pub mod Sound
+pub mod Tells
+pub mod Told

@@ -1,25 +1,32 @@
 //! Lines that were carried out, and of which nothing is kept yet.
 
-ghost use Rattle.std.specs.Prelude.{◌≡◌, ◌≢◌, ◌++◌, [], Err, IfErr, OnErr, OnOk};
+ghost use Rattle.std.specs.Prelude.{◌≡◌, ◌≢◌, ◌++◌, ◌<◌, ◌^◌, [], Err, IfErr, None, OnErr, OnOk};
 ghost use Rattle.std.specs.Io.KnownBytes.{Appends, Keeps};
+ghost use Rattle.indexset_follow.specs.Follow.{State, state_after};
+ghost use Rattle.indexset_follow.specs.Query.{query_of};
+ghost use Rattle.indexset_follow.specs.Store.{after_input, held_cut, input_reply, without_return};
 ghost use Rattle.indexset_journal.specs.Kept.{texts};
-ghost use Rattle.indexset_follow.specs.Leading.{leader_after, leading_reply};
-ghost use Rattle.indexset_keep.specs.Keep.{Adds, MayAdd, told_by};
+ghost use Rattle.indexset_keep.specs.Keep.{Leads, MayLead};
+ghost use Rattle.indexset_keep.specs.Map.{map_held};
+ghost use Rattle.indexset_keep.specs.Roles.{IsSoundRole, copy_held, settled};
+ghost use Rattle.indexset_keep.specs.Tells.{lines_told};
+ghost use Rattle.indexset_keep.specs.Told.{answer_kept, kept_by};
 
 use crate::fault::KeepFault;
+use crate::followed::{Tells, followed};
+use crate::kept::Kept;
+use crate::role::next_number;
 use crate::text::push_told_lines;
-use indexset_follow::leader::Leader;
-use indexset_follow::leading::answer_leading;
-use indexset_follow::others::Others;
 use indexset_follow::reads::query::read_query;
-use indexset_journal::{Journal, JournalError};
+use indexset_follow::role::Role;
+use indexset_follow::store::{Store as Map, without_return};
 use indexset_lines::RunFault;
+use indexset_lines::run::Answers;
 use sqlite_trees::store::Store;
 use std::alloc::Global;
 use std::io::Write;
 
-/// The answers to lines, which are not written yet, and the lines of them that tell events
-/// or which commands were done, which are not kept yet.
+/// The answers to lines, which are not written yet, and what is to be kept of these lines.
 #[derive(Drop)]
 pub struct Batch {
     /// The answers.
@@ -40,41 +47,92 @@ impl Batch {
         }
     }
 
-    /// Carries out a line. Its answer waits, and the lines of it that are to be kept.
-    pub fn answer(
-        &mut self,
-        alloc: Global,
-        others: Others,
-        leader: &mut Leader,
-        line: &[u8],
-    ) -> Result<(), RunFault>
-        ensures leader { OnOk result (leader.new ≡ leader_after leader.old line.now) }
-        ensures answers { OnOk result (self.new.answers.items
-            ≡ self.old.answers.items ++ leading_reply others leader.old line.now) }
-        ensures told { OnOk result (texts self.new.told.items
-            ≡ texts self.old.told.items ++ told_by others leader.old line.now) }
+    /// Carries out a line. Its answer waits, and what is to be kept of it.
+    pub fn answer(&mut self, map: &mut Map, line: &[u8]) -> Result<(), RunFault>
+        ensures map { OnOk result (map_held map.new ≡ after_input (map_held map.old) line.now) }
+        ensures alike { OnOk result (input_reply map.new.voice ≡ input_reply map.old.voice) }
+        ensures cut_alike { OnOk result (held_cut map.new.voice ≡ held_cut map.old.voice) }
+        ensures answers { OnOk result (self.new.answers.items ≡ self.old.answers.items
+            ++ input_reply map.old.voice (map_held map.old) line.now) }
+        ensures told { OnOk result (texts self.new.told.items ≡ texts self.old.told.items
+            ++ kept_by (input_reply map.old.voice) (map_held map.old) line.now) }
+        ensures next { OnOk result ((copy_held map.new.role).next < 2 ^ 64) }
+    {
+        let kept = match &map.role {
+            Role::Leading(_) => None,
+            Role::Following(follower) => {
+                Some(followed(map.alloc, follower, without_return(line))?)
+            }
+        };
+        match kept {
+            None => self.answer_leading(map, line)?,
+            Some(kept) => self.answer_following(map, line, kept)?,
+        }
+        let _next = next_number(&map.role);
+        Ok(())
+    }
+
+    /// Carries out a line of a leader: the lines of its answer are kept that tell events, or which
+    /// commands were done.
+    fn answer_leading(&mut self, map: &mut Map, line: &[u8]) -> Result<(), RunFault>
+        ensures map { OnOk result (map_held map.new ≡ after_input (map_held map.old) line.now) }
+        ensures alike { OnOk result (input_reply map.new.voice ≡ input_reply map.old.voice) }
+        ensures cut_alike { OnOk result (held_cut map.new.voice ≡ held_cut map.old.voice) }
+        ensures answers { OnOk result (self.new.answers.items ≡ self.old.answers.items
+            ++ input_reply map.old.voice (map_held map.old) line.now) }
+        ensures told { OnOk result (texts self.new.told.items ≡ texts self.old.told.items
+            ++ answer_kept (without_return line.now)
+            (input_reply map.old.voice (map_held map.old) line.now)) }
     {
         let from = self.answers.len();
-        answer_leading(alloc, others, &mut self.answers, leader, line)?;
-        if read_query(line).is_none() {
-            push_told_lines(alloc, &mut self.told, &self.answers[from..])?;
+        map.answer(&mut self.answers, line)?;
+        if read_query(without_return(line)).is_none() {
+            push_told_lines(map.alloc, &mut self.told, &self.answers[from..])?;
         }
         Ok(())
     }
 
-    /// Keeps what waits to be kept, with one commit where there is any. Where that fails, a crash
-    /// leaves all of it or nothing.
-    fn keep<S: Store>(&mut self, journal: &mut Journal<S>) -> Result<(), JournalError>
-        ensures kept { OnOk result (Adds S.view S.recovers journal.old journal.new
-            (texts self.old.told.items)) }
-        ensures failed { OnErr result (MayAdd S.view S.recovers journal.old journal.new []
-            (texts self.old.told.items)) }
+    /// Carries out a line of a follower, of which this is kept.
+    fn answer_following(&mut self, map: &mut Map, line: &[u8], kept: Tells) -> Result<(), RunFault>
+        ensures map { OnOk result (map_held map.new ≡ after_input (map_held map.old) line.now) }
+        ensures alike { OnOk result (input_reply map.new.voice ≡ input_reply map.old.voice) }
+        ensures cut_alike { OnOk result (held_cut map.new.voice ≡ held_cut map.old.voice) }
+        ensures answers { OnOk result (self.new.answers.items ≡ self.old.answers.items
+            ++ input_reply map.old.voice (map_held map.old) line.now) }
+        ensures told { OnOk result (texts self.new.told.items ≡ texts self.old.told.items
+            ++ lines_told kept (without_return line.now) (copy_held map.old.role).next map.new.role) }
+    {
+        let next = next_number(&map.role);
+        map.answer(&mut self.answers, line)?;
+        let bare = without_return(line);
+        kept.push(map.alloc, &mut self.told, bare, next, &map.role)
+    }
+
+    /// Keeps what waits to be kept, with one commit where there is any, and then puts a snapshot in
+    /// place of the kept lines where this is asked for or they are many.
+    fn keep<S: Store>(
+        &mut self,
+        kept: &mut Kept<S>,
+        map: &Map,
+        is_asked: bool,
+    ) -> Result<(), KeepFault>
+        ensures leads { OnOk result ((from : State)
+            → state_after from (texts self.old.told.items) ≡ settled map.now.role
+            → IsSoundRole map.now.role
+            → Leads S.view S.recovers kept.old.journal kept.new.journal from
+            (settled map.now.role)) }
+        ensures failed { OnErr result ((from : State)
+            → state_after from (texts self.old.told.items) ≡ settled map.now.role
+            → IsSoundRole map.now.role
+            → MayLead S.view S.recovers kept.old.journal kept.new.journal from from
+            (settled map.now.role)) }
         ensures emptied { OnOk result (texts self.new.told.items ≡ []) }
         ensures answers { self.new.answers.items ≡ self.old.answers.items }
+        ensures no_write { result ≢ Err (KeepFault.Run RunFault.Write) }
     {
-        if !self.told.is_empty() {
-            journal.append(self.told.as_slice())?;
-            self.told.clear();
+        kept.append(map.alloc, &mut self.told)?;
+        if is_asked || kept.is_long(&map.role) {
+            kept.compact(map.alloc, &map.role)?;
         }
         Ok(())
     }
@@ -101,22 +159,34 @@ impl Batch {
     /// nothing is written.
     pub fn put<S: Store, W: Write>(
         &mut self,
-        journal: &mut Journal<S>,
+        kept: &mut Kept<S>,
+        map: &Map,
+        is_asked: bool,
         writer: &mut W,
     ) -> Result<(), KeepFault>
-        ensures kept { OnOk result (Adds S.view S.recovers journal.old journal.new
-            (texts self.old.told.items)) }
+        ensures leads { OnOk result ((from : State)
+            → state_after from (texts self.old.told.items) ≡ settled map.now.role
+            → IsSoundRole map.now.role
+            → Leads S.view S.recovers kept.old.journal kept.new.journal from
+            (settled map.now.role)) }
         ensures written { OnOk result (Appends (W.contents writer.old) (W.contents writer.new)
             self.old.answers.items) }
         ensures emptied { OnOk result (self.new.answers.items ≡ []) }
         ensures none_told { OnOk result (texts self.new.told.items ≡ []) }
         ensures keep_failed { IfErr result (λ fault. fault ≢ KeepFault.Run RunFault.Write
-            → MayAdd S.view S.recovers journal.old journal.new [] (texts self.old.told.items)
+            → ((from : State)
+            → state_after from (texts self.old.told.items) ≡ settled map.now.role
+            → IsSoundRole map.now.role
+            → MayLead S.view S.recovers kept.old.journal kept.new.journal from from
+            (settled map.now.role))
             × Keeps (W.contents writer.old) (W.contents writer.new)) }
-        ensures write_failed { result ≡ Err (KeepFault.Run RunFault.Write)
-            → Adds S.view S.recovers journal.old journal.new (texts self.old.told.items) }
+        ensures write_failed { result ≡ Err (KeepFault.Run RunFault.Write) → (from : State)
+            → state_after from (texts self.old.told.items) ≡ settled map.now.role
+            → IsSoundRole map.now.role
+            → Leads S.view S.recovers kept.old.journal kept.new.journal from
+            (settled map.now.role) }
     {
-        self.keep(journal)?;
+        self.keep(kept, map, is_asked)?;
         self.write(writer)?;
         Ok(())
     }

@@ -17,10 +17,17 @@ pub enum KeepFault {
 }
 
 impl KeepFault {
-    /// Returns the exit status of this fault: that of a run, 6 of the journal, or 7.
-    pub fn status(self) -> u8 {
+    ghost use Rattle.std.specs.Prelude.{◌≡◌};
+    ghost use Rattle.indexset_keep.specs.Fault.{status_of};
+
+    /// Returns the exit status of this fault: that of a run, 8 where another process has the file
+    /// open, 6 of any other failure of the journal, or 7.
+    pub fn status(self) -> u8
+        ensures { result ≡ status_of self }
+    {
         match self {
             KeepFault::Run(fault) => fault.status(),
+            KeepFault::Journal(JournalError::InUse) => 8,
             KeepFault::Journal(_) => 6,
             KeepFault::NodeSize => 7,
         }

@@ -1,19 +1,20 @@
-//! A map of numbers that leads, and keeps its events in a journal before it tells them.
+//! A map of numbers that follows or leads, and keeps what changed it in a journal before it says so.
 //!
 //! What is kept is what a follower reads: the lines of a snapshot, and after it those that tell
-//! events and which commands were done. [`restore`] makes the leader that kept lines lead to,
-//! [`lead`] answers the lines of a reader and keeps what it tells for all that have come with one
-//! commit, [`compact`] puts a snapshot in place of the lines, and [`run`] is a whole run over a
-//! store. [`laws`] says what kept lines lead to.
+//! events and which commands were done.
 #![tactic(auto)]
 
+pub mod answer;
 mod batch;
-pub mod compact;
 mod fault;
+pub mod followed;
+pub mod kept;
 pub mod laws;
-pub mod lead;
+pub mod manner;
 pub mod restore;
+pub mod role;
 pub mod run;
-mod text;
+mod seal;
+pub mod text;
 
 pub use fault::KeepFault;

@@ -1,15 +1,17 @@
-//! The leader that kept lines lead to.
+//! The map that kept lines lead to.
 
-ghost use Rattle.std.specs.Prelude.{◌≡◌, ◌≤◌, IfErr, IfOk};
-ghost use Rattle.indexset_journal.specs.Kept.{texts};
+ghost use Rattle.std.specs.Prelude.{◌≡◌, ◌≤◌, IfOk, IsTrue, None, true};
 ghost use Rattle.indexset_follow.specs.Follow.{start_state, state_after};
-ghost use Rattle.indexset_keep.specs.Leads.{restored};
+ghost use Rattle.indexset_follow.specs.Store.{can_lead};
+ghost use Rattle.indexset_journal.specs.Kept.{texts};
+ghost use Rattle.indexset_keep.specs.Roles.{role_of};
 
 use crate::fault::KeepFault;
 use indexset_follow::answer::answer_line;
 use indexset_follow::follower::Follower;
 use indexset_follow::leader::Leader;
 use indexset_follow::others::{Others, Voice};
+use indexset_follow::role::Role;
 use indexset_follow::store::{holding, promote};
 use indexset_follow::write::Nodes;
 use indexset_lines::RunFault;
@@ -22,7 +24,7 @@ const QUIET: Voice = Voice {
 };
 
 /// Returns a follower that has read these lines, with no window.
-fn follow(alloc: Global, lines: &[Vec<u8>]) -> Result<Follower, RunFault>
+pub fn follow(alloc: Global, lines: &[Vec<u8>]) -> Result<Follower, RunFault>
     ensures follower { IfOk result (λ follower.
         follower ≡ state_after (start_state 0) (texts lines.now)) }
 {
@@ -35,20 +37,35 @@ fn follow(alloc: Global, lines: &[Vec<u8>]) -> Result<Follower, RunFault>
     Ok(follower)
 }
 
-/// Returns a leader of the nodes that the lines lead a follower to, which goes on with the number
-/// that this awaits, and with its greatest number of a command. Takes the time in which the
-/// follower reads the lines. Fails with `NodeSize` where a node has more than `size` pairs.
-pub fn restore(alloc: Global, lines: &[Vec<u8>], size: usize) -> Result<Leader, KeepFault>
-    requires { 2 ≤ size }
-    ensures leader { IfOk result (λ leader.
-        leader ≡ restored size (state_after (start_state 0) (texts lines.now))) }
+/// Returns whether a follower has no snapshot that has begun and not ended.
+pub fn is_settled(follower: &Follower) -> bool
+    ensures coming { IsTrue result → follower.now.coming ≡ None }
+    ensures done { IsTrue result → follower.now.coming_done ≡ 0 }
 {
-    let mut follower = follow(alloc, lines)?;
-    match promote(alloc, &mut follower.held, size)? {
-        Some(pairs) => Ok(Leader {
-            pairs,
-            done: follower.done,
-        }),
+    follower.coming.is_none() && follower.coming_done == 0
+}
+
+/// Returns a role of the nodes that a follower holds: a leader that goes on with the number that it
+/// awaits, or a follower with this window. Takes no copy of the nodes. Fails with `NodeSize` where a
+/// leader would have a node of more than `size` pairs.
+pub fn begin(
+    alloc: Global,
+    follower: Follower,
+    size: usize,
+    window: u64,
+    leads: bool,
+) -> Result<Role, KeepFault>
+    requires { 2 ≤ size }
+    ensures role { IfOk result (λ role. role ≡ role_of size window leads follower) }
+    ensures fits { IfOk result (λ role. IsTrue leads → can_lead size follower.held ≡ true) }
+{
+    let done = follower.done;
+    let mut held = follower.held;
+    if !leads {
+        return Ok(Role::Following(holding(window, held, done)));
+    }
+    match promote(alloc, &mut held, size)? {
+        Some(pairs) => Ok(Role::Leading(Leader { pairs, done })),
         None => Err(KeepFault::NodeSize),
     }
 }

@@ -1,9 +1,9 @@
 //! The lines of a text.
 
-ghost use Rattle.std.specs.Prelude.{◌≡◌, ◌∷◌, ◌++◌, [], IfErr, IfOk, OnOk};
+ghost use Rattle.std.specs.Prelude.{◌≡◌, ◌∷◌, ◌++◌, [], IfErr, IfOk, OnOk, take};
 ghost use Rattle.indexset_journal.specs.Kept.{texts};
 ghost use Rattle.indexset_lines.specs.Lines.{whole_lines};
-ghost use Rattle.indexset_keep.specs.Keep.{is_done, is_told, told_lines};
+ghost use Rattle.indexset_keep.specs.Told.{is_done, is_told, told_lines};
 
 use indexset_events::parts::cut;
 use indexset_follow::event::read_event;
@@ -11,18 +11,18 @@ use indexset_follow::mark::{Mark, read_mark};
 use indexset_lines::RunFault;
 use std::alloc::Global;
 
-/// Returns the lines of a text that have their ends.
-pub fn split_lines(alloc: Global, text: &[u8]) -> Result<Vec<Vec<u8>>, RunFault>
-    ensures lines { IfOk result (λ lines. texts lines.items ≡ whole_lines text.now) }
+/// Appends the lines of a text that have their ends.
+pub fn push_text_lines(alloc: Global, lines: &mut Vec<Vec<u8>>, text: &[u8]) -> Result<(), RunFault>
+    ensures lines { OnOk result
+        (texts lines.new.items ≡ texts lines.old.items ++ whole_lines text.now) }
     ensures fault { IfErr result (λ fault. fault ≡ RunFault.Memory) }
 {
-    let mut lines = Vec::new(alloc);
     let mut left = text;
     while let Some((line, rest)) = cut(left, b'\n') {
-        push_line(alloc, &mut lines, line)?;
+        push_line(alloc, lines, line)?;
         left = rest;
     }
-    Ok(lines)
+    Ok(())
 }
 
 /// Appends the lines of a text that have their ends, and tell an event or which commands were done.
@@ -68,8 +68,26 @@ fn is_done(mark: Option<Mark>) -> bool
     }
 }
 
+/// Appends copies of the first `count` lines, or of all where they are fewer.
+pub fn push_first(
+    alloc: Global,
+    lines: &mut Vec<Vec<u8>>,
+    others: &[Vec<u8>],
+    count: usize,
+) -> Result<(), RunFault>
+    ensures lines { OnOk result
+        (texts lines.new.items ≡ texts lines.old.items ++ take count (texts others.now)) }
+    ensures fault { IfErr result (λ fault. fault ≡ RunFault.Memory) }
+{
+    let count = count.min(others.len());
+    for line in &others[..count] {
+        push_line(alloc, lines, line.as_slice())?;
+    }
+    Ok(())
+}
+
 /// Appends a copy of a line.
-fn push_line(alloc: Global, lines: &mut Vec<Vec<u8>>, line: &[u8]) -> Result<(), RunFault>
+pub fn push_line(alloc: Global, lines: &mut Vec<Vec<u8>>, line: &[u8]) -> Result<(), RunFault>
     ensures lines { OnOk result (texts lines.new.items ≡ texts lines.old.items ++ line.now ∷ []) }
     ensures fault { IfErr result (λ fault. fault ≡ RunFault.Memory) }
 {

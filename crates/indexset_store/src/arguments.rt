@@ -4,11 +4,12 @@ ghost use Rattle.std.specs.Prelude.{◌≤◌};
 
 use indexset_events::parts::read_number;
 use indexset_follow::others::{Others, Voice};
+use indexset_keep::manner::Manner;
 use std::io::ErrorKind;
 use std::{env, io};
 
 /// How the program is called.
-pub const USAGE: &str = "usage: indexset_store [--follow | --lead] [--node-size N] \
+pub const USAGE: &str = "usage: indexset_store [--follow | --lead] [--keep FILE] [--node-size N] \
 [--window N] [--pass-others] [--quiet] | --help | --version";
 
 /// What the arguments mean.
@@ -17,6 +18,7 @@ Keeps a map of numbers, and answers each line of standard input on standard outp
 
   --follow       begin as a follower, which takes the events of another map (unless said)
   --lead         begin as a leader, which carries out commands and prints their events
+  --keep FILE    go on from this SQLite file, and keep each change there before it is answered
   --node-size N  at most N pairs a node of a leader, 2 to 65535 (256 unless said)
   --window N     as a follower, hold events up to N ahead of the awaited one (4096 unless said)
   --pass-others  pass over lines that say nothing
@@ -55,54 +57,45 @@ pub enum Asked {
 }
 
 /// What is asked for.
-#[derive(Clone, Copy, Debug)]
+#[derive(Drop)]
 pub struct Settings {
     /// What is to be written.
     pub asked: Asked,
-    /// Which replies are written.
-    pub voice: Voice,
-    /// Whether it leads from the first line on.
-    pub leads: bool,
-    /// How far ahead of the awaited event a follower holds others.
-    pub window: u64,
-    node_size: NodeSize,
+    /// The file in which changes are kept.
+    pub file: Option<String>,
+    /// How lines are answered.
+    pub manner: Manner,
 }
 
-impl Settings {
-    /// Returns how many pairs a node of a leader holds at most.
-    pub fn node_size(&self) -> usize
-        ensures { 2 ≤ result }
-    {
-        self.node_size.pairs
-    }
-}
-
-/// A number that is given as an argument.
+/// What the next argument gives.
 #[derive(Clone, Copy, Debug)]
-enum Number {
+enum Wanted {
+    File,
     NodeSize,
     Window,
 }
 
 /// What the arguments say, each once at most.
-#[derive(Clone, Copy, Debug)]
+#[derive(Drop)]
 struct Given {
+    file: Option<String>,
     asked: Option<Asked>,
     leads: Option<bool>,
     others: Option<Others>,
     is_quiet: Option<bool>,
     node_size: Option<NodeSize>,
     window: Option<u64>,
-    /// The next argument is this number.
-    wanted: Option<Number>,
+    /// The next argument gives this.
+    wanted: Option<Wanted>,
 }
 
 impl Given {
     /// Takes an argument. Returns whether it is one, and not said before.
-    fn take(&mut self, word: &str) -> bool {
-        if let Some(number) = self.wanted.take() {
-            return self.set(number, word.as_bytes());
+    fn take(&mut self, argument: String) -> bool {
+        if let Some(wanted) = self.wanted.take() {
+            return self.set(wanted, argument);
         }
+        let word = argument.as_str();
         if word == "--help" {
             keep(&mut self.asked, Some(Asked::Help))
         } else if word == "--version" {
@@ -115,22 +108,23 @@ impl Given {
             keep(&mut self.others, Some(Others::Pass))
         } else if word == "--quiet" {
             keep(&mut self.is_quiet, Some(true))
-        } else if word == "--node-size" {
-            self.wanted = Some(Number::NodeSize);
-            true
-        } else if word == "--window" {
-            self.wanted = Some(Number::Window);
-            true
         } else {
-            false
+            self.wanted = wanted_by(word);
+            self.wanted.is_some()
         }
     }
 
-    /// Sets a number to that of a text. Returns whether it is one, and was not set before.
-    fn set(&mut self, number: Number, text: &[u8]) -> bool {
-        match number {
-            Number::NodeSize => keep(&mut self.node_size, read_node_size(text)),
-            Number::Window => keep(&mut self.window, read_number(text)),
+    /// Sets what is wanted to what an argument gives. Returns whether it gives that, and it was not
+    /// set before.
+    fn set(&mut self, wanted: Wanted, argument: String) -> bool {
+        match wanted {
+            Wanted::File => {
+                let is_new = self.file.is_none();
+                self.file = Some(argument);
+                is_new
+            }
+            Wanted::NodeSize => { keep(&mut self.node_size, read_node_size(argument.as_bytes())) }
+            Wanted::Window => keep(&mut self.window, read_number(argument.as_bytes())),
         }
     }
 
@@ -141,14 +135,33 @@ impl Given {
         }
         Some(Settings {
             asked: self.asked.unwrap_or(Asked::Answers),
-            voice: Voice {
-                others: self.others.unwrap_or(Others::Tell),
-                is_quiet: self.is_quiet.unwrap_or(false),
+            file: self.file,
+            manner: Manner {
+                voice: Voice {
+                    others: self.others.unwrap_or(Others::Tell),
+                    is_quiet: self.is_quiet.unwrap_or(false),
+                },
+                leads: self.leads.unwrap_or(false),
+                window: self.window.unwrap_or(WINDOW),
+                size: self
+                    .node_size
+                    .unwrap_or(NodeSize { pairs: NODE_SIZE })
+                    .pairs,
             },
-            leads: self.leads.unwrap_or(false),
-            window: self.window.unwrap_or(WINDOW),
-            node_size: self.node_size.unwrap_or(NodeSize { pairs: NODE_SIZE }),
         })
+    }
+}
+
+/// Returns what the argument behind this one gives.
+fn wanted_by(word: &str) -> Option<Wanted> {
+    if word == "--keep" {
+        Some(Wanted::File)
+    } else if word == "--node-size" {
+        Some(Wanted::NodeSize)
+    } else if word == "--window" {
+        Some(Wanted::Window)
+    } else {
+        None
     }
 }
 
@@ -178,6 +191,7 @@ pub fn read_settings(rt: &HostRuntime) -> io::Result<Option<Settings>> {
     let mut given = Given {
         asked: None,
         leads: None,
+        file: None,
         others: None,
         is_quiet: None,
         node_size: None,
@@ -185,7 +199,7 @@ pub fn read_settings(rt: &HostRuntime) -> io::Result<Option<Settings>> {
         wanted: None,
     };
     for argument in arguments {
-        if !given.take(argument.as_str()) {
+        if !given.take(argument) {
             return Ok(None);
         }
     }

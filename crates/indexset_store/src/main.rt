@@ -4,7 +4,8 @@
 //! The arguments are `--follow` or `--lead`, the role that it begins in (it follows unless said),
 //! `--node-size N`, how many pairs a node of a leader holds at most (2 to 65,535; 256 unless said),
 //! `--window N`, how far ahead of the awaited event a follower holds others (4,096 unless said),
-//! `--pass-others`, with which a line that means nothing is passed over in silence, and `--quiet`,
+//! `--keep FILE`, a SQLite file from which it goes on, and in which each change is kept before it is
+//! answered, `--pass-others`, with which a line that means nothing is passed over in silence, and `--quiet`,
 //! with which a follower tells of lines that are no requests only what is missing or does not fit.
 //! `--help` and `--version` are answered on standard output.
 #![tactic(auto)]
@@ -12,25 +13,59 @@
 mod arguments;
 
 use arguments::{Asked, HELP, Settings, USAGE, VERSION, read_settings};
-use indexset_bench::RunFault;
 use indexset_follow::serve;
+use indexset_journal::JournalError;
+use indexset_keep::KeepFault;
+use indexset_keep::kept::Kept;
+use indexset_keep::manner::Manner;
+use indexset_keep::run::run;
+use indexset_lines::RunFault;
+use sqlite::{Connection, File, FileStore};
 use std::io::{self, BufReader, BufWriter};
 use std::process::ExitCode;
 
 /// The exit status where an argument is unknown or doubled or lacks its value.
 const BAD_ARGUMENTS: u8 = 5;
 
+/// The table of a file: its rows are the lines that are kept.
+const TABLE: &str = "CREATE TABLE kept (number INTEGER PRIMARY KEY, line TEXT NOT NULL) STRICT";
+
+/// Opens the file, and makes it where it is missing. One that has tables stays as it is.
+fn store_at(rt: &HostRuntime, path: &str) -> Result<FileStore<File>, JournalError> {
+    let mut conn = Connection::open(rt, path)?;
+    if conn.schema().tables.as_slice().is_empty() {
+        conn.execute(TABLE, &[])?;
+    }
+    Ok(conn.into_store())
+}
+
+/// Runs from standard input to standard output, and keeps what changes in a file.
+fn run_kept(rt: &HostRuntime, manner: Manner, path: &str) -> Result<(), KeepFault> {
+    let alloc = rt.alloc();
+    let mut reader = BufReader::new(alloc, rt.reader()).map_err(|_| RunFault::Memory)?;
+    let mut writer = BufWriter::new(alloc, io::writer(rt)).map_err(|_| RunFault::Memory)?;
+    let (mut kept, lines) = Kept::open(alloc, store_at(rt, path)?)?;
+    run(
+        alloc,
+        manner,
+        &mut kept,
+        lines.as_slice(),
+        &mut reader,
+        &mut writer,
+    )
+}
+
 /// Runs from standard input to standard output.
-fn run(rt: &HostRuntime, settings: Settings) -> Result<(), RunFault> {
+fn run_alone(rt: &HostRuntime, manner: Manner) -> Result<(), RunFault> {
     let alloc = rt.alloc();
     let mut reader = BufReader::new(alloc, rt.reader()).map_err(|_| RunFault::Memory)?;
     let mut writer = BufWriter::new(alloc, io::writer(rt)).map_err(|_| RunFault::Memory)?;
     serve(
         alloc,
-        settings.voice,
-        settings.node_size(),
-        settings.window,
-        settings.leads,
+        manner.voice,
+        manner.size,
+        manner.window,
+        manner.leads,
         &mut reader,
         &mut writer,
     )
@@ -42,25 +77,29 @@ fn tell(rt: &HostRuntime, text: &str) -> Result<(), RunFault> {
 }
 
 /// Does what is asked for.
-fn answer(rt: &HostRuntime, settings: Settings) -> Result<(), RunFault> {
+fn answer(rt: &HostRuntime, settings: &Settings) -> Result<(), KeepFault> {
     match settings.asked {
-        Asked::Answers => run(rt, settings),
+        Asked::Answers => match &settings.file {
+            Some(path) => run_kept(rt, settings.manner, path.as_str())?,
+            None => run_alone(rt, settings.manner)?,
+        },
         Asked::Help => {
             tell(rt, USAGE)?;
-            tell(rt, HELP)
+            tell(rt, HELP)?;
         }
-        Asked::Version => tell(rt, VERSION),
+        Asked::Version => tell(rt, VERSION)?,
     }
+    Ok(())
 }
 
 fn main(rt: HostRuntime) -> ExitCode {
     let answered = match read_settings(&rt) {
-        Ok(Some(settings)) => answer(&rt, settings),
+        Ok(Some(settings)) => answer(&rt, &settings),
         Ok(None) => {
             let _ = eprintln!(&rt; "{USAGE}");
             return ExitCode::from(BAD_ARGUMENTS);
         }
-        Err(_) => Err(RunFault::Memory),
+        Err(_) => Err(KeepFault::Run(RunFault::Memory)),
     };
     match answered {
         Ok(()) => ExitCode::SUCCESS,

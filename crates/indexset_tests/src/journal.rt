@@ -4,4 +4,4 @@
 mod crashes;
 mod damage;
 mod refusals;
-mod support;
+pub(crate) mod support;

@@ -35,6 +35,8 @@ pub enum Query {
     Snapshot,
     /// The next number, how many nodes there are, the sum, and the greatest number of a command.
     Sum,
+    /// The next number, once a snapshot is in place of the lines of a file that keeps them.
+    Compact,
 }
 
 /// Returns the read that the line asks for, if it asks for one.
@@ -65,6 +67,8 @@ fn read_word(word: &[u8]) -> Option<Query>
         Some(Query::Snapshot)
     } else if word == b"sum".as_slice() {
         Some(Query::Sum)
+    } else if word == b"compact".as_slice() {
+        Some(Query::Compact)
     } else {
         None
     }

@@ -1,12 +1,12 @@
-use Rattle.indexset_keep.proofs.Onward.{none, onward}
-use Rattle.indexset_keep.proofs.Kept.{told_onward}
+use Rattle.std.proofs.Common.{ap, ◌∙◌}
+use Rattle.indexset_follow.specs.Follow.{start_state, state_after}
+use Rattle.indexset_follow.specs.Store.{input_reply}
+use Rattle.indexset_keep.specs.Told.{kept_by}
+use Rattle.indexset_keep.proofs.Roles.{kept_on}
+use Rattle.indexset_keep.proofs.States.{more_lines}
 use Rattle.indexset_keep.proofs.laws.kept_lines_lead_on.Goals as goal
 
-pub returns-clause-onward : goal.returns-clause-onward
-returns-clause-onward c = λ o l kept lines sound leads less. told_onward o l sound lines less kept leads
-
-pub returns-clause-events : goal.returns-clause-events
-returns-clause-events c = λ l kept lines sound leads less. onward l sound lines less kept leads
-
-pub returns-clause-none : goal.returns-clause-none
-returns-clause-none c = none
+pub returns : goal.returns
+returns c v h line kept sound fits leads =
+    let more = kept_by (input_reply v) h line in
+    more_lines (start_state 0) kept more ∙ ap (λ s. state_after s more) leads ∙ kept_on v h line sound fits

@@ -2,7 +2,7 @@ use Rattle.std.proofs.Common.{rules, arith, ◌≡◌, ◌∙◌, ◌+◌, ◌�
 use Rattle.std.proofs.lemmas.List.{map_more}
 use Rattle.indexset_journal.specs.Kept.{texts}
 use Rattle.indexset_follow.specs.Follow.{after_line}
-use Rattle.indexset_keep.proofs.Kept.{first_follower, next_follower}
+use Rattle.indexset_keep.proofs.Restoring.{first_follower, next_follower}
 use Rattle.indexset_keep.proofs.restore.follow.Goals as goal
 
 pub loop-line-init : goal.loop-line-init

@@ -2,7 +2,7 @@ use Rattle.std.proofs.Common.{rules, ◌≡◌, ◌∙◌, ◌∷◌, ◌++◌, 
 use Rattle.indexset_journal.specs.Kept.{texts}
 use Rattle.indexset_events.specs.Spelling.{cut_at}
 use Rattle.indexset_lines.specs.Lines.{whole_lines}
-use Rattle.indexset_keep.specs.Keep.{told_lines}
+use Rattle.indexset_keep.specs.Told.{told_lines}
 use Rattle.indexset_keep.proofs.Cuts.{told_more, uncut_lines}
 use Rattle.indexset_keep.proofs.text.push_told_lines.Goals as goal
 

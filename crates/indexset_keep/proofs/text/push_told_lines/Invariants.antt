@@ -2,7 +2,7 @@
 use Rattle.std.proofs.Common.{◌≡◌, ◌++◌, length}
 use Rattle.indexset_journal.specs.Kept.{texts}
 use Rattle.indexset_lines.specs.Lines.{whole_lines}
-use Rattle.indexset_keep.specs.Keep.{told_lines}
+use Rattle.indexset_keep.specs.Told.{told_lines}
 use Rattle.indexset_keep.proofs.text.push_told_lines.Given as goal
 
 abbrev pub invariant-loop-line : goal.invariant-loop-line

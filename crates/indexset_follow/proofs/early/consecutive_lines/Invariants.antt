@@ -1,0 +1,10 @@
+-- The lines so far and those of the events that are left are those of all.
+use Rattle.std.proofs.Common.{◌≡◌, ◌+◌, ◌++◌, length, map}
+use Rattle.indexset_bench.specs.PairText.{event_text}
+use Rattle.indexset_follow.specs.Early.{consecutive}
+use Rattle.indexset_follow.proofs.early.consecutive_lines.Given as goal
+
+abbrev pub invariant-loop-event_number : goal.invariant-loop-event_number
+invariant-loop-event_number l =
+    map event_text (consecutive l.number l.events.pairs)
+    ≡ map (λ line. line.items) l.lines.items ++ map event_text (consecutive (l.number + length l.lines.items) l.event_number-iterator)

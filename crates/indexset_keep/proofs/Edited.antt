@@ -1,0 +1,133 @@
+-- The pairs of lawful nodes have numbers of 64 bits after an event whose numbers have, and after an attached node.
+use Rattle.std.proofs.Common.{Option, None, Some, IfSome, ◌≡◌, ℕ, zero, suc, ◌+◌, ◌==◌, Bool, true, false, if◌then◌else◌, List, [], ◌∷◌, ◌++◌, ◌&&◌, length, get_or, take, drop, insert, remove, ltb, leb, refl, sym, subst}
+use Rattle.std.proofs.lemmas.Bool.{false≢true}
+use Rattle.std.proofs.lemmas.Cmp.{nat_cmp_total}
+use Rattle.std.proofs.lemmas.List.{take-append-drop}
+use Rattle.std.specs.Cmp.{IsTotalOrder}
+use Rattle.std.specs.List.{position_or_len, splice}
+use Rattle.std.specs.Option.{option_and_then, option_map}
+use Rattle.std.specs.Ordering.{is_eq, nat_cmp}
+use Rattle.indexset_core.specs.Nodes.{IsNodeList, joined, node_at}
+use Rattle.indexset_core.specs.declared.pair.Pair.{Pair}
+use Rattle.indexset_core.proofs.CallerLemmas.{pairs_total}
+use Rattle.indexset_events.specs.Attach.{attach_index, attach_refusal, attached}
+use Rattle.indexset_events.specs.Joining.{with_joined}
+use Rattle.indexset_events.specs.Nodes.{are_nodes, last_of}
+use Rattle.indexset_events.specs.Replay.{edit, node_named, reaches, step, step_plain, unassigned}
+use Rattle.indexset_events.specs.declared.change.ChangeEvent.TheVariants.{InsertAt, RemoveAt, CreateNode, RemoveNode, SplitNode, MergeNodes}
+use Rattle.indexset_events.proofs.Attaches.{good}
+use Rattle.indexset_events.proofs.CallerLemmas.{Each, attaches_node, each-append, each-left, each-right, last_answer, nodes_ruled, ruled_nodes, tested_ruled}
+use Rattle.indexset_follow.specs.EventLine.{Event, EventFits}
+use Rattle.indexset_follow.specs.Numbers.{PairFits}
+use Rattle.indexset_follow.proofs.Programs.{order}
+
+-- ---- lists
+
+module _ {X : Type 0} (Q : X → Type 0) where
+  each_front : (k : ℕ) (xs : List X) → Each Q xs → Each Q (take k xs)
+  each_front k xs h = each-left Q (take k xs) (drop k xs) (subst (Each Q) (sym (take-append-drop k xs)) h)
+
+  each_back : (k : ℕ) (xs : List X) → Each Q xs → Each Q (drop k xs)
+  each_back k xs h = each-right Q (take k xs) (drop k xs) (subst (Each Q) (sym (take-append-drop k xs)) h)
+
+  each_more : (xs : List X) (k : ℕ) (x : X) → Each Q xs → Q x → Each Q (insert xs k x)
+  each_more xs k x h new = each-append Q (take k xs) (x ∷ drop k xs) (each_front k xs h) (new, each_back k xs h)
+
+  each_fewer : (xs : List X) (k : ℕ) → Each Q xs → Each Q (remove xs k)
+  each_fewer xs k h = each-append Q (take k xs) (drop (suc k) xs) (each_front k xs h) (each_back (suc k) xs h)
+
+  pub each_together : (xss : List (List X)) → Each (Each Q) xss → Each Q (joined xss)
+  each_together [] h = tt
+  each_together (xs ∷ xss) h = each-append Q xs (joined xss) h.0 (each_together xss h.1)
+
+-- ---- nodes
+
+abbrev pub Nodes : Type 0
+Nodes = List (List (Pair ℕ ℕ))
+
+-- the pairs of each node fit
+abbrev pub NodesFit : Nodes → Type 0
+NodesFit = Each (Each PairFits)
+
+node_fits : (ns : Nodes) (k : ℕ) → NodesFit ns → Each PairFits (node_at ns k)
+node_fits [] k h = tt
+node_fits (n ∷ ns) zero h = h.0
+node_fits (n ∷ ns) (suc k) h = node_fits ns k h.1
+
+-- what a test lets pass
+tested_fit : (b : Bool) (ns : Nodes) → NodesFit ns → IfSome (if b then Some ns else None) NodesFit
+tested_fit true ns h = h
+tested_fit false ns h = tt
+
+-- ---- the edit that an event names
+
+module _ (ns : Nodes) (h : NodesFit ns) where
+  spliced_fit : (i j : ℕ) (parts : Nodes) → NodesFit parts → NodesFit (splice ns i j parts)
+  spliced_fit i j parts new = each-append (Each PairFits) (take i ns) (parts ++ drop j ns) (each_front (Each PairFits) i ns h) (each-append (Each PairFits) parts (drop j ns) new (each_back (Each PairFits) j ns h))
+
+  parts_fit : (p : ℕ) (parts : Option Nodes) → IfSome parts NodesFit → IfSome (option_map (splice ns p (p + 1)) parts) NodesFit
+  parts_fit p None new = tt
+  parts_fit p (Some parts) new = spliced_fit p (p + 1) parts new
+
+  -- a node made into the parts that f makes of it
+  named_fit : (place : Option ℕ) (f : List (Pair ℕ ℕ) → Option Nodes) → ((n : List (Pair ℕ ℕ)) → Each PairFits n → IfSome (f n) NodesFit) → IfSome (option_and_then (λ p. option_map (splice ns p (p + 1)) (f (node_at ns p))) place) NodesFit
+  named_fit None f made = tt
+  named_fit (Some p) f made = parts_fit p (f (node_at ns p)) (made (node_at ns p) (node_fits ns p h))
+
+  merged_fit : (first second : Option ℕ) → IfSome (option_and_then (λ p. option_and_then (λ q. if q == p + 1 then Some (with_joined ns p) else None) second) first) NodesFit
+  merged_fit None second = tt
+  merged_fit (Some p) None = tt
+  merged_fit (Some p) (Some q) =
+      let both = each-append PairFits (node_at ns p) (node_at ns (p + 1)) (node_fits ns p h) (node_fits ns (p + 1) h) in
+      tested_fit (q == p + 1) (with_joined ns p) (spliced_fit p (p + 2) ((node_at ns p ++ node_at ns (p + 1)) ∷ []) (both, tt))
+
+  edited_fit : (e : Event) → EventFits e → IfSome (edit order ns (unassigned e)) NodesFit
+  edited_fit (InsertAt id m v i) fit =
+      named_fit (node_named order ns m) (λ n. if leb i (length n) then Some (insert n i v ∷ []) else None) (λ n k. tested_fit (leb i (length n)) (insert n i v ∷ []) (each_more PairFits n i v k fit.2, tt))
+  edited_fit (RemoveAt id m v i) fit =
+      named_fit (node_named order ns m) (λ n. if (leb 2 (length n) && ltb i (length n)) && is_eq (order (get_or n i v) v) then Some (remove n i ∷ []) else None)
+      (λ n k. tested_fit ((leb 2 (length n) && ltb i (length n)) && is_eq (order (get_or n i v) v)) (remove n i ∷ []) (each_fewer PairFits n i k, tt))
+  edited_fit (CreateNode id m) fit = each_more (Each PairFits) ns (position_or_len (reaches order m) ns) (m ∷ []) h (fit.1, tt)
+  edited_fit (RemoveNode id m) fit = named_fit (node_named order ns m) (λ n. Some []) (λ n k. tt)
+  edited_fit (SplitNode id m i) fit =
+      named_fit (node_named order ns m) (λ n. if ltb 0 i && ltb i (length n) then Some (take i n ∷ drop i n ∷ []) else None)
+      (λ n k. tested_fit (ltb 0 i && ltb i (length n)) (take i n ∷ drop i n ∷ []) (each_front PairFits i n k, (each_back PairFits i n k, tt)))
+  edited_fit (MergeNodes id m w) fit = merged_fit (node_named order ns m) (node_named order ns w)
+
+-- ---- what an event leaves
+
+-- the nodes are lawful, and their pairs fit
+pub record SoundNodes (ns : Nodes) : Type 0 where
+  pub nodes : IsNodeList order ns
+  pub fit : NodesFit ns
+
+pub step_sound : (ns : Nodes) → NodesFit ns → (e : Event) → EventFits e → IfSome (step order ns e) SoundNodes
+unfolding step_plain
+step_sound ns h e fit = at (edit order ns (unassigned e)) (edited_fit ns h e fit)
+  where
+    tested : (r : Nodes) → NodesFit r → (b : Bool) → are_nodes order r ≡ b → IfSome (if b then Some r else None) SoundNodes
+    tested r k true is = record { nodes = ruled_nodes order r (tested_ruled order r is); fit = k }
+    tested r k false is = tt
+
+    at : (o : Option Nodes) → IfSome o NodesFit → IfSome (option_and_then (λ r. if are_nodes order r then Some r else None) o) SoundNodes
+    at None k = tt
+    at (Some r) k = tested r k (are_nodes order r) refl
+
+-- ---- what an attached node leaves
+
+pub total : IsTotalOrder order
+total = pairs_total nat_cmp nat_cmp_total
+
+attached_nodes : (ns : Nodes) → IsNodeList order ns → (n : List (Pair ℕ ℕ)) → attach_refusal order (length n) ns n ≡ None → IsNodeList order (attached order ns n)
+attached_nodes ns law [] none = let it = good order total 0 ns [] none in absurd (false≢true it.full)
+attached_nodes ns law (p ∷ n) none =
+    let it = good order total (length (p ∷ n)) ns (p ∷ n) none in
+    let last = last_of n p in
+    let made = attaches_node order total ns (nodes_ruled order ns law) (p ∷ n) p last refl (last_answer (p ∷ n) last) it.up in
+    ruled_nodes order (attached order ns (p ∷ n)) (made.rule it.apart)
+
+pub attached_sound : (ns : Nodes) → SoundNodes ns → (n : List (Pair ℕ ℕ)) → Each PairFits n → attach_refusal order (length n) ns n ≡ None → SoundNodes (attached order ns n)
+attached_sound ns s n fit none = record {
+  nodes = attached_nodes ns s.nodes n none;
+  fit = each_more (Each PairFits) ns (attach_index order ns n) n s.fit fit;
+}

@@ -1,0 +1,28 @@
+-- A line is carried out, and what is to be kept of it leads on.
+use Rattle.std.proofs.Common.{Option, ◌≡◌, ◌<◌, ◌^◌, ℕ, List, [], ◌∷◌, ◌++◌, ap, sym, subst, ◌∙◌}
+use Rattle.std.specs.Io.KnownBytes.{Consumes, Keeps}
+use Rattle.indexset_lines.specs.Lines.{HasNoEnd}
+use Rattle.indexset_follow.specs.Follow.{State}
+use Rattle.indexset_follow.specs.Store.{Held, after_input, held_cut, input_reply}
+use Rattle.indexset_follow.specs.declared.others.Voice.{Voice}
+use Rattle.sqlite_trees.specs.Tree.{Trees}
+use Rattle.sqlite_trees.specs.View.{View}
+use Rattle.indexset_keep.specs.Roles.{IsSoundMap, copy_held}
+use Rattle.indexset_keep.specs.Told.{kept_by}
+use Rattle.indexset_keep.proofs.Roles.{kept_on, map_sound}
+use Rattle.indexset_keep.proofs.Runs.{Going, carried}
+
+module _ (v u : Voice) (t : Held) {S : Type 0} (view : S → View) (recovers : S → Trees → Type 0) (old : S) (r w : Option (List ℕ)) (from : State) (now : S) (r' w' : Option (List ℕ)) (waiting : List ℕ) (told : List (List ℕ)) (held : Held)
+    (g : Going (input_reply v) (held_cut v) t view recovers old r w from now r' w' waiting told held) (alike : input_reply u ≡ input_reply v) where
+  pub read_on : (w2 r2 : Option (List ℕ)) (line passed waiting2 : List ℕ) (told2 : List (List ℕ)) (held2 : Held) → Keeps w' w2 → HasNoEnd line → Consumes r' r2 (line ++ 10 ∷ []) → passed ≡ line
+      → waiting2 ≡ waiting ++ input_reply u held passed → told2 ≡ told ++ kept_by (input_reply u) held passed → held2 ≡ after_input held passed → (copy_held held2.role).next < 2 ^ 64
+      → Going (input_reply v) (held_cut v) t view recovers old r w from now r2 w2 waiting2 told2 held2
+  read_on w2 r2 line passed waiting2 told2 held2 kept none read same reply tells after fits =
+      let on : held2 ≡ after_input held line = after ∙ ap (after_input held) same in
+      let few : (copy_held (after_input held line).role).next < 2 ^ 64 = subst (λ h. (copy_held h.role).next < 2 ^ 64) on fits in
+      carried (input_reply v) (held_cut v) t view recovers old r w from now r' w' waiting told held g w2 r2 line waiting2 told2 held2 kept none read
+      (reply ∙ (λ i. waiting ++ alike i held (same i)))
+      (tells ∙ (λ i. told ++ kept_by (alike i) held (same i)))
+      on
+      (kept_on v held line g.sound few)
+      (subst IsSoundMap (sym on) (map_sound v held line g.sound few))

@@ -1,0 +1,36 @@
+use Rattle.std.proofs.Common.{◌≡◌, ◌∙◌, ◌++◌, ap, subst, sym}
+use Rattle.indexset_events.specs.Spelling.Laws.{some_inj}
+use Rattle.indexset_follow.specs.Follow.{after_line}
+use Rattle.indexset_follow.specs.Store.{input_reply, without_return}
+use Rattle.indexset_follow.specs.declared.role.Role.TheVariants.{Following}
+use Rattle.indexset_journal.specs.Kept.{texts}
+use Rattle.indexset_keep.specs.Followed.{line_kept}
+use Rattle.indexset_keep.specs.Map.{map_held}
+use Rattle.indexset_keep.specs.Roles.{copy_held}
+use Rattle.indexset_keep.specs.Tells.{lines_told}
+use Rattle.indexset_keep.proofs.Roles.{following_told, leading_told}
+use Rattle.indexset_keep.proofs.batch.Batch.answer.Goals.{in-Leading, in-Following+in_ok-followed-in-Following, in-None+in_ok-answer_leading-in-None, in-Some+in_ok-answer_following-in-Some}
+use Rattle.indexset_keep.proofs.batch.Batch.answer.Goals as goal
+
+pub returns-clause-told : goal.returns-clause-told
+returns-clause-told c =
+    let h = map_held c.args.map.now in
+    let reply = input_reply c.args.map.now.voice in
+    let line = c.args.line.now in
+    elim c.match-map.branch [
+      | in-Leading w ↦ elim c.match-kept.branch [
+        | in-None+in_ok-answer_leading-in-None v ↦ rw v.self-is (v.in_ok-answer_leading-in-None.ensures.told ∙ ap (λ ls. texts c.args.self.now.told.items ++ ls) (leading_told reply h line _ w.in-Leading.is))
+        | in-Some+in_ok-answer_following-in-Some v ↦ absurd (cc (w.kept-is, v.in-Some.is))
+      ]
+      | in-Following+in_ok-followed-in-Following w ↦ elim c.match-kept.branch [
+        | in-None+in_ok-answer_leading-in-None v ↦ absurd (cc (w.kept-is, v.in-None.is))
+        | in-Some+in_ok-answer_following-in-Some v ↦
+            let s = w.in-Following.follower in
+            let tells = w.in_ok-followed-in-Following.field-0 in
+            let told = subst (λ b. lines_told tells b s.held.next (Following (after_line s b)) ≡ line_kept s b) w.without_return.ensures w.in_ok-followed-in-Following.ensures.tells in
+            let same : v.in-Some.kept ≡ tells = some_inj v.in-Some.kept tells (sym v.in-Some.is ∙ w.kept-is) in
+            rw v.self-is (v.in_ok-answer_following-in-Some.ensures.told
+            ∙ ap (λ k. texts c.args.self.now.told.items ++ lines_told k (without_return line) (copy_held c.args.map.now.role).next v.answer_following.new.map.role) same
+            ∙ ap (λ ls. texts c.args.self.now.told.items ++ ls) (following_told reply h line (map_held v.answer_following.new.map) s tells w.in-Following.is v.in_ok-answer_following-in-Some.ensures.map told))
+      ]
+    ]

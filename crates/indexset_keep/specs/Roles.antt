@@ -1,0 +1,47 @@
+-- What a map holds, whatever its role, and what lines lead to.
+use Rattle.std.specs.Prelude.{◌≡◌, ℕ, ◌<◌, ◌≤◌, ◌^◌, Bool, if◌then◌else◌, List}
+use Rattle.indexset_lines.specs.Lines.{whole_lines}
+use Rattle.indexset_follow.specs.Copy.{Copy, copy, snapshot_text}
+use Rattle.indexset_follow.specs.Follow.{State, holding, start_state, state_after}
+use Rattle.indexset_follow.specs.Leading.{leader_of}
+use Rattle.indexset_follow.specs.Store.{Held, promoted}
+use Rattle.indexset_follow.specs.declared.role.Role.{Role}
+use Rattle.indexset_follow.specs.declared.role.Role.TheVariants.{Following, Leading}
+use Rattle.indexset_keep.specs.Leads.{IsSound}
+use Rattle.indexset_keep.specs.Sound.{IsSoundFollower}
+
+-- the nodes and the next number
+abbrev pub copy_held : Role → Copy
+copy_held (Following s) = s.held
+copy_held (Leading l) = copy l.pairs.nodes l.pairs.next
+
+-- the greatest number of a command
+abbrev pub done_held : Role → ℕ
+done_held (Following s) = s.done
+done_held (Leading l) = l.done
+
+-- a follower of what is held, without a window
+abbrev pub settled : Role → State
+settled r = holding 0 (copy_held r) (done_held r)
+
+-- the lines lead a follower from nothing to this
+abbrev pub LeadsTo : List (List ℕ) → State → Type 0
+LeadsTo lines s = state_after (start_state 0) lines ≡ s
+
+-- the lines that make a follower of nothing the same
+abbrev pub snapshot_of : Role → List (List ℕ)
+snapshot_of r = whole_lines (snapshot_text (copy_held r) (done_held r))
+
+-- the role in which a map begins of what a follower holds
+abbrev pub role_of : ℕ → ℕ → Bool → State → Role
+role_of size window leads s = if leads then Leading (leader_of (promoted size s.held) s.done) else Following (holding window s.held s.done)
+
+-- a map that the program can hold: its nodes are lawful, and its numbers are of 64 bits
+abbrev pub IsSoundRole : Role → Type 0
+IsSoundRole (Following s) = IsSoundFollower s
+IsSoundRole (Leading l) = IsSound l × (l.pairs.next < 2 ^ 64)
+
+pub record IsSoundMap (h : Held) : Type 0 where
+  pub two : 2 ≤ h.size
+  pub few : h.size < 2 ^ 64
+  pub role : IsSoundRole h.role

@@ -1,0 +1,35 @@
+-- Seals of kept lines.
+use Rattle.std.specs.Prelude.{ℕ, ◌==◌, if◌then◌else◌, List, [], ◌∷◌, ◌++◌, Option, None, Some, codes, take}
+use Rattle.std.specs.Fmt.{decimal}
+use Rattle.std.specs.Int.{w64, from_be_bytes}
+use Rattle.std.specs.Option.{option_and_then, option_map_or}
+use Rattle.std.specs.Str.{bytes_eq}
+use Rattle.sha2.specs.Sha256.{sha256}
+use Rattle.indexset_bench.specs.PairText.{ended, lines_for}
+use Rattle.indexset_events.specs.Nodes.{is_filled}
+use Rattle.indexset_events.specs.Spelling.{cut_at, number_of}
+
+-- the line of a seal
+abbrev pub seal_line : ℕ → List ℕ
+seal_line seal = codes "seal " ++ decimal seal
+
+-- the seal that a line gives
+abbrev pub seal_read : List ℕ → Option ℕ
+seal_read line = option_and_then (λ cut. if bytes_eq cut.0 (codes "seal") then number_of cut.1 else None) (cut_at 32 line)
+
+-- the first 64 bits of the SHA-256 of a text
+abbrev pub sum_of_text : List ℕ → ℕ
+sum_of_text text = from_be_bytes w64 (take 8 (sha256 text))
+
+-- the seal of lines behind another seal
+unfoldable pub seal_of : ℕ → List (List ℕ) → ℕ
+seal_of seal lines = sum_of_text (ended (seal_line seal) ++ lines_for (λ line. line) lines)
+
+-- the last seal of lines that stand behind a seal and lines that have none yet, where each seal is that of the lines before it, and the last lines have one
+unfoldable pub seal_after : ℕ → List (List ℕ) → List (List ℕ) → Option ℕ
+seal_after seal behind [] = if is_filled behind then None else Some seal
+seal_after seal behind (line ∷ lines) = option_map_or (λ n. if n == seal_of seal behind then seal_after n [] lines else None) (seal_read line) (seal_after seal (behind ++ line ∷ []) lines)
+
+-- the last seal of kept lines
+abbrev pub last_seal : List (List ℕ) → Option ℕ
+last_seal lines = seal_after 0 [] lines

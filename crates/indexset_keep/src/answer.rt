@@ -1,0 +1,149 @@
+//! The answers to the lines of a reader, by a map that is kept.
+
+ghost use Rattle.std.specs.Prelude.{◌≡◌, ◌≢◌, ◌<◌, length, Err, IfErr, IfOk, Ok, OnOk, OnSome};
+ghost use Rattle.std.specs.Io.KnownBytes.{Appends, IsAtEnd, Keeps};
+ghost use Rattle.indexset_lines.specs.Lines.{HasNoEnd};
+ghost use Rattle.indexset_follow.specs.Store.{held_cut, input_reply};
+ghost use Rattle.indexset_keep.specs.Keep.{AnswersAll, AnswersSome, AnswersWhole, rest_behind};
+ghost use Rattle.indexset_keep.specs.Map.{map_held};
+ghost use Rattle.indexset_keep.specs.Roles.{IsSoundMap, settled};
+
+use crate::batch::Batch;
+use crate::fault::KeepFault;
+use crate::kept::Kept;
+use indexset_follow::reads::query::{Query, read_query};
+use indexset_follow::store::{Store as Map, without_return};
+use indexset_lines::RunFault;
+use indexset_lines::line::{Part, next_line};
+use indexset_lines::output::flush;
+use indexset_lines::run::Answers;
+use sqlite_trees::store::Store;
+use std::io::{BufRead, BufReader, Read, Write};
+
+/// A reader that says whether the next line is at hand.
+pub trait HasLine {
+    /// Returns whether the next line needs no read.
+    fn has_line(&self) -> bool;
+}
+
+impl<R: Read> HasLine for BufReader<R> {
+    fn has_line(&self) -> bool {
+        self.buffer().contains(&b'\n')
+    }
+}
+
+/// Where the lines of a reader end.
+#[derive(Clone, Copy, Debug, PartialEq, Eq)]
+pub enum End {
+    /// Behind a line end.
+    Whole,
+    /// Behind a last line that lacks its end.
+    Cut,
+}
+
+/// Returns whether a line asks for a snapshot in place of the kept lines.
+fn asks_to_compact(line: &[u8]) -> bool {
+    match read_query(line) {
+        Some(Query::Compact) => true,
+        _ => false,
+    }
+}
+
+/// Answers each line of the reader, and keeps what changed the map before it writes the answers.
+/// Where no whole line is at hand, what all lines that have come changed is kept with one commit,
+/// before the reader is asked for more. So each answer is out before the next read, and no commit is
+/// for more lines than the reader's buffer holds.
+///
+/// A fault ends the run at once, and nothing is written of the lines since the last commit. A last
+/// line that lacks its end changes nothing; where it is a read it is answered.
+pub fn answer<S: Store, R: BufRead + HasLine, W: Write>(
+    kept: &mut Kept<S>,
+    map: &mut Map,
+    reader: &mut R,
+    writer: &mut W,
+) -> Result<(), KeepFault>
+    requires { IsSoundMap (map_held map.old) }
+
+    // All was read and answered, and what is kept leads to what is held.
+    ensures all { OnOk result (AnswersAll (input_reply map.old.voice) (held_cut map.old.voice)
+        (map_held map.old) S.view S.recovers kept.old.journal kept.new.journal
+        (R.remaining reader.old) (R.remaining reader.new)
+        (W.contents writer.old) (W.contents writer.new) (settled map.old.role)) }
+
+    // A crash leaves what leads to what was held after the lines whose answers were written, or
+    // after further ones. After a failed write nothing is said of what was written.
+    ensures some { IfErr result (λ fault. AnswersSome (input_reply map.old.voice)
+        (held_cut map.old.voice) (map_held map.old) S.view S.recovers kept.old.journal
+        kept.new.journal (R.remaining reader.old) (R.remaining reader.new)
+        (W.contents writer.old) (W.contents writer.new) (settled map.old.role)
+        (fault ≢ KeepFault.Run RunFault.Write)) }
+{
+    let mut line = Vec::new(map.alloc);
+    let end = answer_whole(kept, map, reader, writer, &mut line)?;
+    if let End::Cut = end {
+        answer_cut(map, writer, line.as_slice())?;
+    }
+    Ok(())
+}
+
+/// Writes the answer to a last line that lacks its end, and flushes the writer.
+fn answer_cut<W: Write>(map: &mut Map, writer: &mut W, line: &[u8]) -> Result<(), RunFault>
+    ensures told { OnOk result (Appends (W.contents writer.old) (W.contents writer.new)
+        (held_cut map.old.voice (map_held map.old) line.now)) }
+    ensures memory_refused { result ≡ Err RunFault.Memory
+        → Keeps (W.contents writer.old) (W.contents writer.new) }
+    ensures numbers_refused { result ≡ Err RunFault.Numbers
+        → Keeps (W.contents writer.old) (W.contents writer.new) }
+    ensures no_read { result ≢ Err RunFault.Read }
+{
+    map.answer_cut(writer, line)?;
+    flush(writer)
+}
+
+/// Answers each line that has its end, and leaves a last line that lacks it in `line`.
+fn answer_whole<S: Store, R: BufRead + HasLine, W: Write>(
+    kept: &mut Kept<S>,
+    map: &mut Map,
+    reader: &mut R,
+    writer: &mut W,
+    line: &mut Vec<u8>,
+) -> Result<End, KeepFault>
+    requires { IsSoundMap (map_held map.old) }
+    ensures whole { IfOk result (λ end. AnswersWhole (input_reply map.old.voice)
+        (held_cut map.old.voice) (map_held map.old) S.view S.recovers kept.old.journal
+        kept.new.journal (R.remaining reader.old) (R.remaining reader.new)
+        (W.contents writer.old) (W.contents writer.new) (settled map.old.role)
+        (rest_behind end line.new.items) (map_held map.new)) }
+    ensures cut_alike { OnOk result (held_cut map.new.voice ≡ held_cut map.old.voice) }
+    ensures end { IfOk result (λ end. OnSome (R.remaining reader.old)
+        (IsAtEnd (R.remaining reader.new))) }
+    ensures rest { IfOk result (λ end. HasNoEnd (rest_behind end line.new.items)) }
+    ensures cut { result ≡ Ok End.Cut → 0 < length line.new.items }
+    ensures some { IfErr result (λ fault. AnswersSome (input_reply map.old.voice)
+        (held_cut map.old.voice) (map_held map.old) S.view S.recovers kept.old.journal
+        kept.new.journal (R.remaining reader.old) (R.remaining reader.new)
+        (W.contents writer.old) (W.contents writer.new) (settled map.old.role)
+        (fault ≢ KeepFault.Run RunFault.Write)) }
+{
+    let mut batch = Batch::new(map.alloc);
+    for _ in 0..u64::MAX {
+        match next_line(reader, writer, line)? {
+            Part::Whole { is_used_up: _ } => {
+                batch.answer(map, line.as_slice())?;
+                let is_asked = asks_to_compact(without_return(line.as_slice()));
+                if is_asked || !reader.has_line() {
+                    batch.put(kept, map, is_asked, writer)?;
+                }
+            }
+            Part::Last => {
+                batch.put(kept, map, false, writer)?;
+                return Ok(End::Cut);
+            }
+            Part::End => {
+                batch.put(kept, map, false, writer)?;
+                return Ok(End::Whole);
+            }
+        }
+    }
+    Err(KeepFault::Run(RunFault::Read))
+}

@@ -1,0 +1,125 @@
+//! The lines that are kept of a map.
+
+ghost use Rattle.std.specs.Prelude.{◌≡◌, ◌≢◌, ◌∷◌, ◌++◌, if◌then◌else◌, [], Err, IfErr, IfOk, OnErr, OnOk, Some};
+ghost use Rattle.sqlite_trees.specs.View.{IsClean};
+ghost use Rattle.indexset_follow.specs.Follow.{State, state_after};
+ghost use Rattle.indexset_events.specs.Nodes.{is_filled};
+ghost use Rattle.indexset_journal.specs.Kept.{lines_in, texts};
+ghost use Rattle.indexset_keep.specs.Keep.{IsSame, Leads, MayLead};
+ghost use Rattle.indexset_keep.specs.Roles.{IsSoundRole, settled, snapshot_of};
+ghost use Rattle.indexset_keep.specs.Seal.{last_seal, seal_line, seal_of};
+
+use crate::fault::KeepFault;
+use crate::role::{node_count, pair_count, push_snapshot};
+use crate::seal::{last_seal, seal_line, seal_of};
+use indexset_follow::role::Role;
+use indexset_journal::{Journal, JournalError};
+use indexset_lines::RunFault;
+use sqlite_trees::store::Store;
+use std::alloc::Global;
+
+/// How many lines are kept, at least, before a snapshot takes their place.
+const FEW: usize = 4_096;
+
+/// How many lines are kept for a pair.
+const LINES_A_PAIR: usize = 10;
+
+/// The lines that lead a follower to what a map holds, in a journal.
+#[derive(Drop)]
+pub struct Kept<S: Store> {
+    /// The journal.
+    pub journal: Journal<S>,
+    /// How many lines it keeps.
+    pub lines: usize,
+    /// The last seal among them.
+    pub seal: u64,
+}
+
+impl<S: Store + Drop> Kept<S> {
+    /// Opens the journal of a store, and returns its lines too. What was under way in the store is
+    /// undone. Fails with `Damaged` where a seal is not that of the lines before it.
+    pub fn open(alloc: Global, store: S) -> Result<(Self, Vec<Vec<u8>>), JournalError>
+        ensures lines { IfOk result (λ it. IsClean (S.view it.0.journal)
+            → lines_in (S.view it.0.journal).committed ≡ texts it.1.items) }
+        ensures seal { IfOk result (λ it. last_seal (texts it.1.items) ≡ Some it.0.seal) }
+    {
+        let (journal, lines) = match Journal::open(alloc, store) {
+            Ok(opened) => opened,
+            Err((error, _store)) => return Err(error),
+        };
+        let seal = last_seal(alloc, lines.as_slice())?;
+        let count = lines.len();
+        let kept = Kept {
+            journal,
+            lines: count,
+            seal,
+        };
+        Ok((kept, lines))
+    }
+}
+
+impl<S: Store> Kept<S> {
+    /// Returns whether more lines are kept than 4,096 and than ten for each pair.
+    pub fn is_long(&self, role: &Role) -> bool {
+        self.lines > FEW && self.lines / LINES_A_PAIR > pair_count(role)
+    }
+
+    /// Keeps more lines and their seal, with one commit, where there is a line. Where that fails, a
+    /// crash leaves all of them or none.
+    pub fn append(&mut self, alloc: Global, told: &mut Vec<Vec<u8>>) -> Result<(), KeepFault>
+        ensures leads { OnOk result ((from to : State) → state_after from (texts told.old.items) ≡ to
+            → Leads S.view S.recovers self.old.journal self.new.journal from to) }
+        ensures failed { OnErr result ((from to : State)
+            → state_after from (texts told.old.items) ≡ to
+            → MayLead S.view S.recovers self.old.journal self.new.journal from from to) }
+        ensures emptied { OnOk result (texts told.new.items ≡ []) }
+        ensures no_write { result ≢ Err (KeepFault.Run RunFault.Write) }
+        ensures seal { OnOk result (self.new.seal ≡ (if is_filled (texts told.old.items)
+            then seal_of self.old.seal (texts told.old.items) else self.old.seal)) }
+    {
+        if told.is_empty() {
+            return Ok(());
+        }
+        let seal = push_seal(alloc, self.seal, told)?;
+        self.journal.append(told.as_slice())?;
+        self.seal = seal;
+        self.lines = self.lines.saturating_add(told.len());
+        told.clear();
+        Ok(())
+    }
+
+    /// Puts the lines of a snapshot and their seal in place of the kept lines, with one commit. A
+    /// crash before leaves the old lines, or the snapshot.
+    pub fn compact(&mut self, alloc: Global, role: &Role) -> Result<(), KeepFault>
+        ensures leads { OnOk result (IsSoundRole role.now → (from : State)
+            → Leads S.view S.recovers self.old.journal self.new.journal from (settled role.now)) }
+        ensures failed { OnErr result (IsSoundRole role.now → (from : State)
+            → IsSame from (settled role.now)
+            → MayLead S.view S.recovers self.old.journal self.new.journal from (settled role.now)
+            (settled role.now)) }
+        ensures no_write { result ≢ Err (KeepFault.Run RunFault.Write) }
+        ensures seal { OnOk result (self.new.seal ≡ seal_of 0 (snapshot_of role.now)) }
+    {
+        // Their number fits.
+        let _nodes = node_count(role);
+        let mut lines = Vec::new(alloc);
+        push_snapshot(alloc, &mut lines, role)?;
+        let seal = push_seal(alloc, 0, &mut lines)?;
+        self.journal.replace(lines.as_slice())?;
+        self.seal = seal;
+        self.lines = lines.len();
+        Ok(())
+    }
+}
+
+/// Appends the line of the seal of lines behind those of another seal, and returns the seal.
+fn push_seal(alloc: Global, seal: u64, lines: &mut Vec<Vec<u8>>) -> Result<u64, RunFault>
+    ensures lines { IfOk result (λ sealed. (sealed ≡ seal_of seal (texts lines.old.items))
+        × (texts lines.new.items ≡ texts lines.old.items ++ seal_line sealed ∷ [])) }
+    ensures fault { IfErr result (λ fault. fault ≡ RunFault.Memory) }
+{
+    let seal = seal_of(alloc, seal, lines.as_slice())?;
+    let line = seal_line(alloc, seal)?;
+    lines.push(line).map_err(|_| RunFault::Memory)?;
+    Ok(seal)
+}

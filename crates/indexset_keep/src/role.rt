@@ -1,0 +1,71 @@
+//! What a map holds, whatever its role.
+
+ghost use Rattle.std.specs.Prelude.{◌≡◌, ◌++◌, IfErr, OnOk, length};
+ghost use Rattle.indexset_core.specs.Nodes.{joined};
+ghost use Rattle.indexset_follow.specs.Copy.{snapshot_text};
+ghost use Rattle.indexset_journal.specs.Kept.{texts};
+ghost use Rattle.indexset_keep.specs.Roles.{copy_held, done_held, snapshot_of};
+
+use crate::text::push_text_lines;
+use indexset_follow::reads::query::Query;
+use indexset_follow::reads::{Reads, answer_query};
+use indexset_follow::role::Role;
+use indexset_lines::RunFault;
+use std::alloc::Global;
+
+/// Returns the number of the next event.
+pub fn next_number(role: &Role) -> u64
+    ensures { result ≡ (copy_held role.now).next }
+{
+    match role {
+        Role::Following(follower) => follower.held.next_number(),
+        Role::Leading(leader) => leader.pairs.next_number(),
+    }
+}
+
+/// Returns how many pairs there are.
+pub fn pair_count(role: &Role) -> usize
+    ensures { result ≡ length (joined (copy_held role.now).nodes) }
+{
+    match role {
+        Role::Following(follower) => follower.held.len(),
+        Role::Leading(leader) => leader.pairs.len(),
+    }
+}
+
+/// Returns how many nodes there are.
+pub fn node_count(role: &Role) -> usize
+    ensures { result ≡ length (copy_held role.now).nodes }
+{
+    match role {
+        Role::Following(follower) => follower.held.node_total(),
+        Role::Leading(leader) => leader.pairs.node_total(),
+    }
+}
+
+/// Appends the lines of a snapshot.
+pub fn push_snapshot(alloc: Global, lines: &mut Vec<Vec<u8>>, role: &Role) -> Result<(), RunFault>
+    ensures lines { OnOk result
+        (texts lines.new.items ≡ texts lines.old.items ++ snapshot_of role.now) }
+    ensures fault { IfErr result (λ fault. fault ≡ RunFault.Memory) }
+{
+    let mut text = Vec::new(alloc);
+    write_snapshot(alloc, &mut text, role)?;
+    push_text_lines(alloc, lines, text.as_slice())
+}
+
+/// Writes the lines of a snapshot.
+fn write_snapshot(alloc: Global, text: &mut Vec<u8>, role: &Role) -> Result<(), RunFault>
+    ensures text { OnOk result (text.new.items ≡ text.old.items
+        ++ snapshot_text (copy_held role.now) (done_held role.now)) }
+    ensures fault { IfErr result (λ fault. fault ≡ RunFault.Memory) }
+{
+    let asked = Query::Snapshot;
+    let written = match role {
+        Role::Following(follower) => {
+            answer_query(alloc, text, &follower.held, follower.done, asked)
+        }
+        Role::Leading(leader) => answer_query(alloc, text, &leader.pairs, leader.done, asked),
+    };
+    written.map_err(|_| RunFault::Memory)
+}

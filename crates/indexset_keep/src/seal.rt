@@ -1,0 +1,91 @@
+//! Seals, by which damage to kept lines is noticed.
+
+ghost use Rattle.std.specs.Prelude.{◌≡◌, ◌⊎◌, Err, IfErr, IfOk, None, Some};
+ghost use Rattle.indexset_journal.specs.Kept.{texts};
+ghost use Rattle.indexset_keep.specs.Seal.{last_seal, seal_line, seal_of, seal_read, sum_of_text};
+
+use indexset_events::parts::{cut, read_number};
+use indexset_journal::JournalError;
+use indexset_lines::RunFault;
+use sha2::{Digest, Sha256};
+use std::alloc::Global;
+use std::io::Write;
+
+/// Returns the seal of lines that are kept behind the seal of others: the first 64 bits of the
+/// SHA-256 of that seal and these lines.
+pub fn seal_of(alloc: Global, seal: u64, lines: &[Vec<u8>]) -> Result<u64, RunFault>
+    ensures seal { IfOk result (λ sealed. sealed ≡ seal_of seal (texts lines.now)) }
+    ensures fault { IfErr result (λ fault. fault ≡ RunFault.Memory) }
+{
+    let mut text = seal_line(alloc, seal)?;
+    text.push(b'\n').map_err(|_| RunFault::Memory)?;
+    for line in lines {
+        text.extend_from_slice(line.as_slice())
+            .map_err(|_| RunFault::Memory)?;
+        text.push(b'\n').map_err(|_| RunFault::Memory)?;
+    }
+    Ok(sum_of_text(text.as_slice()))
+}
+
+/// Returns the first 64 bits of the SHA-256 of a text.
+fn sum_of_text(text: &[u8]) -> u64
+    ensures { result ≡ sum_of_text text.now }
+{
+    let mut hasher = Sha256::new();
+    hasher.update(text);
+    let digest = hasher.finalize();
+    u64::from_be_bytes([
+        digest[0], digest[1], digest[2], digest[3], digest[4], digest[5], digest[6], digest[7],
+    ])
+}
+
+/// Returns the line of a seal.
+pub fn seal_line(alloc: Global, seal: u64) -> Result<Vec<u8>, RunFault>
+    ensures line { IfOk result (λ line. line.items ≡ seal_line seal) }
+    ensures fault { IfErr result (λ fault. fault ≡ RunFault.Memory) }
+{
+    let mut line = Vec::new(alloc);
+    write!(line, "seal {seal}").map_err(|_| RunFault::Memory)?;
+    Ok(line)
+}
+
+/// Returns the seal that a line gives, if it gives one.
+fn read_seal(line: &[u8]) -> Option<u64>
+    ensures { result ≡ seal_read line.now }
+{
+    let (word, digits) = cut(line, b' ')?;
+    if word == b"seal".as_slice() {
+        read_number(digits)
+    } else {
+        None
+    }
+}
+
+/// Returns the last seal of lines. Fails with `Damaged` where a seal is not that of the lines before
+/// it, or the last lines have none.
+pub fn last_seal(alloc: Global, lines: &[Vec<u8>]) -> Result<u64, JournalError>
+    ensures seal { IfOk result (λ seal. last_seal (texts lines.now) ≡ Some seal) }
+    ensures damaged { result ≡ Err JournalError.Damaged → last_seal (texts lines.now) ≡ None }
+    ensures cause { IfErr result (λ error. (error ≡ JournalError.Damaged)
+        ⊎ (error ≡ JournalError.OutOfMemory)) }
+{
+    let mut seal = 0;
+    let mut from = 0;
+    for i in 0..lines.len() {
+        if let Some(found) = read_seal(lines[i].as_slice()) {
+            let Ok(own) = seal_of(alloc, seal, &lines[from..i]) else {
+                return Err(JournalError::OutOfMemory);
+            };
+            if own != found {
+                return Err(JournalError::Damaged);
+            }
+            seal = found;
+            from = i + 1;
+        }
+    }
+    if from == lines.len() {
+        Ok(seal)
+    } else {
+        Err(JournalError::Damaged)
+    }
+}

@@ -1,0 +1,31 @@
+"""The right to lead a shard, which one process at a time holds."""
+
+from __future__ import annotations
+
+import math
+import os
+import socket
+import time
+
+from engine import Engine
+
+LEASE = 3000  # milliseconds, more than it takes to take as many entries as a leader takes at a time
+
+
+class Lease:
+    """The right to lead a shard, for a while."""
+
+    def __init__(self, engine: Engine, shard: str) -> None:
+        self.engine, self.name, self.held = engine, f"lease:{shard}", -math.inf
+        self.owner = f"{socket.gethostname()} {os.getpid()}"
+
+    def is_held(self) -> bool:
+        """Takes the lease, or keeps it, at most three times in its length."""
+        if time.monotonic() - self.held < LEASE / 3000:
+            return True
+        if self.engine.call("GET", self.name) == self.owner.encode():
+            self.engine.call("PEXPIRE", self.name, LEASE)
+        elif self.engine.call("SET", self.name, self.owner, "NX", "PX", LEASE) is None:
+            return False
+        self.held = time.monotonic()
+        return True
