@@ -33,7 +33,7 @@ Lines = list[tuple[str, str]]  # (each with its colour)
 def talk(path: pathlib.Path, commands: tuple[str, ...], is_killed: bool) -> Lines:
     """What is sent and answered, one command after another; at the end the program is killed, or its input ends."""
     said: Lines = []
-    words = [built("indexset_store"), "--keep", path, "--lead"]
+    words = [str(built("indexset_store")), "--keep", str(path), "--lead"]
     with subprocess.Popen(words, stdin=subprocess.PIPE, stdout=subprocess.PIPE, text=True, bufsize=1) as run:
         assert run.stdin and run.stdout
         for command in commands:

@@ -55,6 +55,18 @@ pub fn run<S: Store, R: BufRead + HasLine, W: Write>(
     answer(kept, &mut map, reader, writer)
 }
 
+/// Opens the journal of a store, and goes on from its lines, as `run` does.
+pub fn run_over<S: Store + Drop, R: BufRead + HasLine, W: Write>(
+    alloc: Global,
+    manner: Manner,
+    store: S,
+    reader: &mut R,
+    writer: &mut W,
+) -> Result<(), KeepFault> {
+    let (mut kept, lines) = Kept::open(alloc, store)?;
+    run(alloc, manner, &mut kept, lines.as_slice(), reader, writer)
+}
+
 /// Puts a snapshot in place of the kept lines where they are many, or not whole.
 fn shorten<S: Store>(
     alloc: Global,

@@ -16,9 +16,8 @@ use arguments::{Asked, HELP, Settings, USAGE, VERSION, read_settings};
 use indexset_follow::serve;
 use indexset_journal::JournalError;
 use indexset_keep::KeepFault;
-use indexset_keep::kept::Kept;
 use indexset_keep::manner::Manner;
-use indexset_keep::run::run;
+use indexset_keep::run::run_over;
 use indexset_lines::RunFault;
 use sqlite::{Connection, File, FileStore};
 use std::io::{self, BufReader, BufWriter};
@@ -44,15 +43,8 @@ fn run_kept(rt: &HostRuntime, manner: Manner, path: &str) -> Result<(), KeepFaul
     let alloc = rt.alloc();
     let mut reader = BufReader::new(alloc, rt.reader()).map_err(|_| RunFault::Memory)?;
     let mut writer = BufWriter::new(alloc, io::writer(rt)).map_err(|_| RunFault::Memory)?;
-    let (mut kept, lines) = Kept::open(alloc, store_at(rt, path)?)?;
-    run(
-        alloc,
-        manner,
-        &mut kept,
-        lines.as_slice(),
-        &mut reader,
-        &mut writer,
-    )
+    let store = store_at(rt, path)?;
+    run_over(alloc, manner, store, &mut reader, &mut writer)
 }
 
 /// Runs from standard input to standard output.

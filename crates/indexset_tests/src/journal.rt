@@ -4,4 +4,4 @@
 mod crashes;
 mod damage;
 mod refusals;
-pub(crate) mod support;
+mod support;

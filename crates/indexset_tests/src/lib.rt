@@ -13,8 +13,6 @@ mod fenwick;
 #[cfg(test)]
 mod journal;
 #[cfg(test)]
-mod keep;
-#[cfg(test)]
 mod long_runs;
 #[cfg(test)]
 mod map;
