@@ -35,7 +35,7 @@ from programs import built  # noqa: E402
 from resp import Redis, Word  # noqa: E402
 
 GROUPS = (1, 10, 100, 1000)  # commands
-KEYS = 100_000
+KEY_BITS = 40  # of keys that hardly come twice, so that a command tells one event, and now and then a split
 PIPED = 300_000  # commands at full speed
 KEPT = (10**4, 10**5, 10**6)  # lines
 TABLE = "CREATE TABLE kept (number INTEGER PRIMARY KEY, line TEXT NOT NULL) STRICT"
@@ -54,7 +54,7 @@ def rate(send: Send, group: int, seconds: float) -> float:
 
 
 def commands(count: int, chance: random.Random) -> list[str]:
-    return [f"put {chance.randrange(KEYS)} {chance.randrange(10**6)}" for _ in range(count)]
+    return [f"put {chance.getrandbits(KEY_BITS)} {chance.randrange(10**6)}" for _ in range(count)]
 
 
 class Store:
@@ -108,11 +108,14 @@ def sqlite_sender(mode: str, made: sqlite3.Connection) -> Send:
     made.execute(f"PRAGMA journal_mode={mode}")
     made.execute("PRAGMA synchronous=FULL")
     made.execute(TABLE)
-    number = 0
+    number, chance = 0, random.Random(1)
+
+    def pair() -> str:
+        return f"{chance.getrandbits(KEY_BITS)}:{chance.randrange(10**6)}"
 
     def send(group: int) -> None:
         nonlocal number
-        rows = [(number + it, f"{number + it} insert {it}:431337 {number % KEYS}:{it} 17") for it in range(group)]
+        rows = [(number + it, f"{number + it} insert {pair()} {pair()} 117") for it in range(group)]
         rows.append((number + group, "seal 11149498871045915152"))
         number += group + 1
         made.execute("BEGIN")

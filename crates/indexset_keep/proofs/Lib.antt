@@ -2,6 +2,7 @@ mod Cuts
 mod Edited
 mod FollowedOn
 mod Onward
+mod Published
 mod Reading
 mod Restoring
 mod Roles

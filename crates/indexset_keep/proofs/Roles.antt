@@ -64,6 +64,15 @@ held_told v = at v.is_quiet
 
 -- ---- a follower that is told to lead or to follow
 
+-- whether it leads then or not, it holds what it held
+module _ (size window : ℕ) (s : State) where
+  after_lead_same : settled (after_lead size (Following s)) ≡ settled (Following s)
+  after_lead_same = at (can_lead size s.held)
+    where
+      at : (b : Bool) → settled (cond b (Leading (leader_of (promoted size s.held) s.done)) (Following s)) ≡ settled (Following s)
+      at true = refl
+      at false = refl
+
 module _ (v : Voice) (size window : ℕ) (s : State) (sound : IsSoundFollower s) where
   follower_leads : (line : List ℕ) → state_after (settled (Following s)) (line_kept s line) ≡ holding 0 (after_line s line).held (after_line s line).done
   follower_leads line = followed_on s line sound (settled (Following s)) [] (nothing_after (settled (Following s)))
@@ -74,19 +83,12 @@ module _ (v : Voice) (size window : ℕ) (s : State) (sound : IsSoundFollower s)
       let none : line_kept s word ≡ [] = rw (event, mark) refl in
       ap (λ l. state_after (settled (Following s)) (line_kept s l)) is ∙ ap (state_after (settled (Following s))) none ∙ nothing_after (settled (Following s))
 
-  lead_settled : settled (after_lead size (Following s)) ≡ settled (Following s)
-  lead_settled = at (can_lead size s.held)
-    where
-      at : (b : Bool) → settled (cond b (Leading (leader_of (promoted size s.held) s.done)) (Following s)) ≡ settled (Following s)
-      at true = refl
-      at false = refl
-
   following_on : (line : List ℕ) → state_after (settled (Following s)) (kept_in (Following s) line (held_reply v (held size window (Following s)) line)) ≡ settled (role_after (held size window (Following s)) line)
   following_on line = at (is_lead line) refl (is_follow line) refl
     where
       at : (a : Bool) → is_lead line ≡ a → (b : Bool) → is_follow line ≡ b
           → state_after (settled (Following s)) (line_kept s line) ≡ settled (cond a (after_lead size (Following s)) (cond b (Following s) (Following (after_line s line))))
-      at true is b _ = word_leads line (codes "lead") (same_word line (codes "lead") is) refl refl ∙ sym lead_settled
+      at true is b _ = word_leads line (codes "lead") (same_word line (codes "lead") is) refl refl ∙ sym (after_lead_same size window s)
       at false _ true is = word_leads line (codes "follow") (same_word line (codes "follow") is) refl refl
       at false _ false _ = follower_leads line
 
@@ -109,19 +111,12 @@ module _ (size window : ℕ) (s : State) where
       let same : after_line s word ≡ s = rw (event, node, mark) refl in
       ap (λ t. settled (Following t)) (sym same ∙ ap (after_line s) (sym is))
 
-  after_lead_same : settled (after_lead size (Following s)) ≡ settled (Following s)
-  after_lead_same = at (can_lead size s.held)
-    where
-      at : (b : Bool) → settled (cond b (Leading (leader_of (promoted size s.held) s.done)) (Following s)) ≡ settled (Following s)
-      at true = refl
-      at false = refl
-
   following_same : (line : List ℕ) → settled (role_after (held size window (Following s)) line) ≡ settled (Following (after_line s line))
   following_same line = at (is_lead line) refl (is_follow line) refl
     where
       at : (a : Bool) → is_lead line ≡ a → (b : Bool) → is_follow line ≡ b
           → settled (cond a (after_lead size (Following s)) (cond b (Following s) (Following (after_line s line)))) ≡ settled (Following (after_line s line))
-      at true is b _ = after_lead_same ∙ word_still line (codes "lead") (same_word line (codes "lead") is) refl refl refl
+      at true is b _ = after_lead_same size window s ∙ word_still line (codes "lead") (same_word line (codes "lead") is) refl refl refl
       at false _ true is = word_still line (codes "follow") (same_word line (codes "follow") is) refl refl refl
       at false _ false _ = refl
 

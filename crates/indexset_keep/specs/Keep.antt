@@ -1,6 +1,8 @@
 -- What a map keeps of its answers, and what a crash leaves of that.
-use Rattle.std.specs.Prelude.{◌≡◌, ◌⊎◌, ◌≤◌, Option, OnSome, ℕ, List, [], ◌++◌}
+use Rattle.std.specs.Prelude.{◌≡◌, ◌⊎◌, ◌≤◌, ◌/◌, ◌&&◌, ◌||◌, nat_lt, Bool, Option, OnSome, ℕ, List, [], ◌++◌, length}
 use Rattle.std.specs.Io.KnownBytes.{Appends, Consumes, IsAtEnd}
+use Rattle.indexset_core.specs.Nodes.{joined}
+use Rattle.indexset_core.specs.declared.pair.Pair.{Pair}
 use Rattle.indexset_lines.specs.Lines.{IsWhole, lines_of, whole_lines}
 use Rattle.indexset_lines.specs.Run.{left_by, replies_to, text_of}
 use Rattle.indexset_follow.specs.Follow.{State}
@@ -24,6 +26,10 @@ state_held h = settled h.role
 abbrev pub rest_behind : End → List ℕ → List ℕ
 rest_behind Whole line = []
 rest_behind Cut line = line
+
+-- the lines are more than 4,096 and than ten for each pair, or than 2,000,000 and than two for each node
+abbrev pub is_long : ℕ → List (List (Pair ℕ ℕ)) → Bool
+is_long lines nodes = (nat_lt 4096 lines && nat_lt (length (joined nodes)) (lines / 10)) || (nat_lt 2000000 lines && nat_lt (length nodes) (lines / 2))
 
 -- the same nodes, next number and greatest number of a command
 pub record IsSame (s t : State) : Type 0 where
@@ -82,3 +88,11 @@ module _ (reply cut : Held → List ℕ → List ℕ) (h : Held) {S : Type 0} (v
     pub read : Consumes reader reader' (whole ++ (more ++ rest))
     pub written : IsOut → Appends writer writer' (answers_to whole)
     pub crash : MayLead view recovers old new from (state_held (map_after h whole)) (state_held (map_after (map_after h whole) more))
+
+-- the map begins with some lines; the reader gave an input, to its end, and the writer got the text for it
+pub record AnswersFrom (reply cut : Held → List ℕ → List ℕ) (first : List (List ℕ) → Held) (reader reader' writer writer' : Option (List ℕ)) : Type 0 where
+  pub lines : List (List ℕ)
+  pub input : List ℕ
+  pub read : Consumes reader reader' input
+  pub at_end : OnSome reader (IsAtEnd reader')
+  pub written : Appends writer writer' (text_of reply after_input cut (first lines) input)

@@ -5,8 +5,8 @@ ghost use Rattle.sqlite_trees.specs.View.{IsClean};
 ghost use Rattle.indexset_follow.specs.Follow.{State, state_after};
 ghost use Rattle.indexset_events.specs.Nodes.{is_filled};
 ghost use Rattle.indexset_journal.specs.Kept.{lines_in, texts};
-ghost use Rattle.indexset_keep.specs.Keep.{IsSame, Leads, MayLead};
-ghost use Rattle.indexset_keep.specs.Roles.{IsSoundRole, settled, snapshot_of};
+ghost use Rattle.indexset_keep.specs.Keep.{IsSame, Leads, MayLead, is_long};
+ghost use Rattle.indexset_keep.specs.Roles.{IsSoundRole, copy_held, settled, snapshot_of};
 ghost use Rattle.indexset_keep.specs.Seal.{last_seal, seal_line, seal_of};
 
 use crate::fault::KeepFault;
@@ -23,6 +23,12 @@ const FEW: usize = 4_096;
 
 /// How many lines are kept for a pair.
 const LINES_A_PAIR: usize = 10;
+
+/// How many lines a start reads within some seconds.
+const MANY: usize = 2_000_000;
+
+/// How many lines are kept for a node where they are many.
+const LINES_A_NODE: usize = 2;
 
 /// The lines that lead a follower to what a map holds, in a journal.
 #[derive(Drop)]
@@ -59,9 +65,14 @@ impl<S: Store + Drop> Kept<S> {
 }
 
 impl<S: Store> Kept<S> {
-    /// Returns whether more lines are kept than 4,096 and than ten for each pair.
-    pub fn is_long(&self, role: &Role) -> bool {
-        self.lines > FEW && self.lines / LINES_A_PAIR > pair_count(role)
+    /// Returns whether more lines are kept than 4,096 and than ten for each pair, or than 2,000,000
+    /// and than two for each node, of which a snapshot has one.
+    pub fn is_long(&self, role: &Role) -> bool
+        ensures { result ≡ is_long self.now.lines (copy_held role.now).nodes }
+    {
+        let lines = self.lines;
+        lines > FEW && lines / LINES_A_PAIR > pair_count(role)
+            || lines > MANY && lines / LINES_A_NODE > node_count(role)
     }
 
     /// Keeps more lines and their seal, with one commit, where there is a line. Where that fails, a

@@ -1,12 +1,17 @@
 //! What kept lines lead to, whatever the code.
 
 ghost use Rattle.std.specs.Prelude.{◌≡◌, ◌<◌, ◌≤◌, ◌^◌, ◌++◌, Bool, ℕ, List, length, true};
-ghost use Rattle.indexset_follow.specs.Follow.{start_state, state_after};
+ghost use Rattle.std.specs.List.{All};
+ghost use Rattle.indexset_follow.specs.Copy.{copy};
+ghost use Rattle.indexset_follow.specs.Drawn.{HoldsFirst, IsDrawn, IsFeedOfPairs};
+ghost use Rattle.indexset_follow.specs.Follow.{holding, start_state, state_after};
+ghost use Rattle.indexset_follow.specs.Leading.{events_led, leader_of, tree_of};
 ghost use Rattle.indexset_follow.specs.Store.{Held, after_input, can_lead, input_reply};
 ghost use Rattle.indexset_follow.specs.declared.leader.Leader.{Leader};
 ghost use Rattle.indexset_follow.specs.declared.others.Voice.{Voice};
 ghost use Rattle.indexset_follow.specs.declared.role.Role.{Role};
 ghost use Rattle.indexset_follow.specs.declared.role.Role.TheVariants as role;
+ghost use Rattle.indexset_keep.specs.Leads.{IsSound};
 ghost use Rattle.indexset_keep.specs.Roles.{IsSoundMap, IsSoundRole, LeadsTo, copy_held, done_held, role_of, settled, snapshot_of};
 ghost use Rattle.indexset_keep.specs.Told.{kept_by};
 
@@ -49,4 +54,27 @@ pub fn a_restart_goes_on()
     ensures leader { (window : ℕ) (lines : List (List ℕ)) (l : Leader)
         → LeadsTo lines (settled (role.Leading l))
         → role_of l.pairs.size window true (state_after (start_state 0) lines) ≡ role.Leading l }
+{}
+
+/// Let a leader answer some lines, and carry out further ones before a crash or after it. The
+/// events of the answered lines are the first of those of all. They are numbered from its next
+/// number without a gap, and lead from its nodes to those that are found after all lines. So a
+/// follower that began with its nodes and gets lines of these events, from before the crash and
+/// after it, with losses, repeats and in any order, holds what the first k lead to, for some k.
+pub fn published_events_are_a_beginning()
+    ensures first { (l : Leader) (answered more : List (List ℕ))
+        → events_led l.pairs (answered ++ more)
+        ≡ events_led l.pairs answered ++ events_led (tree_of l.pairs answered) more }
+    ensures feed { (l : Leader) (lines : List (List ℕ)) → IsSound l
+        → (tree_of l.pairs lines).next < 2 ^ 64
+        → IsFeedOfPairs l.pairs.next l.pairs.nodes (events_led l.pairs lines) }
+    ensures found { (l : Leader) (lines : List (List ℕ)) → IsSound l → (d : ℕ)
+        → HoldsFirst l.pairs.next l.pairs.nodes (events_led l.pairs lines)
+        (length (events_led l.pairs lines))
+        (settled (role.Leading (leader_of (tree_of l.pairs lines) d))) }
+    ensures follower { (l : Leader) (lines : List (List ℕ)) → IsSound l
+        → (tree_of l.pairs lines).next < 2 ^ 64 → (w d : ℕ) (delivered : List (List ℕ))
+        → All (IsDrawn (events_led l.pairs lines)) delivered
+        → (k : ℕ) × HoldsFirst l.pairs.next l.pairs.nodes (events_led l.pairs lines) k
+        (state_after (holding w (copy l.pairs.nodes l.pairs.next) d) delivered) }
 {}

@@ -4,7 +4,7 @@ ghost use Rattle.std.specs.Prelude.{◌≡◌, ◌≢◌, IfErr, IsTrue, OnErr, 
 ghost use Rattle.indexset_follow.specs.Follow.{State, start_state, state_after};
 ghost use Rattle.indexset_follow.specs.Store.{held_cut, input_reply};
 ghost use Rattle.indexset_journal.specs.Kept.{texts};
-ghost use Rattle.indexset_keep.specs.Keep.{AnswersAll, AnswersSome, IsSame, Leads, MayLead};
+ghost use Rattle.indexset_keep.specs.Keep.{AnswersAll, AnswersFrom, AnswersSome, IsSame, Leads, MayLead};
 ghost use Rattle.indexset_keep.specs.Map.{first_map};
 ghost use Rattle.indexset_keep.specs.Roles.{IsSoundRole, settled};
 
@@ -62,7 +62,11 @@ pub fn run_over<S: Store + Drop, R: BufRead + HasLine, W: Write>(
     store: S,
     reader: &mut R,
     writer: &mut W,
-) -> Result<(), KeepFault> {
+) -> Result<(), KeepFault>
+    ensures { OnOk result (AnswersFrom (input_reply manner.voice) (held_cut manner.voice)
+        (first_map manner) (R.remaining reader.old) (R.remaining reader.new)
+        (W.contents writer.old) (W.contents writer.new)) }
+{
     let (mut kept, lines) = Kept::open(alloc, store)?;
     run(alloc, manner, &mut kept, lines.as_slice(), reader, writer)
 }

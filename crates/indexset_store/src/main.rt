@@ -26,6 +26,9 @@ use std::process::ExitCode;
 /// The exit status where an argument is unknown or doubled or lacks its value.
 const BAD_ARGUMENTS: u8 = 5;
 
+/// The bytes that a read or a write takes at most: some thousand lines, which one commit keeps.
+const BUFFERED: usize = 65_536;
+
 /// The table of a file: its rows are the lines that are kept.
 const TABLE: &str = "CREATE TABLE kept (number INTEGER PRIMARY KEY, line TEXT NOT NULL) STRICT";
 
@@ -41,8 +44,10 @@ fn store_at(rt: &HostRuntime, path: &str) -> Result<FileStore<File>, JournalErro
 /// Runs from standard input to standard output, and keeps what changes in a file.
 fn run_kept(rt: &HostRuntime, manner: Manner, path: &str) -> Result<(), KeepFault> {
     let alloc = rt.alloc();
-    let mut reader = BufReader::new(alloc, rt.reader()).map_err(|_| RunFault::Memory)?;
-    let mut writer = BufWriter::new(alloc, io::writer(rt)).map_err(|_| RunFault::Memory)?;
+    let reader = BufReader::with_capacity(alloc, BUFFERED, rt.reader());
+    let mut reader = reader.map_err(|_| RunFault::Memory)?;
+    let writer = BufWriter::with_capacity(alloc, BUFFERED, io::writer(rt));
+    let mut writer = writer.map_err(|_| RunFault::Memory)?;
     let store = store_at(rt, path)?;
     run_over(alloc, manner, store, &mut reader, &mut writer)
 }
@@ -50,8 +55,10 @@ fn run_kept(rt: &HostRuntime, manner: Manner, path: &str) -> Result<(), KeepFaul
 /// Runs from standard input to standard output.
 fn run_alone(rt: &HostRuntime, manner: Manner) -> Result<(), RunFault> {
     let alloc = rt.alloc();
-    let mut reader = BufReader::new(alloc, rt.reader()).map_err(|_| RunFault::Memory)?;
-    let mut writer = BufWriter::new(alloc, io::writer(rt)).map_err(|_| RunFault::Memory)?;
+    let reader = BufReader::with_capacity(alloc, BUFFERED, rt.reader());
+    let mut reader = reader.map_err(|_| RunFault::Memory)?;
+    let writer = BufWriter::with_capacity(alloc, BUFFERED, io::writer(rt));
+    let mut writer = writer.map_err(|_| RunFault::Memory)?;
     serve(
         alloc,
         manner.voice,
