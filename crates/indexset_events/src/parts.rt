@@ -2,6 +2,7 @@
 ghost use Rattle.std.specs.Prelude.{◌≡◌, ◌≢◌, ℕ, ◌^◌, ◌<◌, ◌≤◌, ◌==◌, ℤ, None, Some, is_some, position, MatchOption};
 ghost use Rattle.std.specs.Fmt.{decimal};
 ghost use Rattle.std.specs.Option.{option_map};
+ghost use Rattle.std.specs.Str.Parse.{AllDigits, digits_value};
 ghost use Rattle.indexset_events.specs.Spelling.{behind, cut_at, cut_item, number_of, signed_below};
 
 /// Returns the number of which this is the plain decimal text.
@@ -13,16 +14,28 @@ pub fn number(text: &[u8]) -> Option<u64>
     if text.is_empty() {
         return None;
     }
-    if text[0] == b'+' {
-        return None;
-    }
     if text[0] == b'0' && text.len() > 1 {
         return None;
     }
-    match std::str::from_utf8(text) {
-        Ok(digits) => digits.parse().ok(),
-        Err(_) => None,
+    digits(text)
+}
+
+// Returns the number that digits write, if they are decimal and it is of 64 bits.
+fn digits(text: &[u8]) -> Option<u64>
+    ensures { MatchOption result
+        (AllDigits 10 text.now → 2 ^ 64 ≤ digits_value 10 text.now)
+        (λ n. AllDigits 10 text.now × (n ≡ digits_value 10 text.now) × (n < 2 ^ 64)) }
+{
+    let mut value: u64 = 0;
+    for at in 0..text.len() {
+        let byte = text[at];
+        if byte < b'0' || b'9' < byte {
+            return None;
+        }
+        let shifted = value.checked_mul(10)?;
+        value = shifted.checked_add((byte - b'0') as u64)?;
     }
+    Some(value)
 }
 
 /// Returns the number of which this is the plain decimal text.

@@ -1,25 +1,19 @@
 use Rattle.std.proofs.Common.{rules, arith, ◌≡◌, ◌<◌, length, get_or}
-use Rattle.indexset_events.proofs.Digits.{no_number-empty, no_number-plus, no_number-zero, no_number-utf8, parsed_text}
+use Rattle.indexset_events.proofs.Digits.{no_number-empty, no_number-zero, written}
 use Rattle.indexset_events.proofs.parts.number.Goals as goal
 use Rattle.indexset_events.proofs.parts.number.Goals.{else-text-eq48-via-then-text-eq48+else-text-gt1, else-text-eq48-via-else-text-eq48}
 
 pub returns-then-is_empty : goal.returns-then-is_empty
 returns-then-is_empty c n small e = no_number-empty c.args.text.now (search rules) n small e
 
-pub returns-then-text-eq43 : goal.returns-then-text-eq43
-returns-then-text-eq43 c n small e = no_number-plus c.args.text.now c.if-text-eq43.true n small e
-
 pub returns-then-text-gt1 : goal.returns-then-text-gt1
 returns-then-text-gt1 c n small e = no_number-zero c.args.text.now c.if-text-eq48.true c.if-text-gt1.true n small e
 
-pub returns-in-Err : goal.returns-in-Err
-returns-in-Err c n small e = no_number-utf8 c.args.text.now c.in-Err.ensures.cases.0 n small e
-
-pub returns-in-Ok : goal.returns-in-Ok
-returns-in-Ok c =
+pub returns : goal.returns
+returns c =
     let some : 0 < length c.args.text.now = search rules in
     let lone : get_or c.args.text.now 0 0 ≡ 48 → length c.args.text.now ≡ 1 = elim c.else-text-eq48.branch [
       | else-text-eq48-via-then-text-eq48+else-text-gt1 w ↦ λ _. omega (arith, w.if-text-gt1.false)
       | else-text-eq48-via-else-text-eq48 w ↦ λ e. absurd (w.if-text-eq48.false e)
     ] in
-    parsed_text c.args.text.now c.in-Ok.digits.now c.parse.result c.ok.result c.ok.ensures.value c.in-Ok.ensures.cases.0 c.parse.ensures.value.0 c.if-text-eq43.false lone
+    written c.args.text.now some lone c.digits.result c.digits.ensures
