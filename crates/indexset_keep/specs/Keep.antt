@@ -1,5 +1,5 @@
 -- What a map keeps of its answers, and what a crash leaves of that.
-use Rattle.std.specs.Prelude.{◌≡◌, ◌⊎◌, ◌≤◌, ◌/◌, ◌&&◌, ◌||◌, nat_lt, Bool, Option, OnSome, ℕ, List, [], ◌++◌, length}
+use Rattle.std.specs.Prelude.{◌≡◌, ◌⊎◌, ◌≤◌, ◌-◌, ◌/◌, ◌&&◌, ◌||◌, nat_lt, Bool, Option, OnSome, ℕ, List, [], ◌++◌, length}
 use Rattle.std.specs.Io.KnownBytes.{Appends, Consumes, IsAtEnd}
 use Rattle.indexset_core.specs.Nodes.{joined}
 use Rattle.indexset_core.specs.declared.pair.Pair.{Pair}
@@ -27,9 +27,12 @@ abbrev pub rest_behind : End → List ℕ → List ℕ
 rest_behind Whole line = []
 rest_behind Cut line = line
 
--- the lines are more than 4,096 and than ten for each pair, or than 2,000,000 and than two for each node
+-- the lines are more than 4,096 and than ten for each pair; or, beside one for each node, more than 2,000,000 and than one for five pairs
 abbrev pub is_long : ℕ → List (List (Pair ℕ ℕ)) → Bool
-is_long lines nodes = (nat_lt 4096 lines && nat_lt (length (joined nodes)) (lines / 10)) || (nat_lt 2000000 lines && nat_lt (length nodes) (lines / 2))
+is_long lines nodes =
+    let pairs = length (joined nodes) in
+    let events = lines - length nodes in
+    (nat_lt 4096 lines && nat_lt pairs (lines / 10)) || (nat_lt 2000000 events && nat_lt (pairs / 5) events)
 
 -- the same nodes, next number and greatest number of a command
 pub record IsSame (s t : State) : Type 0 where

@@ -24,11 +24,11 @@ const FEW: usize = 4_096;
 /// How many lines are kept for a pair.
 const LINES_A_PAIR: usize = 10;
 
-/// How many lines a start reads within some seconds.
+/// How many lines a start reads in some seconds.
 const MANY: usize = 2_000_000;
 
-/// How many lines are kept for a node where they are many.
-const LINES_A_NODE: usize = 2;
+/// Of how many pairs the lines of a snapshot are read in the time of another line, about.
+const PAIRS_A_LINE: usize = 5;
 
 /// The lines that lead a follower to what a map holds, in a journal.
 #[derive(Drop)]
@@ -65,14 +65,15 @@ impl<S: Store + Drop> Kept<S> {
 }
 
 impl<S: Store> Kept<S> {
-    /// Returns whether more lines are kept than 4,096 and than ten for each pair, or than 2,000,000
-    /// and than two for each node, of which a snapshot has one.
+    /// Returns whether more lines are kept than 4,096 and than ten for each pair; or, beside a line
+    /// for each node, as a snapshot has, more than 2,000,000 and than one for five pairs.
     pub fn is_long(&self, role: &Role) -> bool
         ensures { result ≡ is_long self.now.lines (copy_held role.now).nodes }
     {
-        let lines = self.lines;
-        lines > FEW && lines / LINES_A_PAIR > pair_count(role)
-            || lines > MANY && lines / LINES_A_NODE > node_count(role)
+        let pairs = pair_count(role);
+        let events = self.lines.saturating_sub(node_count(role));
+        self.lines > FEW && self.lines / LINES_A_PAIR > pairs
+            || events > MANY && events > pairs / PAIRS_A_LINE
     }
 
     /// Keeps more lines and their seal, with one commit, where there is a line. Where that fails, a
