@@ -1,18 +1,19 @@
 // A board in the same map: for each player the pair player:score, and key:player, whose key puts the best score first.
 
 import { made } from "./nodes.js";
+import { write } from "./sight.js";
 
 const START = 100_000, SCORES = 1000, PLAYERS = 100, END = START + SCORES * PLAYERS, ROWS = 10;
 const id = name => document.getElementById(name);
 const key = (player, score) => START + (SCORES - 1 - score) * PLAYERS + player;
 const score = place => SCORES - 1 - Math.floor((place - START) / PLAYERS);
-let page = 0, first = 0, end = 0, due, ask, leader;
+let page = 0, first = 0, end = 0, shown = "", due, ask, leader;
 
 // What the store that is read from replies to lines.
 async function read(lines) {
   const replies = await ask(id("from").value, lines, false);
   const told = lines.map((_, i) => replies[i]?.[0] ?? "ended");
-  id("asked").textContent = lines.map((line, i) => `${line} → ${told[i]}`).join("\n");
+  write(id("asked"), lines.map((line, i) => `${line} → ${told[i]}`).join("\n"));
   return told;
 }
 
@@ -39,9 +40,11 @@ async function pairs() {
 
 async function refresh() {
   const who = id("from").value, found = await pairs(), size = end - first, last = pages() - 1;
-  id("size").textContent = `${size} player${size === 1 ? "" : "s"}, read from ${who}`;
-  id("page").textContent = `page ${page + 1} of ${last + 1}`;
+  write(id("size"), `${size} player${size === 1 ? "" : "s"}, read from ${who}`);
+  write(id("page"), `page ${page + 1} of ${last + 1}`);
   [id("up").disabled, id("down").disabled] = [page === 0, page === last];
+  if (shown === `${page}: ${found}`) return;
+  shown = `${page}: ${found}`;
   id("rows").replaceChildren(...found.map((pair, i) => row(ROWS * page + i + 1, pair)));
 }
 

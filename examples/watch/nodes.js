@@ -58,11 +58,12 @@ function move(node, x, y, leaps) {
 // What comes to others fades in.
 function come(kind, layer, leaps) {
   const g = drawn("g", layer, { class: kind });
-  if (!leaps && !still) g.animate({ opacity: [0, 1] }, 450);
+  if (!leaps && !still) g.comes = g.animate({ opacity: [0, 1] }, 450);
   return g;
 }
 
 function fade(node) {
+  node.comes?.cancel();
   node.classList.add("gone");
   setTimeout(() => node.remove(), still ? 0 : 450);
 }
@@ -126,6 +127,18 @@ function drawFrames(svg, frames, { isElsewhere, leaps }) {
   svg.frames = frames;
 }
 
+// A picture grows at once, and shrinks a while after: what stands below it is moved seldom.
+function fit(svg, high) {
+  const set = () => {
+    svg.shrinks = clearTimeout(svg.shrinks);
+    if (svg.tall !== svg.needs) svg.style.height = (svg.tall = svg.needs) + "px";
+  };
+  svg.needs = high;
+  if (!svg.frames.length || high > svg.tall || svg.fitted !== svg.wide) set();
+  else svg.shrinks ??= setTimeout(set, 2000);
+  svg.fitted = svg.wide;
+}
+
 // Draws the nodes of some lines; `isNew` says of a key and its value whether these are new.
 export function draw(svg, lines, isNew = () => false) {
   if (!svg.boxes) {
@@ -139,5 +152,5 @@ export function draw(svg, lines, isNew = () => false) {
   for (const node of isElsewhere ? svg.querySelectorAll(SHOWY) : []) node.classList.remove("fresh", "split", "merge");
   drawBoxes(svg, cells, isNew, how);
   drawFrames(svg, frames, how);
-  svg.style.height = (frames.length ? frames.at(-1).y + HIGH + 4 : 4) + "px";
+  fit(svg, frames.length ? frames.at(-1).y + HIGH + 4 : 4);
 }

@@ -2,11 +2,13 @@
 
 import { board } from "./board.js";
 import { draw, made, still } from "./nodes.js";
-import { follow, list, look, soon, write } from "./sight.js";
+import { empty, grow, later, list, look, soon, write } from "./sight.js";
 
-const NAMES = ["A", "B", "C"], PERCENT = ["loss", "repeat", "late"], PILLS = 60, SHOWN = 12, FEW = 20, PATIENCE = 3;
+const NAMES = ["A", "B", "C"], PERCENT = ["loss", "repeat", "late"], PILLS = 60, SHOWN = 12, FEW = 20;
+const HASTE = 150; // milliseconds
+const ME = String(Math.random()); // by this a page knows the lines that were typed on it
 const id = name => document.getElementById(name), cards = {}, lanes = {}, stores = {}, drawn = {}, undrawn = new Set();
-let head = 0, news = [], patience = 0, leader = { who: "A", is_there: false, key: "0" }, said = [], back = 0;
+let head = 0, news = [], haste = "", calms, leader = { who: "A", is_there: false, key: "0" }, said = [], back = 0;
 
 const many = (n, word) => `${n.toLocaleString("en")} ${word}${n === 1 ? "" : "s"}`;
 const any = below => Math.floor(Math.random() * below);
@@ -24,7 +26,7 @@ async function ask(act, asked) {
   lamp(id("all"), ["bad", "the server did not take that"]);
   return [];
 }
-const say = (to, lines, is_shown = true) => ask("line", { to, lines, is_shown });
+const say = (to, lines, is_shown = true, by = "") => ask("line", { to, lines, is_shown, by });
 const isOnBoard = board(say, () => leader.who || "A");
 
 // How a store stands: the colour of its lamp, and in words.
@@ -91,7 +93,9 @@ function showNodes(who) {
   const size = `${many(pairs, "pair")} in ${many(total, "node")}${part}`;
   write(cards[who].querySelector(".where"), hasEnded(told) ? "its nodes went with its process" : size);
   svg.setAttribute("aria-label", shown.length ? "nodes: " + shown.slice(0, 30).join(" | ") : "no nodes");
-  if (!svg.isSeen) return;
+  const looks = [svg.wide, leader.key, first, total, ...nodes].join();
+  if (!svg.isSeen || svg.looks === looks) return;
+  svg.looks = looks;
   draw(svg, shown, drawn[who] && newSince(drawn[who]));
   drawn[who] = told;
 }
@@ -135,7 +139,7 @@ function talk(title, replies, more = 0) {
 
 const on = {
   hello() {
-    for (const list of ["stream", "talk"]) id(list).replaceChildren();
+    for (const name of ["stream", "talk"]) empty(id(name));
   },
   percent({ percent }) {
     for (const name of PERCENT) {
@@ -151,8 +155,12 @@ const on = {
     made("span", line, { text: rest });
     list(id("stream"), line, 200);
   },
-  said({ to, line, told, more }) {
+  said({ to, line, told, more, by }) {
     talk(`${to}: ${line}`, told, more);
+    if (by !== ME) return;
+    haste &&= "nodes";
+    id("what").textContent = `${to} replies to “${line}”:`;
+    id("reply").textContent = told.length ? told.join("\n") : "(it has ended)";
   },
   taken({ who, source, lines, told }) {
     talk(`${who} starts from ${source === "file" ? "the file" : source}: ${many(lines, "line")}`, told);
@@ -234,17 +242,14 @@ id("cut4").onclick = () => say_many(4, cut);
 id("put1000").onclick = () => say_many(1000, () => `put ${1000 + any(90_000)} ${any(1000)}`);
 setInterval(() => id("auto").checked && leader.is_there && say_many(1, any(2) ? put : cut), 500);
 
-id("say").onsubmit = async submitted => {
+id("say").onsubmit = submitted => {
   submitted.preventDefault();
-  const line = id("line").value, to = id("to").value;
-  patience = PATIENCE;
+  const line = id("line").value;
+  hasten();
   said.push(line);
   back = said.length;
   id("line").value = "";
-  const [told = []] = await say(to, [line]);
-  patience = 0;
-  id("what").textContent = `${to} replies to “${line}”:`;
-  id("reply").textContent = told.length ? told.join("\n") : "(it has ended)";
+  say(id("to").value, [line], true, ME);
 };
 id("line").onkeydown = pressed => {
   const step = { ArrowUp: -1, ArrowDown: 1 }[pressed.key];
@@ -269,28 +274,53 @@ const edge = place => id("lead").querySelector("svg").frames?.at(place)?.keys.at
 id("before").onclick = () => show(edge(0));
 id("after").onclick = () => show(edge(-1));
 
-// The nodes of one store are shown in a frame, those of the leader first.
-function showNext() {
-  const who = undrawn.has(leader.who) ? leader.who : [...undrawn][0];
-  if (!undrawn.delete(who)) return;
-  showNodes(who);
-  if (undrawn.size) soon(showNext);
+// The nodes of the others are drawn one store at a time, when there is nothing else to do.
+let isDrawing = false;
+function drawOthers() {
+  if (isDrawing || !undrawn.size) return;
+  isDrawing = true;
+  later(() => {
+    isDrawing = false;
+    const [who] = undrawn;
+    if (haste || !undrawn.delete(who)) return;
+    showNodes(who);
+    drawOthers();
+  });
 }
 
-// What is told is shown in the next frame, but that it waits some for the answer to a line that was typed, so that both
-// are shown in one.
+// After a person has sent a line, its reply and then the nodes of the leader are shown as they come. All else waits until
+// these are painted, or for HASTE: a haste for the reply, the nodes and the paint.
+function hasten() {
+  clearTimeout(calms);
+  calms = setTimeout(calm, HASTE);
+  haste = "reply";
+}
+function calm() {
+  clearTimeout(calms);
+  haste = "";
+  showNews();
+}
+
+// What is told is else shown once a frame.
 function showNews() {
-  if (patience-- > 0) return soon(showNews);
-  patience = 0;
   for (const told of news.splice(0)) on[told.kind](told);
   lamp(id("all"), overall());
-  showNext();
-  follow();
+  const isDrawn = undrawn.delete(leader.who);
+  if (isDrawn) showNodes(leader.who);
+  if (!haste) {
+    grow();
+    drawOthers();
+  } else if (isDrawn && haste === "nodes") {
+    haste = "paint";
+    soon(() => soon(calm));
+  }
 }
+
 const source = new EventSource("/events");
 source.onmessage = ({ data }) => {
   const isFirst = !news.length;
   news.push(...JSON.parse(data));
-  if (isFirst || document.hidden) soon(showNews);
+  if (haste === "reply" || haste === "nodes") showNews();
+  else if (!haste && (isFirst || document.hidden)) soon(showNews);
 };
 source.onerror = () => lamp(id("all"), ["bad", "the server does not answer"]);

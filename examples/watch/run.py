@@ -112,12 +112,13 @@ class Page(http.server.BaseHTTPRequestHandler):
             asked = json.loads(self.rfile.read(min(int(self.headers["Content-Length"]), MOST)))
             with watch.lock:
                 found = acts[self.path](**asked)
+                watch.answer()
+            self.server.asked.set()
         except (KeyError, TypeError, ValueError, AttributeError):
             self.close_connection = True
             self.send_error(400)
         else:
             self.give("application/json", json.dumps(found).encode())
-            self.server.asked.set()
 
     def log_message(self, *_: object) -> None:
         """Says nothing."""

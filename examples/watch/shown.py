@@ -4,6 +4,7 @@ from __future__ import annotations
 
 import bisect
 import collections
+import time
 
 from channel import Channel
 from programs import built
@@ -25,6 +26,7 @@ class Shown(Store):
         self.name, self.channel, self.leads, self.shown = name, channel, leads, max(8, PAIRS // node_size)
         self.nodes_held: list[bytes] = []
         self.awaited, self.pairs, self.last_sum = 0, 0, ""
+        self.look_takes = 0.0  # seconds, of the last one
         self.is_stale, self.is_unfit = True, False
         self.asked_to, self.asked_until = 0, 0.0  # up to which event it was sent again, and when that must have come
         self.replies: collections.Counter[str] = collections.Counter()
@@ -67,10 +69,11 @@ class Shown(Store):
     def look(self) -> None:
         """Asks for its nodes and the number that it expects, where these may be others than before."""
         if self.is_stale:
-            self.is_stale, self.last_sum = False, ""
+            self.is_stale, self.last_sum, began = False, "", time.monotonic()
             if told := self.say(b"nodes") if self.is_running() else []:
                 *self.nodes_held, last = told
                 self.awaited, self.pairs = int(last[5:]), sum(node.count(b":") for node in self.nodes_held)
+            self.look_takes = time.monotonic() - began
 
     def sum_of_all(self) -> str:
         """Its reply to `sum`, for which it is asked once after a change."""

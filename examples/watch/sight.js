@@ -1,4 +1,4 @@
-// What is drawn when: what is told is drawn once a frame, and what is out of sight when it comes into sight.
+// What is drawn when: most of what is told once a frame, and what is out of sight when it comes into sight.
 
 export function write(node, text) {
   if (node.textContent !== text) node.textContent = text;
@@ -6,6 +6,10 @@ export function write(node, text) {
 
 // Before the next frame; a page that is hidden has none, and there it is at once.
 export const soon = act => void (document.hidden ? act() : requestAnimationFrame(act));
+
+// When the page has nothing else to do, or in a fifth of a second.
+const idle = window.requestIdleCallback ?? (act => setTimeout(act, 50));
+export const later = act => void (document.hidden ? act() : idle(act, { timeout: 200 }));
 
 // Keeps `isSeen` and `wide` of a node as they change, with no layout for it, and calls back in the frame after.
 const acts = new WeakMap();
@@ -25,19 +29,26 @@ export function look(node, act = () => {}) {
   for (const observer of [sight, size]) observer.observe(node);
 }
 
-// A line at the end of a list, of which the last ones stay. A list that is at its end is kept there by `follow`.
-const grown = new Set();
+// Lines for the end of a list, of which the last ones stay. `grow` puts them there; a list that is at its end stays at it.
+const grown = new Map();
 export function list(lines, node, most) {
   lines.onscroll ??= () => {
     if (!lines.isFollowed) lines.isHigh = lines.scrollHeight - lines.scrollTop - lines.clientHeight >= 40;
     lines.isFollowed = false;
   };
-  lines.append(node);
-  while (lines.children.length > most) lines.firstChild.remove();
-  if (!lines.isHigh) grown.add(lines);
+  lines.most = most;
+  grown.set(lines, [...grown.get(lines) ?? [], node].slice(-most));
 }
-export function follow() {
-  for (const lines of grown) {
+export function empty(lines) {
+  grown.delete(lines);
+  lines.replaceChildren();
+}
+export function grow() {
+  for (const [lines, nodes] of grown) {
+    lines.append(...nodes);
+    while (lines.children.length > lines.most) lines.firstChild.remove();
+  }
+  for (const lines of [...grown.keys()].filter(it => !it.isHigh)) {
     const end = lines.scrollHeight - lines.clientHeight;
     lines.isFollowed = Math.abs(lines.scrollTop - end) >= 1;  // the event of this, which says nothing new
     lines.scrollTop = end;

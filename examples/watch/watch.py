@@ -23,6 +23,7 @@ EVENT = re.compile(rb"\d+ (create|drop|insert|remove|split|merge) ")
 LINES = 60  # of a reply are shown
 AGAIN = 8  # events are sent again for one `gap`
 QUIET = 0.4  # seconds with nothing on the way, until `head` is sent
+QUICK = 0.03  # seconds: a look at the leader that takes no longer is made before a request is answered
 BATCH = 200  # lines are handed over at once
 NEWS = 200  # lines at most are told to a page at once
 
@@ -54,21 +55,21 @@ class Watch:
         leader = self.stores.get(self.leader)
         return leader is not None and leader.is_running() and leader.leads
 
-    def line(self, to: str, lines: list[str], is_shown: bool = True) -> list[list[str]]:
-        """The replies of a store to lines."""
+    def line(self, to: str, lines: list[str], is_shown: bool = True, by: str = "") -> list[list[str]]:
+        """The replies of a store to lines. The pages are told of them by whom they were typed."""
         if any("\n" in line for line in lines):
             raise ValueError("a line has no line end")
         store = self.stores[to]
-        told = [self.say(store, line.encode(), is_shown) for line in lines]
+        told = [self.say(store, line.encode(), is_shown, by) for line in lines]
         return [[each.decode() for each in reply[:LINES]] for reply in told]
 
-    def say(self, store: Shown, line: bytes, is_shown: bool = True) -> list[bytes]:
+    def say(self, store: Shown, line: bytes, is_shown: bool = True, by: str = "") -> list[bytes]:
         """The reply of a store to a line. The leader's events go into the file, and then on their way."""
         told = store.say(line)
         if is_shown:
             store.is_stale = True
             shown = [each.decode() for each in told[:LINES]]
-            self.tell("said", to=store.name, line=line.decode(), told=shown, more=len(told) - len(shown))
+            self.tell("said", to=store.name, line=line.decode(), told=shown, more=len(told) - len(shown), by=by)
         if line == b"lead" and store.leads:
             is_whole = told == [b"next %d" % self.kept.head]
             self.leader = store.name if is_whole else "" if store.name == self.leader else self.leader
@@ -190,6 +191,14 @@ class Watch:
             elif not next(self.looking, False):
                 self.looking = None
             self.look_from = 2 * time.monotonic() - now
+        self.publish()
+
+    def answer(self) -> None:
+        """Tells what came of a request, with the nodes of the leader where a look at it is quick."""
+        leader = self.stores.get(self.leader)
+        if leader and leader.is_stale and leader.look_takes < QUICK:
+            self.look_at(leader)
+            self.looking = self.looking or self.looks()
         self.publish()
 
     def look(self) -> None:

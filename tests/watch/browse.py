@@ -69,13 +69,12 @@ return [...cut, ...over].map(e => e.outerHTML.slice(0, 80));
 
 # Boxes that slide are where they belong; events fly on.
 SETTLED = """
-const isBox = each => each.effect.target.closest("svg"), shines = each => /fill|stroke/.test(each.transitionProperty);
-const slides = each => isBox(each) && !shines(each);
-document.getAnimations().filter(slides).forEach(each => each.finish());
+const isBox = each => each.effect.target.closest("svg");
+document.getAnimations().filter(isBox).forEach(each => each.finish());
 """
 
-# How long a line takes from the key that sends it until its reply and the new box of its pair are there, and the next
-# frame begins.
+# How long a line takes from the key that sends it until its reply and the new box of its pair are there, and the page
+# has painted them: a message that is sent in a frame comes after what the frame paints.
 ANSWERED = """
 const [line, pair] = a, reply = document.getElementById("reply"), before = performance.now();
 const has = node => node.textContent === pair;
@@ -84,7 +83,9 @@ reply.textContent = "";
 const drawn = new Promise(done => new MutationObserver((_, it) => {
   if (!isThere()) return;
   it.disconnect();
-  requestAnimationFrame(done);
+  const painted = new MessageChannel();
+  painted.port1.onmessage = done;
+  requestAnimationFrame(() => painted.port2.postMessage(""));
 }).observe(document.body, { childList: true, characterData: true, subtree: true }));
 document.getElementById("line").value = line;
 document.getElementById("say").requestSubmit();

@@ -17,7 +17,7 @@ sys.dont_write_bytecode = True
 TOP = pathlib.Path(__file__).resolve().parent.parent.parent
 sys.path[:0] = [str(TOP / "tools"), str(TOP / "examples")]
 from followers import Results  # noqa: E402
-from watched import Watched, is_running, reached  # noqa: E402
+from watched import SECONDS, Watched, is_running, reached  # noqa: E402
 
 REPLIES = [
     ("put 1 10", ["new", "0 create 1:10"]),
@@ -41,11 +41,21 @@ REFUSED: list[tuple[str, str, dict[str, str], int]] = [
 ]
 
 
+def told_by(watch: Watched, by: str) -> dict[str, object]:
+    """What the pages are told of a line that was typed on one of them."""
+    while (told := watch.told.get(timeout=SECONDS)).get("by") != by:
+        pass
+    return told
+
+
 def followed(watch: Watched, results: Results) -> None:
     """Replies as they come, events that are lost and come again, a follower that is killed and comes back."""
     results.check("all begin alike", reached(lambda: watch.standings() == "A leads B same C same"))
     told = [(line, watch.line("A", line)[: len(reply)]) for line, reply in REPLIES]
     results.check("replies come as the store gives them", told == REPLIES)
+    watch.ask("line", to="A", lines=["len"], by="a page")
+    wanted = {"kind": "said", "to": "A", "line": "len", "told": ["1"], "more": 0, "by": "a page"}
+    results.check("pages are told of a reply and by whom its line was typed", told_by(watch, "a page") == wanted)
     watch.ask("set_percent", percent={"loss": 20, "repeat": 20, "late": 20})
     watch.ask("line", to="A", lines=[f"put {at * 37 % 100} {at}" for at in range(14)])
     results.check("both followers end with the sum of the leader", reached(lambda: watch.is_level(16)))
