@@ -1,6 +1,6 @@
 // Nodes, drawn as boxes of pairs: a key keeps its box and a node its frame, so that what changes is seen to move.
 
-const ROW = 52, HIGH = 38, SPACE = 12, MORE = 46, MANY = 60, SHOWY = ".fresh, .split, .merge";
+const ROW = 52, HIGH = 38, SPACE = 12, MORE = 46, MANY = 30, SHOWY = ".fresh, .split, .merge";
 export const still = matchMedia("(prefers-reduced-motion: reduce)").matches;
 
 export function made(name, parent, props = {}, space = "http://www.w3.org/1999/xhtml") {
@@ -92,9 +92,10 @@ function write(box, { key, value, shown, width }) {
   for (const text of [box.key, box.value]) text.setAttribute("x", width / 2);
 }
 
-// A key keeps its box. Where none has one, the boxes are those of other keys: that is less work than new ones.
+// A key keeps its box. Where many have none, they get those of other keys: that is less work than new ones.
 function drawBoxes(svg, cells, isNew, { isElsewhere, leaps }) {
-  const kept = new Map(), spare = isElsewhere ? [...svg.boxes.values()] : [];
+  const kept = new Map(), keys = new Set(cells.map(cell => cell.key));
+  const spare = isElsewhere ? [...svg.boxes].filter(([key]) => !keys.has(key)).map(([, box]) => box) : [];
   const fresh = cells.filter(cell => isNew(cell.key, cell.value));
   for (const cell of cells) {
     const now = svg.boxes.get(cell.key) ?? spare.pop() ?? box(svg.low, isElsewhere);
@@ -142,10 +143,11 @@ function fit(svg, high) {
 // Draws the nodes of some lines; `isNew` says of a key and its value whether these are new.
 export function draw(svg, lines, isNew = () => false) {
   if (!svg.boxes) {
-    Object.assign(svg, { boxes: new Map(), frames: [], low: drawn("g", svg), high: drawn("g", svg) });
+    Object.assign(svg, { boxes: new Map(), frames: [], tall: 0, low: drawn("g", svg), high: drawn("g", svg) });
   }
   const frames = laid(lines, svg.wide || 320), cells = frames.flatMap(frame => frame.cells);
-  const isElsewhere = !cells.some(cell => svg.boxes.has(cell.key));
+  const coming = cells.filter(cell => !svg.boxes.has(cell.key)).length;
+  const isElsewhere = coming === cells.length || coming > MANY;
   const slides = ({ key, x, y }) => (({ at } = {}) => at?.y === y && at.x !== x)(svg.boxes.get(key)?.g);
   const how = { isElsewhere, leaps: isElsewhere || cells.filter(slides).length > MANY };
   for (const node of isElsewhere ? svg.querySelectorAll(".gone") : []) node.remove();

@@ -288,8 +288,8 @@ function drawOthers() {
   });
 }
 
-// After a person has sent a line, its reply and then the nodes of the leader are shown as they come. All else waits until
-// these are painted, or for HASTE: a haste for the reply, the nodes and the paint.
+// After a person has sent a line, its reply and the nodes of the leader are shown as they come, and all else waits
+// until they are painted, or for HASTE. What is waited for is the reply, then the nodes, then the paint.
 function hasten() {
   clearTimeout(calms);
   calms = setTimeout(calm, HASTE);
@@ -301,9 +301,12 @@ function calm() {
   showNews();
 }
 
-// What is told is else shown once a frame.
+// What is told is shown once a frame, but in haste.
+const isFirst = ({ kind }) => kind === "said" || kind === "leader" || kind === "store";
 function showNews() {
-  for (const told of news.splice(0)) on[told.kind](told);
+  const shown = haste ? news.filter(isFirst) : news;
+  news = haste ? news.filter(told => !isFirst(told)) : [];
+  for (const told of shown) on[told.kind](told);
   lamp(id("all"), overall());
   const isDrawn = undrawn.delete(leader.who);
   if (isDrawn) showNodes(leader.who);
@@ -318,9 +321,9 @@ function showNews() {
 
 const source = new EventSource("/events");
 source.onmessage = ({ data }) => {
-  const isFirst = !news.length;
+  const isDue = news.length > 0;
   news.push(...JSON.parse(data));
   if (haste === "reply" || haste === "nodes") showNews();
-  else if (!haste && (isFirst || document.hidden)) soon(showNews);
+  else if (!haste && (!isDue || document.hidden)) soon(showNews);
 };
 source.onerror = () => lamp(id("all"), ["bad", "the server does not answer"]);

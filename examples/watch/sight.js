@@ -29,7 +29,7 @@ export function look(node, act = () => {}) {
   for (const observer of [sight, size]) observer.observe(node);
 }
 
-// Lines for the end of a list, of which the last ones stay. `grow` puts them there; a list that is at its end stays at it.
+// Lines for the end of a list, of which the last ones stay. `grow` puts them there; a list at its end stays at it.
 const grown = new Map();
 export function list(lines, node, most) {
   lines.onscroll ??= () => {

@@ -56,7 +56,7 @@ class Watch:
         return leader is not None and leader.is_running() and leader.leads
 
     def line(self, to: str, lines: list[str], is_shown: bool = True, by: str = "") -> list[list[str]]:
-        """The replies of a store to lines. The pages are told of them by whom they were typed."""
+        """The replies of a store to lines, of which the pages are told by whom they were typed."""
         if any("\n" in line for line in lines):
             raise ValueError("a line has no line end")
         store = self.stores[to]

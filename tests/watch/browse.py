@@ -222,6 +222,7 @@ class Story:
             wanted = f"put {100_000 + (999 - score) * 100 + player} {player}"
             self.check(f"score {score} of player {player} is put", self.sees("#talk", wanted))
         self.ends_same("after scores")
+        self.check("the board is what its store replies", reached(self.board_is_new))
         self.browser.click("#rank")
         self.check("a rank is read from a follower", self.sees("#place", "player 7, score 950: place"))
         pages = [self.rows()]
@@ -234,6 +235,12 @@ class Story:
         self.check("each player stands once", len({row[1] for row in rows}) == len(rows))
         place = next(row[0] for row in rows if row[1] == 7)
         self.check("the rank is the place", f"place {place} of {len(rows)}" in self.browser.text("#place"))
+
+    def board_is_new(self) -> bool:
+        """Whether the board shows what its store replies now: it is read again a while after a change."""
+        shown = [line.split(" → ") for line in self.browser.text("#asked").split("\n")]
+        told = self.watch.ask("line", to="B", lines=[line for line, _ in shown], is_shown=False)
+        return bool(told == [[reply] for _, reply in shown])
 
     def turns(self, button: str) -> bool:
         """Turns to another page of the board, if there is one."""
