@@ -56,7 +56,7 @@ def library_crates() -> list[str]:
     """The crates of crates.txt that are neither programs nor tests nor what tests play on, in its order."""
     lines = (ROOT / "crates.txt").read_text(encoding="utf-8").splitlines()
     names = [line.split(":")[0].split()[0] for line in lines if line.strip() and not line.startswith("#")]
-    return [it for it in names if (ROOT / "crates" / it / "src/lib.rt").exists() and not it.endswith(("_tests", "_play"))]
+    return [it for it in names if (ROOT / "crates" / it / "src/lib.rt").exists() and not it.endswith(("_tests", "_drill", "_play"))]
 
 
 def source_files(crate: str) -> list[pathlib.Path]:

@@ -11,8 +11,6 @@ mod events;
 #[cfg(test)]
 mod fenwick;
 #[cfg(test)]
-mod journal;
-#[cfg(test)]
 mod long_runs;
 #[cfg(test)]
 mod map;

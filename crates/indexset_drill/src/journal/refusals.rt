@@ -1,6 +1,7 @@
 //! Files that hold something other than lines, and numbers that end.
 
-use super::support::{TABLE, lines, opened, shown};
+use super::support::{lines, opened, shown};
+use crate::files::TABLE;
 use indexset_journal::{Journal, JournalError};
 use sqlite::{Connection, MemStore};
 use std::alloc::Global;

@@ -1,24 +1,18 @@
 //! A crash after so many calls of the disk.
 
-ghost use Rattle.std.specs.Prelude.{◌≤◌, IfOk, IfSome};
-
 use super::support::{lines, opened, shown, store_of};
 use indexset_journal::{Journal, JournalError};
-use sqlite::{FileStore, Files};
+use sqlite::Files;
 use sqlite_disk::{Fuse, Memory};
-use sqlite_trees::store::Reopen;
+use sqlite_trees::store::{Reopen, Store};
 use std::alloc::Global;
 use std::test::Fail;
-
-type Disk = Fuse<Memory>;
 
 /// What is kept after so many calls that succeeded.
 const TEXTS: [&[u8]; 6] = [b"", b"a b ", b"a b c ", b"d ", b"d e ", b""];
 
 /// Makes the calls one after another, up to the first that fails, and returns how many succeeded.
-fn run(alloc: Global, journal: &mut Journal<FileStore<Disk>>) -> Result<usize, JournalError>
-    ensures { IfOk result (λ done. done ≤ 5) }
-{
+fn run<S: Store>(alloc: Global, journal: &mut Journal<S>) -> Result<usize, JournalError> {
     if journal
         .append(lines(alloc, &["a", "b"])?.as_slice())
         .is_err()
@@ -40,6 +34,34 @@ fn run(alloc: Global, journal: &mut Journal<FileStore<Disk>>) -> Result<usize, J
     Ok(5)
 }
 
+/// Opens the journal of a store, and makes the calls. Returns how many succeeded and the store, or
+/// `None` where there was no journal.
+fn run_on<S: Store + Drop>(alloc: Global, store: S) -> Result<Option<(usize, S)>, Fail> {
+    let Ok((mut journal, found)) = opened(alloc, store) else {
+        return Ok(None);
+    };
+    if !found.is_empty() {
+        return Err(Fail::new("lines from nowhere"));
+    }
+    let done = run(alloc, &mut journal)?;
+    Ok(Some((done, journal.into_store())))
+}
+
+/// Crashes, and looks for the lines after so many calls, or after the next one too. The journal goes
+/// on from there.
+fn is_found<S: Reopen + Drop>(alloc: Global, store: S, done: usize) -> Result<(), Fail> {
+    let mut store = store;
+    store.crash_and_reopen()?;
+    let (mut again, found) = opened(alloc, store)?;
+    let text = shown(alloc, found.as_slice())?;
+    let mut either = TEXTS.iter().skip(done).take(2);
+    if !either.any(|known| text.as_slice() == *known) {
+        return Err(Fail::new("neither the lines from before nor all of the new ones"));
+    }
+    again.append(lines(alloc, &["z"])?.as_slice())?;
+    Ok(())
+}
+
 /// Runs over files of which each fails from its call with this number on, crashes, and opens the
 /// files again. Returns how many calls succeeded, or `None` where the files failed before there was
 /// a journal.
@@ -51,22 +73,10 @@ fn run_until(alloc: Global, log_calls: u64, db_calls: u64) -> Result<Option<usiz
     let Ok(store) = store_of(alloc, files, false) else {
         return Ok(None);
     };
-    let Ok((mut journal, found)) = opened(alloc, store) else {
+    let Some((done, store)) = run_on(alloc, store)? else {
         return Ok(None);
     };
-    if !found.is_empty() {
-        return Err(Fail::new("lines from nowhere"));
-    }
-    let done = run(alloc, &mut journal)?;
-    let mut store = journal.into_store();
-    store.crash_and_reopen()?;
-    let (mut again, found) = opened(alloc, store)?;
-    let text = shown(alloc, found.as_slice())?;
-    let next = if done == 5 { 5 } else { done + 1 };
-    if text.as_slice() != TEXTS[done] && text.as_slice() != TEXTS[next] {
-        return Err(Fail::new("neither the lines from before nor all of the new ones"));
-    }
-    again.append(lines(alloc, &["z"])?.as_slice())?;
+    is_found(alloc, store, done)?;
     Ok(Some(done))
 }
 

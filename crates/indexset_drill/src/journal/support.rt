@@ -1,16 +1,19 @@
 //! What the tests share.
 
-ghost use Rattle.std.specs.Prelude.{IsTrue};
-
+use crate::files::store_over;
 use indexset_journal::{Journal, JournalError};
-use sqlite::{Connection, FileStore, Files, Options};
+use sqlite::{FileStore, Files, Options};
 use sqlite_disk::Disk;
 use sqlite_trees::store::Store;
 use std::alloc::Global;
 
-/// The statement that makes the table of lines.
-pub(crate) const TABLE: &str =
-    "CREATE TABLE IF NOT EXISTS kept (number INTEGER PRIMARY KEY, line TEXT NOT NULL) STRICT";
+/// A cache that is quickly made.
+const SMALL: Options = Options {
+    cache_pages: 20,
+    spill_pages: 20,
+    checkpoint_frames: 1_000,
+    seed: 1,
+};
 
 /// Copies the texts, a line each.
 pub(crate) fn lines(alloc: Global, texts: &[&str]) -> Result<Vec<Vec<u8>>, JournalError> {
@@ -36,16 +39,11 @@ pub(crate) fn store_of<D: Disk + Drop>(
     alloc: Global,
     files: Files<D>,
     has_sums: bool,
-) -> Result<FileStore<D>, JournalError>
-    requires log { IsTrue (D.Disk.is_usable files.log) }
-    requires db { IsTrue (D.Disk.is_usable files.db) }
-{
-    let mut conn = match Connection::open_files_with(alloc, files, Options::new(1), has_sums) {
-        Ok(conn) => conn,
-        Err((error, _left)) => return Err(JournalError::from(error)),
-    };
-    conn.execute(TABLE, &[])?;
-    Ok(conn.into_store())
+) -> Result<FileStore<D>, JournalError> {
+    match store_over(alloc, files, SMALL, has_sums) {
+        Ok(store) => Ok(store),
+        Err((error, _files)) => Err(error),
+    }
 }
 
 /// Opens a journal, and drops the store where that fails.
