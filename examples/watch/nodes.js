@@ -1,6 +1,6 @@
 // Nodes, drawn as boxes of pairs: a key keeps its box and a node its frame, so that what changes is seen to move.
 
-const ROW = 52, HIGH = 38, SPACE = 12, MORE = 46, MANY = 30, SHOWY = ".fresh, .split, .merge";
+const ROW = 52, HIGH = 38, SPACE = 12, MORE = 46, MANY = 20, SHOWY = ".fresh, .split, .merge";
 export const still = matchMedia("(prefers-reduced-motion: reduce)").matches;
 
 export function made(name, parent, props = {}, space = "http://www.w3.org/1999/xhtml") {
@@ -55,17 +55,18 @@ function move(node, x, y, leaps) {
   node.at = { x, y };
 }
 
-// What comes to others fades in.
+// What comes among others fades in, and what goes from among them fades out.
 function come(kind, layer, leaps) {
   const g = drawn("g", layer, { class: kind });
   if (!leaps && !still) g.comes = g.animate({ opacity: [0, 1] }, 450);
   return g;
 }
 
-function fade(node) {
+function go(node, fades) {
+  if (!fades || still) return node.remove();
   node.comes?.cancel();
   node.classList.add("gone");
-  setTimeout(() => node.remove(), still ? 0 : 450);
+  setTimeout(() => node.remove(), 450);
 }
 
 function lit(node, kind, time) {
@@ -92,39 +93,45 @@ function write(box, { key, value, shown, width }) {
   for (const text of [box.key, box.value]) text.setAttribute("x", width / 2);
 }
 
+// Whether a key is in the part of the list that some frames show.
+function within(frames) {
+  const low = +frames[0]?.keys[0], high = +frames.at(-1)?.keys.at(-1);
+  return key => low <= +key && +key <= high;
+}
+
 // A key keeps its box. Where many have none, they get those of other keys: that is less work than new ones.
-function drawBoxes(svg, cells, isNew, { isElsewhere, leaps }) {
+function drawBoxes(svg, cells, isNew, { isElsewhere, leaps, was, is }) {
   const kept = new Map(), keys = new Set(cells.map(cell => cell.key));
   const spare = isElsewhere ? [...svg.boxes].filter(([key]) => !keys.has(key)).map(([, box]) => box) : [];
   const fresh = cells.filter(cell => isNew(cell.key, cell.value));
   for (const cell of cells) {
-    const now = svg.boxes.get(cell.key) ?? spare.pop() ?? box(svg.low, isElsewhere);
+    const now = svg.boxes.get(cell.key) ?? spare.pop() ?? box(svg.low, isElsewhere || !was(cell.key));
     write(now, cell);
     if (fresh.length < MANY && fresh.includes(cell)) lit(now.g, "fresh", 700);
     move(now.g, cell.x, cell.y, leaps);
     kept.set(cell.key, now);
   }
-  for (const [key, old] of isElsewhere ? [] : svg.boxes) if (!kept.has(key)) fade(old.g);
+  for (const [key, old] of isElsewhere ? [] : svg.boxes) if (!kept.has(key)) go(old.g, is(key));
   for (const { g } of spare) g.remove();
   svg.boxes = kept;
 }
 
 // A frame goes to the first node that has one of its keys; a node with none of these gets a frame of its own.
-function drawFrames(svg, frames, { isElsewhere, leaps }) {
+function drawFrames(svg, frames, { isElsewhere, leaps, was, is }) {
   const free = new Set(svg.frames), owner = new Map(svg.frames.flatMap(frame => frame.keys.map(key => [key, frame])));
   const olds = frames.map(frame => [...new Set(frame.keys.map(key => owner.get(key)).filter(Boolean))]);
   frames.forEach((frame, i) => {
     const from = olds[i], isPart = olds.some((other, j) => j !== i && from.some(old => other.includes(old)));
     const kept = isElsewhere ? free.values().next().value : from.find(old => free.has(old));
     free.delete(kept);
-    frame.g = kept?.g ?? come("frame", svg.high, isElsewhere);
+    frame.g = kept?.g ?? come("frame", svg.high, isElsewhere || !was(frame.keys[0]));
     frame.rect = kept?.rect ?? drawn("rect", frame.g, { height: HIGH, rx: 5 });
     if (from.length > 1) lit(frame.g, "merge", 900);
     else if (isPart) lit(frame.g, "split", 900);
     move(frame.g, frame.x, frame.y, leaps);
     frame.rect.style.width = frame.whole + "px";
   });
-  for (const frame of free) fade(frame.g);
+  for (const frame of free) go(frame.g, is(frame.keys[0]));
   svg.frames = frames;
 }
 
@@ -149,7 +156,8 @@ export function draw(svg, lines, isNew = () => false) {
   const coming = cells.filter(cell => !svg.boxes.has(cell.key)).length;
   const isElsewhere = coming === cells.length || coming > MANY;
   const slides = ({ key, x, y }) => (({ at } = {}) => at?.y === y && at.x !== x)(svg.boxes.get(key)?.g);
-  const how = { isElsewhere, leaps: isElsewhere || cells.filter(slides).length > MANY };
+  const leaps = isElsewhere || cells.filter(slides).length > MANY;
+  const how = { isElsewhere, leaps, was: within(svg.frames), is: within(frames) };
   for (const node of isElsewhere ? svg.querySelectorAll(".gone") : []) node.remove();
   for (const node of isElsewhere ? svg.querySelectorAll(SHOWY) : []) node.classList.remove("fresh", "split", "merge");
   drawBoxes(svg, cells, isNew, how);
