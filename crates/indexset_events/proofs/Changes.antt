@@ -3,7 +3,7 @@ use Rattle.std.proofs.Common.{◌≡◌, ℕ, ◌≤◌, Bool, true, false, cond
 use Rattle.std.specs.Cmp.{IsTotalOrder}
 use Rattle.std.specs.Option.{option_map_or}
 use Rattle.indexset_core.specs.Nodes.{joined, node_at, IsLawful}
-use Rattle.indexset_core.specs.Order.{above, below, put, without}
+use Rattle.indexset_core.specs.Order.{above, below, put, without, unequal}
 use Rattle.indexset_core.specs.Pairs.{by_key, pair_of}
 use Rattle.indexset_core.specs.declared.pair.Pair.{Pair}
 use Rattle.indexset_events.specs.declared.change.ChangeEventUnassigned.{ChangeEventUnassigned}
@@ -48,7 +48,7 @@ module _ {T : Type 0} (cmp : T → T → Ordering) (o : IsTotalOrder cmp) (P : T
       record { after = with_put cmp size ns v; replayed = put_replayed o two law v s; lawful = put_lawful o two law v; kept = subst (Each P) (sym (put_contents o two law v)) all }
 
   pub removal_leads : (v : T) → Leads cmp P size s ns (removal_events cmp size ns v)
-  unfolding without
+  unfolding unequal
   removal_leads v = at (located (λ x. cmp x v) ns) refl
     where
       at : (r : Result (ℕ × ℕ) (ℕ × ℕ)) → r ≡ located (λ x. cmp x v) ns → Leads cmp P size s ns (removal_events cmp size ns v)

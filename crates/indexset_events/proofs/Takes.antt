@@ -12,7 +12,7 @@ use Rattle.std.proofs.lemmas.List.Folds.{list_any-append}
 use Rattle.std.proofs.Math.Seq.{set-append_seam}
 use Rattle.std.proofs.lemmas.Option.{get_or_from_slice_get, slice_get-get_or}
 use Rattle.indexset_core.specs.Nodes.{joined, node_at, IsLawful}
-use Rattle.indexset_core.specs.Order.{IsAscending, rank, has_equal, without, equal_element}
+use Rattle.indexset_core.specs.Order.{IsAscending, rank, has_equal, without, equal_element, unequal}
 use Rattle.indexset_core.proofs.CallerLemmas.{is_some-find, joined-append, found_has_equal, found_rank, parted_by_item, offset-le}
 use Rattle.indexset_core.specs.Pairs.{by_key, pair_of}
 use Rattle.indexset_core.specs.declared.pair.Pair.{Pair}
@@ -190,7 +190,7 @@ module _ {T : Type 0} {cmp : T → T → Ordering} {size : ℕ} {ns : List (List
 
     -- what goes is all that equals the item
     pub taken_contents : (answer : T → Ordering) → (λ y. cmp y x) ≡ answer → joined (with_taken size ns k i) ≡ filter (λ y. not (is_eq (answer y))) (joined ns)
-    unfolding without
+    unfolding unequal
     taken_contents answer same =
         let d = did in
         let r = out in
@@ -210,7 +210,7 @@ module _ {T : Type 0} {cmp : T → T → Ordering} {size : ℕ} {ns : List (List
         rw (← f.node_is, found_has_equal cmp n v i f.here, found_rank cmp n v i f.here parted, get_or_from_slice_get n i x v here) refl
 
     pub found_contents : {x : T} → slice_get (node_at ns k) i ≡ Some x → joined (with_taken size ns k i) ≡ without cmp (joined ns) v
-    unfolding without
+    unfolding unequal
     found_contents {x} here =
         let e : cmp x v ≡ Equal = subst (λ y. cmp y v ≡ Equal) (get_or_from_slice_get (node_at ns k) i x x here) (f.here.equal x) in
         taken_contents k i f.node_in here (λ y. cmp y v) (λ j y. alike_right o x v y e j)
@@ -234,7 +234,7 @@ module _ {T : Type 0} (cmp : T → T → Ordering) (ns : List (List T)) (v : T) 
   absent_events size = rw absent_here refl
 
   pub absent_contents : joined ns ≡ without cmp (joined ns) v
-  unfolding without
+  unfolding unequal
   absent_contents = sym (unmatched (joined ns) none)
     where
       unmatched : (l : List T) → equal_element cmp l v ≡ None → filter (λ x. not (is_eq (cmp x v))) l ≡ l

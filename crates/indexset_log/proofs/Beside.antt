@@ -8,7 +8,7 @@ use Rattle.std.proofs.lemmas.Bool.{false≢true}
 use Rattle.std.proofs.lemmas.List.Folds.{find-append}
 use Rattle.indexset_core.specs.declared.pair.Pair.{Pair}
 use Rattle.indexset_core.specs.Nodes.{joined}
-use Rattle.indexset_core.specs.Order.{above, below, keep, put}
+use Rattle.indexset_core.specs.Order.{above, below, keep, put, unequal}
 use Rattle.indexset_core.specs.Pairs.{by_key, has_key, pair, value_of, without_key}
 use Rattle.indexset_core.proofs.CallerLemmas.{equal_from, value_put}
 use Rattle.indexset_log.specs.Keys.{KeepsOthers}
@@ -62,7 +62,7 @@ module _ {K V : Type 0} (cmp : K → K → Ordering) (o : IsTotalOrder cmp) (k o
   like_other p e = o.congr p.key other k (equal_from _ e)
 
   beside_removed : (l : List (Pair K V)) → value_of cmp (without_key cmp l k) other ≡ value_of cmp l other
-  unfolding without_key own
+  unfolding unequal own
   beside_removed l = ap (option_map (λ p. p.value)) (find_kept own (λ p. not (is_eq (cmp p.key k))) (λ p e. ap not (ap is_eq (like_other p e) ∙ apart)) l)
 
   beside_put : (l : List (Pair K V)) (w : V) → value_of cmp (put (by_key cmp) l (pair k w)) other ≡ value_of cmp l other

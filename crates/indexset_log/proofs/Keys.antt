@@ -27,6 +27,7 @@ use Rattle.indexset_core.proofs.CallerLemmas.{absent_without, equal_from, key_ab
 use Rattle.indexset_core.specs.Places.{located}
 use Rattle.indexset_events.specs.Located.{IsFoundIn}
 use Rattle.indexset_events.proofs.Places.{found_at}
+use Rattle.indexset_core.specs.Order.{unequal}
 
 module _ {K V : Type 0} {cmp : K → K → Ordering} {size : ℕ} {ns : List (List (Pair K V))} (o : IsTotalOrder cmp) (law : IsLawful (by_key cmp) size ns) (k : K) where
   abbrev answer : Pair K V → Ordering
@@ -61,7 +62,7 @@ module _ {K V : Type 0} {cmp : K → K → Ordering} {size : ℕ} {ns : List (Li
       key_offset = end_offset answer ns filled parted_keys r e p is
 
       pub key_taken : {x : Pair K V} → slice_get (node_at ns p.0) p.1 ≡ Some x → KeyTaken p x
-      unfolding key_removal_events without_key
+      unfolding key_removal_events unequal
       key_taken {x} here =
           let d = key_end in
           let read = end_read answer ns filled parted_keys r e p is ∙ here in

@@ -14,7 +14,7 @@ use Rattle.indexset_core.specs.declared.multipair.MultiPair.{MultiPair}
 use Rattle.indexset_core.specs.declared.pair.Pair.{Pair}
 use Rattle.indexset_core.specs.MultiPairs.{by_number}
 use Rattle.indexset_core.specs.Nodes.{joined, IsLawful}
-use Rattle.indexset_core.specs.Order.{IsAscending, put, without}
+use Rattle.indexset_core.specs.Order.{IsAscending, put, without, unequal}
 use Rattle.indexset_core.proofs.CallerLemmas.{equal_from, is_some-find}
 use Rattle.indexset_events.proofs.CallerLemmas.{Each, all_each, around, each-map, lawful_ascends, parts-put, parts-without, rises}
 use Rattle.indexset_multi.specs.Keys.{AreNumberedBelow, entries, equal_pair, first_pair, has_pair_of, kept_number, pairs_of, without_first, without_key, without_named}
@@ -250,7 +250,7 @@ module _ {K V : Type 0} (cmp : K → K → Ordering) (o : IsTotalOrder cmp) wher
   -- the pairs of other keys stay
   module _ (k : K) (q : MultiPair K V → Bool) (l : List (MultiPair K V)) (other : K) (ne : is_eq (cmp other k) ≡ false) where
     pair_left : (x : MultiPair K V) → find q (pairs_of cmp l k) ≡ Some x → pairs_of cmp (without (by_number cmp) l x) other ≡ pairs_of cmp l other
-    unfolding without
+    unfolding unequal
     pair_left x e =
         let found = found_each (λ p. is_eq (cmp p.key k)) q (λ z. Unit {0}) l x (any_each l) e in
         nested_all (λ p. is_eq (cmp p.key other)) (λ p. not (is_eq (by_number cmp p x))) l (each-map (λ z. Unit {0}) _ (λ p _ keyed. not_tied (by_number cmp p x) (λ tied.
@@ -271,7 +271,7 @@ module _ {K V : Type 0} (cmp : K → K → Ordering) (o : IsTotalOrder cmp) wher
   -- and so do all of them, in order
   module _ (k : K) (l : List (MultiPair K V)) where
     rest_left : (x : MultiPair K V) → find (λ _. true) (pairs_of cmp l k) ≡ Some x → without_key cmp (without (by_number cmp) l x) k ≡ without_key cmp l k
-    unfolding without
+    unfolding unequal
     rest_left x e =
         let found = found_each (λ p. is_eq (cmp p.key k)) (λ _. true) (λ z. Unit {0}) l x (any_each l) e in
         nested_all (λ p. not (is_eq (cmp p.key k))) (λ p. not (is_eq (by_number cmp p x))) l (each-map (λ z. Unit {0}) _ (λ p _ other. not_tied (by_number cmp p x) (λ tied.

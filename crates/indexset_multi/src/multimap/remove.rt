@@ -14,6 +14,7 @@ use super::BTreeMultiMap;
 use indexset_core::multipair::MultiPair;
 use indexset_core::node::NodeLike;
 use indexset_core::refusal::Refusal;
+use indexset_core::sought::Sought;
 use indexset_events::change::ChangeEvent;
 use indexset_log::set::range::Range;
 
@@ -171,10 +172,10 @@ impl<K: Ord + Clone + Drop, V: Eq + Clone + Drop, Node: NodeLike<MultiPair<K, V>
     }
 
     // Returns where the first pair of a key with an equal value stands.
-    pub(super) fn equal_place(&self, key: &K, value: &V) -> Option<(usize, usize)>
+    pub(super) fn equal_place<Q: Sought<K>>(&self, key: &Q, value: &V) -> Option<(usize, usize)>
         ensures place { IsItemPlace self.now.nodes result }
         ensures pair { placed_item self.now.nodes result
-            ≡ equal_pair K.cmp V.eq (joined self.now.nodes) key.now value.now }
+            ≡ equal_pair Q.order V.eq (joined self.now.nodes) key.now value.now }
     {
         let (from, to) = self.places_of(key);
         let index = index_of(self.set.range_between(from, to), value)?;
