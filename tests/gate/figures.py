@@ -46,7 +46,7 @@ def parts(page: str, log: str) -> str:
     """The page with the minutes of the parts."""
     found = {name: (float(minutes), float(clock)) for name, minutes, clock in PART.findall(log)}
     for name, (minutes, clock) in found.items():
-        page, count = re.subn(rf"(?m)^(\|{name}\|.*)\|[\d.]+\|[\d.]+\|$", rf"\g<1>|{minutes:.1f}|{clock:.1f}|", page)
+        page, count = re.subn(rf"(?m)^(\|{name}\|.*)\|[\d.–]+\|[\d.–]+\|$", rf"\g<1>|{minutes:.1f}|{clock:.1f}|", page)
         if count != 1:
             sys.exit(f"{PAGE.name} has no row of the part {name!r}")
     minutes, clock = (sum(column) for column in zip(*found.values()))
