@@ -239,16 +239,16 @@ def no_number(program: pathlib.Path) -> Counts:
 
 def arguments(program: pathlib.Path) -> Counts:
     """Arguments that the program knows, and others."""
-    usage = b"usage: indexset_store [--follow | --lead] [--keep FILE] [--node-size N] [--window N] [--pass-others] [--quiet] | --help | --version"
+    usage = b"usage: indexset_store [--follow | --lead] [--keys numbers|text] [--keep FILE] [--node-size N] [--window N] [--pass-others] [--quiet] | --help | --version"
     project = (HERE.parent.parent / "bindings/python/pyproject.toml").read_text()
     version = f"indexset_store {project.split('version = ')[1].split()[0].strip(chr(34))}".encode()
     bad: list[Sequence[str | bytes]] = [["--node-size"], ["--lead", "--node-size"], ["--node-size", "1"], ["--node-size", "65536"], ["--node-size", "x"]]
     bad += [["--leads"], ["--lead", "-"], ["--node-size", "--quiet"], [b"--lead\xff"], [""], ["--lead", "--help="]]
     bad += [it * 2 for it in (["--lead"], ["--follow"], ["--pass-others"], ["--quiet"], ["--node-size", "2"])]
     bad += [["--window"], ["--window", "x"], ["--window", str(MOST + 1)], ["--window", "1", "--window", "1"]]
-    bad += [["--lead", "--follow"], ["--follow", "--lead"]]
+    bad += [["--lead", "--follow"], ["--follow", "--lead"], ["--keys"], ["--keys", "x"], ["--keys", "text", "--keys", "text"]]
     good = [["--lead"], ["--follow"], ["--quiet", "--lead"], ["--node-size", "2"], ["--node-size", "65535", "--pass-others"]]
-    good += [["--window", "0"], ["--window", str(MOST)]]
+    good += [["--window", "0"], ["--window", str(MOST)], ["--keys", "text"], ["--keys", "numbers", "--lead"]]
     told = {("--help",): usage, ("--lead", "--help"): usage, ("--version",): version, ("--quiet", "--version"): version}
     failed = 0
     for words, wanted in [(it, (5, b"", usage)) for it in bad] + [(it, (0, b"", b"")) for it in good] + [([*it], (0, line, b"")) for it, line in told.items()]:

@@ -15,18 +15,21 @@ use Rattle.indexset_follow.specs.Store.{without_return}
 use Rattle.indexset_follow.specs.declared.others.Others.TheVariants.{Tell, Pass}
 use Rattle.indexset_follow.specs.declared.others.Voice.{Voice}
 use Rattle.indexset_follow.specs.declared.reply.Reply.TheVariants.{Next, Had, Gap, Held}
+use Rattle.std.specs.declared.cmp.Ordering.{Ordering}
+use Rattle.indexset_bench.specs.Texts.{Texts}
 
--- the first pair of a map, and the removal of a key that it lacks
-commands : (command_text (leader_of (fresh 4) 0) (command None (Put 3 30)) ≡ ended (codes "new") ++ ended (codes "0 create 3:30") ++ ended (codes "next 1"))
-    × (command_text (leader_of (fresh 4) 0) (command None (Cut 3)) ≡ ended (codes "none") ++ ended (codes "next 0"))
-unfolding put_events key_removal_events removal_events digits
-commands = (refl, refl)
+module _ {T : Type 0} (cmp : T → T → Ordering) (texts : Texts T) where
+  -- the first pair of a map, and the removal of a key that it lacks
+  commands : (command_text cmp texts (leader_of (fresh 4) 0) (command None (Put 3 30)) ≡ ended (codes "new") ++ ended (codes "0 create 3:30") ++ ended (codes "next 1"))
+      × (command_text cmp texts (leader_of (fresh 4) 0) (command None (Cut 3)) ≡ ended (codes "none") ++ ended (codes "next 0"))
+  unfolding put_events key_removal_events removal_events digits
+  commands = (refl, refl)
 
--- the same with a number, which is or is not the greatest
-numbered : (command_text (leader_of (fresh 4) 0) (command (Some 17) (Put 3 30)) ≡ ended (codes "#17 new") ++ ended (codes "0 create 3:30") ++ ended (codes "done 17 1") ++ ended (codes "next 1"))
-    × (command_text (leader_of (fresh 4) 20) (command (Some 17) (Cut 3)) ≡ ended (codes "#17 none") ++ ended (codes "done 20 0") ++ ended (codes "next 0"))
-unfolding put_events key_removal_events removal_events digits
-numbered = (refl, refl)
+  -- the same with a number, which is or is not the greatest
+  numbered : (command_text cmp texts (leader_of (fresh 4) 0) (command (Some 17) (Put 3 30)) ≡ ended (codes "#17 new") ++ ended (codes "0 create 3:30") ++ ended (codes "done 17 1") ++ ended (codes "next 1"))
+      × (command_text cmp texts (leader_of (fresh 4) 20) (command (Some 17) (Cut 3)) ≡ ended (codes "#17 none") ++ ended (codes "done 20 0") ++ ended (codes "next 0"))
+  unfolding put_events key_removal_events removal_events digits
+  numbered = (refl, refl)
 
 heads : (head_reply 5 0 ≡ Next 5) × (head_reply 5 5 ≡ Next 5) × (head_reply 5 6 ≡ Gap 5)
 heads = (refl, refl, refl)

@@ -13,6 +13,7 @@ use Rattle.indexset_lines.proofs.Lines.{whole_lines-append}
 use Rattle.indexset_events.specs.Spelling.{cut_at}
 use Rattle.indexset_events.specs.Spelling.Laws.{cut_sound, none_some, some_inj}
 use Rattle.indexset_keep.specs.Told.{is_told, told_lines}
+use Rattle.indexset_bench.specs.Texts.{Texts}
 
 -- the place of the first line end, and the length where there is none
 abbrev spot : List ℕ → ℕ
@@ -55,20 +56,21 @@ uncut_lines text e = at (nat_lt (spot text) (length text)) refl e
         let before : k < spot text = omega (arith, inside, ltb-false (spot text) (length text) is) in
         eqb-false (get_or text k 0) 10 (fails_before_first (λ x. eqb x 10) text k 0 before) end))
 
--- ---- lines so far
+module _ {T : Type 0} (texts : Texts T) where
+  -- ---- lines so far
 
-module _ (done : List (List ℕ)) (left line rest : List ℕ) (cut : cut_at 10 left ≡ Some (line, rest)) where
-  -- the next line goes behind them
-  pub line_more : done ++ whole_lines left ≡ (done ++ line ∷ []) ++ whole_lines rest
-  line_more = ap (λ ls. done ++ ls) (cut_lines left line rest cut) ∙ sym (append_assoc done (line ∷ []) (whole_lines rest))
+  module _ (done : List (List ℕ)) (left line rest : List ℕ) (cut : cut_at 10 left ≡ Some (line, rest)) where
+    -- the next line goes behind them
+    pub line_more : done ++ whole_lines left ≡ (done ++ line ∷ []) ++ whole_lines rest
+    line_more = ap (λ ls. done ++ ls) (cut_lines left line rest cut) ∙ sym (append_assoc done (line ∷ []) (whole_lines rest))
 
-  pub shorter : length rest < length left
-  shorter = omega (arith, ap length (cut_sound 10 left line rest cut), length-append line (10 ∷ rest))
+    pub shorter : length rest < length left
+    shorter = omega (arith, ap length (cut_sound 10 left line rest cut), length-append line (10 ∷ rest))
 
-  -- the same of lines that are kept
-  pub told_more : done ++ told_lines (whole_lines left) ≡ (done ++ told_lines (line ∷ [])) ++ told_lines (whole_lines rest)
-  told_more = ap (λ ls. done ++ told_lines ls) (cut_lines left line rest cut) ∙ at (is_told line)
-    where
-      at : (b : Bool) → done ++ cond b (line ∷ told_lines (whole_lines rest)) (told_lines (whole_lines rest)) ≡ (done ++ cond b (line ∷ []) []) ++ told_lines (whole_lines rest)
-      at true = sym (append_assoc done (line ∷ []) (told_lines (whole_lines rest)))
-      at false = ap (λ ls. ls ++ told_lines (whole_lines rest)) (sym (append-nil done))
+    -- the same of lines that are kept
+    pub told_more : done ++ told_lines texts (whole_lines left) ≡ (done ++ told_lines texts (line ∷ [])) ++ told_lines texts (whole_lines rest)
+    told_more = ap (λ ls. done ++ told_lines texts ls) (cut_lines left line rest cut) ∙ at (is_told texts line)
+      where
+        at : (b : Bool) → done ++ cond b (line ∷ told_lines texts (whole_lines rest)) (told_lines texts (whole_lines rest)) ≡ (done ++ cond b (line ∷ []) []) ++ told_lines texts (whole_lines rest)
+        at true = sym (append_assoc done (line ∷ []) (told_lines texts (whole_lines rest)))
+        at false = ap (λ ls. ls ++ told_lines texts (whole_lines rest)) (sym (append-nil done))

@@ -12,7 +12,7 @@ loop-line-preserved c =
     let rest = c.in-Some.rest.now in
     let cut : cut_at 10 left ≡ Some (line, rest) = search rules in
     let kept : texts c.push_line.new.lines.items ≡ texts c.loop-line.lines.items ++ line ∷ [] = search rules in
-    c.loop-line.invariant ∙ line_more (texts c.loop-line.lines.items) left line rest cut ∙ ap (λ ls. ls ++ whole_lines rest) (sym kept)
+    c.loop-line.invariant ∙ line_more g.T.Key.texts (texts c.loop-line.lines.items) left line rest cut ∙ ap (λ ls. ls ++ whole_lines rest) (sym kept)
 
 pub returns-clause-lines : goal.returns-clause-lines
 returns-clause-lines c =
